@@ -1,0 +1,14 @@
+//! Names, changes and tables of contest objects.
+#![tactic(auto)]
+
+pub mod change;
+pub mod collection;
+pub mod name;
+mod objects;
+mod place;
+pub mod tables;
+
+pub use change::Change;
+pub use collection::Collection;
+pub use name::{Name, NameFault};
+pub use tables::{Table, Tables};

@@ -1,0 +1,140 @@
+//! The text of one object.
+
+ghost use Rattle.std.specs.Prelude.{◌≡◌, ◌==◌, not, IsTrue, IsUtf8, MatchBool, List, IfOk, IfErr, OnOk};
+ghost use Rattle.feed_text.specs.Ascii.{line_feed};
+ghost use Rattle.feed_text.specs.Objects.{IsObjectText, IsObjectFaultOf, IsUnbroken, SpellsObject, SpellsNoObject};
+ghost use Rattle.feed_text.specs.Reading.{is_object_alone, kind_and_rest, value_front};
+
+use crate::Kind;
+use crate::nesting::nests_to;
+use crate::value::after_value;
+use std::alloc::{AllocError, Global};
+use std::marker::Model;
+use std::rc::RcSlice;
+use thiserror::Error;
+
+/// Why a text is no object that can be kept, the first that holds.
+#[derive(Clone, Copy, Debug, PartialEq, Eq, Error)]
+pub enum ObjectFault {
+    /// It has over 1,048,576 bytes.
+    #[error("object too long")]
+    Long,
+    /// It is not UTF-8.
+    #[error("not UTF-8")]
+    Utf8,
+    /// It has a line feed.
+    #[error("line break in object")]
+    LineBreak,
+    /// Some prefix has a level of 101 or more.
+    #[error("nested too deep")]
+    Deep,
+    /// It is not one JSON object with nothing around it.
+    #[error("not a JSON object")]
+    Syntax,
+    /// Memory ran out.
+    #[error("out of memory")]
+    Memory,
+}
+
+/// The greatest number of bytes of an object's text.
+const OBJECT_BYTES: usize = 1_048_576;
+
+/// The first level that is too deep in an object's text.
+const TOO_DEEP: usize = 101;
+
+/// One JSON object with nothing around it, as its text. A copy shares the bytes.
+#[derive(Drop)]
+pub struct ObjectText {
+    text: RcSlice<u8>,
+}
+
+impl Model for ObjectText {
+    ghost use Rattle.std.specs.Prelude.{ℕ, List};
+    ghost use Rattle.std.specs.Rc.{rc_slice_items};
+    ghost use Rattle.feed_text.specs.Objects.{IsObjectText};
+
+    ghost Value = { List ℕ };
+
+    ghost view = { λ o. rc_slice_items o.text };
+
+    ghost invariant = { λ o. IsObjectText (rc_slice_items o.text) };
+}
+
+impl ObjectText {
+    /// The text as an object that is kept.
+    #[tactic(auto, using(crate::proofs::Kept::object_text))]
+    pub fn parse(alloc: Global, bytes: &[u8]) -> Result<ObjectText, ObjectFault>
+        ensures text { IfOk result (λ object. object ≡ bytes.now) }
+        ensures object { OnOk result (IsObjectText bytes.now) }
+        ensures fault { IfErr result (λ fault. IsObjectFaultOf bytes.now fault) }
+    {
+        if bytes.len() > OBJECT_BYTES {
+            return Err(ObjectFault::Long);
+        }
+        if std::str::from_utf8(bytes).is_err() {
+            return Err(ObjectFault::Utf8);
+        }
+        if has_line_feed(bytes) {
+            return Err(ObjectFault::LineBreak);
+        }
+        if nests_to(bytes, TOO_DEEP) {
+            return Err(ObjectFault::Deep);
+        }
+        if !is_object(bytes) {
+            return Err(ObjectFault::Syntax);
+        }
+        match copy_of(alloc, bytes) {
+            Ok(object) => Ok(object),
+            Err(_) => Err(ObjectFault::Memory),
+        }
+    }
+
+    /// The bytes of the text.
+    pub fn bytes(&self) -> &[u8]
+        ensures text { result.now ≡ self.now }
+        ensures object { IsObjectText self.now }
+    {
+        self.text.as_slice()
+    }
+
+    /// The same text again.
+    pub fn copy(&self) -> Result<ObjectText, AllocError>
+        ensures { IfOk result (λ object. object ≡ self.now) }
+    {
+        let text = self.text.clone()?;
+        Ok(ObjectText { text })
+    }
+}
+
+fn copy_of(alloc: Global, bytes: &[u8]) -> Result<ObjectText, AllocError>
+    requires { IsObjectText bytes.now }
+    ensures { IfOk result (λ object. object ≡ bytes.now) }
+{
+    let text = RcSlice::from_slice(alloc, bytes)?;
+    Ok(ObjectText { text })
+}
+
+#[tactic(auto, using(crate::proofs::Kept::unbroken_from_none, crate::proofs::Kept::broken_from_some))]
+fn has_line_feed(bytes: &[u8]) -> bool
+    ensures { MatchBool result (¬ IsUnbroken bytes.now) (IsUnbroken bytes.now) }
+{
+    bytes.contains(&b'\n')
+}
+
+/// Whether a UTF-8 text is one object with nothing around it.
+#[tactic(auto, using(crate::proofs::Kept::alone_spells, crate::proofs::Kept::not_alone))]
+fn is_object(bytes: &[u8]) -> bool
+    requires { IsUtf8 bytes.now }
+    ensures { MatchBool result (SpellsObject bytes.now) (SpellsNoObject bytes.now) }
+{
+    is_read_alone(bytes)
+}
+
+fn is_read_alone(bytes: &[u8]) -> bool
+    ensures { result ≡ is_object_alone (kind_and_rest (value_front bytes.now)) }
+{
+    match after_value(bytes) {
+        Some((Kind::Object, rest)) => rest.is_empty(),
+        _ => false,
+    }
+}
