@@ -7,4 +7,4 @@ mod write;
 
 pub use line::{Line, LineFault};
 pub use read::read_line;
-pub use write::write_line;
+pub use write::{write_batch, write_line};
