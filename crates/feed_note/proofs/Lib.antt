@@ -1,1 +1,3 @@
 pub mod WrittenBatches
+pub mod WrittenLines
+pub mod WrittenStrings
