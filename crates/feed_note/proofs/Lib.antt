@@ -1,3 +1,4 @@
 pub mod WrittenBatches
 pub mod WrittenLines
 pub mod WrittenStrings
+pub mod WrittenTrees
