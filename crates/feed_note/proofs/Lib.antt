@@ -5,3 +5,7 @@ pub mod Telling
 pub mod Conditions
 pub mod Answering
 pub mod LineRead
+pub mod WrittenBatches
+pub mod WrittenLines
+pub mod WrittenStrings
+pub mod WrittenTrees

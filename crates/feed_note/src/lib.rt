@@ -3,15 +3,17 @@
 
 mod content;
 mod fields;
+mod laws;
 mod line;
 mod naming;
 mod read;
 mod told;
 mod write;
 
+pub use laws::written_lines_law;
 pub use line::{Line, LineFault};
 pub use read::read_line;
-pub use write::write_line;
+pub use write::{write_batch, write_line};
 
 #[cfg(test)]
 mod tests;
