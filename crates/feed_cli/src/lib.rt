@@ -1,0 +1,7 @@
+//! The commands, over devices.
+#![tactic(auto)]
+
+pub mod device;
+pub mod input;
+pub mod memory;
+pub mod stream;
