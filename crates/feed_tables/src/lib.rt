@@ -8,7 +8,7 @@ mod objects;
 mod place;
 pub mod tables;
 
-pub use change::Change;
+pub use change::{Change, Changes};
 pub use collection::Collection;
 pub use name::{Name, NameFault};
 pub use tables::{Table, Tables};
