@@ -1,1 +1,3 @@
 mod DeviceLemmas
+mod FeedLemmas
+mod LineLemmas

@@ -1,2 +1,4 @@
 pub mod Device
+pub mod Feed
+pub mod FirstTables
 pub mod Memory

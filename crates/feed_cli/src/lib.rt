@@ -2,6 +2,8 @@
 #![tactic(auto)]
 
 pub mod device;
+pub mod feed;
 pub mod input;
 pub mod memory;
 pub mod stream;
+pub mod tables;

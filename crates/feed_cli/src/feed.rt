@@ -1,0 +1,99 @@
+//! A feed that is read line by line: the tables after its lines, and what they have published.
+ghost use Rattle.std.specs.Prelude.{◌≡◌, ◌≢◌, ℕ, ◌+◌, ◌++◌, ◌∷◌, List, [], IfOk, IfErr, OnOk, OnErr, IfSome, IfNone, None, is_some, position};
+ghost use Rattle.std.specs.List.{AllZip};
+ghost use Rattle.std.specs.FinMap.{empty};
+ghost use Rattle.feed_text.specs.Ascii.{line_feed};
+ghost use Rattle.feed_tables.specs.Tables.{folded as after_all};
+ghost use Rattle.feed_note.specs.Lines.{HasNoLineFeed, is_line_feed, lines};
+ghost use Rattle.feed_note.specs.Meaning.{Means, Reason};
+ghost use Rattle.feed_note.specs.Notes.{changes_in, token_in, FirstFaulty};
+ghost use Rattle.feed_note.specs.Texts.{batch_text, published_text};
+ghost use Rattle.feed_note.specs.declared.line.Line.{Line as Meaning};
+ghost use Rattle.feed_cli.specs.Feed.{pair_of, then_published, Stands};
+
+use feed_note::{Line, LineFault, read_line, write_line};
+use feed_tables::{Change, Name, Tables};
+use std::alloc::{AllocError, Global};
+
+/// Tables that a feed has published, and the token that names them.
+#[derive(Drop)]
+pub struct Publication {
+    pub tables: Tables,
+    pub token: Name,
+}
+
+/// The tables after the lines so far, and what these have published.
+#[derive(Drop)]
+pub struct Feed {
+    pub staged: Tables,
+    pub published: Option<Publication>,
+}
+
+fn line_end(text: &[u8]) -> Option<usize>
+    ensures { result ≡ position is_line_feed text.now }
+{
+    text.iter().position(|byte| *byte == b'\n')
+}
+
+/// The first line and the text behind its line feed; none where there is no line feed.
+pub fn split_line(text: &[u8]) -> Option<(&[u8], &[u8])>
+    ensures some { IfSome result (λ parts. HasNoLineFeed parts.0.now × (text.now ≡ parts.0.now ++ line_feed ∷ parts.1.now)) }
+    ensures none { IfNone result (HasNoLineFeed text.now) }
+{
+    let end = line_end(text)?;
+    Some((&text[..end], &text[end + 1..]))
+}
+
+impl Feed {
+    /// No line was read.
+    pub fn new(alloc: Global) -> Feed
+        ensures staged { result.staged.0 ≡ empty }
+        ensures published { result.published ≡ None }
+    {
+        Feed {
+            staged: Tables::new(alloc),
+            published: None,
+        }
+    }
+
+    fn stage(&mut self, alloc: Global, changes: &[Change]) -> Result<(), AllocError>
+        ensures staged { OnOk result (self.new.staged.0 ≡ after_all self.old.staged.0 changes.now) }
+        ensures published { self.new.published ≡ self.old.published }
+    {
+        for change in changes {
+            self.staged.apply(alloc, change)?;
+        }
+        Ok(())
+    }
+
+    fn publish(&mut self, alloc: Global, token: Name) -> Result<(), AllocError>
+        ensures staged { self.new.staged ≡ self.old.staged }
+        ensures published { OnOk result (pair_of self.new.published ≡ Some (record { tables = self.old.staged.0; token = token })) }
+    {
+        let tables = self.staged.copy(alloc)?;
+        self.published = Some(Publication { tables, token });
+        Ok(())
+    }
+
+    /// Reads a line, without its line feed.
+    fn read(&mut self, alloc: Global, line: &[u8]) -> Result<(), LineFault>
+        requires { HasNoLineFeed line.now }
+        ensures ok { OnOk result ((note : Meaning) × Means line.now note
+            × (self.new.staged.0 ≡ after_all self.old.staged.0 (changes_in note))
+            × (pair_of self.new.published ≡ then_published (token_in note) self.new.staged.0 (pair_of self.old.published))) }
+        ensures err { IfErr result (λ fault. fault ≢ LineFault.Memory → Reason line.now fault × (self.new.published ≡ self.old.published)) }
+    {
+        match read_line(alloc, line)? {
+            Line::KeepAlive => Ok(()),
+            Line::Note { changes, token } => {
+                let staged = self.stage(alloc, changes.as_slice());
+                staged.map_err(|_| LineFault::Memory)?;
+                if let Some(token) = token {
+                    let published = self.publish(alloc, token);
+                    published.map_err(|_| LineFault::Memory)?;
+                }
+                Ok(())
+            }
+        }
+    }
+}
