@@ -6,8 +6,8 @@ use Rattle.feed_note.specs.Publishing.{Published, Publishes}
 use Rattle.feed_note.specs.Texts.{published_text}
 use Rattle.feed_note.specs.declared.line.Line.{Line}
 use Rattle.feed_note.specs.declared.line.LineFault.{LineFault}
-use Rattle.feed_cli.specs.declared.tables.FirstFault.{FirstFault}
-use Rattle.feed_cli.specs.declared.tables.FirstFault.TheVariants as fault
+use Rattle.feed_cli.specs.declared.feed.FirstFault.{FirstFault}
+use Rattle.feed_cli.specs.declared.feed.FirstFault.TheVariants as fault
 
 -- the snapshot of what the lines publish was appended, and the answer says whether they publish anything
 pub record Prints (text old new : List ℕ) (is_published : Bool) : Type 0 where

@@ -9,11 +9,12 @@ ghost use Rattle.feed_note.specs.Meaning.{Means, Reason};
 ghost use Rattle.feed_note.specs.Notes.{changes_in, token_in, FirstFaulty};
 ghost use Rattle.feed_note.specs.Texts.{batch_text, published_text};
 ghost use Rattle.feed_note.specs.declared.line.Line.{Line as Meaning};
-ghost use Rattle.feed_cli.specs.Feed.{pair_of, then_published, Stands};
+ghost use Rattle.feed_cli.specs.Feed.{pair_of, TakesLine, RefusesLine, Stands, StandsAt};
 
 use feed_note::{Line, LineFault, read_line, write_line};
 use feed_tables::{Change, Name, Tables};
 use std::alloc::{AllocError, Global};
+use thiserror::Error;
 
 /// Tables that a feed has published, and the token that names them.
 #[derive(Drop)]
@@ -78,9 +79,7 @@ impl Feed {
     /// Reads a line, without its line feed.
     fn read(&mut self, alloc: Global, line: &[u8]) -> Result<(), LineFault>
         requires { HasNoLineFeed line.now }
-        ensures ok { OnOk result ((note : Meaning) × Means line.now note
-            × (self.new.staged.0 ≡ after_all self.old.staged.0 (changes_in note))
-            × (pair_of self.new.published ≡ then_published (token_in note) self.new.staged.0 (pair_of self.old.published))) }
+        ensures ok { OnOk result (TakesLine line.now self.old.staged.0 (pair_of self.old.published) self.new.staged.0 (pair_of self.new.published)) }
         ensures err { IfErr result (λ fault. fault ≢ LineFault.Memory → Reason line.now fault × (self.new.published ≡ self.old.published)) }
     {
         match read_line(alloc, line)? {
@@ -94,6 +93,58 @@ impl Feed {
                 }
                 Ok(())
             }
+        }
+    }
+
+    /// Reads the line of this number.
+    fn read_numbered(&mut self, alloc: Global, number: u64, line: &[u8]) -> Result<(), FirstFault>
+        requires { HasNoLineFeed line.now }
+        ensures ok { OnOk result (TakesLine line.now self.old.staged.0 (pair_of self.old.published) self.new.staged.0 (pair_of self.new.published)) }
+        ensures err { IfErr result (λ fault. RefusesLine fault number line.now (pair_of self.old.published) (pair_of self.new.published)) }
+    {
+        match self.read(alloc, line) {
+            Ok(()) => Ok(()),
+            Err(fault) => Err(FirstFault::at_line(number, fault)),
+        }
+    }
+
+    /// Reads the lines of a text in order, up to the first that means nothing. What follows the last line feed is no line.
+    pub fn read_lines(&mut self, alloc: Global, text: &[u8]) -> Result<(), FirstFault>
+        requires staged { self.old.staged.0 ≡ empty }
+        requires published { self.old.published ≡ None }
+        ensures ok { OnOk result (Stands (lines text.now) self.new.staged.0 (pair_of self.new.published)) }
+        ensures err { IfErr result (λ fault. StandsAt fault text.now (pair_of self.new.published)) }
+    {
+        let mut rest = text;
+        let mut number: u64 = 0;
+        'lines: while let Some((line, behind)) = split_line(rest) {
+            number += 1;
+            self.read_numbered(alloc, number, line)?;
+            rest = behind;
+        }
+        Ok(())
+    }
+}
+
+/// Why the lines of a feed were not all read.
+#[derive(Clone, Copy, Debug, PartialEq, Eq, Error)]
+pub enum FirstFault {
+    /// The number of the first line that means nothing, counted from 1, and why.
+    #[error("{1}")]
+    Line(u64, LineFault),
+    #[error("out of memory")]
+    Memory,
+}
+
+impl FirstFault {
+    ghost use Rattle.feed_cli.specs.Feed.{fault_at};
+
+    fn at_line(number: u64, fault: LineFault) -> FirstFault
+        ensures { result ≡ fault_at number fault }
+    {
+        match fault {
+            LineFault::Memory => FirstFault::Memory,
+            reason => FirstFault::Line(number, reason),
         }
     }
 }

@@ -6,4 +6,3 @@ pub mod feed;
 pub mod input;
 pub mod memory;
 pub mod stream;
-pub mod tables;
