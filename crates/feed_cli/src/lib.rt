@@ -6,3 +6,4 @@ pub mod feed;
 pub mod input;
 pub mod memory;
 pub mod stream;
+pub mod tables;
