@@ -2,3 +2,4 @@ pub mod Device
 pub mod Feed
 pub mod FirstTables
 pub mod Memory
+pub mod Status
