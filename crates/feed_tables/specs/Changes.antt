@@ -1,13 +1,26 @@
 -- What a notification does (CLICS Contest API 2023-06, notification format).
+use Rattle.std.specs.Prelude.{ℕ, List, map}
 use Rattle.feed_text.specs.Objects.{IsObjectText}
 use Rattle.feed_tables.specs.Names.{IsName}
 use Rattle.feed_tables.specs.declared.change.Change.{Change}
 use Rattle.feed_tables.specs.declared.change.Change.TheVariants.{Set, Remove, Empty, Single, Clear}
 
+-- the type that a change is about
+abbrev pub type_of : Change → List ℕ
+type_of (Set kind id object) = kind
+type_of (Remove kind id) = kind
+type_of (Empty kind) = kind
+type_of (Single kind object) = kind
+type_of (Clear kind) = kind
+
 -- the names and the object of a change are within the limits
 abbrev pub IsChange : Change → Type 0
-IsChange (Set t i o) = IsName t × IsName i × IsObjectText o
-IsChange (Remove t i) = IsName t × IsName i
-IsChange (Empty t) = IsName t
-IsChange (Single t o) = IsName t × IsObjectText o
-IsChange (Clear t) = IsName t
+IsChange (Set kind id object) = IsName kind × IsName id × IsObjectText object
+IsChange (Remove kind id) = IsName kind × IsName id
+IsChange (Empty kind) = IsName kind
+IsChange (Single kind object) = IsName kind × IsObjectText object
+IsChange (Clear kind) = IsName kind
+
+-- one Set for each object of a collection, in the order of the entries
+abbrev pub sets : List ℕ → List (List ℕ × List ℕ) → List Change
+sets kind entries = map (λ e. Set kind e.0 e.1) entries

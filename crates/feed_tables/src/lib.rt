@@ -2,13 +2,12 @@
 #![tactic(auto)]
 
 pub mod change;
-pub mod collection;
+mod collection;
 pub mod name;
 mod objects;
 mod place;
 pub mod tables;
 
 pub use change::{Change, Changes};
-pub use collection::Collection;
 pub use name::{Name, NameFault};
 pub use tables::{Table, Tables};

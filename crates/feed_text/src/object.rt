@@ -83,10 +83,19 @@ impl ObjectText {
         if !is_object(bytes) {
             return Err(ObjectFault::Syntax);
         }
-        match copy_of(alloc, bytes) {
+        match ObjectText::from_object(alloc, bytes) {
             Ok(object) => Ok(object),
             Err(_) => Err(ObjectFault::Memory),
         }
+    }
+
+    /// The text that is already known to be one: it is not read again.
+    pub fn from_object(alloc: Global, bytes: &[u8]) -> Result<ObjectText, AllocError>
+        requires { IsObjectText bytes.now }
+        ensures { IfOk result (λ object. object ≡ bytes.now) }
+    {
+        let text = RcSlice::from_slice(alloc, bytes)?;
+        Ok(ObjectText { text })
     }
 
     /// The bytes of the text.
@@ -104,14 +113,6 @@ impl ObjectText {
         let text = self.text.clone()?;
         Ok(ObjectText { text })
     }
-}
-
-fn copy_of(alloc: Global, bytes: &[u8]) -> Result<ObjectText, AllocError>
-    requires { IsObjectText bytes.now }
-    ensures { IfOk result (λ object. object ≡ bytes.now) }
-{
-    let text = RcSlice::from_slice(alloc, bytes)?;
-    Ok(ObjectText { text })
 }
 
 #[tactic(auto, using(crate::proofs::Kept::unbroken_from_none, crate::proofs::Kept::broken_from_some))]

@@ -1,0 +1,139 @@
+-- Strings whose bytes all stand for themselves: what is between their quotation marks is what they say.
+use Rattle.std.proofs.Common.{◌≡◌, ℕ, true, false, List, [], ◌∷◌, ◌++◌, Option, Some, None, refl, sym, ap, subst, ◌∙◌, ◌<◌, ◌-◌, arith, leb, length, take, drop, eqb-true, length-append}
+use Rattle.std.proofs.Math.Seq.{take-append_seam}
+use Rattle.std.specs.Prelude.{◌&&◌, ◌==◌, not, nat_lt, nat_eq, bytes_eq, IsUtf8}
+use Rattle.std.specs.List.{list_all, flat_map}
+use Rattle.std.specs.Cmp.Lexicographic.{pointwise}
+use Rattle.std.specs.Option.{option_eq}
+use Rattle.std.proofs.lemmas.Bool.{false≢true, leb-true, ne_eqb, le-ltb}
+use Rattle.std.proofs.lemmas.Option.{cond_some, none-some}
+use Rattle.feed_text.specs.Ascii.{quotation_mark, backslash}
+use Rattle.feed_text.specs.Grammar.{is_unescaped}
+use Rattle.feed_text.specs.declared.Kind.TheVariants as kind
+use Rattle.feed_text.specs.Json.{Character, unescaped, escaped, unicode, is_character, print_character, IsString, Value, null_literal, true_literal, false_literal, number, string, empty_array, array, empty_object, object, print, kind_of, IsValue, TextOfStringIsString}
+use Rattle.feed_text.specs.Reading.{first, front_while, rest_while, unescaped_content}
+use Rattle.feed_text.proofs.Fronts.{while_parts, while_passes, while_front, while_rest}
+use Rattle.feed_text.proofs.Parts.{with_first}
+use Rattle.feed_text.proofs.Scalars.{same_bytes}
+use Rattle.feed_text.specs.Strings.{Says, says, written_byte, written_string, IsPlain}
+use Rattle.feed_text.proofs.Strings.{both_true, unescaped_is}
+use Rattle.feed_text.proofs.TreeScalars.{both, unescaped_test, all_bytes, bytes_all}
+use Rattle.feed_text.proofs.Utf8.{utf8_behind, utf8_before}
+use Rattle.feed_text.proofs.WrittenStrings.{written_string_says}
+
+below_space : (b c : ℕ) → is_unescaped b ≡ true → c < 32 → (b == c) ≡ false
+below_space b c h lt = ne_eqb b c (λ e. absurd (omega (arith, leb-true 32 b (both_true (leb 32 b) _ h).0)))
+
+printable : (b : ℕ) → is_unescaped b ≡ true → nat_lt b 32 ≡ false
+printable b h = le-ltb b 32 (leb-true 32 b (both_true (leb 32 b) _ h).0)
+
+same_byte : (b : ℕ) → is_unescaped b ≡ true → written_byte b ≡ b ∷ []
+same_byte b h =
+    let i = unescaped_is b h in
+    rw (i.0, i.1, below_space b 8 h (omega arith), below_space b 9 h (omega arith), below_space b 10 h (omega arith), below_space b 12 h (omega arith), below_space b 13 h (omega arith), printable b h) refl
+
+written_bytes : (bytes : List ℕ) → list_all is_unescaped bytes ≡ true → flat_map written_byte bytes ≡ bytes
+written_bytes [] h = refl
+written_bytes (b ∷ bytes) h =
+    let i = both_true (is_unescaped b) (list_all is_unescaped bytes) h in
+    (λ j. same_byte b i.0 j ++ written_bytes bytes i.1 j)
+
+-- s is the content between quotation marks, and each byte of it stands for itself
+pub record Quotes (s content : List ℕ) : Type 0 where
+  pub text : s ≡ quotation_mark ∷ (content ++ quotation_mark ∷ [])
+  pub unescaped_bytes : list_all is_unescaped content ≡ true
+
+pub content_quotes : (s content : List ℕ) → unescaped_content s ≡ Some content → Quotes s content
+unfolding unescaped_content
+content_quotes s content e =
+    let inside = drop 1 s in
+    let here = cond_some (first s == quotation_mark && pointwise nat_eq (rest_while is_unescaped inside) (quotation_mark ∷ [])) (front_while is_unescaped inside) content e in
+    let i = both_true (first s == quotation_mark) _ here.0 in
+    let opened : s ≡ quotation_mark ∷ inside = with_first quotation_mark s (omega arith) (eqb-true _ _ i.0) in
+    let close : rest_while is_unescaped inside ≡ quotation_mark ∷ [] = same_bytes (rest_while is_unescaped inside) (quotation_mark ∷ []) i.1 in
+    let whole : inside ≡ front_while is_unescaped inside ++ quotation_mark ∷ [] = while_parts is_unescaped inside ∙ ap (λ (t : List ℕ). front_while is_unescaped inside ++ t) close in
+    let found : Quotes s (front_while is_unescaped inside) = record { text = opened ∙ ap (λ (t : List ℕ). quotation_mark ∷ t) whole; unescaped_bytes = bytes_all is_unescaped (front_while is_unescaped inside) (while_passes is_unescaped inside) } in
+    subst (Quotes s) here.1 found
+
+quotes_content : (s content : List ℕ) → Quotes s content → unescaped_content s ≡ Some content
+unfolding unescaped_content
+quotes_content s content h =
+    let passes = all_bytes is_unescaped content h.unescaped_bytes in
+    ap unescaped_content h.text ∙ rw (while_rest is_unescaped content (quotation_mark ∷ []) passes refl, while_front is_unescaped content (quotation_mark ∷ []) passes refl) refl
+
+-- such a string is the written string of its content
+quotes_says : (s content : List ℕ) → Quotes s content → Says s content
+unfolding written_string
+quotes_says s content h =
+    let written : written_string content ≡ s = ap (λ (t : List ℕ). 34 ∷ (t ++ 34 ∷ [])) (written_bytes content h.unescaped_bytes) ∙ sym h.text in
+    subst (λ (t : List ℕ). Says t content) written (written_string_says content)
+
+pub content_says : (s content : List ℕ) → unescaped_content s ≡ Some content → Says s content
+content_says s content e = quotes_says s content (content_quotes s content e)
+
+pub says_content : (s content w : List ℕ) → unescaped_content s ≡ Some content → says s w ≡ bytes_eq content w
+says_content s content w e = ap (λ (o : Option (List ℕ)). option_eq bytes_eq o (Some w)) (content_says s content e)
+
+plain_tail : (bytes : List ℕ) → list_all is_unescaped bytes ≡ true → IsPlain (bytes ++ 34 ∷ [])
+plain_tail [] h = refl
+plain_tail (b ∷ bytes) h =
+    let i = both_true (is_unescaped b) (list_all is_unescaped bytes) h in
+    both (not (b == backslash)) _ (ap not (unescaped_is b i.0).1) (plain_tail bytes i.1)
+
+pub content_text : (s content : List ℕ) → unescaped_content s ≡ Some content → s ≡ quotation_mark ∷ (content ++ quotation_mark ∷ [])
+content_text s content e = (content_quotes s content e).text
+
+pub content_plain : (s content : List ℕ) → unescaped_content s ≡ Some content → IsPlain s
+content_plain s content e =
+    let h = content_quotes s content e in
+    subst IsPlain (sym h.text) (plain_tail content h.unescaped_bytes)
+
+-- characters without a backslash stand for themselves
+characters_plain : (cs : List Character) → list_all is_character cs ≡ true → IsPlain (flat_map print_character cs ++ 34 ∷ []) → list_all is_unescaped (flat_map print_character cs) ≡ true
+characters_plain [] h plain = refl
+characters_plain (unescaped b ∷ cs) h plain =
+    let i = both_true (is_character (unescaped b)) (list_all is_character cs) h in
+    let j = both_true (not (b == backslash)) _ plain in
+    both (is_unescaped b) (list_all is_unescaped (flat_map print_character cs)) (sym (unescaped_test b) ∙ i.0) (characters_plain cs i.1 j.1)
+characters_plain (escaped b ∷ cs) h plain = absurd (false≢true plain)
+characters_plain (unicode a b c d ∷ cs) h plain = absurd (false≢true plain)
+
+pub not_plain : (s : List ℕ) → IsString s → unescaped_content s ≡ None → ¬ IsPlain s
+not_plain s (cs, h, e) none plain =
+    let tail : IsPlain (flat_map print_character cs ++ 34 ∷ []) = subst IsPlain e plain in
+    let quotes : Quotes s (flat_map print_character cs) = record { text = e; unescaped_bytes = characters_plain cs h tail } in
+    absurd (none-some (flat_map print_character cs) (sym none ∙ quotes_content s (flat_map print_character cs) quotes))
+
+pub content_is_front : (text rest : List ℕ) → rest ≡ rest_while is_unescaped text → take (length text - length rest) text ≡ front_while is_unescaped text
+content_is_front text rest e =
+    let front = front_while is_unescaped text in
+    let parts : text ≡ front ++ rest = while_parts is_unescaped text ∙ ap (λ (t : List ℕ). front ++ t) (sym e) in
+    let size : length text - length rest ≡ length front = omega (arith, ap length parts, length-append front rest) in
+    ap (λ (n : ℕ). take n text) size ∙ ap (take (length front)) parts ∙ take-append_seam front rest
+
+-- what the code takes for the content
+pub content_utf8 : (s inside end content : List ℕ) → IsUtf8 s → first s ≡ quotation_mark → inside ≡ drop 1 s → end ≡ rest_while is_unescaped inside → pointwise nat_eq end (quotation_mark ∷ []) ≡ true → content ≡ take (length inside - length end) inside → IsUtf8 content
+content_utf8 s inside end content utf8 here behind rest closed cut =
+    let close : end ≡ quotation_mark ∷ [] = same_bytes end (quotation_mark ∷ []) closed in
+    let front = front_while is_unescaped inside in
+    let opened : s ≡ quotation_mark ∷ inside = with_first quotation_mark s (omega arith) here ∙ ap (λ (t : List ℕ). quotation_mark ∷ t) (sym behind) in
+    let parts : inside ≡ front ++ quotation_mark ∷ [] = while_parts is_unescaped inside ∙ ap (λ (t : List ℕ). front ++ t) (sym rest ∙ close) in
+    let behind_mark : IsUtf8 inside = utf8_behind quotation_mark inside (omega arith) (subst IsUtf8 opened utf8) in
+    let before_mark : IsUtf8 front = utf8_before front [] quotation_mark (omega arith) (subst IsUtf8 parts behind_mark) in
+    subst IsUtf8 (sym (cut ∙ content_is_front inside end rest)) before_mark
+
+-- ---- the text of a value that is a string
+
+string_value : (v : Value) → IsValue v → kind_of v ≡ kind.Str → IsString (print v)
+string_value null_literal ok e = absurd cc
+string_value true_literal ok e = absurd cc
+string_value false_literal ok e = absurd cc
+string_value (number n) ok e = absurd cc
+string_value (string s) ok e = ok
+string_value (empty_array w) ok e = absurd cc
+string_value (array es) ok e = absurd cc
+string_value (empty_object w) ok e = absurd cc
+string_value (object ms) ok e = absurd cc
+
+pub string_text_is_string : TextOfStringIsString
+string_text_is_string x v s e = subst IsString (sym s.text) (string_value v s.valid e)
