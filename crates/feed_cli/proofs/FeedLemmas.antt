@@ -1,10 +1,9 @@
 -- Lemmas on what the lines of a feed leave and publish.
 use Rattle.std.proofs.Common.{◌≡◌, refl, sym, ap, ◌∙◌, subst, ℕ, ◌+◌, ◌<◌, List, [], ◌∷◌, ◌++◌, length, take, get_or, append_assoc, append-nil, flat_map, Option, None, Some}
 use Rattle.std.specs.List.{AllByRecursion, AllZip}
-use Rattle.std.specs.FinMap.{empty}
 use Rattle.std.proofs.lemmas.List.{take_more}
 use Rattle.std.proofs.lemmas.Grind.{flat_map-append}
-use Rattle.feed_tables.specs.Tables.{Contents, after, folded as after_all}
+use Rattle.feed_tables.specs.Tables.{Contents, no_tables, after, after_all}
 use Rattle.feed_tables.specs.declared.change.Change.{Change}
 use Rattle.feed_note.specs.Lines.{HasNoLineFeed, lines}
 use Rattle.feed_note.specs.Meaning.{Means}
@@ -65,19 +64,19 @@ publishes_more base notes (Note cs (Some t)) pair staged h e =
 
 -- ---- lines
 
-pub stands_none : (staged : Contents) → staged ≡ empty → Stands [] staged None
+pub stands_none : (staged : Contents) → staged ≡ no_tables → Stands [] staged None
 stands_none staged e = record { notes = []; meant = tt; staged_is = e; published_is = tt }
 
 pub stands_more : (seen : List (List ℕ)) (line : List ℕ) (staged staged' : Contents) (pair pair' : Option Published)
     → Stands seen staged pair → TakesLine line staged pair staged' pair' → Stands (seen ++ line ∷ []) staged' pair'
 stands_more seen line staged staged' pair pair' s t =
-    let is : staged' ≡ after_all empty (all_changes s.notes ++ changes_in t.note) =
-    t.staged_is ∙ ap (λ c. after_all c (changes_in t.note)) s.staged_is ∙ sym (after_all-append empty (all_changes s.notes) (changes_in t.note)) in
+    let is : staged' ≡ after_all no_tables (all_changes s.notes ++ changes_in t.note) =
+    t.staged_is ∙ ap (λ c. after_all c (changes_in t.note)) s.staged_is ∙ sym (after_all-append no_tables (all_changes s.notes) (changes_in t.note)) in
     record {
       notes = s.notes ++ t.note ∷ [];
       meant = zip_more seen s.notes line t.note s.meant t.means;
-      staged_is = is ∙ ap (after_all empty) (sym (all_changes_more s.notes t.note));
-      published_is = subst (Publishes empty (s.notes ++ t.note ∷ [])) (sym t.published_is) (publishes_more empty s.notes t.note pair staged' s.published_is is);
+      staged_is = is ∙ ap (after_all no_tables) (sym (all_changes_more s.notes t.note));
+      published_is = subst (Publishes no_tables (s.notes ++ t.note ∷ [])) (sym t.published_is) (publishes_more no_tables s.notes t.note pair staged' s.published_is is);
     }
 
 -- the lines of a text behind those that were read
@@ -95,6 +94,6 @@ pub stands_at_fault : (found : FirstFault) (text line behind : List ℕ) (number
 stands_at_fault (fault.Line n why) text line behind number seen staged pair pair' e count s (is, reason, same) = (
   s.notes,
   record { good = seen; bad = line; more = lines behind; whole = e; meant = s.meant; is = is ∙ count; reason = reason },
-  subst (Publishes empty s.notes) (sym same) s.published_is,
+  subst (Publishes no_tables s.notes) (sym same) s.published_is,
 )
 stands_at_fault fault.Memory text line behind number seen staged pair pair' e count s r = tt

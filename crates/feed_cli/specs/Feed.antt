@@ -1,8 +1,7 @@
 -- A feed that is read line by line, on a fresh connection where nothing was published before.
 use Rattle.std.specs.Prelude.{◌≡◌, ℕ, List, Option, None, Some, ⊤}
 use Rattle.std.specs.List.{AllZip}
-use Rattle.std.specs.FinMap.{empty}
-use Rattle.feed_tables.specs.Tables.{Contents, folded as after_all}
+use Rattle.feed_tables.specs.Tables.{Contents, no_tables, after_all}
 use Rattle.feed_note.specs.Meaning.{Means, Reason}
 use Rattle.feed_note.specs.Notes.{FirstFaulty, all_changes, changes_in, token_in}
 use Rattle.feed_note.specs.Publishing.{Published, Publishes}
@@ -16,7 +15,7 @@ use Rattle.feed_cli.specs.declared.feed.Publication.{Publication}
 -- the tables and the token of a publication
 abbrev pub pair_of : Option Publication → Option Published
 pair_of None = None
-pair_of (Some p) = Some (record { tables = p.tables.0; token = p.token })
+pair_of (Some p) = Some (record { tables = p.tables.contents; token = p.token })
 
 -- what is published after a line with this token, or with none, where these tables are staged and this was published
 abbrev pub then_published : Option (List ℕ) → Contents → Option Published → Option Published
@@ -39,8 +38,8 @@ RefusesLine fault.Memory number line published now_published = ⊤
 pub record Stands (seen : List (List ℕ)) (staged : Contents) (published : Option Published) : Type 0 where
   pub notes : List Line
   pub meant : AllZip Means seen notes
-  pub staged_is : staged ≡ after_all empty (all_changes notes)
-  pub published_is : Publishes empty notes published
+  pub staged_is : staged ≡ after_all no_tables (all_changes notes)
+  pub published_is : Publishes no_tables notes published
 
 -- the fault of a line; a want of memory names no line
 abbrev pub fault_at : ℕ → LineFault → FirstFault
@@ -49,5 +48,5 @@ fault_at number why = fault.Line number why
 
 -- the lines before the faulty one publish this
 abbrev pub StandsAt : FirstFault → List ℕ → Option Published → Type 0
-StandsAt (fault.Line number why) text published = (notes : List Line) × FirstFaulty text notes number why × Publishes empty notes published
+StandsAt (fault.Line number why) text published = (notes : List Line) × FirstFaulty text notes number why × Publishes no_tables notes published
 StandsAt fault.Memory text published = ⊤

@@ -1,6 +1,6 @@
 -- What the lines of a text publish on a fresh connection, as it is printed.
 use Rattle.std.specs.Prelude.{◌≡◌, ℕ, Bool, List, ◌++◌, Option, is_some}
-use Rattle.std.specs.FinMap.{empty}
+use Rattle.feed_tables.specs.Tables.{no_tables}
 use Rattle.feed_note.specs.Notes.{LinesMean, FirstFaulty}
 use Rattle.feed_note.specs.Publishing.{Published, Publishes}
 use Rattle.feed_note.specs.Texts.{published_text}
@@ -18,7 +18,7 @@ pub record Prints (text old new : List ℕ) (is_published : Bool) : Type 0 where
   pub notes : List Line
   pub pair : Option Published
   pub meant : LinesMean text notes
-  pub publishes : Publishes empty notes pair
+  pub publishes : Publishes no_tables notes pair
   pub appended : new ≡ old ++ published_text pair
   pub told : is_published ≡ is_some pair
 
@@ -27,7 +27,7 @@ pub record PrintsBefore (text old new : List ℕ) (number : ℕ) (reason : LineF
   pub notes : List Line
   pub pair : Option Published
   pub faulty : FirstFaulty text notes number reason
-  pub publishes : Publishes empty notes pair
+  pub publishes : Publishes no_tables notes pair
   pub appended : new ≡ old ++ published_text pair
 
 -- what was appended where the lines were not all read

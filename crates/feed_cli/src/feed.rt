@@ -1,9 +1,8 @@
 //! A feed that is read line by line: the tables after its lines, and what they have published.
 ghost use Rattle.std.specs.Prelude.{◌≡◌, ◌≢◌, ℕ, ◌+◌, ◌++◌, ◌∷◌, List, [], IfOk, IfErr, OnOk, OnErr, IfSome, IfNone, None, is_some, position};
 ghost use Rattle.std.specs.List.{AllZip};
-ghost use Rattle.std.specs.FinMap.{empty};
 ghost use Rattle.feed_text.specs.Ascii.{line_feed};
-ghost use Rattle.feed_tables.specs.Tables.{folded as after_all};
+ghost use Rattle.feed_tables.specs.Tables.{no_tables, after_all};
 ghost use Rattle.feed_note.specs.Lines.{HasNoLineFeed, is_line_feed, lines};
 ghost use Rattle.feed_note.specs.Meaning.{Means, Reason};
 ghost use Rattle.feed_note.specs.Notes.{changes_in, token_in, FirstFaulty};
@@ -48,7 +47,7 @@ pub fn split_line(text: &[u8]) -> Option<(&[u8], &[u8])>
 impl Feed {
     /// No line was read.
     pub fn new(alloc: Global) -> Feed
-        ensures staged { result.staged.0 ≡ empty }
+        ensures staged { result.staged.contents ≡ no_tables }
         ensures published { result.published ≡ None }
     {
         Feed {
@@ -58,7 +57,7 @@ impl Feed {
     }
 
     fn stage(&mut self, alloc: Global, changes: &[Change]) -> Result<(), AllocError>
-        ensures staged { OnOk result (self.new.staged.0 ≡ after_all self.old.staged.0 changes.now) }
+        ensures staged { OnOk result (self.new.staged.contents ≡ after_all self.old.staged.contents changes.now) }
         ensures published { self.new.published ≡ self.old.published }
     {
         for change in changes {
@@ -69,7 +68,7 @@ impl Feed {
 
     fn publish(&mut self, alloc: Global, token: Name) -> Result<(), AllocError>
         ensures staged { self.new.staged ≡ self.old.staged }
-        ensures published { OnOk result (pair_of self.new.published ≡ Some (record { tables = self.old.staged.0; token = token })) }
+        ensures published { OnOk result (pair_of self.new.published ≡ Some (record { tables = self.old.staged.contents; token = token })) }
     {
         let tables = self.staged.copy(alloc)?;
         self.published = Some(Publication { tables, token });
@@ -79,7 +78,7 @@ impl Feed {
     /// Reads a line, without its line feed.
     fn read(&mut self, alloc: Global, line: &[u8]) -> Result<(), LineFault>
         requires { HasNoLineFeed line.now }
-        ensures ok { OnOk result (TakesLine line.now self.old.staged.0 (pair_of self.old.published) self.new.staged.0 (pair_of self.new.published)) }
+        ensures ok { OnOk result (TakesLine line.now self.old.staged.contents (pair_of self.old.published) self.new.staged.contents (pair_of self.new.published)) }
         ensures err { IfErr result (λ fault. fault ≢ LineFault.Memory → Reason line.now fault × (self.new.published ≡ self.old.published)) }
     {
         match read_line(alloc, line)? {
@@ -99,7 +98,7 @@ impl Feed {
     /// Reads the line of this number.
     fn read_numbered(&mut self, alloc: Global, number: u64, line: &[u8]) -> Result<(), FirstFault>
         requires { HasNoLineFeed line.now }
-        ensures ok { OnOk result (TakesLine line.now self.old.staged.0 (pair_of self.old.published) self.new.staged.0 (pair_of self.new.published)) }
+        ensures ok { OnOk result (TakesLine line.now self.old.staged.contents (pair_of self.old.published) self.new.staged.contents (pair_of self.new.published)) }
         ensures err { IfErr result (λ fault. RefusesLine fault number line.now (pair_of self.old.published) (pair_of self.new.published)) }
     {
         match self.read(alloc, line) {
@@ -110,9 +109,9 @@ impl Feed {
 
     /// Reads the lines of a text in order, up to the first that means nothing. What follows the last line feed is no line.
     pub fn read_lines(&mut self, alloc: Global, text: &[u8]) -> Result<(), FirstFault>
-        requires staged { self.old.staged.0 ≡ empty }
+        requires staged { self.old.staged.contents ≡ no_tables }
         requires published { self.old.published ≡ None }
-        ensures ok { OnOk result (Stands (lines text.now) self.new.staged.0 (pair_of self.new.published)) }
+        ensures ok { OnOk result (Stands (lines text.now) self.new.staged.contents (pair_of self.new.published)) }
         ensures err { IfErr result (λ fault. StandsAt fault text.now (pair_of self.new.published)) }
     {
         let mut rest = text;

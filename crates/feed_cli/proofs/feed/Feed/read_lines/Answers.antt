@@ -10,7 +10,7 @@ returns-in_err-read_numbered-clause-err c =
     let p = err_from_is_err_and c.from_residual.result c.from_residual.ensures.1 in
     let (unbroken, cut) = c.in-Some.ensures.some in
     rw (p.1, p.2)
-    (stands_at_fault _ c.args.text.now c.in-Some.line.now c.in-Some.behind.now (c.lines.number + 1) done c.lines.self.staged.0 _ _
+    (stands_at_fault _ c.args.text.now c.in-Some.line.now c.in-Some.behind.now (c.lines.number + 1) done c.lines.self.staged.contents _ _
     (lines_on c.args.text.now c.lines.rest.now c.in-Some.line.now c.in-Some.behind.now done split unbroken cut) (omega arith) stands c.in_err-read_numbered.ensures.err)
 
 pub lines-preserved : goal.lines-preserved

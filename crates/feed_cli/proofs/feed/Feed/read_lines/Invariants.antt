@@ -8,7 +8,7 @@ abbrev pub invariant-lines : goal.invariant-lines
 invariant-lines l = record {
   room : l.number + length l.rest ≤ length l.fn.text;
   done : (done : List (List ℕ)) × (lines l.fn.text ≡ done ++ lines l.rest) × (l.number ≡ length done)
-      × Stands done l.self.staged.0 (pair_of l.self.published);
+      × Stands done l.self.staged.contents (pair_of l.self.published);
 }
 
 abbrev pub decreases-lines : goal.decreases-lines
