@@ -1,0 +1,4 @@
+mod BatchLemmas
+mod DeviceLemmas
+mod FeedLemmas
+mod LineLemmas

@@ -1,0 +1,5 @@
+pub mod Device
+pub mod Feed
+pub mod FirstTables
+pub mod Memory
+pub mod Status

@@ -1,0 +1,76 @@
+//! The commands, as the words of a command line ask for them.
+use crate::device::{FeedRead, FeedWrite, write_all};
+use crate::fault::Fault;
+use crate::tables::print_tables;
+use crate::words::{Request, parse_words};
+use clap::error::ErrorKind;
+use std::alloc::Global;
+use std::fmt;
+use std::fmt::Write;
+
+/// A device that text is printed to.
+#[derive(Drop)]
+struct Printer<'a, W> {
+    device: &'a mut W,
+}
+
+impl<W: FeedWrite> Write for Printer<'_, W> {
+    fn write_str(&mut self, text: &str) -> fmt::Result {
+        match write_all(self.device, text.as_bytes()) {
+            Ok(()) => Ok(()),
+            Err(_) => Err(fmt::Error),
+        }
+    }
+}
+
+/// Prints a text to a device.
+fn print<W: FeedWrite, T: fmt::Display + Drop>(device: &mut W, text: T) -> Result<(), Fault> {
+    match (Printer { device }).write(text) {
+        Ok(()) => Ok(()),
+        Err(_) => Err(Fault::Write),
+    }
+}
+
+/// Tells a fault, and answers the status of the program. Where it can't be told, a device has failed too.
+fn tell<E: FeedWrite>(name: &str, fault: Fault, err: &mut E) -> u8 {
+    match print(err, format_args!("{name}: {fault}\n")) {
+        Ok(()) => fault.status(),
+        Err(failed) => fault.status().max(failed.status()),
+    }
+}
+
+/// Prints what clap answers to words that ask for no command: help, or why they are refused.
+fn answer_words<W: FeedWrite, E: FeedWrite>(error: clap::Error, out: &mut W, err: &mut E) -> u8 {
+    if error.kind() == ErrorKind::OutOfMemory {
+        return tell(PROGRAM, Fault::Memory, err);
+    }
+    if error.use_stderr() {
+        let _ = print(err, &error);
+        return 1;
+    }
+    match print(out, &error) {
+        Ok(()) => 0,
+        Err(fault) => tell(PROGRAM, fault, err),
+    }
+}
+
+const PROGRAM: &str = "tunygarop";
+
+/// Runs the command that the words ask for, and answers the status that the program ends with: 0, or the first of these
+/// that applies: 1 for words that ask for no command, 5 for want of memory, 4 for a device that failed or an input that
+/// did not end, 2 for a faulty input, 3 where nothing was published.
+pub fn run<'a, R: FeedRead, W: FeedWrite, E: FeedWrite>(
+    alloc: Global,
+    words: &'a [&'a str],
+    input: &mut R,
+    out: &mut W,
+    err: &mut E,
+) -> u8 {
+    match parse_words(alloc, words) {
+        Ok(Request::Tables) => match print_tables(alloc, input, out) {
+            Ok(()) => 0,
+            Err(fault) => tell("tables", fault, err),
+        },
+        Err(error) => answer_words(error, out, err),
+    }
+}
