@@ -1,5 +1,5 @@
 -- What a fork of a search tree says of the entries between two keys.
-use Rattle.std.proofs.Common.{◌≡◌, ℕ, List, [], ◌∷◌, ◌++◌, Option, None, Some, IsSome, Less, Equal, Greater, Ordering, Bool, true, false, cond, sym, ap, ◌∙◌, refl, subst, is_some}
+use Rattle.std.proofs.Common.{◌≡◌, ℕ, List, [], Option, None, Some, IsSome, Less, Equal, Greater, true, false, sym, ap, ◌∙◌, refl, subst, is_some}
 use Rattle.std.proofs.lemmas.Cmp.{tied_itself}
 use Rattle.std.specs.FinMap.{find}
 use Rattle.std.specs.FinMap.Entries.{same_entries}

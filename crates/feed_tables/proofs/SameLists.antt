@@ -1,5 +1,5 @@
 -- Two lists that are gone through side by side.
-use Rattle.std.proofs.Common.{◌≡◌, ◌↔◌, List, [], ◌∷◌, length, ap, arith}
+use Rattle.std.proofs.Common.{◌≡◌, ◌↔◌, List, ◌∷◌, length, ap, arith}
 
 module _ {A : Type 0} (xs ys us vs us' vs' : List A) where
   -- the rests are still the same exactly where the lists are

@@ -1,7 +1,7 @@
-use Rattle.std.proofs.Common.{◌≡◌, sym, ap, ◌∙◌, refl, length, arith}
+use Rattle.std.proofs.Common.{◌≡◌, sym, ap, ◌∙◌, refl, length}
 use Rattle.std.proofs.lemmas.Iterator.{empty_from_Zip}
 use Rattle.std.proofs.lemmas.Slice.Zip.{Zip-more}
-use Rattle.feed_tables.proofs.SameLists.{same_step, differs, same_start, same_lengths}
+use Rattle.feed_tables.proofs.SameLists.{same_step, same_start, same_lengths}
 use Rattle.feed_tables.proofs.tables.same_types.Goals as goal
 
 pub loop-one-init : goal.loop-one-init
