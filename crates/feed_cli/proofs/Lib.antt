@@ -2,3 +2,4 @@ mod BatchLemmas
 mod DeviceLemmas
 mod FeedLemmas
 mod LineLemmas
+mod PrintingLemmas
