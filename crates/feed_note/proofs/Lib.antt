@@ -1,0 +1,11 @@
+pub mod Parts
+pub mod Spelt
+pub mod Gathering
+pub mod Telling
+pub mod Conditions
+pub mod Answering
+pub mod LineRead
+pub mod WrittenBatches
+pub mod WrittenLines
+pub mod WrittenStrings
+pub mod WrittenTrees

@@ -1,6 +1,9 @@
 pub mod Lines
 pub mod Meaning
+pub mod Naming
 pub mod Notes
 pub mod Publishing
+pub mod Reading
 pub mod Texts
 pub mod Written
+pub mod Unreadable

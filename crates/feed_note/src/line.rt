@@ -1,6 +1,10 @@
 //! What a line says, and why it may say nothing.
 
+ghost use Rattle.std.specs.Prelude.{◌≡◌};
+ghost use Rattle.feed_note.specs.declared.line.LineFault.TheVariants.{Memory};
+
 use feed_tables::{Changes, Name};
+use std::alloc::{AllocError, AllocFailed};
 use thiserror::Error;
 
 /// What a line of an event feed means.
@@ -51,4 +55,20 @@ pub enum LineFault {
     /// Memory ran out; this says nothing of the line.
     #[error("out of memory")]
     Memory,
+}
+
+impl From<AllocError> for LineFault {
+    ghost from_gives = { λ _ fault. fault ≡ Memory };
+
+    fn from(_error: AllocError) -> LineFault {
+        LineFault::Memory
+    }
+}
+
+impl<T: Drop> From<AllocFailed<T>> for LineFault {
+    ghost from_gives = { λ _ fault. fault ≡ Memory };
+
+    fn from(_error: AllocFailed<T>) -> LineFault {
+        LineFault::Memory
+    }
 }

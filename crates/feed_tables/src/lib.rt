@@ -11,3 +11,6 @@ pub mod tables;
 pub use change::{Change, Changes};
 pub use name::{Name, NameFault};
 pub use tables::{Table, Tables};
+
+#[cfg(test)]
+mod tests;

@@ -1,9 +1,10 @@
 //! The text of one object.
 
-ghost use Rattle.std.specs.Prelude.{◌≡◌, ◌==◌, not, IsTrue, IsUtf8, MatchBool, List, IfOk, IfErr, OnOk};
+ghost use Rattle.std.specs.Prelude.{◌≡◌, ◌≤◌, ◌==◌, length, not, IsTrue, IsUtf8, MatchBool, List, IfOk, IfErr, OnOk};
 ghost use Rattle.feed_text.specs.Ascii.{line_feed};
-ghost use Rattle.feed_text.specs.Objects.{IsObjectText, IsObjectFaultOf, IsUnbroken, SpellsObject, SpellsNoObject};
-ghost use Rattle.feed_text.specs.Reading.{is_object_alone, kind_and_rest, value_front};
+ghost use Rattle.feed_text.specs.Limits.{object_bytes, object_depth};
+ghost use Rattle.feed_text.specs.Objects.{IsObjectText, IsObjectFaultOf, IsUnbroken, SpellsWithin, SpellsDeeper};
+ghost use Rattle.feed_text.specs.Reading.{is_object_alone, kind_and_rest, value_at};
 
 use crate::Kind;
 use crate::nesting::nests_to;
@@ -38,6 +39,9 @@ pub enum ObjectFault {
 
 /// The greatest number of bytes of an object's text.
 const OBJECT_BYTES: usize = 1_048_576;
+
+/// How deep an object's text may nest.
+const OBJECT_LEVELS: usize = 100;
 
 /// The first level that is too deep in an object's text.
 const TOO_DEEP: usize = 101;
@@ -77,11 +81,8 @@ impl ObjectText {
         if has_line_feed(bytes) {
             return Err(ObjectFault::LineBreak);
         }
-        if nests_to(bytes, TOO_DEEP) {
-            return Err(ObjectFault::Deep);
-        }
-        if !is_object(bytes) {
-            return Err(ObjectFault::Syntax);
+        if !is_object(bytes, OBJECT_LEVELS) {
+            return Err(fault_of(bytes));
         }
         match ObjectText::from_object(alloc, bytes) {
             Ok(object) => Ok(object),
@@ -122,19 +123,34 @@ fn has_line_feed(bytes: &[u8]) -> bool
     bytes.contains(&b'\n')
 }
 
-/// Whether a UTF-8 text is one object with nothing around it.
-#[tactic(auto, using(crate::proofs::Kept::alone_spells, crate::proofs::Kept::not_alone))]
-fn is_object(bytes: &[u8]) -> bool
-    requires { IsUtf8 bytes.now }
-    ensures { MatchBool result (SpellsObject bytes.now) (SpellsNoObject bytes.now) }
+/// What is wrong with a text that is no object within the limit.
+#[tactic(auto, using(crate::proofs::Kept::no_object))]
+fn fault_of(bytes: &[u8]) -> ObjectFault
+    requires size { length bytes.now ≤ object_bytes }
+    requires utf8 { IsUtf8 bytes.now }
+    requires unbroken { IsUnbroken bytes.now }
+    requires none { SpellsDeeper object_depth bytes.now }
+    ensures { IsObjectFaultOf bytes.now result }
 {
-    is_read_alone(bytes)
+    if nests_to(bytes, TOO_DEEP) {
+        return ObjectFault::Deep;
+    }
+    ObjectFault::Syntax
 }
 
-fn is_read_alone(bytes: &[u8]) -> bool
-    ensures { result ≡ is_object_alone (kind_and_rest (value_front bytes.now)) }
+/// Whether a UTF-8 text is one object with nothing around it, nested at most so deep.
+#[tactic(auto, using(crate::proofs::Kept::alone_spells, crate::proofs::Kept::not_alone))]
+fn is_object(bytes: &[u8], levels: usize) -> bool
+    requires { IsUtf8 bytes.now }
+    ensures { MatchBool result (SpellsWithin levels bytes.now) (SpellsDeeper levels bytes.now) }
 {
-    match after_value(bytes) {
+    is_read_alone(bytes, levels)
+}
+
+fn is_read_alone(bytes: &[u8], levels: usize) -> bool
+    ensures { result ≡ is_object_alone (kind_and_rest (value_at levels bytes.now)) }
+{
+    match after_value(bytes, levels) {
         Some((Kind::Object, rest)) => rest.is_empty(),
         _ => false,
     }

@@ -1,0 +1,67 @@
+-- What tables and their listings hold is within the limits.
+use Rattle.std.proofs.Common.{◌≡◌, ℕ, Bool, true, false, cond, List, [], ◌∷◌, ◌++◌, flat_map, Less, Equal, Greater, Result, Ok, Err, OnOk, OnErr, rules, sym, subst, arith, codes}
+use Rattle.std.specs.List.{All, AllByRecursion, filter}
+use Rattle.std.proofs.lemmas.Str.{IsUtf8-from_ascii}
+use Rattle.std.proofs.lemmas.List.Elements.{All-from_recursion}
+use Rattle.std.specs.FinMap.{entries, put}
+use Rattle.std.specs.FinMap.Entries.{by_order}
+use Rattle.feed_tables.specs.Bytes.{byte_order, without}
+use Rattle.feed_tables.specs.Changes.{IsChange, sets}
+use Rattle.feed_tables.specs.Names.{IsName}
+use Rattle.feed_tables.specs.Objects.{AreObjects}
+use Rattle.feed_tables.specs.Tables.{Contents, listed, or_clear, listing, IsTable, AreTypes}
+use Rattle.feed_tables.specs.declared.change.Change.{Change}
+use Rattle.feed_tables.specs.declared.tables.Table.{Table}
+use Rattle.feed_tables.specs.declared.tables.Table.TheVariants.{One, Many}
+
+module _ {X : Type 0} (P : X → Type 0) where
+  pub all-append : (xs ys : List X) → AllByRecursion P xs → AllByRecursion P ys → AllByRecursion P (xs ++ ys)
+  all-append [] ys p q = q
+  all-append (x ∷ xs) ys p q = (p.0, all-append xs ys p.1 q)
+
+  pub all-filter : (keep : X → Bool) (xs : List X) → AllByRecursion P xs → AllByRecursion P (filter keep xs)
+  all-filter keep [] p = tt
+  all-filter keep (x ∷ xs) p =
+      let rest = all-filter keep xs p.1 in
+      elim (keep x) as (λ b. AllByRecursion P (cond b (x ∷ filter keep xs) (filter keep xs))) [ true ↦ (p.0, rest) | false ↦ rest ]
+
+-- a table put under a type
+all-put : (k : List ℕ) (t : Table) (es : List (List ℕ × Table)) → IsName k → IsTable t → AreTypes es → AreTypes (put byte_order k t es)
+all-put k t [] n h p = ((n, h), tt)
+all-put k t (e ∷ es) n h p =
+    elim (byte_order k e.0) as (λ o. AreTypes (by_order o ((k, t) ∷ e ∷ es) ((e.0, t) ∷ es) (e ∷ put byte_order k t es))) [
+      | Less ↦ ((n, h), p)
+      | Equal ↦ ((p.0.0, h), p.1)
+      | Greater ↦ (p.0, all-put k t es n h p.1)
+    ]
+
+pub types_either : {A E : Type 0} (es fs : List (List ℕ × Table)) (k : List ℕ) (t : Table) → AreTypes es → IsName k → IsTable t
+    → (r : Result A E) → OnOk r (fs ≡ put byte_order k t es) → OnErr r (fs ≡ es) → AreTypes fs
+types_either es fs k t p n h (Ok a) ok err = subst (λ (l : List (List ℕ × Table)). AreTypes l) (sym ok) (all-put k t es n h p)
+types_either es fs k t p n h (Err e) ok err = subst (λ (l : List (List ℕ × Table)). AreTypes l) (sym err) p
+
+pub types_without : (k : List ℕ) (es : List (List ℕ × Table)) → AreTypes es → AreTypes (without k es)
+types_without k es p = all-filter (λ e. IsName e.0 × IsTable e.1) _ es p
+
+-- a listing's changes
+all_sets : (k : List ℕ) (es : List (List ℕ × List ℕ)) → IsName k → AreObjects es → AllByRecursion IsChange (sets k es)
+all_sets k [] n p = tt
+all_sets k (e ∷ es) n p = ((n, p.0.0, p.0.1), all_sets k es n p.1)
+
+all_listed : (k : List ℕ) (t : Table) → IsName k → IsTable t → AllByRecursion IsChange (listed (k, t))
+all_listed k (One object) n h = ((n, h), tt)
+all_listed k (Many objects) n h = (n, all_sets k (entries objects) n h)
+
+all_listings : (es : List (List ℕ × Table)) → AreTypes es → AllByRecursion IsChange (flat_map listed es)
+all_listings [] p = tt
+all_listings (e ∷ es) p = all-append IsChange (listed e) (flat_map listed es) (all_listed e.0 e.1 p.0.0 p.0.1) (all_listings es p.1)
+
+contest : IsName (codes "contest")
+contest = (IsUtf8-from_ascii (codes "contest") (search rules), omega arith)
+
+all_or_clear : (changes : List Change) → AllByRecursion IsChange changes → AllByRecursion IsChange (or_clear changes)
+all_or_clear [] p = (contest, tt)
+all_or_clear (c ∷ cs) p = p
+
+pub listing_within : (contents : Contents) → AreTypes (entries contents) → All IsChange (listing contents)
+listing_within contents p = All-from_recursion IsChange _ (all_or_clear _ (all_listings (entries contents) p))
