@@ -1,4 +1,3 @@
-mod BatchLemmas
 mod DeviceLemmas
 mod FeedLemmas
 mod LineLemmas

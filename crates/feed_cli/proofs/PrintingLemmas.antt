@@ -1,11 +1,14 @@
 -- Lemmas on what the command `tables` reads and prints.
-use Rattle.std.proofs.Common.{◌≡◌, ◌∙◌, ◌++◌, ap, sym, subst, ℕ, Bool, true, false, List, [], Option, Result, Ok, Err, OnOk, OnErr, IfOk, IfErr, IsErrOf, refl}
+use Rattle.std.proofs.Common.{◌≡◌, ◌∙◌, ◌++◌, ap, sym, subst, ℕ, Bool, true, false, List, [], Option, Result, Ok, Err, OnOk, OnErr, IfOk, IfErr, IsErrOf, refl, ◌⊎◌, inl, inr, max, arith}
 use Rattle.std.specs.Io.KnownBytes.{Appends, Consumes, IsAtEnd}
+use Rattle.feed_note.specs.declared.line.LineFault.{LineFault}
 use Rattle.feed_cli.specs.Device.{AppendsFront, Moved}
 use Rattle.feed_cli.specs.FirstTables.{Prints, PrintsAt}
 use Rattle.feed_cli.specs.Printing.{outcome_of, Tells, Printed, PrintedAt}
+use Rattle.feed_cli.specs.Status.{IsToldStatus}
 use Rattle.feed_cli.specs.declared.device.Failed.{Failed}
 use Rattle.feed_cli.specs.declared.fault.Fault.{Fault}
+use Rattle.feed_cli.specs.declared.fault.Fault.TheVariants as fault
 use Rattle.feed_cli.specs.declared.feed.FirstFault.{FirstFault}
 use Rattle.feed_cli.specs.declared.feed.FirstFault.TheVariants as first
 use Rattle.feed_cli.specs.declared.input.InputFault.{InputFault}
@@ -72,3 +75,19 @@ written_by old new text bytes written e ok front = record {
   ok = subst (λ t. OnOk written (Appends old new t)) e ok;
   front = subst (λ t. OnErr written (AppendsFront old new t)) e front;
 }
+
+-- ---- statuses
+
+told_two : (s n : ℕ) → (n ≡ s) ⊎ (n ≡ max s 4) → n ≡ 2 → s ≡ 2
+told_two s n (inl h) e = omega arith
+told_two s n (inr h) e = omega arith
+
+-- 2 is the status of a faulty line alone
+pub faulty_at_two : (why : Fault) (n : ℕ) (a b old new : Option (List ℕ)) → IsToldStatus why n → PrintedAt why a b old new → n ≡ 2
+    → ((number : ℕ) × (reason : LineFault) × Printed a b old new (Err (first.Line number reason))) × IsAtEnd b
+faulty_at_two (fault.Line reason) n a b old new t p e = ((p.0.0, reason, p.0.1), p.1)
+faulty_at_two fault.Memory n a b old new t p e = let bad : 5 ≡ 2 = told_two 5 n t e in absurd (omega arith)
+faulty_at_two fault.Read n a b old new t p e = let bad : 4 ≡ 2 = told_two 4 n t e in absurd (omega arith)
+faulty_at_two fault.Write n a b old new t p e = let bad : 4 ≡ 2 = told_two 4 n t e in absurd (omega arith)
+faulty_at_two fault.Turns n a b old new t p e = let bad : 4 ≡ 2 = told_two 4 n t e in absurd (omega arith)
+faulty_at_two fault.Unpublished n a b old new t p e = let bad : 3 ≡ 2 = told_two 3 n t e in absurd (omega arith)

@@ -18,7 +18,12 @@ struct Case {
 }
 
 /// Runs the case with input and output in pieces of these sizes.
-fn passes(rt: &(impl Abort + AllocGlobal), case: &Case, piece: usize, most: usize) -> Result<(), Fail>
+fn passes(
+    rt: &(impl Abort + AllocGlobal),
+    case: &Case,
+    piece: usize,
+    most: usize,
+) -> Result<(), Fail>
     requires piece { 0 < piece }
     requires most { 0 < most }
 {
@@ -28,7 +33,12 @@ fn passes(rt: &(impl Abort + AllocGlobal), case: &Case, piece: usize, most: usiz
     let mut err = MemWriter::new(alloc, most);
     let status = run(alloc, case.words, &mut input, &mut out, &mut err);
     assert_eq!(rt; str::from_utf8(err.written())?, case.err);
-    assert_eq!(rt; str::from_utf8(out.written())?, case.out, "on {:?}", case.input);
+    assert_eq!(rt;
+        str::from_utf8(out.written())?,
+        case.out,
+        "on {:?}",
+        case.input
+    );
     assert_eq!(rt; status, case.status, "on {:?}", case.input);
     Ok(())
 }
@@ -179,7 +189,8 @@ fn ends(
 #[test]
 fn tells_failed_reads(rt: HostRuntime) -> Result<(), Fail> {
     let alloc = rt.alloc();
-    let feed = "{\"type\":\"teams\",\"id\":\"7\",\"data\":{\"id\":\"7\",\"n\": 1.50},\"token\":\"a\"}\n{\"type\":\"teams\",\"id\":\"7\",\"data\":null,\"token\":\"b\"}\n";
+    let feed =
+        "{\"type\":\"teams\",\"id\":\"7\",\"data\":{\"id\":\"7\",\"n\": 1.50},\"token\":\"a\"}\n{\"type\":\"teams\",\"id\":\"7\",\"data\":null,\"token\":\"b\"}\n";
     let told = "tables: read failed\n";
     for (at, printed) in [(1, ""), (2, ONE_TEAM_PRINTED)] {
         let input = MemReader::failing(feed.as_bytes().to_vec(alloc)?, ONE_TEAM.len(), at);
@@ -187,10 +198,24 @@ fn tells_failed_reads(rt: HostRuntime) -> Result<(), Fail> {
     }
     let endless = vec![in alloc; b'\n'; 1_000_000]?;
     let told = "tables: too many turns\n";
-    ends(&rt, MemReader::new(endless, 1), MemWriter::new(alloc, 9), 4, "", told)?;
+    ends(
+        &rt,
+        MemReader::new(endless, 1),
+        MemWriter::new(alloc, 9),
+        4,
+        "",
+        told,
+    )?;
     let endless = vec![in alloc; b'\n'; 999_999]?;
     let told = "tables: nothing published\n";
-    ends(&rt, MemReader::new(endless, 1), MemWriter::new(alloc, 9), 3, "", told)
+    ends(
+        &rt,
+        MemReader::new(endless, 1),
+        MemWriter::new(alloc, 9),
+        3,
+        "",
+        told,
+    )
 }
 
 #[test]
@@ -199,7 +224,14 @@ fn tells_failed_writes(rt: HostRuntime) -> Result<(), Fail> {
     let told = "tables: write failed\n";
     for (at, printed) in [(1, ""), (3, "{\"type\":\"teams\",\"id\"")] {
         let input = MemReader::new(ONE_TEAM.as_bytes().to_vec(alloc)?, 50);
-        ends(&rt, input, MemWriter::failing(alloc, 10, at), 4, printed, told)?;
+        ends(
+            &rt,
+            input,
+            MemWriter::failing(alloc, 10, at),
+            4,
+            printed,
+            told,
+        )?;
     }
     // Where nothing was published and that can't be told, a device has failed too.
     let mut input = MemReader::new(Vec::new(alloc), 50);
@@ -213,7 +245,10 @@ fn tells_failed_writes(rt: HostRuntime) -> Result<(), Fail> {
 #[test]
 fn appends_first_tables(rt: HostRuntime) -> Result<(), Fail> {
     let mut out = b"before\n".to_vec(rt.alloc())?;
-    assert_eq!(&rt; first_tables(rt.alloc(), ONE_TEAM.as_bytes(), &mut out), Ok(true));
+    assert_eq!(&rt;
+        first_tables(rt.alloc(), ONE_TEAM.as_bytes(), &mut out),
+        Ok(true)
+    );
     let (before, printed) = out.as_slice().split_at(7);
     assert_eq!(&rt; before, b"before\n");
     assert_eq!(&rt; str::from_utf8(printed)?, ONE_TEAM_PRINTED);
