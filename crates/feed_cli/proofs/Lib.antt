@@ -1,4 +1,4 @@
-mod BatchLemmas
 mod DeviceLemmas
 mod FeedLemmas
 mod LineLemmas
+mod PrintingLemmas

@@ -9,10 +9,6 @@ use Rattle.feed_note.specs.declared.line.LineFault.{LineFault}
 use Rattle.feed_cli.specs.declared.feed.FirstFault.{FirstFault}
 use Rattle.feed_cli.specs.declared.feed.FirstFault.TheVariants as fault
 
--- nothing was taken away
-abbrev pub Grows : List ℕ → List ℕ → Type 0
-Grows old new = (more : List ℕ) × (new ≡ old ++ more)
-
 -- the snapshot of what the lines publish was appended, and the answer says whether they publish anything
 pub record Prints (text old new : List ℕ) (is_published : Bool) : Type 0 where
   pub notes : List Line

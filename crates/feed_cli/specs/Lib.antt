@@ -2,4 +2,5 @@ pub mod Device
 pub mod Feed
 pub mod FirstTables
 pub mod Memory
+pub mod Printing
 pub mod Status

@@ -1,5 +1,5 @@
 -- The statuses that the program ends with.
-use Rattle.std.specs.Prelude.{ℕ}
+use Rattle.std.specs.Prelude.{◌≡◌, ◌⊎◌, ℕ, max}
 use Rattle.feed_cli.specs.declared.fault.Fault.{Fault}
 use Rattle.feed_cli.specs.declared.fault.Fault.TheVariants as fault
 
@@ -11,3 +11,7 @@ status_of fault.Write = 4
 status_of fault.Turns = 4
 status_of (fault.Line why) = 2
 status_of fault.Unpublished = 3
+
+-- the status after a fault was told; where it could not be, a device has failed too
+abbrev pub IsToldStatus : Fault → ℕ → Type 0
+IsToldStatus why status = (status ≡ status_of why) ⊎ (status ≡ max (status_of why) (status_of fault.Write))

@@ -1,4 +1,11 @@
 //! The commands, as the words of a command line ask for them.
+ghost use Rattle.std.specs.Prelude.{◌≡◌, ◌≤◌, ◌⊎◌, ℕ, IfErr, false, true};
+ghost use Rattle.std.specs.Io.KnownBytes.{IsAtEnd};
+ghost use Rattle.feed_note.specs.declared.line.LineFault.{LineFault};
+ghost use Rattle.feed_cli.specs.declared.feed.FirstFault.{FirstFault};
+ghost use Rattle.feed_cli.specs.Printing.{Printed};
+ghost use Rattle.feed_cli.specs.Status.{IsToldStatus};
+
 use crate::device::{FeedRead, FeedWrite, write_all};
 use crate::fault::Fault;
 use crate::tables::print_tables;
@@ -24,7 +31,9 @@ impl<W: FeedWrite> Write for Printer<'_, W> {
 }
 
 /// Prints a text to a device.
-fn print<W: FeedWrite, T: fmt::Display + Drop>(device: &mut W, text: T) -> Result<(), Fault> {
+fn print<W: FeedWrite, T: fmt::Display + Drop>(device: &mut W, text: T) -> Result<(), Fault>
+    ensures { IfErr result (λ fault. fault ≡ Fault.Write) }
+{
     match (Printer { device }).write(text) {
         Ok(()) => Ok(()),
         Err(_) => Err(Fault::Write),
@@ -32,7 +41,9 @@ fn print<W: FeedWrite, T: fmt::Display + Drop>(device: &mut W, text: T) -> Resul
 }
 
 /// Tells a fault, and answers the status of the program. Where it can't be told, a device has failed too.
-fn tell<E: FeedWrite>(name: &str, fault: Fault, err: &mut E) -> u8 {
+fn tell<E: FeedWrite>(name: &str, fault: Fault, err: &mut E) -> u8
+    ensures { IsToldStatus fault result }
+{
     match print(err, format_args!("{name}: {fault}\n")) {
         Ok(()) => fault.status(),
         Err(failed) => fault.status().max(failed.status()),
@@ -40,7 +51,10 @@ fn tell<E: FeedWrite>(name: &str, fault: Fault, err: &mut E) -> u8 {
 }
 
 /// Prints what clap answers to words that ask for no command: help, or why they are refused.
-fn answer_words<W: FeedWrite, E: FeedWrite>(error: clap::Error, out: &mut W, err: &mut E) -> u8 {
+fn answer_words<W: FeedWrite, E: FeedWrite>(error: clap::Error, out: &mut W, err: &mut E) -> u8
+    ensures statuses { (result ≡ 0) ⊎ (result ≡ 1) ⊎ (result ≡ 4) ⊎ (result ≡ 5) }
+    ensures refused { result ≡ 1 → W.contents out.new ≡ W.contents out.old }
+{
     if error.kind() == ErrorKind::OutOfMemory {
         return tell(PROGRAM, Fault::Memory, err);
     }
@@ -65,7 +79,18 @@ pub fn run<'a, R: FeedRead, W: FeedWrite, E: FeedWrite>(
     input: &mut R,
     out: &mut W,
     err: &mut E,
-) -> u8 {
+) -> u8
+    ensures statuses { result ≤ 5 }
+
+    // At 0 either help was printed, and no read was made, or what the whole input publishes.
+    ensures ok { result ≡ 0 → (R.reads input.new ≡ R.reads input.old)
+        ⊎ (Printed (R.remaining input.old) (R.remaining input.new) (W.contents out.old) (W.contents out.new) (Ok true) × IsAtEnd (R.remaining input.new)) }
+    ensures refused { result ≡ 1 → (R.reads input.new ≡ R.reads input.old) × (W.contents out.new ≡ W.contents out.old) }
+    ensures faulty { result ≡ 2 → ((number : ℕ) × (why : LineFault) × Printed (R.remaining input.old) (R.remaining input.new)
+        (W.contents out.old) (W.contents out.new) (Err (FirstFault.Line number why))) × IsAtEnd (R.remaining input.new) }
+    ensures unpublished { result ≡ 3 → Printed (R.remaining input.old) (R.remaining input.new) (W.contents out.old) (W.contents out.new) (Ok false)
+        × IsAtEnd (R.remaining input.new) }
+{
     match parse_words(alloc, words) {
         Ok(Request::Tables) => match print_tables(alloc, input, out) {
             Ok(()) => 0,

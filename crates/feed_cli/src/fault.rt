@@ -27,6 +27,7 @@ pub enum Fault {
 
 impl Fault {
     ghost use Rattle.feed_cli.specs.Status.{status_of};
+    ghost use Rattle.feed_cli.specs.Printing.{fault_of_input, fault_of_lines};
 
     /// The status that a program with this fault ends with.
     pub fn status(self) -> u8
@@ -40,7 +41,10 @@ impl Fault {
         }
     }
 
-    pub fn of_input(fault: InputFault) -> Fault {
+    /// The fault of a command whose input could not be read to its end.
+    pub fn of_input(fault: InputFault) -> Fault
+        ensures { result ≡ fault_of_input fault }
+    {
         match fault {
             InputFault::Read => Fault::Read,
             InputFault::Turns => Fault::Turns,
@@ -48,7 +52,10 @@ impl Fault {
         }
     }
 
-    pub fn of_lines(fault: FirstFault) -> Fault {
+    /// The fault of a command whose input has a line that means nothing.
+    pub fn of_lines(fault: FirstFault) -> Fault
+        ensures { result ≡ fault_of_lines fault }
+    {
         match fault {
             FirstFault::Line(_, reason) => Fault::Line(reason),
             FirstFault::Memory => Fault::Memory,

@@ -1,16 +1,12 @@
 //! A feed that is read line by line: the tables after its lines, and what they have published.
-ghost use Rattle.std.specs.Prelude.{◌≡◌, ◌≢◌, ℕ, ◌+◌, ◌++◌, ◌∷◌, List, [], IfOk, IfErr, OnOk, OnErr, IfSome, IfNone, None, is_some, position};
-ghost use Rattle.std.specs.List.{AllZip};
+ghost use Rattle.std.specs.Prelude.{◌≡◌, ◌≢◌, ◌++◌, ◌∷◌, IfErr, OnOk, IfSome, IfNone, position};
 ghost use Rattle.feed_text.specs.Ascii.{line_feed};
 ghost use Rattle.feed_tables.specs.Tables.{no_tables, after_all};
 ghost use Rattle.feed_note.specs.Lines.{HasNoLineFeed, is_line_feed, lines};
-ghost use Rattle.feed_note.specs.Meaning.{Means, Reason};
-ghost use Rattle.feed_note.specs.Notes.{changes_in, token_in, FirstFaulty};
-ghost use Rattle.feed_note.specs.Texts.{batch_text, published_text};
-ghost use Rattle.feed_note.specs.declared.line.Line.{Line as Meaning};
+ghost use Rattle.feed_note.specs.Meaning.{Reason};
 ghost use Rattle.feed_cli.specs.Feed.{pair_of, TakesLine, RefusesLine, Stands, StandsAt};
 
-use feed_note::{Line, LineFault, read_line, write_line};
+use feed_note::{Line, LineFault, read_line};
 use feed_tables::{Change, Name, Tables};
 use std::alloc::{AllocError, Global};
 use thiserror::Error;

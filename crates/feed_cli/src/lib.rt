@@ -13,3 +13,6 @@ mod words;
 
 pub use commands::run;
 pub use feed::FirstFault;
+
+#[cfg(test)]
+mod tests;

@@ -39,16 +39,16 @@ impl MemReader {
         MemReader::failing(bytes, piece, 0)
     }
 
-    /// The same, whose read number `at`, counted from 1, fails.
-    pub fn failing(bytes: Vec<u8>, piece: usize, at: u64) -> MemReader
+    /// The same, whose read of this number, counted from 1, fails; none does where the number is 0.
+    pub fn failing(bytes: Vec<u8>, piece: usize, read: u64) -> MemReader
         requires { 0 < piece }
-        ensures { result ≡ record { left = bytes.items; piece = piece; failing_in = at; reads = 0; failures = 0 } }
+        ensures { result ≡ record { left = bytes.items; piece = piece; failing_in = read; reads = 0; failures = 0 } }
     {
         MemReader {
             bytes,
             at: 0,
             piece,
-            failing_in: at,
+            failing_in: read,
             reads: 0,
             failures: 0,
         }
@@ -119,15 +119,15 @@ impl MemWriter {
         MemWriter::failing(alloc, most, 0)
     }
 
-    /// The same, whose write number `at`, counted from 1, fails.
-    pub fn failing(alloc: Global, most: usize, at: u64) -> MemWriter
+    /// The same, whose write of this number, counted from 1, fails; none does where the number is 0.
+    pub fn failing(alloc: Global, most: usize, write: u64) -> MemWriter
         requires { 0 < most }
-        ensures { result ≡ record { written = []; most = most; failing_in = at; failures = 0 } }
+        ensures { result ≡ record { written = []; most = most; failing_in = write; failures = 0 } }
     {
         MemWriter {
             written: Vec::new(alloc),
             most,
-            failing_in: at,
+            failing_in: write,
             failures: 0,
         }
     }

@@ -10,8 +10,9 @@ pub enum Request {
 }
 
 fn program<'a>(alloc: Global) -> Result<Command<'a>, AllocError> {
-    let tables = Command::new(alloc, "tables")
-        .about("Prints the tables that the event feed on standard input has published");
+    let tables = Command::new(alloc, "tables").about(
+        "Prints the tables that the event feed on standard input has published",
+    );
     Command::new(alloc, "tunygarop")
         .about("Mirrors the event feed of a programming contest (CLICS Contest API 2023-06)")
         .subcommand_required(true)

@@ -8,8 +8,8 @@ pub returns-in_err-read_piece-clause-read : goal.returns-in_err-read_piece-claus
 returns-in_err-read_piece-clause-read g c =
     let p = err_from_is_err_and c.from_residual.result c.from_residual.ensures.1 in
     rw (p.1, p.2) (λ is.
-      let failed : c.in_err-read_piece.field-0.0 ≡ Read = cc in
-      Moved-trans _ _ _ _ _ _ c.pieces.invariant.given (c.in_err-read_piece.ensures.read (ap Err failed)))
+    let failed : c.in_err-read_piece.field-0.0 ≡ Read = cc in
+    Moved-trans _ _ _ _ _ _ c.pieces.invariant.given (c.in_err-read_piece.ensures.read (ap Err failed)))
 
 pub returns-in_err-read_piece-clause-lost : goal.returns-in_err-read_piece-clause-lost
 returns-in_err-read_piece-clause-lost g c =

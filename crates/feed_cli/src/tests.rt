@@ -1,0 +1,274 @@
+use crate::device::{FeedRead, write_all};
+use crate::input::{InputFault, read_all};
+use crate::memory::{MemReader, MemWriter};
+use crate::run;
+use crate::stream::Stream;
+use crate::tables::first_tables;
+use std::process::Abort;
+use std::test::Fail;
+
+/// A run of the program over memory, and what it must write.
+#[derive(Drop)]
+struct Case {
+    words: &'static [&'static str],
+    input: &'static str,
+    status: u8,
+    out: &'static str,
+    err: &'static str,
+}
+
+/// Runs the case with input and output in pieces of these sizes.
+fn passes(
+    rt: &(impl Abort + AllocGlobal),
+    case: &Case,
+    piece: usize,
+    most: usize,
+) -> Result<(), Fail>
+    requires piece { 0 < piece }
+    requires most { 0 < most }
+{
+    let alloc = rt.alloc();
+    let mut input = MemReader::new(case.input.as_bytes().to_vec(alloc)?, piece);
+    let mut out = MemWriter::new(alloc, most);
+    let mut err = MemWriter::new(alloc, most);
+    let status = run(alloc, case.words, &mut input, &mut out, &mut err);
+    assert_eq!(rt; str::from_utf8(err.written())?, case.err);
+    assert_eq!(rt;
+        str::from_utf8(out.written())?,
+        case.out,
+        "on {:?}",
+        case.input
+    );
+    assert_eq!(rt; status, case.status, "on {:?}", case.input);
+    Ok(())
+}
+
+const TABLES: &[&str] = &["tunygarop", "tables"];
+
+const ONE_TEAM: &str =
+    "{\"type\":\"teams\",\"id\":\"7\",\"data\":{\"id\":\"7\",\"n\": 1.50},\"token\":\"a\"}\n";
+
+const ONE_TEAM_PRINTED: &str =
+    "{\"type\":\"teams\",\"id\":null,\"data\":[]}\n{\"type\":\"teams\",\"id\":\"7\",\"data\":{\"id\":\"7\",\"n\": 1.50},\"token\":\"a\"}\n";
+
+/// Feeds, with what `tables` prints of each, written by hand from the notification format and the rules on lines and
+/// tokens.
+const FEEDS: [Case; 7] = [
+    Case {
+        words: TABLES,
+        input: "",
+        status: 3,
+        out: "",
+        err: "tables: nothing published\n",
+    },
+    Case {
+        words: TABLES,
+        input: ONE_TEAM,
+        status: 0,
+        out: ONE_TEAM_PRINTED,
+        err: "",
+    },
+    // The last line is not ended.
+    Case {
+        words: TABLES,
+        input: "{\"type\":\"teams\",\"id\":\"7\",\"data\":{\"id\":\"7\",\"n\": 1.50},\"token\":\"a\"}",
+        status: 3,
+        out: "",
+        err: "tables: nothing published\n",
+    },
+    Case {
+        words: TABLES,
+        input: "{\"type\":\"state\",\"id\":null,\"data\":{\"ended\":null},\"token\":\"s\",\"time\":\"x\"}\n",
+        status: 0,
+        out: "{\"type\":\"state\",\"id\":null,\"data\":{\"ended\":null},\"token\":\"s\"}\n",
+        err: "",
+    },
+    // Deletions of an id that a singleton and no collection hold.
+    Case {
+        words: TABLES,
+        input: "{\"type\":\"state\",\"id\":null,\"data\":{},\"token\":\"1\"}\n{\"type\":\"state\",\"id\":\"9\",\"data\":null,\"token\":\"2\"}\n{\"type\":\"teams\",\"id\":\"9\",\"data\":null,\"token\":\"3\"}\n",
+        status: 0,
+        out: "{\"type\":\"state\",\"id\":null,\"data\":{},\"token\":\"3\"}\n",
+        err: "",
+    },
+    // Keep-alives, and a change behind the last token.
+    Case {
+        words: TABLES,
+        input: "\n{\"type\":\"teams\",\"id\":null,\"data\":[{\"id\":\"b\"},{\"id\":\"a\"}],\"token\":\"1\"}\n \t\r\n{\"type\":\"teams\",\"id\":\"a\",\"data\":null}\n",
+        status: 0,
+        out: "{\"type\":\"teams\",\"id\":null,\"data\":[]}\n{\"type\":\"teams\",\"id\":\"a\",\"data\":{\"id\":\"a\"}}\n{\"type\":\"teams\",\"id\":\"b\",\"data\":{\"id\":\"b\"},\"token\":\"1\"}\n",
+        err: "",
+    },
+    // The second line means nothing.
+    Case {
+        words: TABLES,
+        input: "{\"type\":\"teams\",\"id\":\"7\",\"data\":{\"id\":\"7\",\"n\": 1.50},\"token\":\"a\"}\n{\"type\":\"teams\",\"id\":\"7\",\"data\":[]}\n{\"type\":\"teams\",\"id\":\"7\",\"data\":null,\"token\":\"b\"}\n",
+        status: 2,
+        out: ONE_TEAM_PRINTED,
+        err: "tables: no meaning\n",
+    },
+];
+
+#[test]
+fn prints_tables(rt: HostRuntime) -> Result<(), Fail> {
+    for case in &FEEDS {
+        passes(&rt, case, 5, 3)?;
+        passes(&rt, case, 4096, 4096)?;
+    }
+    Ok(())
+}
+
+const HELP: &str =
+    "Mirrors the event feed of a programming contest (CLICS Contest API 2023-06)\n\nUsage: tunygarop <COMMAND>\n\nCommands:\n  tables  Prints the tables that the event feed on standard input has published\n  help    Print this message or the help of the given subcommand(s)\n\nOptions:\n  -h, --help  Print help\n";
+
+/// Words that ask for no command, with the texts of the Rust crate clap.
+const WORDS: [Case; 5] = [
+    Case {
+        words: &["tunygarop", "--help"],
+        input: ONE_TEAM,
+        status: 0,
+        out: HELP,
+        err: "",
+    },
+    Case {
+        words: &["tunygarop"],
+        input: ONE_TEAM,
+        status: 1,
+        out: "",
+        err: "error: 'tunygarop' requires a subcommand but one was not provided\n  [subcommands: tables, help]\n\nUsage: tunygarop <COMMAND>\n\nFor more information, try '--help'.\n",
+    },
+    Case {
+        words: &["tunygarop", "scoreboard"],
+        input: ONE_TEAM,
+        status: 1,
+        out: "",
+        err: "error: unrecognized subcommand 'scoreboard'\n\nUsage: tunygarop <COMMAND>\n\nFor more information, try '--help'.\n",
+    },
+    Case {
+        words: &["tunygarop", "tables", "--staged", "9"],
+        input: ONE_TEAM,
+        status: 1,
+        out: "",
+        err: "error: unexpected argument '--staged' found\n\nUsage: tunygarop tables\n\nFor more information, try '--help'.\n",
+    },
+    Case {
+        words: &[],
+        input: ONE_TEAM,
+        status: 1,
+        out: "",
+        err: "error: 'tunygarop' requires a subcommand but one was not provided\n  [subcommands: tables, help]\n\nUsage: tunygarop <COMMAND>\n\nFor more information, try '--help'.\n",
+    },
+];
+
+#[test]
+fn answers_words(rt: HostRuntime) -> Result<(), Fail> {
+    for case in &WORDS {
+        passes(&rt, case, 5, 3)?;
+    }
+    Ok(())
+}
+
+/// Runs `tables` on two commits over these devices, and looks at what was printed.
+fn ends(
+    rt: &(impl Abort + AllocGlobal),
+    mut input: MemReader,
+    mut out: MemWriter,
+    status: u8,
+    printed: &str,
+    told: &str,
+) -> Result<(), Fail> {
+    let mut err = MemWriter::new(rt.alloc(), 7);
+    let ended = run(rt.alloc(), TABLES, &mut input, &mut out, &mut err);
+    assert_eq!(rt; str::from_utf8(err.written())?, told);
+    assert_eq!(rt; str::from_utf8(out.written())?, printed);
+    assert_eq!(rt; ended, status);
+    Ok(())
+}
+
+/// The first piece of 67 bytes is the line of one team; the read behind it fails.
+#[test]
+fn tells_failed_reads(rt: HostRuntime) -> Result<(), Fail> {
+    let alloc = rt.alloc();
+    let feed =
+        "{\"type\":\"teams\",\"id\":\"7\",\"data\":{\"id\":\"7\",\"n\": 1.50},\"token\":\"a\"}\n{\"type\":\"teams\",\"id\":\"7\",\"data\":null,\"token\":\"b\"}\n";
+    let told = "tables: read failed\n";
+    for (at, printed) in [(1, ""), (2, ONE_TEAM_PRINTED)] {
+        let input = MemReader::failing(feed.as_bytes().to_vec(alloc)?, ONE_TEAM.len(), at);
+        ends(&rt, input, MemWriter::new(alloc, 9), 4, printed, told)?;
+    }
+    let endless = vec![in alloc; b'\n'; 1_000_000]?;
+    let told = "tables: too many turns\n";
+    ends(
+        &rt,
+        MemReader::new(endless, 1),
+        MemWriter::new(alloc, 9),
+        4,
+        "",
+        told,
+    )?;
+    let endless = vec![in alloc; b'\n'; 999_999]?;
+    let told = "tables: nothing published\n";
+    ends(
+        &rt,
+        MemReader::new(endless, 1),
+        MemWriter::new(alloc, 9),
+        3,
+        "",
+        told,
+    )
+}
+
+#[test]
+fn tells_failed_writes(rt: HostRuntime) -> Result<(), Fail> {
+    let alloc = rt.alloc();
+    let told = "tables: write failed\n";
+    for (at, printed) in [(1, ""), (3, "{\"type\":\"teams\",\"id\"")] {
+        let input = MemReader::new(ONE_TEAM.as_bytes().to_vec(alloc)?, 50);
+        ends(
+            &rt,
+            input,
+            MemWriter::failing(alloc, 10, at),
+            4,
+            printed,
+            told,
+        )?;
+    }
+    // Where nothing was published and that can't be told, a device has failed too.
+    let mut input = MemReader::new(Vec::new(alloc), 50);
+    let mut out = MemWriter::new(alloc, 10);
+    let mut err = MemWriter::failing(alloc, 10, 2);
+    assert_eq!(&rt; run(alloc, TABLES, &mut input, &mut out, &mut err), 4);
+    assert_eq!(&rt; str::from_utf8(err.written())?, "tables");
+    Ok(())
+}
+
+#[test]
+fn appends_first_tables(rt: HostRuntime) -> Result<(), Fail> {
+    let mut out = b"before\n".to_vec(rt.alloc())?;
+    assert_eq!(&rt;
+        first_tables(rt.alloc(), ONE_TEAM.as_bytes(), &mut out),
+        Ok(true)
+    );
+    let (before, printed) = out.as_slice().split_at(7);
+    assert_eq!(&rt; before, b"before\n");
+    assert_eq!(&rt; str::from_utf8(printed)?, ONE_TEAM_PRINTED);
+    Ok(())
+}
+
+/// The readers and writers of std as devices.
+#[test]
+fn streams_bytes(rt: HostRuntime) -> Result<(), Fail> {
+    let alloc = rt.alloc();
+    let mut input = Stream::new(ONE_TEAM.as_bytes());
+    let mut bytes = Vec::new(alloc);
+    assert_eq!(&rt; read_all(&mut input, &mut bytes, 2), Ok(()));
+    assert_eq!(&rt; bytes.as_slice(), ONE_TEAM.as_bytes());
+    let mut input = Stream::new(ONE_TEAM.as_bytes());
+    let mut bytes = Vec::new(alloc);
+    assert_eq!(&rt; read_all(&mut input, &mut bytes, 1), Err(InputFault::Turns));
+    let mut room = [0u8; 4];
+    let mut out = Stream::new(room.as_mut_slice());
+    assert!(&rt; write_all(&mut out, b"abc").is_ok());
+    assert!(&rt; write_all(&mut out, b"de").is_err());
+    Ok(())
+}
