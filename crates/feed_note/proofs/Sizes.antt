@@ -3,6 +3,10 @@ use Rattle.std.proofs.Common.{◌≡◌, ℕ, suc, ◌+◌, ◌*◌, ◌<◌, �
 use Rattle.std.specs.Prelude.{max}
 use Rattle.feed_text.specs.Json.{Value, Elements, Members, print, print_elements, print_members, depth, depth_of_elements, depth_of_members, null_literal, true_literal, false_literal, number, string, empty_array, array, empty_object, object, last_element, element, last_member, member}
 
+behind_key : (w k x y t : List ℕ) (n : ℕ) → n < length t → n < length (w ++ (k ++ (x ++ 58 ∷ (y ++ t))))
+behind_key w k x y t n h =
+    omega (arith, h, length-append w (k ++ (x ++ 58 ∷ (y ++ t))), length-append k (x ++ 58 ∷ (y ++ t)), length-append x (58 ∷ (y ++ t)), length-append y t)
+
 mutual
   pub two_for_each : (v : Value) → depth v + depth v ≤ length (print v)
   two_for_each null_literal = omega arith
@@ -35,7 +39,3 @@ mutual
       let more : List ℕ = 44 ∷ print_members ms in
       let m : ℕ = max (depth v) (depth_of_members ms) in
       behind_key w k x y (print v ++ (z ++ more)) (m + m) (omega (arith, h, g, length-append (print v) (z ++ more), length-append z more))
-
-  behind_key : (w k x y t : List ℕ) (n : ℕ) → n < length t → n < length (w ++ (k ++ (x ++ 58 ∷ (y ++ t))))
-  behind_key w k x y t n h =
-      omega (arith, h, length-append w (k ++ (x ++ 58 ∷ (y ++ t))), length-append k (x ++ 58 ∷ (y ++ t)), length-append x (58 ∷ (y ++ t)), length-append y t)

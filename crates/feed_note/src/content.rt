@@ -57,7 +57,13 @@ fn is_too_large(text: &[u8]) -> bool
     ensures { (v : Value) → IsReadable 101 v → kind_of v ≡ Object → text.now ≡ print v → result ≡ too_large v }
 {
     text_laws();
-    text.len() > OBJECT_BYTES || text.len() >= 2 * TOO_DEEP && nests_to(text, TOO_DEEP)
+    if text.len() > OBJECT_BYTES {
+        return true;
+    }
+    if text.len() < 2 * TOO_DEEP {
+        return false;
+    }
+    nests_to(text, TOO_DEEP)
 }
 
 /// What the id of an element names.
