@@ -1,13 +1,29 @@
+ghost use Rattle.std.specs.Prelude.{◌≡◌, ◌==◌, not};
+ghost use Rattle.std.specs.List.{list_all};
+
 use crate::{Line, LineFault, read_line};
 use feed_tables::Change;
 use std::alloc::{AllocError, Global};
 use std::process::Abort;
 use std::test::Fail;
 
+fn is_inside_line(byte: u8) -> bool
+    ensures { result ≡ not (byte == 10) }
+{
+    byte != b'\n'
+}
+
+/// Whether the text has no line feed.
+fn is_line(text: &[u8]) -> bool
+    ensures { result ≡ list_all (λ b. not (b == 10)) text.now }
+{
+    text.iter().all(|b| is_inside_line(*b))
+}
+
 /// The changes and the token of a line, one a line of text.
 fn told(rt: &(impl Abort + AllocGlobal), line: &[u8]) -> Result<String, Fail> {
     let mut text = String::new(rt.alloc());
-    assert!(rt; !line.contains(&b'\n'));
+    assert!(rt; is_line(line));
     match read_line(rt.alloc(), line) {
         Ok(Line::KeepAlive) => text.push_str("keep-alive")?,
         Ok(Line::Note { changes, token }) => {
@@ -144,7 +160,7 @@ fn fault_of(
 ) -> Result<Option<LineFault>, Fail> {
     let middle = times(rt.alloc(), middle, count)?;
     let line = format!(in rt.alloc(); "{front}{middle}{end}")?;
-    assert!(rt; !line.as_bytes().contains(&b'\n'));
+    assert!(rt; is_line(line.as_bytes()));
     Ok(read_line(rt.alloc(), line.as_bytes()).err())
 }
 
