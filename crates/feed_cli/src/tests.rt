@@ -1,4 +1,6 @@
-use crate::device::{FeedRead, write_all};
+ghost use Rattle.std.specs.Prelude.{◌<◌};
+
+use crate::device::write_all;
 use crate::input::{InputFault, read_all};
 use crate::memory::{MemReader, MemWriter};
 use crate::run;
