@@ -1,5 +1,5 @@
 -- What the command `tables` reads and prints.
-use Rattle.std.specs.Prelude.{◌≡◌, ◌⊎◌, ℕ, Bool, true, false, List, [], Option, Result, Ok, Err}
+use Rattle.std.specs.Prelude.{ℕ, Bool, true, false, List, [], Option, Result, Ok, Err}
 use Rattle.std.specs.Io.KnownBytes.{Appends, Consumes, IsAtEnd, Keeps}
 use Rattle.feed_cli.specs.Device.{AppendsFront}
 use Rattle.feed_cli.specs.FirstTables.{Prints, PrintsAt}

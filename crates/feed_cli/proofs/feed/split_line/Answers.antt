@@ -1,4 +1,4 @@
-use Rattle.std.proofs.Common.{◌≡◌, ◌+◌, sym, ◌∙◌}
+use Rattle.std.proofs.Common.{◌+◌, sym, ◌∙◌}
 use Rattle.std.proofs.lemmas.List.{take_rest}
 use Rattle.feed_cli.proofs.LineLemmas.{unbroken_all, cut_at}
 use Rattle.feed_cli.proofs.feed.split_line.Goals as goal

@@ -1,4 +1,4 @@
-use Rattle.std.proofs.Common.{◌≡◌, Err, rules}
+use Rattle.std.proofs.Common.{rules}
 use Rattle.feed_cli.proofs.PrintingLemmas.{printed_at, tells_by, written_by}
 use Rattle.feed_cli.proofs.tables.print_tables.Goals as goal
 

@@ -1,7 +1,7 @@
-use Rattle.std.proofs.Common.{◌≡◌, ◌+◌, ◌++◌, ◌∷◌, [], ◌∙◌, ap, sym, length, append_assoc, arith, length-append}
+use Rattle.std.proofs.Common.{◌+◌, ◌++◌, ◌∷◌, [], ◌∙◌, ap, sym, length, append_assoc, arith, length-append}
 use Rattle.std.proofs.lemmas.Result.{err_from_is_err_and}
 use Rattle.feed_note.specs.Lines.{lines}
-use Rattle.feed_cli.proofs.FeedLemmas.{stands_none, stands_more, lines_on, stands_at_end, stands_at_fault}
+use Rattle.feed_cli.proofs.FeedLemmas.{stands_more, lines_on, stands_at_end, stands_at_fault}
 use Rattle.feed_cli.proofs.feed.Feed.read_lines.Goals as goal
 
 pub returns-in_err-read_numbered-clause-err : goal.returns-in_err-read_numbered-clause-err

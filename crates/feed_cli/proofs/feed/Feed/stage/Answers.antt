@@ -1,4 +1,4 @@
-use Rattle.std.proofs.Common.{◌≡◌, arith}
+use Rattle.std.proofs.Common.{arith}
 use Rattle.feed_cli.proofs.FeedLemmas.{after_all_more}
 use Rattle.feed_cli.proofs.feed.Feed.stage.Goals as goal
 
