@@ -8,10 +8,9 @@ use Rattle.std.specs.Option.{option_eq}
 use Rattle.std.proofs.lemmas.Bool.{false≢true, leb-true, ne_eqb, le-ltb}
 use Rattle.std.proofs.lemmas.Option.{cond_some, none-some}
 use Rattle.feed_text.specs.Ascii.{quotation_mark, backslash}
-use Rattle.feed_text.specs.Grammar.{is_unescaped}
+use Rattle.feed_text.specs.Reading.{is_unescaped, first, front_while, rest_while, unescaped_content}
 use Rattle.feed_text.specs.declared.Kind.TheVariants as kind
 use Rattle.feed_text.specs.Json.{Character, unescaped, escaped, unicode, is_character, print_character, IsString, Value, null_literal, true_literal, false_literal, number, string, empty_array, array, empty_object, object, print, kind_of, IsValue, TextOfStringIsString}
-use Rattle.feed_text.specs.Reading.{first, front_while, rest_while, unescaped_content}
 use Rattle.feed_text.proofs.Fronts.{while_parts, while_passes, while_front, while_rest}
 use Rattle.feed_text.proofs.Parts.{with_first}
 use Rattle.feed_text.proofs.Scalars.{same_bytes}

@@ -9,8 +9,7 @@ use Rattle.std.proofs.lemmas.Simd.{mask_l-mod, trailing_mask_l}
 use lib.Bits.{bit_or}
 use lib.Count.{count_trailing_zeros}
 use lib.Lanes.{zip2, mask_l, top, Each1}
-use Rattle.feed_text.specs.Grammar.{is_unescaped}
-use Rattle.feed_text.specs.Reading.{rest_while, is_stop}
+use Rattle.feed_text.specs.Reading.{is_unescaped, rest_while, is_stop}
 
 -- ---- the mask of a block
 

@@ -3,10 +3,10 @@ use Rattle.std.proofs.Common.{◌≡◌, ℕ, suc, ◌+◌, ◌≤◌, List, [],
 use Rattle.std.proofs.lemmas.Option.{same_Some}
 use Rattle.feed_text.specs.Ascii.{right_brace, right_bracket}
 use Rattle.feed_text.specs.declared.Kind.TheVariants as kind
-use Rattle.feed_text.specs.Grammar.{Item, print_item, Pair, print_pair, Contents, empty, parts, print_contents, AreContents, IsItem, IsPair, print_object, IsJson}
+use Rattle.feed_text.specs.Reading.{Item, print_item, Pair, print_pair, Contents, empty, parts, print_contents, print_object, contents_at, item_at, pair_at, value_at}
+use Rattle.feed_text.proofs.Grammar.{AreContents, IsItem, IsPair, IsJson}
 use Rattle.feed_text.specs.Json.{Value, Elements, Members, null_literal, true_literal, false_literal, number, string, empty_array, array, empty_object, object, last_element, element, last_member, member, print, IsValue, AreElements, AreMembers, kind_of, depth, TextDeterminesValue, TextDeterminesObject}
 use Rattle.feed_text.specs.Reading as reading
-use Rattle.feed_text.specs.Reading.{contents_at, item_at, pair_at, value_at}
 use Rattle.feed_text.proofs.Depths.{reads_value, starts_at, items_reads, members_reads}
 use Rattle.feed_text.proofs.Lines.{line_complete}
 use Rattle.feed_text.proofs.Trees.{item_between, first_item, other_items, pair_between, first_pair, other_pairs, elements_printed, members_printed, value_text, elements_text, members_text, line_of_object}

@@ -2,8 +2,7 @@
 
 ghost use Rattle.std.specs.Prelude.{◌≡◌, ◌≤◌, length, drop, map};
 ghost use Rattle.std.specs.Simd.Lanes.{mask_l};
-ghost use Rattle.feed_text.specs.Grammar.{is_unescaped};
-ghost use Rattle.feed_text.specs.Reading.{is_stop, rest_while};
+ghost use Rattle.feed_text.specs.Reading.{is_unescaped, is_stop, rest_while};
 
 use std::simd::prelude::*;
 

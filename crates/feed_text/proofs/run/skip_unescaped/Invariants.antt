@@ -1,6 +1,5 @@
 use Rattle.std.proofs.Common.{◌≡◌, length}
-use Rattle.feed_text.specs.Grammar.{is_unescaped}
-use Rattle.feed_text.specs.Reading.{rest_while}
+use Rattle.feed_text.specs.Reading.{is_unescaped, rest_while}
 use Rattle.feed_text.proofs.run.skip_unescaped.Given as goal
 
 abbrev pub invariant-loop-rest : goal.invariant-loop-rest
