@@ -281,6 +281,7 @@ fn copies_changes(rt: HostRuntime) -> Result<(), Fail> {
         Clear("teams"),
     ];
     let mut copies = Vec::new(alloc);
+    assert_eq!(rt; change(alloc, steps[1])?.kind().text(), "teams");
     for step in steps {
         copies.push(change(alloc, step)?.copy()?)?;
     }
