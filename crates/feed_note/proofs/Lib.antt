@@ -9,3 +9,4 @@ pub mod WrittenBatches
 pub mod WrittenLines
 pub mod WrittenStrings
 pub mod WrittenTrees
+pub mod Sizes

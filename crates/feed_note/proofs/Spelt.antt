@@ -13,6 +13,7 @@ use Rattle.feed_note.specs.Reading.{IsReadable, last_value_spelt, naming_or_null
 use Rattle.feed_note.specs.declared.naming.Naming.TheVariants.{Is, Long}
 use Rattle.feed_note.specs.Unreadable.{is_unreadable, is_unreadable_or_null}
 use Rattle.feed_note.proofs.Parts.{last_value_is_last_named}
+use Rattle.feed_note.proofs.Sizes.{two_for_each}
 
 pub spelled_text-spelling_of : (v : Value) → spelled_text (spelling_of v) ≡ text_of v
 spelled_text-spelling_of null_literal = refl
@@ -106,3 +107,12 @@ too_large_by_nesting law n text v h k e short r deep = by r deep
     by : (r : Bool) → (IsTrue r ↔ NestsTo text 101) → r ≡ is_too_large v
     by true d = let deep : 101 ≤ depth v = depths.0 (d.0 refl) in rw not_long (grind arith)
     by false d = rw not_long (grind (arith, d, depths))
+
+-- an object of fewer than two bytes for each level that is too deep isn't too large
+pub small_object : (text : List ℕ) (v : Value) → text ≡ print v → length text < 202 → false ≡ is_too_large v
+small_object text v e short =
+    let levels = two_for_each v in
+    let size : length text ≡ length (print v) = ap length e in
+    let not_long : nat_lt 1048576 (length (print v)) ≡ false = grind arith in
+    let not_deep : nat_lt 100 (depth v) ≡ false = grind arith in
+    rw (not_long, not_deep) refl

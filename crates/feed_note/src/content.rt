@@ -51,13 +51,19 @@ fn kept_object(alloc: Global, text: &[u8]) -> Result<Option<ObjectText>, AllocEr
     Ok(Some(object))
 }
 
-/// Whether an object's text is too long or nests too deep.
+/// Whether an object's text is too long or nests too deep. A text of fewer than two bytes for each level isn't looked at.
 fn is_too_large(text: &[u8]) -> bool
     requires { HoldsReadable 101 (text.now, Object) }
     ensures { (v : Value) → IsReadable 101 v → kind_of v ≡ Object → text.now ≡ print v → result ≡ too_large v }
 {
     text_laws();
-    text.len() > OBJECT_BYTES || nests_to(text, TOO_DEEP)
+    if text.len() > OBJECT_BYTES {
+        return true;
+    }
+    if text.len() < 2 * TOO_DEEP {
+        return false;
+    }
+    nests_to(text, TOO_DEEP)
 }
 
 /// What the id of an element names.

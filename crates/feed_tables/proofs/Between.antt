@@ -1,5 +1,5 @@
 -- What a fork of a search tree says of the entries between two keys.
-use Rattle.std.proofs.Common.{◌≡◌, ℕ, List, [], Option, None, Some, IsSome, Less, Equal, Greater, true, false, sym, ap, ◌∙◌, refl, subst, is_some}
+use Rattle.std.proofs.Common.{◌≡◌, ℕ, List, Option, None, Some, IsSome, Less, Equal, Greater, true, false, sym, ap, ◌∙◌, refl, subst, is_some}
 use Rattle.std.proofs.lemmas.Cmp.{tied_itself}
 use Rattle.std.specs.FinMap.{find}
 use Rattle.std.specs.FinMap.Entries.{same_entries}
@@ -129,21 +129,6 @@ module _ {d l r : List (List ℕ × List ℕ)} {e : List ℕ × List ℕ} (f : A
         let over = right_above q h in
         record { above = over; below = (all q (found_too _ _ (sym (found_after f q over)) h)).below }
 
--- no entries are the part of no entries
-pub part_none : (low high : Option (List ℕ)) {d : List (List ℕ × List ℕ)} → [] ≡ d → IsPartBetween low high d d
-part_none low high {d} is = record {
-  in_order = subst (λ (es : List (List ℕ × List ℕ)). IsInOrder es) is tt;
-  agrees = λ q b. refl;
-  filled = λ none. sym is;
-}
-
--- no entries agree with a part exactly where it has none
-pub none_agrees : (low high : Option (List ℕ)) (b part d : List (List ℕ × List ℕ)) → IsPartBetween low high b part → [] ≡ d → AgreeBetween low high d b → part ≡ []
-none_agrees low high b part d p is agree = p.filled (λ q between. p.agrees q between ∙ sym (agree q between) ∙ ap (find byte_order q) (sym is))
-
-pub none_agree : (low high : Option (List ℕ)) (b part d : List (List ℕ × List ℕ)) → IsPartBetween low high b part → [] ≡ d → part ≡ [] → AgreeBetween low high d b
-none_agree low high b part d p is none q between = ap (find byte_order q) (sym is ∙ sym none) ∙ p.agrees q between
-
 -- what agrees with a part agrees with the whole, and the other way round
 pub agree_whole : (low high : Option (List ℕ)) (b part d : List (List ℕ × List ℕ)) → IsPartBetween low high b part → AgreeBetween low high d part → AgreeBetween low high d b
 agree_whole low high b part d p agree q between = agree q between ∙ p.agrees q between
@@ -154,9 +139,6 @@ agree_part low high b part d p agree q between = agree q between ∙ sym (p.agre
 -- entries without bounds
 anywhere : (q : List ℕ) → IsBetween None None q
 anywhere q = record { above = tt; below = tt }
-
-pub all_anywhere : (es : List (List ℕ × List ℕ)) → AllBetween None None es
-all_anywhere es q h = anywhere q
 
 pub same_anywhere : {es fs : List (List ℕ × List ℕ)} → IsInOrder es → IsInOrder fs → AgreeBetween None None es fs → es ≡ fs
 same_anywhere {es} {fs} h g agree = same_entries byte_order total byte_order_antisymmetric es fs h g (λ q. agree q (anywhere q))

@@ -6,9 +6,6 @@ module _ {A : Type 0} (xs ys us vs us' vs' : List A) where
   pub same_step : (x y : A) → us ≡ x ∷ us' → vs ≡ y ∷ vs' → x ≡ y → (xs ≡ ys) ↔ (us ≡ vs) → (xs ≡ ys) ↔ (us' ≡ vs')
   same_step x y e f same rests = (λ whole. let all = rests.0 whole in cc, λ rest. rests.1 (cc))
 
-  pub differs : (x y : A) → us ≡ x ∷ us' → vs ≡ y ∷ vs' → (x ≡ y → ⊥) → (xs ≡ ys) ↔ (us ≡ vs) → xs ≡ ys → ⊥
-  differs x y e f other rests whole = let all = rests.0 whole in other (cc)
-
 module _ {A : Type 0} (xs ys us vs : List A) where
   pub same_start : us ≡ xs → vs ≡ ys → (xs ≡ ys) ↔ (us ≡ vs)
   same_start e f = (λ same. cc, λ same. cc)

@@ -10,7 +10,7 @@ pub mod tables;
 
 pub use change::{Change, Changes};
 pub use name::{Name, NameFault};
-pub use tables::{Table, Tables};
+pub use tables::Tables;
 
 #[cfg(test)]
 mod tests;

@@ -65,7 +65,8 @@ impl Model for ObjectText {
 }
 
 impl ObjectText {
-    /// The text as an object that is kept.
+    /// A copy of the text, where it is one JSON object with nothing around it and no line feed in it, of at most
+    /// 1,048,576 bytes and 100 levels. The fault is the first of those that hold.
     #[tactic(auto, using(crate::proofs::Kept::object_text))]
     pub fn parse(alloc: Global, bytes: &[u8]) -> Result<ObjectText, ObjectFault>
         ensures text { IfOk result (λ object. object ≡ bytes.now) }
@@ -90,7 +91,7 @@ impl ObjectText {
         }
     }
 
-    /// The text that is already known to be one: it is not read again.
+    /// A copy of a text that is known to be such an object: it is not read again.
     pub fn from_object(alloc: Global, bytes: &[u8]) -> Result<ObjectText, AllocError>
         requires { IsObjectText bytes.now }
         ensures { IfOk result (λ object. object ≡ bytes.now) }
@@ -107,7 +108,7 @@ impl ObjectText {
         self.text.as_slice()
     }
 
-    /// The same text again.
+    /// The same text again; the bytes are shared.
     pub fn copy(&self) -> Result<ObjectText, AllocError>
         ensures { IfOk result (λ object. object ≡ self.now) }
     {

@@ -1,7 +1,7 @@
 use Rattle.std.proofs.Common.{◌≡◌, length}
 use Rattle.feed_text.specs.Grammar.{is_unescaped}
 use Rattle.feed_text.specs.Reading.{rest_while}
-use Rattle.feed_text.proofs.scalar.skip_unescaped.Given as goal
+use Rattle.feed_text.proofs.run.skip_slowly.Given as goal
 
 abbrev pub invariant-loop-rest : goal.invariant-loop-rest
 invariant-loop-rest l = rest_while is_unescaped l.rest ≡ rest_while is_unescaped l.fn.text

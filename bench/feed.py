@@ -1,0 +1,123 @@
+#!/usr/bin/env python3
+"""feed.py NOTIFICATIONS [SEED]: a large contest feed on standard output.
+
+The set-up comes as whole collections; then submissions, judgements, runs, clarifications, comments and states, as a
+contest of 150 teams has them. One line in eight ends a commit, one in forty is a keep-alive, and judgements are written
+again and again."""
+import random
+import sys
+
+TEAMS, PROBLEMS = 150, 12
+START = "2026-11-22T10:00:00.000+01:00"
+
+
+def collections():
+    """The set-up: a type and the elements of its collection."""
+    yield "judgement-types", [
+        f'{{"id":"{i}","name":"{name}","penalty":{penalty},"solved":{solved}}}'
+        for i, name, penalty, solved in (
+            ("AC", "correct", "false", "true"), ("WA", "wrong answer", "true", "false"),
+            ("TLE", "time limit", "true", "false"), ("CE", "compiler error", "false", "false"))]
+    yield "languages", [f'{{"id":"{i}","name":"{i}","extensions":["{i}"]}}' for i in ("cpp", "java", "kotlin", "python3")]
+    yield "problems", [
+        f'{{"id":"p{k}","ordinal":{k},"label":"{chr(65 + k)}","name":"Problem \\u00e9 {k}","time_limit":{("2.0", "10", "1.5e0")[k % 3]}}}'
+        for k in range(PROBLEMS)]
+    yield "groups", [f'{{"id":"{k}","name":"Region {k}","hidden":false}}' for k in range(8)]
+    yield "organizations", [
+        f'{{"id":"o{k}","name":"Université №{k}","country":"DEU","logo":[{{"href":"contests/wf/organizations/o{k}/logo.png",'
+        f'"filename":"logo.png","mime":"image/png","width":64,"height":64}}]}}' for k in range(TEAMS)]
+    yield "teams", [
+        f'{{"id":"{k}","name":"Team \\"{k}\\"","label":"{k}","organization_id":"o{k}","group_ids":["{k % 8}"],"hidden":false}}'
+        for k in range(TEAMS)]
+    yield "persons", [f'{{"id":"x{k}","name":"Person {k}","role":"contestant","team_ids":["{k // 3}"]}}' for k in range(3 * TEAMS)]
+
+
+class Feed:
+    def __init__(self, notifications, seed):
+        self.most, self.made, self.token = notifications, 0, 0
+        self.random = random.Random(seed)
+        self.submissions = self.runs = 0
+        self.lines = []
+
+    def put(self, kind, i, data, commits=False):
+        token = ""
+        if commits or self.random.random() < 0.12:
+            self.token += 1
+            token = f',"token":"{self.token}"'
+        quoted = "null" if i is None else f'"{i}"'
+        self.line(f'{{"type":"{kind}","id":{quoted},"data":{data}{token}}}')
+
+    def line(self, text):
+        self.made += 1
+        self.lines.append(text)
+        if len(self.lines) == 1000:
+            self.flush()
+
+    def flush(self):
+        sys.stdout.buffer.write("".join(line + "\n" for line in self.lines).encode())
+        self.lines.clear()
+
+    def clock(self):
+        r = self.random
+        return f"{5 * self.made // self.most}:{r.randint(0, 59):02}:{r.randint(0, 59):02}.{r.randint(0, 999):03}"
+
+    def time(self):
+        r = self.random
+        return f"2026-11-22T12:{r.randint(0, 59):02}:{r.randint(0, 59):02}.{r.randint(0, 999):03}+01:00"
+
+    def state(self, **times):
+        members = ",".join(f'"{name}":{times.get(name) or "null"}' for name in ("started", "frozen", "ended", "thawed", "finalized", "end_of_updates"))
+        return f"{{{members}}}"
+
+    def submission(self):
+        self.submissions += 1
+        n, r = self.submissions, self.random
+        self.put("submissions", n, f'{{"id":"{n}","language_id":"cpp","problem_id":"p{r.randint(0, 11)}","team_id":"{r.randint(0, 149)}","time":"{self.time()}",'
+                 f'"contest_time":"{self.clock()}","entry_point":null,"files":[{{"href":"contests/wf/submissions/{n}/files","filename":"files.zip","mime":"application/zip"}}],"reaction":null}}')
+        self.put("judgements", n, f'{{"id":"{n}","submission_id":"{n}","judgement_type_id":null,"start_time":"{START}","start_contest_time":"{self.clock()}","end_time":null,"end_contest_time":null}}')
+
+    def judgement(self):
+        n = self.random.randint(max(1, self.submissions - 50), self.submissions)
+        self.put("judgements", n, f'{{"id":"{n}","submission_id":"{n}","judgement_type_id":"{self.random.choice(("AC", "WA", "TLE"))}","start_time":"{START}",'
+                 f'"start_contest_time":"{self.clock()}","end_time":"{self.time()}","end_contest_time":"{self.clock()}","max_run_time":{self.random.random():.3f}}}')
+
+    def run(self):
+        self.runs += 1
+        n, r = self.runs, self.random
+        self.put("runs", n, f'{{"id":"{n}","judgement_id":"{self.submissions}","ordinal":{r.randint(1, 99)},"judgement_type_id":"{r.choice(("AC", "AC", "WA"))}",'
+                 f'"time":"{self.time()}","contest_time":"{self.clock()}","run_time":{r.random():.3f}}}')
+
+    def comment(self):
+        n = self.made
+        data = "null" if self.random.random() < 0.3 else f'{{"id":"{n}","time":"{self.time()}","contest_time":"{self.clock()}","message":"#t{n % TEAMS} solves #p{n % PROBLEMS}","team_ids":["{n % TEAMS}"]}}'
+        self.put("commentary", n, data)
+
+    def clarification(self):
+        n = self.random.randint(1, 500)
+        self.put("clarifications", n, f'{{"id":"{n}","from_team_id":"{n % TEAMS}","reply_to_id":null,"problem_id":"p1","text":"What about \\n case #{n}? \\"x\\\\y\\" — naïve","time":"{self.time()}","contest_time":"{self.clock()}"}}')
+
+    def write(self):
+        self.put("contest", None, f'{{"id":"wf","name":"World Finals","formal_name":"The World Finals — Köln","start_time":"{START}","duration":"5:00:00.000","penalty_time":20}}')
+        for kind, elements in collections():
+            self.put(kind, None, f'[{",".join(elements)}]')
+        self.put("state", None, self.state(started=f'"{START}"'), True)
+        while self.made < self.most - 1:
+            x = self.random.random()
+            if x < 0.025:
+                self.line("")
+            elif x < 0.10 or self.submissions == 0:
+                self.submission()
+            elif x < 0.17:
+                self.judgement()
+            elif x < 0.175:
+                self.clarification()
+            elif x < 0.18:
+                self.comment()
+            else:
+                self.run()
+        self.put("state", None, self.state(started=f'"{START}"', ended='"2026-11-22T15:00:00.000+01:00"'), True)
+        self.flush()
+
+
+if __name__ == "__main__":
+    Feed(int(sys.argv[1]), int(sys.argv[2]) if len(sys.argv) > 2 else 1).write()
