@@ -4,3 +4,4 @@ pub mod FirstTables
 pub mod Memory
 pub mod Printing
 pub mod Status
+pub mod Stream

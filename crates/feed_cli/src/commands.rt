@@ -22,6 +22,10 @@ struct Printer<'a, W> {
 }
 
 impl<W: FeedWrite> Write for Printer<'_, W> {
+    ghost use Rattle.std.specs.Io.KnownBytes.{Appends};
+
+    ghost write_str_gives = { λ p text q. Appends (W.contents p.device.now) (W.contents q.device.now) text };
+
     fn write_str(&mut self, text: &str) -> fmt::Result {
         match write_all(self.device, text.as_bytes()) {
             Ok(()) => Ok(()),

@@ -1,8 +1,7 @@
 //! A reader and a writer over memory.
-ghost use Rattle.std.specs.Prelude.{◌≡◌, ℕ, ◌-◌, ◌<◌, ◌≤◌, ◌⊎◌, min, List, [], ◌++◌, length, take, drop, Some, Ok, Err, IfOk, OnErr, vec_items};
+ghost use Rattle.std.specs.Prelude.{◌≡◌, ◌-◌, ◌<◌, ◌≤◌, min, [], length, Some, IfOk, OnErr};
 ghost use Rattle.std.specs.Io.KnownBytes.{ReadConsumes, WriteAppends};
 ghost use Rattle.feed_cli.specs.Device.{counted, failures_after};
-ghost use Rattle.feed_cli.specs.Memory.{MemorySource, MemorySink};
 
 use crate::device::{Failed, FeedRead, FeedWrite};
 use std::alloc::Global;

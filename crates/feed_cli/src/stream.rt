@@ -13,9 +13,13 @@ pub struct Stream<S> {
 }
 
 impl<S> Stream<S> {
+    ghost use Rattle.feed_cli.specs.Stream.{stream_inner, stream_reads, stream_failures};
+
     /// Nothing was asked of it yet.
     pub fn new(inner: S) -> Stream<S>
-        ensures { result ≡ record { inner = inner; reads = 0; failures = 0 } }
+        ensures inner { stream_inner result ≡ inner }
+        ensures reads { stream_reads result ≡ 0 }
+        ensures failures { stream_failures result ≡ 0 }
     {
         Stream {
             inner,
@@ -26,11 +30,13 @@ impl<S> Stream<S> {
 }
 
 impl<S: Read> FeedRead for Stream<S> {
-    ghost remaining = { λ s. S.remaining s.inner };
+    ghost use Rattle.feed_cli.specs.Stream.{stream_inner, stream_reads, stream_failures};
 
-    ghost reads = { λ s. s.reads };
+    ghost remaining = { λ s. S.remaining (stream_inner s) };
 
-    ghost failures = { λ s. s.failures };
+    ghost reads = { λ s. stream_reads s };
+
+    ghost failures = { λ s. stream_failures s };
 
     fn read_some(&mut self, buf: &mut [u8]) -> Result<usize, Failed> {
         self.reads = self.reads.saturating_add(1);
@@ -45,9 +51,11 @@ impl<S: Read> FeedRead for Stream<S> {
 }
 
 impl<S: Write> FeedWrite for Stream<S> {
-    ghost contents = { λ s. S.contents s.inner };
+    ghost use Rattle.feed_cli.specs.Stream.{stream_inner, stream_failures};
 
-    ghost failures = { λ s. s.failures };
+    ghost contents = { λ s. S.contents (stream_inner s) };
+
+    ghost failures = { λ s. stream_failures s };
 
     /// A write that takes nothing is a failure.
     fn write_some(&mut self, bytes: &[u8]) -> Result<usize, Failed> {
