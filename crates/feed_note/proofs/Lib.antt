@@ -9,3 +9,12 @@ pub mod WrittenBatches
 pub mod WrittenLines
 pub mod WrittenStrings
 pub mod WrittenTrees
+pub mod LinesCut
+pub mod LinesInRow
+pub mod LineEnds
+pub mod LongLines
+pub mod ChangeBounds
+pub mod ReadSoFar
+pub mod Counting
+pub mod Batching
+pub mod OneMeaning
