@@ -10,3 +10,12 @@ pub mod WrittenLines
 pub mod WrittenStrings
 pub mod WrittenTrees
 pub mod Sizes
+pub mod LinesCut
+pub mod LinesInRow
+pub mod LineEnds
+pub mod LongLines
+pub mod ChangeBounds
+pub mod ReadSoFar
+pub mod Counting
+pub mod Batching
+pub mod OneMeaning

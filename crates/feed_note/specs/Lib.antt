@@ -7,3 +7,7 @@ pub mod Reading
 pub mod Texts
 pub mod Written
 pub mod Unreadable
+pub mod Splitting
+pub mod Counts
+pub mod Steps
+pub mod Batches

@@ -1,5 +1,8 @@
 //! Laws of the definitions.
 
+ghost use Rattle.feed_note.specs.Lines.{LinesCut, LinesAreTheOnlyCut};
+ghost use Rattle.feed_note.specs.Meaning.{OnlyOne};
+ghost use Rattle.feed_note.specs.Splitting.{LongNextStays};
 ghost use Rattle.feed_note.specs.Written.{WrittenLineMeans};
 
 use feed_text::text_laws;
@@ -7,6 +10,17 @@ use feed_text::text_laws;
 /// A written line means its change and its token, is within the limit of a line, and has no line feed.
 pub fn written_lines_law()
     ensures { WrittenLineMeans }
+{
+    text_laws();
+}
+
+/// A text is cut into its lines and its rest in one way; a line has one meaning at most, or one reason at most, and not
+/// both; a next line that is too long stays so, whatever follows.
+pub fn line_laws()
+    ensures cut { LinesCut }
+    ensures only_cut { LinesAreTheOnlyCut }
+    ensures one_meaning { OnlyOne }
+    ensures long_stays { LongNextStays }
 {
     text_laws();
 }

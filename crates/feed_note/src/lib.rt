@@ -1,18 +1,27 @@
 //! The lines of a contest's event feed: what they mean, and how they are written.
 #![tactic(auto)]
 
+mod batch;
 mod content;
+mod counts;
+mod cut;
 mod fields;
 mod laws;
 mod line;
 mod naming;
 mod read;
+mod splitter;
+mod stop;
 mod told;
 mod write;
 
-pub use laws::written_lines_law;
+pub use batch::batches;
+pub use counts::{Counts, SurveyFault, survey};
+pub use laws::{line_laws, written_lines_law};
 pub use line::{Line, LineFault};
 pub use read::read_line;
+pub use splitter::{SplitFault, Splitter};
+pub use stop::LineStop;
 pub use write::{write_batch, write_line};
 
 #[cfg(test)]
