@@ -12,6 +12,3 @@ pub use fault::FeedFault;
 pub use limits::{BadLimits, Limits};
 pub use mirror::Mirror;
 pub use node::Node;
-
-
-
