@@ -12,3 +12,6 @@ pub use fault::FeedFault;
 pub use limits::{BadLimits, Limits};
 pub use mirror::Mirror;
 pub use node::Node;
+
+#[cfg(test)]
+mod tests;
