@@ -1,0 +1,9 @@
+pub mod Codes
+pub mod Followed
+pub mod Limits
+pub mod Mirroring
+pub mod Reading
+pub mod Shown
+pub mod Staged
+pub mod Staging
+pub mod States

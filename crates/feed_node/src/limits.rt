@@ -1,0 +1,55 @@
+//! How much a node keeps.
+
+ghost use Rattle.std.specs.Prelude.{◌≡◌, IfOk, OnErr};
+ghost use Rattle.feed_node.specs.Limits.{IsInRange};
+
+use std::marker::Model;
+use thiserror::Error;
+
+/// The limits are out of range.
+#[derive(Clone, Copy, Debug, PartialEq, Eq, Error)]
+#[error("bad limits")]
+pub struct BadLimits;
+
+/// How many commits a node keeps, 1 to 65,536, and how many changes may wait for a token, 1 to 1,000,000; the second
+/// bounds the size of the tables that it publishes, too.
+#[derive(Clone, Copy)]
+pub struct Limits {
+    history: usize,
+    staged: usize,
+}
+
+impl Model for Limits {
+    ghost use Rattle.feed_node.specs.Limits.{Limits, IsInRange};
+
+    ghost Value = { Limits };
+
+    ghost view = { λ a. record { history = a.history; staged = a.staged } };
+
+    ghost inverse = { λ b. record { history = b.history; staged = b.staged } };
+
+    ghost invariant = { λ a. IsInRange a.history a.staged };
+}
+
+impl Limits {
+    /// The limits, where they are in range.
+    pub fn new(history: usize, staged: usize) -> Result<Limits, BadLimits>
+        ensures ok { IfOk result (λ limits. limits ≡ record { history = history; staged = staged }) }
+        ensures within { IfOk result (λ limits. IsInRange limits.history limits.staged) }
+        ensures err { OnErr result (¬ (IsInRange history staged)) }
+    {
+        if (1..=65_536).contains(&history) && (1..=1_000_000).contains(&staged) {
+            Ok(Limits { history, staged })
+        } else {
+            Err(BadLimits)
+        }
+    }
+
+    /// How many changes may wait for a token, and what the size of published tables may be.
+    pub(crate) fn staged(self) -> usize
+        ensures staged { result ≡ self.staged }
+        ensures within { IsInRange self.history self.staged }
+    {
+        self.staged
+    }
+}
