@@ -3,10 +3,9 @@
 
 use feed_cli::run;
 use feed_cli::stream::Stream;
-use std::env;
-use std::io;
 use std::io::ErrorKind;
 use std::process::ExitCode;
+use std::{env, io};
 
 /// The status for a refused command line.
 const REFUSED: u8 = 1;
