@@ -1,4 +1,4 @@
-use Rattle.std.proofs.Common.{◌≡◌, ◌+◌, sym, ◌∙◌}
+use Rattle.std.proofs.Common.{◌+◌, sym, ◌∙◌}
 use Rattle.std.proofs.lemmas.List.{take_rest}
 use Rattle.feed_node.proofs.LineEnds.{unbroken_all, cut_at}
 use Rattle.feed_node.proofs.piece.split_line.Goals as goal
