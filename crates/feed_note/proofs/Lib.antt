@@ -18,3 +18,4 @@ pub mod ReadSoFar
 pub mod Counting
 pub mod Batching
 pub mod OneMeaning
+pub mod Piecewise
