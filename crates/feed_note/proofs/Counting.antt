@@ -1,10 +1,9 @@
 -- The counts of a feed, one line after the other.
-use Rattle.std.proofs.Common.{◌≡◌, refl, sym, ap, ◌∙◌, subst, ℕ, ◌+◌, ◌<◌, ◌≤◌, ◌^◌, Bool, true, false, cond, List, [], ◌∷◌, ◌++◌, length, arith, length-append}
+use Rattle.std.proofs.Common.{◌≡◌, sym, ap, ◌∙◌, subst, ℕ, ◌+◌, ◌<◌, ◌≤◌, ◌^◌, Bool, cond, List, [], ◌∷◌, ◌++◌, length, arith, length-append}
 use Rattle.std.specs.List.{count_by, sum_by}
 use Rattle.std.proofs.lemmas.List.Sums.{sum_by_push, count_by-le-length}
 use Rattle.feed_note.specs.Counts.{counts_of, is_keep_alive, is_note, has_token, Counted}
 use Rattle.feed_note.specs.Steps.{TakesNote, IsUnfinished, HasRoom, one_if, with_note}
-use Rattle.feed_note.specs.Lines.{rest}
 use Rattle.feed_note.specs.declared.line.Line.{Line}
 use Rattle.feed_note.specs.declared.counts.Counts.{Counts}
 use Rattle.feed_note.proofs.ReadSoFar.{ReadSoFar, change_count, changes_fit, all_read, rest_length}

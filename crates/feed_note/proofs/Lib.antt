@@ -19,3 +19,4 @@ pub mod ReadSoFar
 pub mod Counting
 pub mod Batching
 pub mod OneMeaning
+pub mod Piecewise

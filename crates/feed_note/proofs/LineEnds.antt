@@ -1,14 +1,14 @@
 -- Where the first line of a text ends.
-use Rattle.std.proofs.Common.{◌≡◌, refl, sym, ap, ◌∙◌, subst, ℕ, ◌+◌, ◌-◌, ◌<◌, ◌≤◌, Bool, true, false, not, ◌&&◌, true≢false, List, [], ◌∷◌, ◌++◌, length, take, drop, cond, Option, Some, None, arith, eqb-true, get_or, nat_lt, take_all, ltb-false, ltb-true, length-drop, length-append, append_assoc}
+use Rattle.std.proofs.Common.{◌≡◌, refl, sym, ap, ◌∙◌, subst, ℕ, ◌+◌, ◌<◌, ◌≤◌, Bool, true, false, not, true≢false, List, [], ◌∷◌, ◌++◌, length, take, drop, cond, Some, None, arith, eqb-true, get_or, nat_lt, take_all, ltb-false, ltb-true, length-drop, length-append, append_assoc}
 use Rattle.std.specs.List.{list_all, prefix_len, position, position_or_len}
 use Rattle.std.proofs.Math.Seq.{take-add}
 use Rattle.std.proofs.lemmas.List.{take-append-drop, take-append-le, drop-append-le, drop-drop, length-take-le}
 use Rattle.std.proofs.lemmas.List.Folds.{list_all-append}
-use Rattle.std.proofs.lemmas.List.Sums.{prefix_len-le-length, prefix_len_stops, split_at_first}
+use Rattle.std.proofs.lemmas.List.Sums.{prefix_len_stops, split_at_first}
 use Rattle.feed_text.specs.Limits.{line_bytes}
 use Rattle.feed_note.specs.Lines.{is_line_feed, lines, rest, HasNoLineFeed}
 use Rattle.feed_note.specs.Splitting.{EndsAt, Gives, GivesNone, IsLongNext, IsSearched, first_or, next_of}
-use Rattle.feed_note.proofs.LinesCut.{both, first_true, second_true, no_lines, one_line, no_rest}
+use Rattle.feed_note.proofs.LinesCut.{both, no_lines, one_line, no_rest}
 
 abbrev stays : ℕ → Bool
 stays b = not (is_line_feed b)

@@ -1,5 +1,5 @@
 -- A next line that is too long stays so, whatever follows.
-use Rattle.std.proofs.Common.{◌≡◌, refl, sym, ap, ◌∙◌, subst, ℕ, ◌+◌, ◌<◌, ◌≤◌, not, false, List, [], ◌∷◌, ◌++◌, length, drop, cond, arith}
+use Rattle.std.proofs.Common.{◌≡◌, refl, sym, ap, ◌∙◌, subst, ℕ, ◌<◌, ◌≤◌, not, false, List, [], ◌∷◌, ◌++◌, length, drop, cond, arith}
 use Rattle.feed_text.specs.Limits.{line_bytes}
 use Rattle.feed_note.specs.Lines.{is_line_feed, onto_first, lines, rest, ended, HasNoLineFeed}
 use Rattle.feed_note.specs.Splitting.{first_or, next_of, IsLongNext, LongNextStays}

@@ -1,13 +1,13 @@
 -- The lines of a text that were read, and what is left of it.
-use Rattle.std.proofs.Common.{◌≡◌, refl, sym, ap, ◌∙◌, subst, ℕ, ◌+◌, ◌<◌, ◌≤◌, ◌⊎◌, inl, inr, List, [], ◌∷◌, ◌++◌, length, append_assoc, append-nil, arith, length-append}
+use Rattle.std.proofs.Common.{◌≡◌, refl, sym, ap, ◌∙◌, subst, ℕ, ◌+◌, ◌<◌, ◌≤◌, inl, inr, List, [], ◌∷◌, ◌++◌, length, append_assoc, append-nil, arith, length-append}
 use Rattle.std.specs.List.{AllZip, sum_by}
 use Rattle.std.proofs.lemmas.List.Sums.{sum_by_push}
 use Rattle.std.proofs.lemmas.Slice.Zip.{AllZip-long}
 use Rattle.feed_text.specs.Limits.{line_bytes}
 use Rattle.feed_note.specs.Lines.{lines, rest}
 use Rattle.feed_note.specs.Notes.{changes_in}
-use Rattle.feed_note.specs.Counts.{IsRead, AreRead, StopsAt, StopsAtLine, StopsAtRest}
-use Rattle.feed_note.specs.Steps.{BeginsWith, TakesNote, IsUnfinished, StopsNext, StopsAtFirst, StopsUnfinished}
+use Rattle.feed_note.specs.Counts.{IsRead, AreRead, StopsAt}
+use Rattle.feed_note.specs.Steps.{BeginsWith, TakesNote, IsUnfinished, StopsNext}
 use Rattle.feed_note.specs.declared.line.Line.{Line}
 use Rattle.feed_note.specs.declared.stop.LineStop.{LineStop}
 use Rattle.feed_note.proofs.LinesCut.{no_lines, one_line, no_rest, rest_behind}

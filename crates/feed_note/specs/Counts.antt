@@ -1,5 +1,5 @@
 -- What a survey of a feed counts, and where the reading of a feed stops.
-use Rattle.std.specs.Prelude.{◌≡◌, ◌⊎◌, ◌+◌, ◌<◌, ◌≤◌, ℕ, Bool, true, false, List, [], ◌∷◌, ◌++◌, length, count_by, sum_by, is_some}
+use Rattle.std.specs.Prelude.{◌≡◌, ◌⊎◌, ◌+◌, ◌<◌, ◌≤◌, ℕ, Bool, true, false, List, ◌∷◌, ◌++◌, length, count_by, sum_by, is_some}
 use Rattle.std.specs.List.{AllZip}
 use Rattle.feed_text.specs.Limits.{line_bytes}
 use Rattle.feed_note.specs.Lines.{lines, rest}

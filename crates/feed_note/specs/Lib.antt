@@ -11,3 +11,4 @@ pub mod Splitting
 pub mod Counts
 pub mod Steps
 pub mod Batches
+pub mod Pieces

@@ -1,6 +1,6 @@
-use Rattle.std.proofs.Common.{◌≡◌, refl, sym, ap, ◌∙◌, ◌+◌, [], ◌∷◌, ◌++◌, length, arith}
+use Rattle.std.proofs.Common.{ap, ◌+◌, [], ◌∷◌, ◌++◌}
 use Rattle.feed_note.proofs.ReadSoFar.{more, stops}
-use Rattle.feed_note.proofs.Counting.{counts_more, room, counted}
+use Rattle.feed_note.proofs.Counting.{counts_more, counted}
 use Rattle.feed_note.specs.declared.counts.Counts.{Counts}
 use Rattle.feed_note.proofs.counts.survey.Goals as goal
 

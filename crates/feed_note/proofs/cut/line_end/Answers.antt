@@ -1,4 +1,4 @@
-use Rattle.std.proofs.Common.{◌≡◌, sym, ap, ◌∙◌, ◌-◌, length, take, drop}
+use Rattle.std.proofs.Common.{sym, ap, ◌∙◌, drop}
 use Rattle.std.specs.List.{position}
 use Rattle.std.proofs.lemmas.List.{take_rest}
 use Rattle.feed_note.specs.Lines.{is_line_feed}
