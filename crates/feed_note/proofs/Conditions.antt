@@ -1,21 +1,20 @@
 -- The conditions of a notification, one after the other.
-use Rattle.std.proofs.Common.{◌≡◌, refl, sym, ap, ◌∙◌, subst, ℕ, ◌⊎◌, inl, inr, Bool, true, false, not, ◌||◌, ◌&&◌, cond, true≢false, List, [], ◌∷◌, ◌++◌, length, Option, Some, None, append-nil}
-use Rattle.std.specs.Prelude.{IfSome, MatchResult, IfErr, IfOk, IsErr, IsErrOf, Result, Ok, Err, is_none, is_some, nat_lt, map, option_map, option_and_then, option_to_list, flat_map}
+use Rattle.std.proofs.Common.{◌≡◌, refl, sym, ap, ◌∙◌, subst, ℕ, Bool, true, false, not, ◌||◌, ◌&&◌, cond, true≢false, List, [], ◌∷◌, length, Option, Some, None, append-nil}
+use Rattle.std.specs.Prelude.{MatchResult, Result, Ok, Err, is_none, nat_lt, option_map, option_and_then, option_to_list, flat_map}
 use Rattle.std.specs.List.{list_any}
-use Rattle.feed_text.specs.Json.{Value, print, kind_of, items_of, null_literal, true_literal, false_literal, number, string, empty_array, array, empty_object, object}
+use Rattle.feed_text.specs.Json.{Value, kind_of, items_of, null_literal, true_literal, false_literal, number, string, empty_array, array, empty_object, object}
 use Rattle.feed_text.specs.Members.{Spelling, spelling_of}
 use Rattle.feed_text.specs.declared.Kind.{Kind}
-use Rattle.feed_text.specs.declared.Kind.TheVariants.{Object, Array, Str, Num, True, False, Null}
-use Rattle.feed_note.specs.Meaning.{Notification, conditions, first_fault, has_no_type, has_bad_member, has_bad_data, has_no_meaning, has_bad_element, has_long_name, has_big_object, is_object, is_array, is_null, is_string, is_text, is_text_or_null, member_kind, member_text, element_id, elements_of, text_of}
+use Rattle.feed_text.specs.declared.Kind.TheVariants.{Object, Array, Null}
+use Rattle.feed_note.specs.Meaning.{Notification, conditions, first_fault, has_no_type, has_bad_member, has_bad_data, has_no_meaning, has_bad_element, has_long_name, has_big_object, is_object, is_array, is_null, is_string, is_text, is_text_or_null, member_kind, member_text, element_id, elements_of}
 use Rattle.feed_note.specs.Naming.{naming_of}
-use Rattle.feed_note.specs.Reading.{naming_or_null, IsNamed, AreNamesOf, IsContentOf, IsFirstFault, Holds, HoldsElements, Collects, element_of, gathered, kept, identified_by}
+use Rattle.feed_note.specs.Reading.{naming_or_null, IsNamed, IsContentOf, IsFirstFault, HoldsElements, Collects, element_of, gathered, kept, identified_by}
 use Rattle.feed_note.specs.Unreadable.{is_unreadable, is_unreadable_or_null}
 use Rattle.feed_note.specs.declared.content.Content.{Content}
 use Rattle.feed_note.specs.declared.content.Content.TheVariants as content
 use Rattle.feed_note.specs.declared.content.Element.{Element}
-use Rattle.feed_note.specs.declared.fields.Names.{Names}
 use Rattle.feed_note.specs.declared.naming.Naming.{Naming}
-use Rattle.feed_note.specs.declared.naming.Naming.TheVariants.{Is, Long, Unreadable}
+use Rattle.feed_note.specs.declared.naming.Naming.TheVariants.{Is, Long}
 use Rattle.feed_note.specs.declared.line.LineFault.{LineFault}
 use Rattle.feed_note.specs.declared.line.LineFault.TheVariants as fault
 use Rattle.feed_note.proofs.Spelt.{unreadable-naming_of, unreadable-naming_or_null}

@@ -1,12 +1,12 @@
 -- The counts of a feed, one line after the other.
-use Rattle.std.proofs.Common.{◌≡◌, sym, ap, ◌∙◌, subst, ℕ, ◌+◌, ◌<◌, ◌≤◌, ◌^◌, Bool, cond, List, [], ◌∷◌, ◌++◌, length, arith, length-append}
-use Rattle.std.specs.List.{count_by, sum_by}
-use Rattle.std.proofs.lemmas.List.Sums.{sum_by_push, count_by-le-length}
+use Rattle.std.proofs.Common.{◌≡◌, sym, ap, ◌∙◌, ℕ, ◌+◌, Bool, cond, List, [], ◌∷◌, ◌++◌, length, length-append}
+use Rattle.std.specs.List.{count_by}
+use Rattle.std.proofs.lemmas.List.Sums.{sum_by_push}
 use Rattle.feed_note.specs.Counts.{counts_of, is_keep_alive, is_note, has_token, Counted}
-use Rattle.feed_note.specs.Steps.{TakesNote, IsUnfinished, HasRoom, one_if, with_note}
+use Rattle.feed_note.specs.Steps.{IsUnfinished, one_if, with_note}
 use Rattle.feed_note.specs.declared.line.Line.{Line}
 use Rattle.feed_note.specs.declared.counts.Counts.{Counts}
-use Rattle.feed_note.proofs.ReadSoFar.{ReadSoFar, change_count, changes_fit, all_read, rest_length}
+use Rattle.feed_note.proofs.ReadSoFar.{ReadSoFar, change_count, all_read, rest_length}
 
 count_more : (test : Line → Bool) (notes : List Line) (note : Line) → count_by test (notes ++ note ∷ []) ≡ count_by test notes + one_if (test note)
 count_more test notes note = sum_by_push (λ n. cond (test n) 1 0) notes note
@@ -23,24 +23,6 @@ counts_more notes note counts new e is =
       tokens = sym (count_more has_token notes note) i;
       rest = 0;
     }
-
--- the counts of what was read have room for one line more
-pub room : (text left behind : List ℕ) (notes : List Line) (note : Line) (counts : Counts) → length text < 2 ^ 64 → ReadSoFar text left notes → TakesNote left note behind
-    → counts ≡ counts_of notes 0 → HasRoom counts note
-room text left behind notes note counts fits h takes e = subst (λ c. HasRoom c note) (sym e) at_counts
-  where
-    at_counts : HasRoom (counts_of notes 0) note
-    at_counts =
-        let fit = changes_fit left behind note takes in
-        let size : length notes + length left ≤ length text = h.size in
-        let changes : sum_by change_count notes + length left ≤ length text = h.changes in
-        record {
-          lines = omega arith;
-          keepalives = omega (arith, count_by-le-length is_keep_alive notes);
-          notes = omega (arith, count_by-le-length is_note notes);
-          changes = omega arith;
-          tokens = omega (arith, count_by-le-length has_token notes);
-        }
 
 with_rest : ℕ → Counts → Counts
 with_rest n counts = record { lines = counts.lines; keepalives = counts.keepalives; notes = counts.notes; changes = counts.changes; tokens = counts.tokens; rest = n }

@@ -1,9 +1,9 @@
 -- The elements of an array while they are gathered.
-use Rattle.std.proofs.Common.{◌≡◌, refl, sym, ap, ◌∙◌, subst, ℕ, ◌+◌, ◌≤◌, List, [], ◌∷◌, ◌++◌, Option, Some, None, arith, append_assoc, append-nil}
-use Rattle.std.specs.Prelude.{IsUtf8, option_map, option_and_then, map}
+use Rattle.std.proofs.Common.{◌≡◌, refl, sym, ap, ◌∙◌, subst, ℕ, List, [], ◌∷◌, ◌++◌, Option, Some, None, arith, append_assoc, append-nil}
+use Rattle.std.specs.Prelude.{IsUtf8, option_map, option_and_then}
 use Rattle.std.specs.List.{AllByRecursion}
-use Rattle.feed_text.specs.Json.{Value, IsValue, print, kind_of, items_of, TextDeterminesValue}
-use Rattle.feed_text.specs.Members.{Spelling, spelling_of, spellings_of, IsSpelling, AreSpellings}
+use Rattle.feed_text.specs.Json.{Value, print, kind_of, items_of, TextDeterminesValue}
+use Rattle.feed_text.specs.Members.{Spelling, spelling_of, spellings_of, AreSpellings}
 use Rattle.feed_text.specs.declared.Kind.TheVariants.{Array}
 use Rattle.feed_note.specs.Reading.{IsPart, IsReadable, HoldsReadable, element_of, gathered, onto}
 use Rattle.feed_note.specs.declared.content.Element.{Element}

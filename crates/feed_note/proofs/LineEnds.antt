@@ -1,13 +1,13 @@
 -- Where the first line of a text ends.
-use Rattle.std.proofs.Common.{◌≡◌, refl, sym, ap, ◌∙◌, subst, ℕ, ◌+◌, ◌<◌, ◌≤◌, Bool, true, false, not, true≢false, List, [], ◌∷◌, ◌++◌, length, take, drop, cond, Some, None, arith, eqb-true, get_or, nat_lt, take_all, ltb-false, ltb-true, length-drop, length-append, append_assoc}
+use Rattle.std.proofs.Common.{◌≡◌, refl, sym, ap, ◌∙◌, subst, ℕ, ◌+◌, ◌<◌, ◌≤◌, Bool, true, false, not, true≢false, List, [], ◌∷◌, ◌++◌, length, take, drop, cond, Some, None, arith, eqb-true, get_or, nat_lt, take_all, ltb-false, ltb-true, length-drop, append_assoc}
 use Rattle.std.specs.List.{list_all, prefix_len, position, position_or_len}
 use Rattle.std.proofs.Math.Seq.{take-add}
-use Rattle.std.proofs.lemmas.List.{take-append-drop, take-append-le, drop-append-le, drop-drop, length-take-le}
+use Rattle.std.proofs.lemmas.List.{take-append-drop, drop-drop, length-take-le}
 use Rattle.std.proofs.lemmas.List.Folds.{list_all-append}
 use Rattle.std.proofs.lemmas.List.Sums.{prefix_len_stops, split_at_first}
 use Rattle.feed_text.specs.Limits.{line_bytes}
 use Rattle.feed_note.specs.Lines.{is_line_feed, lines, rest, HasNoLineFeed}
-use Rattle.feed_note.specs.Splitting.{EndsAt, Gives, GivesNone, IsLongNext, IsSearched, first_or, next_of}
+use Rattle.feed_note.specs.Splitting.{EndsAt, Gives, GivesNone, IsLongNext, first_or, next_of}
 use Rattle.feed_note.proofs.LinesCut.{both, no_lines, one_line, no_rest}
 
 abbrev stays : ℕ → Bool
@@ -119,34 +119,3 @@ too_long_unfinished left old e h long = subst IsLongNext e (long_unfinished left
 
 pub not_yet : (left old new : List ℕ) → left ≡ old → new ≡ old → HasNoLineFeed left → length left ≤ line_bytes → GivesNone old new
 not_yet left old new e f h short = gives_none old new (subst HasNoLineFeed e h) (subst (λ t. length t ≤ line_bytes) e short) f
-
--- ---- what a splitter knows of its bytes
-
-pub searched_none : (bytes : List ℕ) (start : ℕ) → start ≤ length bytes → IsSearched bytes start 0
-searched_none bytes start h = record { within = omega arith; unbroken = refl }
-
-pub searched_all : (bytes : List ℕ) (start n : ℕ) → start ≤ length bytes → n ≡ length (drop start bytes) → HasNoLineFeed (drop start bytes) → IsSearched bytes start n
-searched_all bytes start n h e unbroken = record {
-  within = omega (arith, length-drop start bytes);
-  unbroken = subst HasNoLineFeed (sym (take_all n (drop start bytes) (omega arith))) unbroken;
-}
-
-pub searched_line : (bytes : List ℕ) (start end : ℕ) → start ≤ length bytes → EndsAt (drop start bytes) end → IsSearched bytes start end
-searched_line bytes start end h at =
-    let within : end < length (drop start bytes) = at.within in
-    record { within = omega (arith, length-drop start bytes); unbroken = at.line }
-
--- more bytes come behind them
-pub searched_more : (bytes piece : List ℕ) (start searched : ℕ) → IsSearched bytes start searched → IsSearched (bytes ++ piece) start searched
-searched_more bytes piece start searched h =
-    let within : start + searched ≤ length bytes = h.within in
-    record {
-      within = omega (arith, length-append bytes piece);
-      unbroken = subst HasNoLineFeed (sym (ap (take searched) (drop-append-le start bytes piece (omega arith)) ∙ take-append-le searched (drop start bytes) piece (omega (arith, length-drop start bytes)))) h.unbroken;
-    }
-
--- those in front are taken away
-pub searched_front : (bytes moved : List ℕ) (start searched : ℕ) → moved ≡ drop start bytes → IsSearched bytes start searched → IsSearched moved 0 searched
-searched_front bytes moved start searched e h =
-    let within : start + searched ≤ length bytes = h.within in
-    subst (λ t. IsSearched t 0 searched) (sym e) (record { within = omega (arith, length-drop start bytes); unbroken = h.unbroken })

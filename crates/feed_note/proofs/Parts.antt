@@ -1,13 +1,12 @@
 -- The parts of a value that stands in a line stand in it too.
-use Rattle.std.proofs.Common.{◌≡◌, refl, sym, ap, ◌∙◌, subst, ℕ, suc, ◌+◌, ◌≤◌, Bool, true, false, ◌&&◌, true≢false, cond, List, [], ◌∷◌, ◌++◌, Option, Some, None, reverse, arith}
-use Rattle.std.specs.Prelude.{max, IsTrue, IsUtf8, IfSome, option_map, find, map}
-use Rattle.std.specs.List.{list_all, AllByRecursion}
+use Rattle.std.proofs.Common.{◌≡◌, refl, sym, ap, ◌∙◌, subst, ℕ, suc, ◌≤◌, Bool, true, false, ◌&&◌, true≢false, cond, List, [], ◌∷◌, ◌++◌, Option, Some, None, reverse, arith}
+use Rattle.std.specs.Prelude.{IsUtf8, IfSome, option_map, find}
+use Rattle.std.specs.List.{AllByRecursion}
 use Rattle.std.proofs.lemmas.List.{reverse-append}
 use Rattle.std.proofs.lemmas.List.Folds.{list_all-append}
-use Rattle.feed_text.specs.Json.{Value, IsValue, AreElements, AreMembers, Elements, Members, Member, print, print_elements, print_members, kind_of, depth, depth_of_elements, depth_of_members, items_of, members_of, elements_list, members_list, null_literal, true_literal, false_literal, number, string, empty_array, array, empty_object, object, last_element, element, last_member, member, TextDeterminesValue, TextOfStringIsString, Spells}
-use Rattle.feed_text.specs.Members.{Spelling, spelling_of, IsSpelling, last_spelt, member_spelling, member_spellings, MemberSpelling, LastSpeltIsLastNamed}
+use Rattle.feed_text.specs.Json.{Value, AreElements, AreMembers, Elements, Members, Member, print, print_elements, print_members, depth_of_elements, depth_of_members, items_of, members_of, elements_list, members_list, null_literal, true_literal, false_literal, number, string, empty_array, array, empty_object, object, last_element, element, last_member, member, TextDeterminesValue}
+use Rattle.feed_text.specs.Members.{Spelling, spelling_of, IsSpelling, member_spelling, member_spellings, LastSpeltIsLastNamed}
 use Rattle.feed_text.specs.Strings.{says, last_named, last_member_named}
-use Rattle.feed_text.specs.declared.Kind.{Kind}
 use Rattle.feed_note.specs.Lines.{HasNoLineFeed}
 use Rattle.feed_note.specs.Reading.{IsPart, IsReadable, last_value_spelt}
 

@@ -1,5 +1,5 @@
 -- A value has two bytes at least for each level that it nests.
-use Rattle.std.proofs.Common.{◌≡◌, ℕ, suc, ◌+◌, ◌*◌, ◌<◌, ◌≤◌, List, [], ◌∷◌, ◌++◌, length, arith, length-append, ap}
+use Rattle.std.proofs.Common.{ℕ, ◌+◌, ◌<◌, ◌≤◌, List, [], ◌∷◌, ◌++◌, length, arith, length-append}
 use Rattle.std.specs.Prelude.{max}
 use Rattle.feed_text.specs.Json.{Value, Elements, Members, print, print_elements, print_members, depth, depth_of_elements, depth_of_members, null_literal, true_literal, false_literal, number, string, empty_array, array, empty_object, object, last_element, element, last_member, member}
 

@@ -1,6 +1,6 @@
 -- Values and members by their spellings, and the same in the tree.
-use Rattle.std.proofs.Common.{◌≡◌, refl, sym, ap, ◌∙◌, subst, ℕ, ◌+◌, ◌≤◌, ◌<◌, Bool, true, false, not, ◌||◌, cond, List, [], ◌∷◌, ◌++◌, length, Option, Some, None, arith, append-nil, leb-true}
-use Rattle.std.specs.Prelude.{IsTrue, IsUtf8, option_map, option_and_then, is_some, is_none, nat_lt, ◌↔◌}
+use Rattle.std.proofs.Common.{◌≡◌, refl, sym, ap, ◌∙◌, subst, ℕ, ◌≤◌, ◌<◌, Bool, true, false, not, ◌||◌, cond, List, [], ◌∷◌, length, Option, Some, None, arith, append-nil}
+use Rattle.std.specs.Prelude.{IsTrue, IsUtf8, option_map, is_some, nat_lt, ◌↔◌}
 use Rattle.feed_text.specs.Json.{Value, print, kind_of, depth, members_of, HoldsObject, null_literal, true_literal, false_literal, number, string, empty_array, array, empty_object, object, TextDeterminesObject}
 use Rattle.feed_text.specs.Members.{Spelling, spelling_of, MemberSpelling, LastSpeltIsLastNamed}
 use Rattle.feed_text.specs.Nesting.{NestsTo, ObjectNestsToItsDepth}

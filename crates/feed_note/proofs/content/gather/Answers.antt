@@ -1,9 +1,7 @@
-use Rattle.std.proofs.Common.{◌≡◌, sym, ap, ◌∙◌, subst, [], ◌∷◌, ◌++◌, List}
+use Rattle.std.proofs.Common.{◌≡◌, sym, ap, ◌∙◌, subst}
 use Rattle.feed_text.specs.Json.{print, kind_of}
 use Rattle.feed_text.specs.Members.{Spelling, item_view}
 use Rattle.feed_text.specs.declared.Kind.TheVariants.{Array}
-use Rattle.feed_note.specs.declared.content.Element.{Element}
-use Rattle.feed_note.specs.Reading.{element_of}
 use Rattle.feed_note.proofs.Gathering.{Gathering, utf8_array, starts, next_readable, one_more, bad, ends}
 use Rattle.feed_note.proofs.content.gather.Goals as goal
 

@@ -1,7 +1,7 @@
-use Rattle.std.proofs.Common.{◌≡◌, sym, ap, ◌∙◌, subst, Option, Some}
+use Rattle.std.proofs.Common.{◌≡◌, sym, ap, ◌∙◌, subst, Option}
 use Rattle.std.specs.Prelude.{option_map, IfSome}
 use Rattle.feed_text.specs.Json.{Value, print, kind_of}
-use Rattle.feed_text.specs.Members.{Spelling, item_view, spelling_of}
+use Rattle.feed_text.specs.Members.{Spelling, item_view}
 use Rattle.feed_text.specs.declared.Kind.TheVariants.{Object, Array}
 use Rattle.feed_note.specs.Reading.{IsReadable}
 use Rattle.feed_note.proofs.Conditions.{content_found, object_content, collected}
