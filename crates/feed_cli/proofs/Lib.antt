@@ -1,4 +1,3 @@
+mod CountingLemmas
 mod DeviceLemmas
-mod FeedLemmas
-mod LineLemmas
-mod PrintingLemmas
+mod FeedingLemmas

@@ -1,6 +1,7 @@
+pub mod Commands
+pub mod Counting
 pub mod Device
-pub mod Feed
-pub mod FirstTables
+pub mod Faults
 pub mod Memory
 pub mod Printing
 pub mod Status

@@ -1,67 +1,104 @@
 -- What the command `tables` reads and prints.
-use Rattle.std.specs.Prelude.{ℕ, Bool, true, false, List, [], Option, Result, Ok, Err}
+use Rattle.std.specs.Prelude.{◌≡◌, ℕ, ◌≤◌, Bool, true, false, List, length, Option, None, Result, Ok, Err, is_some}
 use Rattle.std.specs.Io.KnownBytes.{Appends, Consumes, IsAtEnd, Keeps}
+use Rattle.feed_note.specs.declared.line.Line.{Line}
+use Rattle.feed_note.specs.Publishing.{Published}
+use Rattle.feed_note.specs.Texts.{published_text}
+use Rattle.feed_node.specs.declared.fault.FeedFault.{FeedFault}
+use Rattle.feed_node.specs.Limits.{Limits}
+use Rattle.feed_node.specs.States.{nothing_published}
+use Rattle.feed_node.specs.Mirroring.{MirrorState, StandsAt}
+use Rattle.feed_node.specs.Reading.{Opening, Reads, FaultsAt, reads}
 use Rattle.feed_cli.specs.Device.{AppendsFront}
-use Rattle.feed_cli.specs.FirstTables.{Prints, PrintsAt}
-use Rattle.feed_cli.specs.declared.device.Failed.{Failed}
 use Rattle.feed_cli.specs.declared.fault.Fault.{Fault}
 use Rattle.feed_cli.specs.declared.fault.Fault.TheVariants as fault
-use Rattle.feed_cli.specs.declared.feed.FirstFault.{FirstFault}
-use Rattle.feed_cli.specs.declared.feed.FirstFault.TheVariants as first
-use Rattle.feed_cli.specs.declared.input.InputFault.{InputFault}
-use Rattle.feed_cli.specs.declared.input.InputFault.TheVariants as input
 
--- the fault of a command whose input could not be read
-abbrev pub fault_of_input : InputFault → Fault
-fault_of_input input.Read = fault.Read
-fault_of_input input.Turns = fault.Turns
-fault_of_input input.Memory = fault.Memory
+-- a first connection: nothing is published, and it asks for everything
+abbrev pub first_opening : Opening
+first_opening = record { before = nothing_published; fresh = true }
 
--- the fault of a command whose input has a line without a meaning
-abbrev pub fault_of_lines : FirstFault → Fault
-fault_of_lines (first.Line number why) = fault.Line why
-fault_of_lines first.Memory = fault.Memory
+-- the most reads that the input is given
+abbrev pub input_turns : ℕ
+input_turns = 1000000
 
-abbrev pub published_or_fault : Result Bool FirstFault → Result (Unit {0}) Fault
-published_or_fault (Ok true) = Ok tt
-published_or_fault (Ok false) = Err fault.Unpublished
-published_or_fault (Err why) = Err (fault_of_lines why)
-
--- what a command comes to that reads, tells and writes: the first fault counts, that of the output, then that of the
--- input, then that of the lines
-abbrev pub outcome_of : Result (Unit {0}) InputFault → Result Bool FirstFault → Result (Unit {0}) Failed → Result (Unit {0}) Fault
-outcome_of read told (Err failed) = Err fault.Write
-outcome_of (Err why) told (Ok written) = Err (fault_of_input why)
-outcome_of (Ok read) told (Ok written) = published_or_fault told
-
--- what telling the lines of a text appends to no text
-abbrev pub Tells : Result Bool FirstFault → List ℕ → List ℕ → Type 0
-Tells (Ok is_published) text printed = Prints text [] printed is_published
-Tells (Err why) text printed = PrintsAt why text [] printed
-
--- the bytes that the input lost were read, and what telling their lines gives was printed
-pub record Printed (input_old input_new out_old out_new : Option (List ℕ)) (told : Result Bool FirstFault) : Type 0 where
+-- these bytes, at least so many, were read and fed to a mirror on its first connection, and nothing is wrong with them
+pub record Stands (limits : Limits) (least : ℕ) (old new : Option (List ℕ)) (mirror : MirrorState) : Type 0 where
   pub bytes : List ℕ
-  pub text : List ℕ
-  pub read : Consumes input_old input_new bytes
-  pub tells : Tells told bytes text
-  pub printed : Appends out_old out_new text
+  pub notes : List Line
+  pub many : least ≤ length bytes
+  pub read : Consumes old new bytes
+  pub stands : StandsAt first_opening bytes notes mirror
+  pub limits_are : mirror.limits ≡ limits
 
--- the same, of which a front was printed
-pub record PrintedFront (input_old input_new out_old out_new : Option (List ℕ)) : Type 0 where
-  pub told : Result Bool FirstFault
+-- these bytes were read, nothing is wrong with them, and this is what their lines publish
+pub record HasRead (limits : Limits) (old new : Option (List ℕ)) (shown : Option Published) : Type 0 where
   pub bytes : List ℕ
-  pub text : List ℕ
-  pub read : Consumes input_old input_new bytes
-  pub tells : Tells told bytes text
-  pub printed : AppendsFront out_old out_new text
+  pub notes : List Line
+  pub read : Consumes old new bytes
+  pub good : Reads limits first_opening bytes notes
+  pub shown_is : shown ≡ (reads first_opening notes).published
+
+-- the same, where each of the reads that are allowed gave something
+pub record HasReadOn (limits : Limits) (old new : Option (List ℕ)) (shown : Option Published) : Type 0 where
+  pub whole : HasRead limits old new shown
+  pub many : input_turns ≤ length whole.bytes
+
+-- these bytes were read, the fault is that of their first bad line, and this is what the lines before it publish
+pub record HasFaulted (limits : Limits) (why : FeedFault) (old new : Option (List ℕ)) (shown : Option Published) : Type 0 where
+  pub bytes : List ℕ
+  pub notes : List Line
+  pub read : Consumes old new bytes
+  pub first : FaultsAt limits first_opening bytes notes why
+  pub shown_is : shown ≡ (reads first_opening notes).published
+
+-- what was read of the input, how that ended, and what is published then
+abbrev pub IsFed : Limits → Result (Unit {0}) Fault → Option (List ℕ) → Option (List ℕ) → Option Published → Type 0
+IsFed limits (Ok all) old new shown = HasRead limits old new shown × IsAtEnd new
+IsFed limits (Err fault.Read) old new shown = HasRead limits old new shown
+IsFed limits (Err fault.Turns) old new shown = HasReadOn limits old new shown
+IsFed limits (Err (fault.Feed why)) old new shown = HasFaulted limits why old new shown
+IsFed limits (Err fault.Memory) old new shown = ⊥
+IsFed limits (Err fault.Write) old new shown = ⊥
+IsFed limits (Err fault.TooLong) old new shown = ⊥
+IsFed limits (Err (fault.Survey why)) old new shown = ⊥
+IsFed limits (Err fault.Unpublished) old new shown = ⊥
+
+-- the input was read like that, and the snapshot of what is published was printed
+pub record Printed (limits : Limits) (ended : Result (Unit {0}) Fault) (input_old input_new out_old out_new : Option (List ℕ)) : Type 0 where
+  pub shown : Option Published
+  pub fed : IsFed limits ended input_old input_new shown
+  pub printed : Appends out_old out_new (published_text shown)
+
+-- the same, where something is published
+pub record PrintedSome (limits : Limits) (input_old input_new out_old out_new : Option (List ℕ)) : Type 0 where
+  pub whole : Printed limits (Ok tt) input_old input_new out_old out_new
+  pub some : is_some whole.shown ≡ true
+
+-- the same, where nothing is
+pub record PrintedNone (limits : Limits) (input_old input_new out_old out_new : Option (List ℕ)) : Type 0 where
+  pub whole : Printed limits (Ok tt) input_old input_new out_old out_new
+  pub none : whole.shown ≡ None
+
+-- the input was read, and a front of the snapshot was printed
+pub record PrintedFront (limits : Limits) (input_old input_new out_old out_new : Option (List ℕ)) : Type 0 where
+  pub ended : Result (Unit {0}) Fault
+  pub shown : Option Published
+  pub fed : IsFed limits ended input_old input_new shown
+  pub printed : AppendsFront out_old out_new (published_text shown)
+
+-- what the command comes to whose feeding ended like this and whose text was printed
+abbrev pub outcome_of : Result (Unit {0}) Fault → Bool → Result (Unit {0}) Fault
+outcome_of (Ok all) true = Ok tt
+outcome_of (Ok all) false = Err fault.Unpublished
+outcome_of (Err why) is_published = Err why
 
 -- what was read and printed where the command fails
-abbrev pub PrintedAt : Fault → Option (List ℕ) → Option (List ℕ) → Option (List ℕ) → Option (List ℕ) → Type 0
-PrintedAt fault.Memory input_old input_new out_old out_new = Keeps out_old out_new
-PrintedAt fault.Read input_old input_new out_old out_new = (told : Result Bool FirstFault) × Printed input_old input_new out_old out_new told
-PrintedAt fault.Turns input_old input_new out_old out_new = (told : Result Bool FirstFault) × Printed input_old input_new out_old out_new told
-PrintedAt fault.Write input_old input_new out_old out_new = PrintedFront input_old input_new out_old out_new
-PrintedAt (fault.Line why) input_old input_new out_old out_new =
-    ((number : ℕ) × Printed input_old input_new out_old out_new (Err (first.Line number why))) × IsAtEnd input_new
-PrintedAt fault.Unpublished input_old input_new out_old out_new = Printed input_old input_new out_old out_new (Ok false) × IsAtEnd input_new
+abbrev pub TablesFail : Limits → Fault → Option (List ℕ) → Option (List ℕ) → Option (List ℕ) → Option (List ℕ) → Type 0
+TablesFail limits fault.Memory input_old input_new out_old out_new = Keeps out_old out_new
+TablesFail limits fault.Read input_old input_new out_old out_new = Printed limits (Err fault.Read) input_old input_new out_old out_new
+TablesFail limits fault.Turns input_old input_new out_old out_new = Printed limits (Err fault.Turns) input_old input_new out_old out_new
+TablesFail limits fault.Write input_old input_new out_old out_new = PrintedFront limits input_old input_new out_old out_new
+TablesFail limits (fault.Feed why) input_old input_new out_old out_new = Printed limits (Err (fault.Feed why)) input_old input_new out_old out_new
+TablesFail limits fault.Unpublished input_old input_new out_old out_new = PrintedNone limits input_old input_new out_old out_new
+TablesFail limits fault.TooLong input_old input_new out_old out_new = ⊥
+TablesFail limits (fault.Survey why) input_old input_new out_old out_new = ⊥

@@ -9,7 +9,9 @@ status_of fault.Memory = 5
 status_of fault.Read = 4
 status_of fault.Write = 4
 status_of fault.Turns = 4
-status_of (fault.Line why) = 2
+status_of fault.TooLong = 2
+status_of (fault.Feed why) = 2
+status_of (fault.Survey why) = 2
 status_of fault.Unpublished = 3
 
 -- the status after a fault was told; where it could not be, a device has failed too

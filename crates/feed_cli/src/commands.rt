@@ -1,11 +1,9 @@
 //! The commands, as the words of a command line ask for them.
-ghost use Rattle.std.specs.Prelude.{◌≡◌, ◌≤◌, ◌⊎◌, ℕ, IfErr, false, true};
-ghost use Rattle.std.specs.Io.KnownBytes.{IsAtEnd};
-ghost use Rattle.feed_note.specs.declared.line.LineFault.{LineFault};
-ghost use Rattle.feed_cli.specs.declared.feed.FirstFault.{FirstFault};
-ghost use Rattle.feed_cli.specs.Printing.{Printed};
+ghost use Rattle.std.specs.Prelude.{◌≡◌, ◌≤◌, ◌⊎◌, IfErr, OnOk};
+ghost use Rattle.feed_cli.specs.Commands.{Succeeds, Fails, HasSucceeded, HasFailed};
 ghost use Rattle.feed_cli.specs.Status.{IsToldStatus};
 
+use crate::check::print_counts;
 use crate::device::{FeedRead, FeedWrite, write_all};
 use crate::fault::Fault;
 use crate::tables::print_tables;
@@ -74,6 +72,22 @@ fn answer_words<W: FeedWrite, E: FeedWrite>(error: clap::Error, out: &mut W, err
 
 const PROGRAM: &str = "tunygarop";
 
+/// Does what was asked for.
+fn perform<R: FeedRead, W: FeedWrite>(
+    alloc: Global,
+    request: Request,
+    input: &mut R,
+    out: &mut W,
+) -> Result<(), Fault>
+    ensures ok { OnOk result (Succeeds request (R.remaining input.old) (R.remaining input.new) (W.contents out.old) (W.contents out.new)) }
+    ensures err { IfErr result (λ why. Fails request why (R.remaining input.old) (R.remaining input.new) (W.contents out.old) (W.contents out.new)) }
+{
+    match request {
+        Request::Tables(limits) => print_tables(alloc, limits, input, out),
+        Request::Check => print_counts(alloc, input, out),
+    }
+}
+
 /// Runs the command that the words ask for, and answers the status that the program ends with: 0, or the first of these
 /// that applies: 1 for words that ask for no command, 5 for want of memory, 4 for a device that failed or an input that
 /// did not end, 2 for a faulty input, 3 where nothing was published.
@@ -86,20 +100,20 @@ pub fn run<'a, R: FeedRead, W: FeedWrite, E: FeedWrite>(
 ) -> u8
     ensures statuses { result ≤ 5 }
 
-    // At 0 either help was printed, and no read was made, or what the whole input publishes.
+    // Where the words ask for help, or for no command, nothing is read.
     ensures ok { result ≡ 0 → (R.reads input.new ≡ R.reads input.old)
-        ⊎ (Printed (R.remaining input.old) (R.remaining input.new) (W.contents out.old) (W.contents out.new) (Ok true) × IsAtEnd (R.remaining input.new)) }
+        ⊎ HasSucceeded (R.remaining input.old) (R.remaining input.new) (W.contents out.old) (W.contents out.new) }
     ensures refused { result ≡ 1 → (R.reads input.new ≡ R.reads input.old) × (W.contents out.new ≡ W.contents out.old) }
-    ensures faulty { result ≡ 2 → ((number : ℕ) × (why : LineFault) × Printed (R.remaining input.old) (R.remaining input.new)
-        (W.contents out.old) (W.contents out.new) (Err (FirstFault.Line number why))) × IsAtEnd (R.remaining input.new) }
-    ensures unpublished { result ≡ 3 → Printed (R.remaining input.old) (R.remaining input.new) (W.contents out.old) (W.contents out.new) (Ok false)
-        × IsAtEnd (R.remaining input.new) }
+    ensures faulty { (result ≡ 2) ⊎ (result ≡ 3) → HasFailed result (R.remaining input.old) (R.remaining input.new) (W.contents out.old) (W.contents out.new) }
+    ensures broken { (result ≡ 4) ⊎ (result ≡ 5) → (R.reads input.new ≡ R.reads input.old)
+        ⊎ HasFailed result (R.remaining input.old) (R.remaining input.new) (W.contents out.old) (W.contents out.new) }
 {
-    match parse_words(alloc, words) {
-        Ok(Request::Tables) => match print_tables(alloc, input, out) {
-            Ok(()) => 0,
-            Err(fault) => tell("tables", fault, err),
-        },
-        Err(error) => answer_words(error, out, err),
+    let request = match parse_words(alloc, words) {
+        Ok(request) => request,
+        Err(error) => return answer_words(error, out, err),
+    };
+    match perform(alloc, request, input, out) {
+        Ok(()) => 0,
+        Err(fault) => tell(request.name(), fault, err),
     }
 }

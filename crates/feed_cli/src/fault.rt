@@ -1,9 +1,10 @@
 //! Why a command fails: the texts that tell it, and the statuses that it ends with.
 ghost use Rattle.std.specs.Prelude.{◌≡◌};
 
-use crate::feed::FirstFault;
 use crate::input::InputFault;
-use feed_note::LineFault;
+use feed_node::FeedFault;
+use feed_note::{LineStop, SurveyFault};
+use std::alloc::AllocError;
 use thiserror::Error;
 
 /// Why a command fails.
@@ -18,16 +19,22 @@ pub enum Fault {
     /// The input did not end in the reads that were allowed.
     #[error("too many turns")]
     Turns,
-    /// A line of the input means nothing.
+    /// The input has more bytes than may be read whole.
+    #[error("input too long")]
+    TooLong,
+    /// A line of the input can't be fed to a mirror. It is no want of memory.
     #[error("{0}")]
-    Line(LineFault),
+    Feed(FeedFault),
+    /// A line of the input can't be read. It is no want of memory.
+    #[error("line {}: {}", .0.line, .0.stop)]
+    Survey(SurveyFault),
     #[error("nothing published")]
     Unpublished,
 }
 
 impl Fault {
     ghost use Rattle.feed_cli.specs.Status.{status_of};
-    ghost use Rattle.feed_cli.specs.Printing.{fault_of_input, fault_of_lines};
+    ghost use Rattle.feed_cli.specs.Faults.{fault_of_input, fault_of_feed, fault_of_survey};
 
     /// The status that a program with this fault ends with.
     pub fn status(self) -> u8
@@ -36,29 +43,49 @@ impl Fault {
         match self {
             Fault::Memory => 5,
             Fault::Read | Fault::Write | Fault::Turns => 4,
-            Fault::Line(_) => 2,
+            Fault::TooLong | Fault::Feed(_) | Fault::Survey(_) => 2,
             Fault::Unpublished => 3,
         }
     }
 
-    /// The fault of a command whose input could not be read to its end.
+    /// The fault of a command whose input could not be read whole.
     pub fn of_input(fault: InputFault) -> Fault
         ensures { result ≡ fault_of_input fault }
     {
         match fault {
             InputFault::Read => Fault::Read,
-            InputFault::Turns => Fault::Turns,
+            InputFault::TooLong => Fault::TooLong,
             InputFault::Memory => Fault::Memory,
         }
     }
 
-    /// The fault of a command whose input has a line that means nothing.
-    pub fn of_lines(fault: FirstFault) -> Fault
-        ensures { result ≡ fault_of_lines fault }
+    /// The fault of a command whose mirror stopped feeding.
+    pub fn of_feed(fault: FeedFault) -> Fault
+        ensures { result ≡ fault_of_feed fault }
     {
         match fault {
-            FirstFault::Line(_, reason) => Fault::Line(reason),
-            FirstFault::Memory => Fault::Memory,
+            FeedFault::Memory => Fault::Memory,
+            fault => Fault::Feed(fault),
         }
+    }
+
+    /// The fault of a command whose input has a line that can't be read.
+    pub fn of_survey(fault: SurveyFault) -> Fault
+        ensures { result ≡ fault_of_survey fault }
+    {
+        match fault.stop {
+            LineStop::Memory => Fault::Memory,
+            _ => Fault::Survey(fault),
+        }
+    }
+}
+
+impl From<AllocError> for Fault {
+    ghost use Rattle.feed_cli.specs.declared.fault.Fault.TheVariants.{Memory};
+
+    ghost from_gives = { λ _ fault. fault ≡ Memory };
+
+    fn from(_error: AllocError) -> Fault {
+        Fault::Memory
     }
 }

@@ -1,18 +1,17 @@
 //! The commands, over devices.
 #![tactic(auto)]
 
+mod check;
 mod commands;
 pub mod device;
-pub mod fault;
-mod feed;
-pub mod input;
+mod fault;
+mod input;
 pub mod memory;
 pub mod stream;
-pub mod tables;
+mod tables;
 mod words;
 
 pub use commands::run;
-pub use feed::FirstFault;
 
 #[cfg(test)]
 mod tests;

@@ -1,26 +1,79 @@
 //! The command line: its words, and what they ask for.
-use clap::{Command, Error};
+use clap::error::ErrorKind;
+use clap::{Arg, ArgMatches, Command, Error, value_parser};
+use feed_node::Limits;
 use std::alloc::{AllocError, Global};
 
 /// What a command line asks for.
-#[derive(Clone, Copy, Debug, PartialEq, Eq)]
+#[derive(Clone, Copy)]
 pub enum Request {
-    /// The snapshot of what the feed on standard input publishes.
-    Tables,
+    /// The snapshot of what the feed on standard input publishes to a mirror with these limits.
+    Tables(Limits),
+    /// What the lines of the feed on standard input are, counted.
+    Check,
+}
+
+impl Request {
+    /// The name of the command.
+    pub fn name(&self) -> &'static str {
+        match self {
+            Request::Tables(_) => "tables",
+            Request::Check => "check",
+        }
+    }
+}
+
+/// The command with the options of one that keeps a node.
+fn with_limits<'a>(alloc: Global, command: Command<'a>) -> Result<Command<'a>, AllocError> {
+    let history = Arg::new(alloc, "history")
+        .long("history")
+        .value_name("N")
+        .help("How many commits are kept, 1 to 65536")
+        .value_parser(value_parser!(u64).range(1..=65_536))
+        .default_value("1000");
+    let staged = Arg::new(alloc, "staged")
+        .long("staged")
+        .value_name("N")
+        .help(
+            "How many changes may wait for a token, and the greatest size of the tables, 1 to 1000000",
+        )
+        .value_parser(value_parser!(u64).range(1..=1_000_000))
+        .default_value("1000000");
+    command.arg(history)?.arg(staged)
 }
 
 fn program<'a>(alloc: Global) -> Result<Command<'a>, AllocError> {
     let tables = Command::new(alloc, "tables").about(
         "Prints the tables that the event feed on standard input has published",
     );
+    let tables = with_limits(alloc, tables)?;
+    let check = Command::new(alloc, "check").about(
+        "Counts the lines of the event feed on standard input, or names the first that can't be read",
+    );
     Command::new(alloc, "tunygarop")
         .about("Mirrors the event feed of a programming contest (CLICS Contest API 2023-06)")
         .subcommand_required(true)
-        .subcommand(tables)
+        .subcommand(tables)?
+        .subcommand(check)
+}
+
+/// The limits that the options ask for; none where one is out of its range, which its parser has refused.
+fn limits_given(matches: &ArgMatches<'_>) -> Option<Limits> {
+    let history = matches.get_one::<u64>("history")?;
+    let staged = matches.get_one::<u64>("staged")?;
+    Limits::new(history as usize, staged as usize).ok()
 }
 
 /// What the words ask for; the first of them is the program's name.
 pub fn parse_words<'a>(alloc: Global, words: &'a [&'a str]) -> Result<Request, Error> {
-    program(alloc)?.try_get_matches_from(words)?;
-    Ok(Request::Tables)
+    let mut program = program(alloc)?;
+    let matches = program.try_get_matches_from_mut(words)?;
+    let request = match matches.subcommand() {
+        Some(("tables", options)) => limits_given(options).map(Request::Tables),
+        _ => Some(Request::Check),
+    };
+    match request {
+        Some(request) => Ok(request),
+        None => Err(program.error(ErrorKind::ValueValidation, "bad limits")?),
+    }
 }

@@ -1,6 +1,10 @@
+pub mod Cuts
 pub mod Going
-pub mod LineEnds
-pub mod LinesCut
-pub mod LinesInRow
+pub mod Keeping
+pub mod Latest
+pub mod Marked
+pub mod Meant
 pub mod Mirrored
+pub mod Numbering
 pub mod Onward
+pub mod Sending

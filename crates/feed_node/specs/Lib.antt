@@ -1,8 +1,11 @@
 pub mod Codes
 pub mod Followed
 pub mod Limits
+pub mod Log
+pub mod Marks
 pub mod Mirroring
 pub mod Reading
+pub mod Serving
 pub mod Shown
 pub mod Staged
 pub mod Staging

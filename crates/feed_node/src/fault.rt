@@ -8,7 +8,8 @@ use feed_note::LineFault;
 use std::alloc::{AllocError, AllocFailed};
 use thiserror::Error;
 
-/// Why a mirror stopped feeding: the first of these that holds of a line. A want of memory can come before any of them.
+/// Why a mirror stopped feeding: the first of these that holds of a line. A want of memory can come
+/// before any of them but the first.
 #[derive(Clone, Copy, Debug, PartialEq, Eq, Error)]
 pub enum FeedFault {
     /// No connection has begun.
@@ -20,6 +21,9 @@ pub enum FeedFault {
     /// A line means nothing.
     #[error(transparent)]
     Line(LineFault),
+    /// A token that is held comes again, and is not the first one of a fresh connection.
+    #[error("token again")]
+    TokenAgain,
     /// More changes wait for a token than the limits allow, or the tables that a line would publish are too large.
     #[error("stage full")]
     StageFull,

@@ -45,6 +45,14 @@ impl Limits {
         }
     }
 
+    /// How many commits are kept at most.
+    pub(crate) fn history(self) -> usize
+        ensures history { result ≡ self.history }
+        ensures within { IsInRange self.history self.staged }
+    {
+        self.history
+    }
+
     /// How many changes may wait for a token, and what the size of published tables may be.
     pub(crate) fn staged(self) -> usize
         ensures staged { result ≡ self.staged }

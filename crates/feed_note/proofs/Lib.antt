@@ -19,4 +19,6 @@ pub mod ReadSoFar
 pub mod Counting
 pub mod Batching
 pub mod OneMeaning
+pub mod Openings
 pub mod Piecewise
+pub mod Usual

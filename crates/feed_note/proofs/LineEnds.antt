@@ -1,10 +1,11 @@
 -- Where the first line of a text ends.
-use Rattle.std.proofs.Common.{◌≡◌, refl, sym, ap, ◌∙◌, subst, ℕ, ◌+◌, ◌<◌, ◌≤◌, Bool, true, false, not, true≢false, List, [], ◌∷◌, ◌++◌, length, take, drop, cond, Some, None, arith, eqb-true, get_or, nat_lt, take_all, ltb-false, ltb-true, length-drop, append_assoc}
+use Rattle.std.proofs.Common.{◌≡◌, refl, sym, ap, ◌∙◌, subst, ℕ, ◌+◌, ◌<◌, ◌≤◌, Bool, true, false, not, true≢false, List, [], ◌∷◌, ◌++◌, length, take, drop, cond, Some, None, arith, eqb-true, get_or, nat_lt, Option, take_all, ltb-false, ltb-true, length-drop, append_assoc}
+use Rattle.memchr.specs.Find.{IsFirstByte, is_byte}
 use Rattle.std.specs.List.{list_all, prefix_len, position, position_or_len}
 use Rattle.std.proofs.Math.Seq.{take-add}
 use Rattle.std.proofs.lemmas.List.{take-append-drop, drop-drop, length-take-le}
 use Rattle.std.proofs.lemmas.List.Folds.{list_all-append}
-use Rattle.std.proofs.lemmas.List.Sums.{prefix_len_stops, split_at_first}
+use Rattle.std.proofs.lemmas.List.Sums.{prefix_len_stops, split_at_first, position_or_len_is}
 use Rattle.feed_text.specs.Limits.{line_bytes}
 use Rattle.feed_note.specs.Lines.{is_line_feed, lines, rest, HasNoLineFeed}
 use Rattle.feed_note.specs.Splitting.{EndsAt, Gives, GivesNone, IsLongNext, first_or, next_of}
@@ -119,3 +120,32 @@ too_long_unfinished left old e h long = subst IsLongNext e (long_unfinished left
 
 pub not_yet : (left old new : List ℕ) → left ≡ old → new ≡ old → HasNoLineFeed left → length left ≤ line_bytes → GivesNone old new
 not_yet left old new e f h short = gives_none old new (subst HasNoLineFeed e h) (subst (λ t. length t ≤ line_bytes) e short) f
+
+-- ---- a search for the byte
+
+is_false : (t : Bool) → ¬ (t ≡ true) → t ≡ false
+is_false true h = absurd (h refl)
+is_false false h = refl
+
+first_is : (xs : List ℕ) (k : ℕ) → k ≤ length xs → ((j : ℕ) → j < k → ¬ (is_line_feed (get_or xs j 0) ≡ true)) → (k < length xs → is_line_feed (get_or xs k 0) ≡ true)
+    → position_or_len is_line_feed xs ≡ k
+first_is xs k fits none here = position_or_len_is is_line_feed xs k 0 fits (λ j lt. is_false (is_line_feed (get_or xs j 0)) (none j lt)) here
+
+no_position : (xs : List ℕ) → position_or_len is_line_feed xs ≡ length xs → position is_line_feed xs ≡ None
+no_position xs e = by (nat_lt (position_or_len is_line_feed xs) (length xs)) refl
+  where
+    by : (t : Bool) → nat_lt (position_or_len is_line_feed xs) (length xs) ≡ t → cond t (Some (position_or_len is_line_feed xs)) None ≡ None
+    by false is = refl
+    by true is = absurd (omega (arith, ltb-true _ _ is, e))
+
+some_position : (xs : List ℕ) (k : ℕ) → k < length xs → position_or_len is_line_feed xs ≡ k → position is_line_feed xs ≡ Some k
+some_position xs k lt e = by (nat_lt (position_or_len is_line_feed xs) (length xs)) refl
+  where
+    by : (t : Bool) → nat_lt (position_or_len is_line_feed xs) (length xs) ≡ t → cond t (Some (position_or_len is_line_feed xs)) None ≡ Some k
+    by true is = ap Some e
+    by false is = absurd (omega (arith, ltb-false _ _ is, e, lt))
+
+-- what a search finds is the first place that passes
+pub found_first : (xs : List ℕ) (r : Option ℕ) → IsFirstByte (is_byte 10) xs r → r ≡ position is_line_feed xs
+found_first xs None h = sym (no_position xs (first_is xs (length xs) (omega arith) (λ j lt. h j (omega arith) lt) (λ lt. absurd (omega arith))))
+found_first xs (Some k) (n, p) = sym (some_position xs k n.high (first_is xs k (omega (arith, n.high)) (λ j lt. n.before j (omega arith) lt) (λ lt. p)))

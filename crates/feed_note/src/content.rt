@@ -1,17 +1,18 @@
 //! What a notification's `data` holds, as far as it is kept.
 
-ghost use Rattle.std.specs.Prelude.{◌≡◌, ◌≢◌, ◌||◌, List, IfOk, IfSome, MatchResult, IsTrue, option_map, is_some, Some, true, false, IsUtf8, length};
+ghost use Rattle.std.specs.Prelude.{◌≡◌, ◌≢◌, ◌||◌, List, IfOk, IfSome, MatchResult, IsTrue, option_map, is_some, Some, true, false, IsUtf8, length, count_by};
 ghost use Rattle.feed_text.specs.Json.{Value, print, kind_of, items_of};
 ghost use Rattle.feed_text.specs.Members.{item_view, spelling_of};
+ghost use Rattle.feed_text.specs.Nesting.{is_opening as opening_test};
 ghost use Rattle.feed_text.specs.declared.Kind.TheVariants.{Object, Array};
 ghost use Rattle.feed_note.specs.Meaning.{Notification, element_id};
 ghost use Rattle.feed_note.specs.Naming.{naming_of};
 ghost use Rattle.feed_note.specs.Reading.{HoldsReadable, IsReadable, Spell, IsContentOf, IsFirstFault, IsNamed, Collects, is_too_large as too_large, kept, element_of, gathered};
 
-use crate::fields::{Fields, last_value};
+use crate::fields::Fields;
 use crate::line::LineFault;
 use crate::naming::{Naming, read_naming};
-use feed_text::{Item, Kind, ObjectText, elements, nests_to, object_members, text_laws};
+use feed_text::{Item, Kind, ObjectText, elements, last_member, nests_to, text_laws};
 use std::alloc::{AllocError, Global};
 
 /// An element of a collection: what its id names, and its object, or nothing where that is too large.
@@ -51,7 +52,17 @@ fn kept_object(alloc: Global, text: &[u8]) -> Result<Option<ObjectText>, AllocEr
     Ok(Some(object))
 }
 
-/// Whether an object's text is too long or nests too deep. A text of fewer than two bytes for each level isn't looked at.
+/// How many opening brackets a text has, those in strings among them.
+fn openings(text: &[u8]) -> usize
+    ensures { result ≡ count_by opening_test text.now }
+{
+    text.iter()
+        .filter(|byte| matches!(**byte, b'{' | b'['))
+        .count()
+}
+
+/// Whether an object's text is too long or nests too deep. A text of fewer than two bytes or one opening bracket for each
+/// level doesn't.
 fn is_too_large(text: &[u8]) -> bool
     requires { HoldsReadable 101 (text.now, Object) }
     ensures { (v : Value) → IsReadable 101 v → kind_of v ≡ Object → text.now ≡ print v → result ≡ too_large v }
@@ -63,6 +74,9 @@ fn is_too_large(text: &[u8]) -> bool
     if text.len() < 2 * TOO_DEEP {
         return false;
     }
+    if openings(text) < TOO_DEEP {
+        return false;
+    }
     nests_to(text, TOO_DEEP)
 }
 
@@ -72,9 +86,14 @@ fn element_naming(alloc: Global, object: &[u8]) -> Result<Naming, AllocError>
     ensures { (v : Value) → IsReadable 101 v → kind_of v ≡ Object → object.now ≡ print v → IfOk result (λ naming. naming ≡ naming_of (element_id v)) }
 {
     text_laws();
-    let members = object_members(alloc, object)?;
-    match last_value(alloc, &members, "id")? {
-        Some(id) => read_naming(alloc, &id),
+    match last_member(alloc, object, "id")? {
+        Some(id) => {
+            let id = Item {
+                text: id.value,
+                kind: id.kind,
+            };
+            read_naming(alloc, &id)
+        }
         None => Ok(Naming::Unreadable),
     }
 }

@@ -5,13 +5,15 @@ ghost use Rattle.feed_text.specs.Ascii.{line_feed};
 ghost use Rattle.feed_note.specs.Lines.{HasNoLineFeed, is_line_feed};
 ghost use Rattle.feed_note.specs.Splitting.{EndsAt};
 
+use memchr::memchr;
+
 /// The greatest number of bytes of a line, without its line feed.
 pub const LINE_BYTES: usize = 16_777_216;
 
 fn line_feed_in(text: &[u8]) -> Option<usize>
     ensures { result ≡ position is_line_feed text.now }
 {
-    text.iter().position(|byte| *byte == b'\n')
+    memchr(b'\n', text)
 }
 
 /// Where the first line ends, in a text whose first bytes are known to have no line feed.

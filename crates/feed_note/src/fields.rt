@@ -1,15 +1,16 @@
 //! The members of a notification that count, and what they name.
 
-ghost use Rattle.std.specs.Prelude.{◌≡◌, ◌||◌, IfOk, IfSome, MatchResult, option_map, IsUtf8, Bool};
-ghost use Rattle.feed_text.specs.Members.{item_view};
+ghost use Rattle.std.specs.Prelude.{◌≡◌, ◌||◌, IfOk, IfSome, MatchResult, option_map, IsUtf8, IsTrue, Bool};
+ghost use Rattle.feed_text.specs.Members.{item_view, member_view, member_views, IsMemberSpelling, AreMemberSpellings};
+ghost use Rattle.feed_text.specs.Strings.{Says};
 ghost use Rattle.feed_note.specs.Meaning.{Notification};
 ghost use Rattle.feed_note.specs.Naming.{IsSpeltValue};
-ghost use Rattle.feed_note.specs.Reading.{last_value_spelt, HasFields, AreSpelt, Spell, AreNamesOf, IsFirstFault};
+ghost use Rattle.feed_note.specs.Reading.{last_value_spelt, HasFields, AreSpelt, AreUsual, Spell, AreNamesOf, IsFirstFault};
 ghost use Rattle.feed_note.specs.Unreadable.{is_unreadable as unreadable_test, is_unreadable_or_null};
 
 use crate::line::LineFault;
 use crate::naming::{Naming, read_member_naming, read_naming};
-use feed_text::{Item, Members};
+use feed_text::{Item, Member, Members, plain_text};
 use std::alloc::{AllocError, Global};
 
 /// The values of the members that count: the last one of each name, where there is one.
@@ -30,7 +31,7 @@ pub struct Names {
 }
 
 /// The value of the last member of this name.
-pub fn last_value<'a>(
+fn last_value<'a>(
     alloc: Global,
     members: &Members<'a>,
     key: &str,
@@ -47,8 +48,79 @@ pub fn last_value<'a>(
     }
 }
 
+/// Whether a member's key is this text, with no backslash in it.
+fn is_plainly(member: &Member<'_>, text: &str) -> bool
+    requires { IsMemberSpelling (member_view member.now) }
+    ensures { IsTrue result → Says (member_view member.now).0 text.now }
+{
+    match plain_text(member.key) {
+        Some(found) => found == text,
+        None => false,
+    }
+}
+
+/// The value of a member.
+fn value_of<'a>(member: &Member<'a>) -> Item<'a>
+    ensures { item_view result ≡ (member_view member.now).1 }
+{
+    Item {
+        text: member.value,
+        kind: member.kind,
+    }
+}
+
 /// The values of the members that count.
 pub fn read_fields<'a>(alloc: Global, members: &Members<'a>) -> Result<Fields<'a>, AllocError>
+    ensures values { IfOk result (λ fields. HasFields members.now fields) }
+    ensures spelt { IfOk result (λ fields. AreSpelt fields) }
+{
+    match usual_fields(members.list()) {
+        Some(fields) => Ok(fields),
+        None => find_fields(alloc, members),
+    }
+}
+
+/// The values of the members that count, where no others stand and these do in the usual order.
+fn usual_fields<'a>(members: &[Member<'a>]) -> Option<Fields<'a>>
+    requires { AreMemberSpellings (member_views members.now) }
+    ensures values { IfSome result (λ fields. HasFields (member_views members.now) fields) }
+    ensures spelt { IfSome result (λ fields. AreSpelt fields) }
+{
+    if members.len() == 3 {
+        return fields_of(&members[0], &members[1], &members[2], None);
+    }
+    if members.len() == 4 && is_plainly(&members[3], "token") {
+        let token = value_of(&members[3]);
+        return fields_of(&members[0], &members[1], &members[2], Some(token));
+    }
+    None
+}
+
+/// The fields of three members, where these are a type, an id and data, and a token.
+fn fields_of<'a>(
+    kind: &Member<'a>,
+    id: &Member<'a>,
+    content: &Member<'a>,
+    token: Option<Item<'a>>,
+) -> Option<Fields<'a>>
+    requires kind { IsMemberSpelling (member_view kind.now) }
+    requires id { IsMemberSpelling (member_view id.now) }
+    requires content { IsMemberSpelling (member_view content.now) }
+    ensures { IfSome result (AreUsual (member_view kind.now) (member_view id.now) (member_view content.now) token.entry) }
+{
+    if !is_plainly(kind, "type") || !is_plainly(id, "id") || !is_plainly(content, "data") {
+        return None;
+    }
+    Some(Fields {
+        kind: Some(value_of(kind)),
+        id: Some(value_of(id)),
+        content: Some(value_of(content)),
+        token,
+    })
+}
+
+/// The values of the members that count, wherever they stand.
+fn find_fields<'a>(alloc: Global, members: &Members<'a>) -> Result<Fields<'a>, AllocError>
     ensures values { IfOk result (λ fields. HasFields members.now fields) }
     ensures spelt { IfOk result (λ fields. AreSpelt fields) }
 {

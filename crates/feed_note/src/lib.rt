@@ -18,6 +18,7 @@ mod write;
 
 pub use batch::batches;
 pub use counts::{Counts, SurveyFault, survey};
+pub use cut::{LINE_BYTES, split_line};
 pub use laws::{line_laws, written_lines_law};
 pub use line::{Line, LineFault};
 pub use pieces::lines_of_pieces;

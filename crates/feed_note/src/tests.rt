@@ -1,7 +1,7 @@
 ghost use Rattle.std.specs.Prelude.{◌≡◌, ◌==◌, not};
 ghost use Rattle.std.specs.List.{list_all};
 
-use crate::{Line, LineFault, read_line};
+use crate::{Line, LineFault, read_line, split_line};
 use feed_tables::Change;
 use std::alloc::{AllocError, Global};
 use std::process::Abort;
@@ -320,6 +320,25 @@ fn tells_each_fault(rt: HostRuntime) -> Result<(), Fail> {
     for (fault, want) in texts {
         let text = format!(in rt.alloc(); "{fault}")?;
         assert_eq!(rt; text.as_str(), want);
+    }
+    Ok(())
+}
+
+#[test]
+fn splits_at_the_first_line_feed(rt: HostRuntime) -> Result<(), Fail> {
+    assert_eq!(rt; split_line(b""), None);
+    assert_eq!(rt; split_line(b"a\r"), None);
+    let parts: [(&[u8], &[u8], &[u8]); 3] = [
+        (b"\n", b"", b""),
+        (b"a\r\nb\nc", b"a\r", b"b\nc"),
+        (
+            b"{\"type\":\"a long enough line for a block or two\"}\n\n",
+            b"{\"type\":\"a long enough line for a block or two\"}",
+            b"\n",
+        ),
+    ];
+    for (text, line, behind) in parts {
+        assert_eq!(rt; split_line(text), Some((line, behind)));
     }
     Ok(())
 }

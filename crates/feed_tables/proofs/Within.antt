@@ -26,7 +26,7 @@ module _ {X : Type 0} (P : X → Type 0) where
       elim (keep x) as (λ b. AllByRecursion P (cond b (x ∷ filter keep xs) (filter keep xs))) [ true ↦ (p.0, rest) | false ↦ rest ]
 
 -- a table put under a type
-all-put : (k : List ℕ) (t : Table) (es : List (List ℕ × Table)) → IsName k → IsTable t → AreTypes es → AreTypes (put byte_order k t es)
+pub all-put : (k : List ℕ) (t : Table) (es : List (List ℕ × Table)) → IsName k → IsTable t → AreTypes es → AreTypes (put byte_order k t es)
 all-put k t [] n h p = ((n, h), tt)
 all-put k t (e ∷ es) n h p =
     elim (byte_order k e.0) as (λ o. AreTypes (by_order o ((k, t) ∷ e ∷ es) ((e.0, t) ∷ es) (e ∷ put byte_order k t es))) [

@@ -1,5 +1,5 @@
 -- Strings whose bytes all stand for themselves: what is between their quotation marks is what they say.
-use Rattle.std.proofs.Common.{◌≡◌, ℕ, true, false, List, [], ◌∷◌, ◌++◌, Option, Some, None, refl, sym, ap, subst, ◌∙◌, ◌<◌, ◌-◌, arith, leb, length, take, drop, eqb-true, length-append}
+use Rattle.std.proofs.Common.{◌≡◌, ℕ, true, false, List, [], ◌∷◌, ◌++◌, Option, Some, None, refl, sym, ap, subst, ◌∙◌, ◌<◌, ◌-◌, arith, leb, length, take, drop, eqb-true, length-append, append-nil}
 use Rattle.std.proofs.Math.Seq.{take-append_seam}
 use Rattle.std.specs.Prelude.{◌&&◌, ◌==◌, not, nat_lt, nat_eq, bytes_eq, IsUtf8}
 use Rattle.std.specs.List.{list_all, flat_map}
@@ -12,6 +12,7 @@ use Rattle.feed_text.specs.Reading.{is_unescaped, first, front_while, rest_while
 use Rattle.feed_text.specs.declared.Kind.TheVariants as kind
 use Rattle.feed_text.specs.Json.{Character, unescaped, escaped, unicode, is_character, print_character, IsString, Value, null_literal, true_literal, false_literal, number, string, empty_array, array, empty_object, object, print, kind_of, IsValue, TextOfStringIsString}
 use Rattle.feed_text.proofs.Fronts.{while_parts, while_passes, while_front, while_rest}
+use Rattle.feed_text.proofs.Lines.{no_length}
 use Rattle.feed_text.proofs.Parts.{with_first}
 use Rattle.feed_text.proofs.Scalars.{same_bytes}
 use Rattle.feed_text.specs.Strings.{Says, says, written_byte, written_string, IsPlain}
@@ -66,6 +67,14 @@ unfolding written_string
 quotes_says s content h =
     let written : written_string content ≡ s = ap (λ (t : List ℕ). 34 ∷ (t ++ 34 ∷ [])) (written_bytes content h.unescaped_bytes) ∙ sym h.text in
     subst (λ (t : List ℕ). Says t content) written (written_string_says content)
+
+-- a text without a byte to escape is written as it stands
+pub written_unescaped : (text : List ℕ) → length (rest_while is_unescaped text) ≡ 0 → written_string text ≡ quotation_mark ∷ (text ++ quotation_mark ∷ [])
+unfolding written_string
+written_unescaped text e =
+    let whole : front_while is_unescaped text ≡ text = sym (while_parts is_unescaped text ∙ ap (λ (t : List ℕ). front_while is_unescaped text ++ t) (no_length (rest_while is_unescaped text) e) ∙ append-nil (front_while is_unescaped text)) in
+    let passes : list_all is_unescaped text ≡ true = subst (λ (t : List ℕ). list_all is_unescaped t ≡ true) whole (bytes_all is_unescaped (front_while is_unescaped text) (while_passes is_unescaped text)) in
+    ap (λ (t : List ℕ). 34 ∷ (t ++ 34 ∷ [])) (written_bytes text passes)
 
 pub content_says : (s content : List ℕ) → unescaped_content s ≡ Some content → Says s content
 content_says s content e = quotes_says s content (content_quotes s content e)

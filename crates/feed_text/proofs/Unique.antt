@@ -6,7 +6,7 @@ use Rattle.feed_text.specs.declared.Kind.TheVariants as kind
 use Rattle.feed_text.specs.Reading.{Item, print_item, Pair, print_pair, Contents, empty, parts, print_contents, print_object, contents_at, item_at, pair_at, value_at}
 use Rattle.feed_text.proofs.Grammar.{AreContents, IsItem, IsPair, IsJson}
 use Rattle.feed_text.specs.Json.{Value, Elements, Members, null_literal, true_literal, false_literal, number, string, empty_array, array, empty_object, object, last_element, element, last_member, member, print, IsValue, AreElements, AreMembers, kind_of, depth, TextDeterminesValue, TextDeterminesObject}
-use Rattle.feed_text.specs.Reading as reading
+use Rattle.feed_text.specs.Members.{Spelling}
 use Rattle.feed_text.proofs.Depths.{reads_value, starts_at, items_reads, members_reads}
 use Rattle.feed_text.proofs.Lines.{line_complete}
 use Rattle.feed_text.proofs.Trees.{item_between, first_item, other_items, pair_between, first_pair, other_pairs, elements_printed, members_printed, value_text, elements_text, members_text, line_of_object}
@@ -21,7 +21,7 @@ same_kind : (u v : Value) → IsValue u → IsValue v → print u ≡ print v �
 same_kind u v ok ok' e =
     let d = depth u + depth v in
     let same = sym (read_back d v ok' (omega arith)) ∙ ap (λ (t : List ℕ). value_at d (t ++ [])) (sym e) ∙ read_back d u ok (omega arith) in
-    ap (λ (y : reading.Value × List ℕ). y.0.1) (same_Some _ _ same)
+    ap (λ (y : Spelling × List ℕ). y.0.1) (same_Some _ _ same)
 
 module _ (d : ℕ) where
   same_items : (c c' : Contents Item) → AreContents (IsItem (IsJson d)) c → AreContents (IsItem (IsJson d)) c' → print_contents print_item c ++ right_bracket ∷ [] ≡ print_contents print_item c' ++ right_bracket ∷ [] → c ≡ c'

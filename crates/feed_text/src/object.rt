@@ -32,7 +32,7 @@ pub enum ObjectFault {
     /// It is not one JSON object with nothing around it.
     #[error("not a JSON object")]
     Syntax,
-    /// Memory ran out.
+    /// Nothing is wrong with it, but memory ran out.
     #[error("out of memory")]
     Memory,
 }
@@ -91,7 +91,8 @@ impl ObjectText {
         }
     }
 
-    /// A copy of a text that is known to be such an object: it is not read again.
+    /// A copy of a text that is known to be such an object: it is not read again. Fails only where memory for the bytes
+    /// is refused.
     pub fn from_object(alloc: Global, bytes: &[u8]) -> Result<ObjectText, AllocError>
         requires { IsObjectText bytes.now }
         ensures { IfOk result (λ object. object ≡ bytes.now) }
@@ -108,7 +109,8 @@ impl ObjectText {
         self.text.as_slice()
     }
 
-    /// The same text again; the bytes are shared.
+    /// The same text again; the bytes are shared. Takes no memory, and fails only where the copies are too many to be
+    /// counted.
     pub fn copy(&self) -> Result<ObjectText, AllocError>
         ensures { IfOk result (λ object. object ≡ self.now) }
     {

@@ -259,6 +259,10 @@ fn scan_counts_levels(rt: HostRuntime) -> Result<(), Fail> {
     }
     assert_eq!(rt; nests_to(b"[[]", 2), true);
     assert_eq!(rt; nests_to(b"[\"[\"]", 2), false);
+    assert_eq!(rt; nests_to(b"", 0), true);
+    assert_eq!(rt; nests_to(b"]]]]", 0), true);
+    assert_eq!(rt; nests_to(b"]]][", 1), false);
+    assert_eq!(rt; nests_to(b"[[[", usize::MAX), false);
     Ok(())
 }
 
@@ -291,6 +295,35 @@ fn members_are_slices_in_order(rt: HostRuntime) -> Result<(), Fail> {
     );
     let last = members.last(rt.alloc(), "a")?;
     assert_eq!(rt; last.map(|m| m.kind), Some(Kind::Array));
+    Ok(())
+}
+
+/// Whether the last member of this name has this value, or there is none for no value.
+fn has_last(alloc: Global, text: &str, key: &str, value: Option<&str>) -> Result<bool, Fail> {
+    let object = ObjectText::parse(alloc, text.as_bytes())?;
+    let found = last_member(alloc, object.bytes(), key)?;
+    Ok(found.map(|m| m.value) == value.map(|v| v.as_bytes()))
+}
+
+#[test]
+fn finds_the_last_member(rt: HostRuntime) -> Result<(), Fail> {
+    let twice = "{ \"id\" : 1 , \"i\\u0064\" : [ 2,\t3 ] }";
+    for (text, key, value) in [
+        ("{\"id\":\"1\",\"a\":{\"id\":\"2\"}}", "id", Some("\"1\"")),
+        (twice, "id", Some("[ 2,\t3 ]")),
+        ("{\"\\ud800\":1,\"\":{},\"id\":null}", "", Some("{}")),
+        (
+            "{\"a\":{\"a\":{\"a\":[]}}}",
+            "a",
+            Some("{\"a\":{\"a\":[]}}"),
+        ),
+        ("{}", "id", None),
+        ("{ \t}", "id", None),
+        ("{\"ID\":1,\"id \":2,\"a\":{\"id\":3}}", "id", None),
+    ] {
+        let found = has_last(rt.alloc(), text, key, value)?;
+        assert!(rt; found, "{text}");
+    }
     Ok(())
 }
 

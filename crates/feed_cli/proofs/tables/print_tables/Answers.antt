@@ -1,16 +1,24 @@
-use Rattle.std.proofs.Common.{rules}
-use Rattle.feed_cli.proofs.PrintingLemmas.{printed_at, tells_by, written_by}
+use Rattle.std.proofs.Common.{rules, ◌≡◌, ap, ◌∙◌, is_some}
+use Rattle.feed_node.specs.States.{published_token}
+use Rattle.feed_cli.proofs.FeedingLemmas.{front_of, is_some_kept, printed_ok, printed_err}
 use Rattle.feed_cli.proofs.tables.print_tables.Goals as goal
+
+pub returns-clause-ok : goal.returns-clause-ok
+returns-clause-ok g c =
+    let shown = c.feed_all-fed.new.mirror.node.published in
+    let limits : c.begin.new.self.limits ≡ c.args.limits = c.begin.ensures.limits ∙ ap (λ m. m.limits) c.in_ok-mirror.ensures in
+    printed_ok c.args.limits _ _ _ _ _ c.as_slice.result.now c.in_ok-text.text.items c.feed_all-fed.result c.outcome.result shown c.is_some.result
+    (c.feed_all-fed.ensures.fed (search rules)) limits c.as_slice.ensures.value c.in_ok-text.ensures (search rules) (c.is_some.ensures ∙ is_some_kept _ c.token.result ∙ ap is_some (c.token.ensures ∙ ap published_token c.node.ensures.node)) c.outcome.ensures
 
 pub returns-clause-err : goal.returns-clause-err
 returns-clause-err g c =
-    let bytes = c.read_all-read.new.bytes.items in
-    let text = c.first_tables-told.new.out.items in
-    let read = c.read_all-read.ensures in
-    let told = c.first_tables-told.ensures in
-    let written = c.write_all-written.ensures in
-    printed_at _ _ _ _ c.new-bytes.result.items bytes text c.read_all-read.result c.first_tables-told.result c.write_all-written.result c.outcome.result c.outcome.ensures
-    (record { starts = c.new-bytes.ensures.items; given = read.given; end = read.end; failed = read.read; turns = read.turns; memory = search rules })
-    (tells_by c.first_tables-told.result bytes c.as_slice.result.now c.new-text.result.items text c.as_slice.ensures.value c.new-text.ensures.items told.ok told.err)
-    (search rules)
-    (written_by _ _ text c.as_slice-2.result.now c.write_all-written.result c.as_slice-2.ensures.value written.ok written.front)
+    let shown = c.feed_all-fed.new.mirror.node.published in
+    let limits : c.begin.new.self.limits ≡ c.args.limits = c.begin.ensures.limits ∙ ap (λ m. m.limits) c.in_ok-mirror.ensures in
+    printed_err c.args.limits _ _ _ _ _ c.as_slice.result.now c.in_ok-text.text.items c.feed_all-fed.result c.outcome.result shown c.is_some.result
+    (c.feed_all-fed.ensures.fed (search rules)) limits c.as_slice.ensures.value c.in_ok-text.ensures (search rules) (c.is_some.ensures ∙ is_some_kept _ c.token.result ∙ ap is_some (c.token.ensures ∙ ap published_token c.node.ensures.node)) c.outcome.ensures
+
+pub returns-in-Err-clause-err : goal.returns-in-Err-clause-err
+returns-in-Err-clause-err g c =
+    let limits : c.begin.new.self.limits ≡ c.args.limits = c.begin.ensures.limits ∙ ap (λ m. m.limits) c.in_ok-mirror.ensures in
+    front_of c.args.limits _ _ _ _ _ c.as_slice.result.now c.in_ok-text.text.items c.feed_all-fed.result c.feed_all-fed.new.mirror.node.published
+    (c.feed_all-fed.ensures.fed (search rules)) limits c.as_slice.ensures.value c.in_ok-text.ensures c.in-Err.ensures.front

@@ -1,0 +1,8 @@
+use Rattle.feed_tables.proofs.Maps.{in_order_less, removed}
+use Rattle.feed_tables.proofs.collection.Collection.remove.Goals as goal
+
+pub invariant_of-self : goal.invariant_of-self
+invariant_of-self c = in_order_less _ _ c.self.invariant c.args.id.now c.remove.result c.remove.ensures.ok c.remove.ensures.err
+
+pub returns-clause-ok : goal.returns-clause-ok
+returns-clause-ok c = removed _ _ c.self.invariant c.args.id.now _ c.self.view_is c.remove.result c.remove.ensures.ok

@@ -1,0 +1,11 @@
+pub mod Agreement
+pub mod Batches
+pub mod Commits
+pub mod Fronts
+pub mod Growth
+pub mod Lines
+pub mod Listings
+pub mod OneReading
+pub mod Schedules
+pub mod Scripts
+pub mod Tokens

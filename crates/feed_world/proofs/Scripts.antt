@@ -1,0 +1,195 @@
+-- Runs of a world, computed.
+use Rattle.std.proofs.Common.{◌≡◌, sym, ◌∙◌, ℕ, List, [], ◌∷◌, ◌++◌, length, Option, Some, None, Result, Ok, Err, refl, codes, Bool, true, false, arith}
+use Rattle.std.specs.Fmt.{digits}
+use Rattle.std.specs.FinMap.{FinMap, empty, entries, get-entries, len-entries, len-empty, insert, remove, put, entries-insert}
+use Rattle.feed_text.specs.Strings.{written_string}
+use Rattle.feed_tables.specs.Bytes.{byte_order, without}
+use Rattle.feed_tables.specs.Tables.{after}
+use Rattle.feed_tables.specs.declared.change.Change.{Change}
+use Rattle.feed_tables.specs.declared.change.Change.TheVariants.{Set, Remove, Single, Clear}
+use Rattle.feed_tables.proofs.AtFork.{total}
+use Rattle.feed_note.specs.Texts.{published_text}
+use Rattle.feed_node.specs.declared.primary.CommitFault.TheVariants.{EmptyBatch}
+use Rattle.feed_node.specs.declared.session.Pulled.TheVariants.{More, UpToDate, Gone}
+use Rattle.feed_world.specs.declared.event.Event.{Event}
+use Rattle.feed_world.specs.declared.event.Event.TheVariants.{Commit as DoCommit, Connect, Serve, Idle, Deliver, Cut as DoCut}
+use Rattle.feed_world.specs.declared.event.Reply.{Reply}
+use Rattle.feed_world.specs.declared.event.Reply.TheVariants.{Committed, Opened, Refused, NotYet, Sent, Idled, Delivered, Cut}
+use Rattle.feed_world.specs.declared.event.WorldFault.{WorldFault}
+use Rattle.feed_world.specs.declared.event.WorldFault.TheVariants.{NoNode, NoConnection, Commit as CommitRefused}
+use Rattle.feed_world.specs.Connection.{Connection, Snapshot}
+use Rattle.feed_world.specs.Log.{Log}
+use Rattle.feed_world.specs.Position.{Position}
+use Rattle.feed_world.specs.World.{World, Mirror, new_world, node_of}
+use Rattle.feed_world.specs.Step.{Outcome, outcome}
+use Rattle.feed_world.proofs.Listings.{entries_without}
+
+no_length : {A : Type 0} (es : List A) → length es ≡ 0 → es ≡ []
+no_length [] e = refl
+no_length (x ∷ es) e = absurd (omega arith)
+
+entries-empty : (X : Type 0) → entries (empty {X = X} {R = byte_order}) ≡ []
+entries-empty X = no_length _ (sym (len-entries (empty {X = X} {R = byte_order})) ∙ len-empty byte_order X)
+
+entries-inserted : {X : Type 0} (m : FinMap byte_order X) (k : List ℕ) (v : X) → entries (insert m k v) ≡ put byte_order k v (entries m)
+entries-inserted m k v = entries-insert total m k v
+
+entries-removed : {X : Type 0} (m : FinMap byte_order X) (k : List ℕ) → entries (remove m k) ≡ without k (entries m)
+entries-removed m k = entries_without (λ v. Unit {0}) m k
+
+abbrev Replies : Type 0
+Replies = List (Result Reply WorldFault)
+
+abbrev go_on : World → Outcome → (World → Replies × World) → Replies × World
+go_on w (Err fault) next = (Err fault ∷ [], w)
+go_on w (Ok p) next = let later = next p.1 in (Ok p.0 ∷ later.0, later.1)
+
+-- the replies up to the first refused event, and the world after them
+abbrev run_all : World → List Event → Replies × World
+run_all w [] = ([], w)
+run_all w (e ∷ es) = go_on w (outcome w e) (λ v. run_all v es)
+
+-- the snapshot of what a node shows
+abbrev shown : World → ℕ → List ℕ
+shown w i = published_text (node_of w i).published
+
+abbrev world : ℕ → ℕ → List ℕ → World
+world h s ups = new_world (record { history = h; staged = s }) ups
+
+abbrev teams : List ℕ
+teams = codes "teams"
+
+abbrev state : List ℕ
+state = codes "state"
+
+abbrev groups : List ℕ
+groups = codes "groups"
+
+abbrev obj : List ℕ → List ℕ
+obj i = codes "{\"id\":\"" ++ i ++ codes "\"}"
+
+abbrev set_team : List ℕ → Change
+set_team i = Set teams i (obj i)
+
+-- a connection on which only a snapshot was sent
+abbrev opened_at : ℕ → ℕ → Bool → Connection
+opened_at k delivered over = record { fresh = true; start = k; parts = Snapshot k ∷ []; delivered = delivered; last = k; over = over }
+
+abbrev position : ℕ → ℕ → Option Position
+position at low = Some (record { at = at; low = low })
+
+abbrev mirror : Option Position → ℕ → Bool → Option Connection → Mirror
+mirror p upstream afresh connection = record { place = p; upstream = upstream; afresh = afresh; connection = connection }
+
+-- a mirror whose token is no longer held, with a cut within the second snapshot
+abbrev a_log : Log
+a_log = (set_team (codes "1") ∷ []) ∷ (Single state (codes "{}") ∷ []) ∷ (Clear teams ∷ [])
+    ∷ (Set groups (codes "1") (obj (codes "1")) ∷ []) ∷ (Set groups (codes "2") (obj (codes "2")) ∷ []) ∷ []
+
+abbrev a_world : List Mirror → World
+a_world mirrors = record { limits = record { history = 2; staged = 100 }; log = a_log; primary = record { at = 5; low = 3 }; mirrors = mirrors }
+
+abbrev a_behind : World
+a_behind = a_world (mirror (position 1 1) 0 false (Some (opened_at 1 93 false)) ∷ [])
+
+abbrev a_cut : World
+a_cut = a_world (mirror (position 1 1) 0 true None ∷ [])
+
+abbrev a_reset : World
+a_reset = a_world (mirror (position 5 5) 0 false (Some (opened_at 5 177 false)) ∷ [])
+
+a_first : run_all (world 2 100 (0 ∷ [])) (DoCommit (set_team (codes "1") ∷ []) ∷ Connect 1 ∷ Deliver 1 9999
+    ∷ DoCommit (Single state (codes "{}") ∷ []) ∷ DoCommit (Clear teams ∷ [])
+    ∷ DoCommit (Set groups (codes "1") (obj (codes "1")) ∷ []) ∷ DoCommit (Set groups (codes "2") (obj (codes "2")) ∷ []) ∷ [])
+    ≡ (Ok (Committed (codes "1")) ∷ Ok Opened ∷ Ok (Delivered 1) ∷ Ok (Committed (codes "2")) ∷ Ok (Committed (codes "3")) ∷ Ok (Committed (codes "4")) ∷ Ok (Committed (codes "5")) ∷ [], a_behind)
+unfolding digits after written_string
+a_first = simp (entries-inserted, entries-removed, get-entries, len-entries, entries-empty)
+
+a_refused : run_all a_behind (Connect 1 ∷ Connect 1 ∷ Deliver 1 10 ∷ DoCut 1 ∷ []) ≡ (Ok Refused ∷ Ok Opened ∷ Ok (Delivered 0) ∷ Ok Cut ∷ [], a_cut)
+unfolding digits after written_string
+a_refused = simp (entries-inserted, entries-removed, get-entries, len-entries, entries-empty)
+
+a_shown : shown a_cut 1 ≡ codes "{\"type\":\"teams\",\"id\":null,\"data\":[]}\n{\"type\":\"teams\",\"id\":\"1\",\"data\":{\"id\":\"1\"},\"token\":\"1\"}\n"
+unfolding digits after written_string
+a_shown = simp (entries-inserted, entries-removed, get-entries, len-entries, entries-empty)
+
+a_last : run_all a_cut (Connect 1 ∷ Deliver 1 9999 ∷ []) ≡ (Ok Opened ∷ Ok (Delivered 1) ∷ [], a_reset)
+unfolding digits after written_string
+a_last = simp (entries-inserted, entries-removed, get-entries, len-entries, entries-empty)
+
+a_shown_last : shown a_reset 1 ≡ codes "{\"type\":\"groups\",\"id\":null,\"data\":[]}\n{\"type\":\"groups\",\"id\":\"1\",\"data\":{\"id\":\"1\"}}\n{\"type\":\"groups\",\"id\":\"2\",\"data\":{\"id\":\"2\"}}\n{\"type\":\"state\",\"id\":null,\"data\":{},\"token\":\"5\"}\n"
+unfolding digits after written_string
+a_shown_last = simp (entries-inserted, entries-removed, get-entries, len-entries, entries-empty)
+
+-- a relay that is reset while the session of a mirror behind it is open
+abbrev b_log : Log
+b_log = (set_team (codes "1") ∷ []) ∷ (set_team (codes "2") ∷ []) ∷ (Remove teams (codes "1") ∷ []) ∷ (Single state (codes "{}") ∷ []) ∷ []
+
+abbrev b_world : List Mirror → World
+b_world mirrors = record { limits = record { history = 1; staged = 100 }; log = b_log; primary = record { at = 4; low = 3 }; mirrors = mirrors }
+
+abbrev b_behind : World
+b_behind = b_world (mirror (position 1 1) 0 false (Some (opened_at 1 93 false)) ∷ mirror None 1 false (Some (opened_at 1 0 false)) ∷ [])
+
+abbrev b_relay_reset : World
+b_relay_reset = b_world (mirror (position 4 4) 0 false (Some (opened_at 4 130 false)) ∷ mirror (position 1 1) 1 false (Some (opened_at 1 93 true)) ∷ [])
+
+abbrev b_all_reset : World
+b_all_reset = b_world (mirror (position 4 4) 0 false (Some (opened_at 4 130 false)) ∷ mirror (position 4 4) 1 false (Some (opened_at 4 130 false)) ∷ [])
+
+b_first : run_all (world 1 100 (0 ∷ 1 ∷ [])) (DoCommit (set_team (codes "1") ∷ []) ∷ Connect 1 ∷ Deliver 1 9999 ∷ Connect 2
+    ∷ DoCommit (set_team (codes "2") ∷ []) ∷ DoCommit (Remove teams (codes "1") ∷ []) ∷ DoCommit (Single state (codes "{}") ∷ []) ∷ [])
+    ≡ (Ok (Committed (codes "1")) ∷ Ok Opened ∷ Ok (Delivered 1) ∷ Ok Opened ∷ Ok (Committed (codes "2")) ∷ Ok (Committed (codes "3")) ∷ Ok (Committed (codes "4")) ∷ [], b_behind)
+unfolding digits after written_string
+b_first = simp (entries-inserted, entries-removed, get-entries, len-entries, entries-empty)
+
+b_refused : run_all b_behind (Connect 1 ∷ Connect 1 ∷ Deliver 1 9999 ∷ Serve 2 ∷ Idle 2 ∷ Deliver 2 9999 ∷ [])
+    ≡ (Ok Refused ∷ Ok Opened ∷ Ok (Delivered 1) ∷ Ok (Sent Gone) ∷ Ok (Sent Gone) ∷ Ok (Delivered 1) ∷ [], b_relay_reset)
+unfolding digits after written_string
+b_refused = simp (entries-inserted, entries-removed, get-entries, len-entries, entries-empty)
+
+b_shown : shown b_relay_reset 2 ≡ codes "{\"type\":\"teams\",\"id\":null,\"data\":[]}\n{\"type\":\"teams\",\"id\":\"1\",\"data\":{\"id\":\"1\"},\"token\":\"1\"}\n"
+unfolding digits after written_string
+b_shown = simp (entries-inserted, entries-removed, get-entries, len-entries, entries-empty)
+
+b_last : run_all b_relay_reset (Connect 2 ∷ Connect 2 ∷ Deliver 2 9999 ∷ []) ≡ (Ok Refused ∷ Ok Opened ∷ Ok (Delivered 1) ∷ [], b_all_reset)
+unfolding digits after written_string
+b_last = simp (entries-inserted, entries-removed, get-entries, len-entries, entries-empty)
+
+b_shown_last : shown b_all_reset 2 ≡ codes "{\"type\":\"state\",\"id\":null,\"data\":{}}\n{\"type\":\"teams\",\"id\":null,\"data\":[]}\n{\"type\":\"teams\",\"id\":\"2\",\"data\":{\"id\":\"2\"},\"token\":\"4\"}\n"
+unfolding digits after written_string
+b_shown_last = simp (entries-inserted, entries-removed, get-entries, len-entries, entries-empty)
+
+-- a commit that is sent on an open connection
+abbrev sent_on : List Event
+sent_on = Connect 1 ∷ Deliver 1 9999 ∷ DoCommit (Single state (codes "{}") ∷ []) ∷ Serve 1 ∷ Serve 1 ∷ Idle 1 ∷ Deliver 1 9999 ∷ []
+
+d_replies : (run_all (world 1 100 (0 ∷ [])) sent_on).0 ≡
+    Ok Opened ∷ Ok (Delivered 1) ∷ Ok (Committed (codes "1")) ∷ Ok (Sent More) ∷ Ok (Sent UpToDate) ∷ Ok Idled ∷ Ok (Delivered 1) ∷ []
+unfolding digits after written_string
+d_replies = simp (entries-inserted, entries-removed, get-entries, len-entries, entries-empty)
+
+d_shown : shown (run_all (world 1 100 (0 ∷ [])) sent_on).1 1 ≡ codes "{\"type\":\"state\",\"id\":null,\"data\":{},\"token\":\"1\"}\n"
+unfolding digits after written_string
+d_shown = simp (entries-inserted, entries-removed, get-entries, len-entries, entries-empty)
+
+-- refusals, and a node that has published nothing
+no_node : (run_all (world 1 100 (0 ∷ [])) (Connect 2 ∷ [])).0 ≡ Err NoNode ∷ []
+unfolding digits
+no_node = refl
+
+no_primary : (run_all (world 1 100 (0 ∷ [])) (Deliver 0 1 ∷ [])).0 ≡ Err NoNode ∷ []
+unfolding digits
+no_primary = refl
+
+no_connection : (run_all (world 1 100 (0 ∷ [])) (Serve 1 ∷ [])).0 ≡ Err NoConnection ∷ []
+unfolding digits
+no_connection = refl
+
+empty_batch : (run_all (world 1 100 (0 ∷ [])) (DoCommit [] ∷ [])).0 ≡ Err (CommitRefused EmptyBatch) ∷ []
+unfolding digits
+empty_batch = refl
+
+not_yet : (run_all (world 1 100 (0 ∷ 1 ∷ [])) (Connect 2 ∷ [])).0 ≡ Ok NotYet ∷ []
+unfolding digits
+not_yet = refl

@@ -1,0 +1,33 @@
+use Rattle.feed_world.proofs.Agreement.{nodes_agree}
+use Rattle.feed_world.proofs.Fronts.{fronts_are_read}
+use Rattle.feed_world.proofs.Growth.{growth_keeps, sending_keeps_order, deliveries_compose}
+use Rattle.feed_world.proofs.OneReading.{reading_is_one}
+use Rattle.feed_world.proofs.Schedules.{every_run_agrees}
+use Rattle.feed_world.proofs.Tokens.{tokens_tell}
+use Rattle.feed_world.proofs.laws.world_laws.Goals as goal
+
+pub returns-clause-fronts : goal.returns-clause-fronts
+returns-clause-fronts c =
+    let below = c.laws_below.ensures in
+    fronts_are_read c.line_laws.ensures.cut c.line_laws.ensures.only_cut c.written_lines_law.ensures below.restores below.sized below.within below.read below.good
+
+pub returns-clause-one : goal.returns-clause-one
+returns-clause-one c = reading_is_one c.line_laws.ensures.one_meaning
+
+pub returns-clause-tokens : goal.returns-clause-tokens
+returns-clause-tokens c = tokens_tell
+
+pub returns-clause-agree : goal.returns-clause-agree
+returns-clause-agree c = nodes_agree
+
+pub returns-clause-growth : goal.returns-clause-growth
+returns-clause-growth c = growth_keeps
+
+pub returns-clause-order : goal.returns-clause-order
+returns-clause-order c = sending_keeps_order
+
+pub returns-clause-deliveries : goal.returns-clause-deliveries
+returns-clause-deliveries c = deliveries_compose
+
+pub returns-clause-schedules : goal.returns-clause-schedules
+returns-clause-schedules c = every_run_agrees

@@ -1,0 +1,87 @@
+-- A connection between a node and a mirror behind it: what was sent on it, and how much of that came (CLICS Contest API
+-- 2023-06, event feed and reconnection).
+use Rattle.std.specs.Prelude.{◌≡◌, ℕ, ◌+◌, ◌-◌, Bool, List, [], ◌∷◌, ◌++◌, length, drop, flat_map, fold, Option, Some, None, if◌then◌else◌, nat_le}
+use Rattle.feed_text.specs.Ascii.{line_feed}
+use Rattle.feed_note.specs.Texts.{snapshot_text}
+use Rattle.feed_node.specs.Log.{token_after}
+use Rattle.feed_world.specs.Log.{Log, state_after, commit_text}
+use Rattle.feed_world.specs.Position.{Position, renewed}
+
+-- what is sent at once: a snapshot of the state after this many commits, the commit of this number, or a line feed
+pub data Part : Type 0 where
+  Snapshot : ℕ → Part
+  Commit : ℕ → Part
+  Line_feed : Part
+
+abbrev pub part_text : Log → Part → List ℕ
+part_text log (Snapshot k) = snapshot_text (state_after log k) (token_after k)
+part_text log (Commit k) = commit_text log k
+part_text log Line_feed = line_feed ∷ []
+
+abbrev pub parts_text : Log → List Part → List ℕ
+parts_text log parts = flat_map (part_text log) parts
+
+-- A connection: whether it is fresh; the number that it started at; what was sent, in order; how many bytes of that were
+-- delivered; the number of the last commit that was sent, or at which it started; and whether the server sends no more.
+pub record Connection : Type 0 where
+  pub fresh : Bool
+  pub start : ℕ
+  pub parts : List Part
+  pub delivered : ℕ
+  pub last : ℕ
+  pub over : Bool
+
+-- the text that was sent
+abbrev pub sent_text : Log → Connection → List ℕ
+sent_text log connection = parts_text log connection.parts
+
+-- how many bytes were sent
+abbrev pub bytes_sent : Log → Connection → ℕ
+bytes_sent log connection = length (sent_text log connection)
+
+-- a block and those after it; a line feed is no block
+abbrev pub block_onto : Part → List Part → List Part
+block_onto (Snapshot k) blocks = Snapshot k ∷ blocks
+block_onto (Commit k) blocks = Commit k ∷ blocks
+block_onto Line_feed blocks = blocks
+
+-- the blocks that end within the first n bytes of the text of these parts
+abbrev pub blocks_within : Log → List Part → ℕ → List Part
+blocks_within log [] n = []
+blocks_within log (part ∷ parts) n =
+    if nat_le (length (part_text log part)) n
+    then block_onto part (blocks_within log parts (n - length (part_text log part)))
+    else []
+
+-- the blocks that end after the first d bytes that were sent and within the first e
+abbrev pub blocks_between : Log → Connection → ℕ → ℕ → List Part
+blocks_between log connection d e = drop (length (blocks_within log connection.parts d)) (blocks_within log connection.parts e)
+
+-- where a mirror is after a block came whole
+abbrev pub moved : ℕ → Option Position → Part → Option Position
+moved history place (Snapshot k) = Some (record { at = k; low = k })
+moved history (Some own) (Commit k) = Some (renewed history k own.low)
+moved history None (Commit k) = None
+moved history place Line_feed = place
+
+-- where it is after these blocks
+abbrev pub moved_by : ℕ → Option Position → List Part → Option Position
+moved_by history place blocks = fold (moved history) place blocks
+
+-- these parts go on from a number: each commit is the next one, up to the last, with any number of line feeds before,
+-- between and after them
+abbrev pub GoOn : ℕ → List Part → ℕ → Type 0
+GoOn k [] last = k ≡ last
+GoOn k (Line_feed ∷ parts) last = GoOn k parts last
+GoOn k (Commit n ∷ parts) last = (n ≡ k + 1) × GoOn (k + 1) parts last
+GoOn k (Snapshot n ∷ parts) last = ⊥
+
+-- what stands first: on a fresh connection the snapshot
+abbrev pub first_parts : Bool → ℕ → List Part
+first_parts fresh start = if fresh then Snapshot start ∷ [] else []
+
+-- what was sent is a snapshot where the connection is fresh, and then each commit after the start up to the last
+pub record IsInOrder (connection : Connection) : Type 0 where
+  pub more : List Part
+  pub parts : connection.parts ≡ first_parts connection.fresh connection.start ++ more
+  pub go_on : GoOn connection.start more connection.last

@@ -1,0 +1,57 @@
+-- A world of nodes: a primary, and mirrors each behind another node.
+use Rattle.std.specs.Prelude.{◌≡◌, ℕ, zero, suc, ◌-◌, ◌≤◌, Bool, false, List, [], length, map, Option, Some, None, slice_get, slice_set}
+use Rattle.std.specs.Option.{option_and_then}
+use Rattle.feed_node.specs.Limits.{Limits}
+use Rattle.feed_node.specs.States.{NodeState}
+use Rattle.feed_world.specs.Log.{Log}
+use Rattle.feed_world.specs.Position.{Position, node_where}
+use Rattle.feed_world.specs.Connection.{Connection}
+
+-- a mirror: where it is, if it has published anything; the node that it connects to; whether its token was refused and
+-- nothing was published since, so that its next connection is fresh; and its connection, if there is one
+pub record Mirror : Type 0 where
+  pub place : Option Position
+  pub upstream : ℕ
+  pub afresh : Bool
+  pub connection : Option Connection
+
+-- a world: the limits of its nodes, the log, where the primary is, and the mirrors
+pub record World : Type 0 where
+  pub limits : Limits
+  pub log : Log
+  pub primary : Position
+  pub mirrors : List Mirror
+
+-- there are at most 255 mirrors, and each is behind an earlier node
+pub record HasShape (upstreams : List ℕ) : Type 0 where
+  pub few : length upstreams ≤ 255
+  pub earlier : (i upstream : ℕ) → slice_get upstreams i ≡ Some upstream → upstream ≤ i
+
+abbrev pub new_mirror : ℕ → Mirror
+new_mirror upstream = record { place = None; upstream = upstream; afresh = false; connection = None }
+
+-- the world at the start; the mirror of number i + 1 is behind the node that stands at place i of the list
+abbrev pub new_world : Limits → List ℕ → World
+new_world limits upstreams = record { limits = limits; log = []; primary = record { at = 0; low = 0 }; mirrors = map new_mirror upstreams }
+
+-- the mirror of this number, where there is one
+abbrev pub mirror_at : World → ℕ → Option Mirror
+mirror_at world zero = None
+mirror_at world (suc i) = slice_get world.mirrors i
+
+-- the world with another mirror of this number
+abbrev pub with_mirror : World → ℕ → Mirror → World
+with_mirror world i mirror = record { limits = world.limits; log = world.log; primary = world.primary; mirrors = slice_set world.mirrors (i - 1) mirror }
+
+-- where the node of this number is; nowhere, if it has published nothing or is not there
+abbrev pub place_at : World → ℕ → Option Position
+place_at world zero = Some world.primary
+place_at world (suc i) = option_and_then (λ mirror. mirror.place) (slice_get world.mirrors i)
+
+-- what the node of this number shows
+abbrev pub node_of : World → ℕ → NodeState
+node_of world i = node_where world.log (place_at world i)
+
+-- the connection of the mirror of this number, where there is one
+abbrev pub connection_at : World → ℕ → Option Connection
+connection_at world i = option_and_then (λ mirror. mirror.connection) (mirror_at world i)

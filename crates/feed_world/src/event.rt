@@ -1,0 +1,73 @@
+//! What may happen in a world, and its replies.
+
+use feed_node::{CommitFault, FeedFault, Pulled};
+use feed_tables::{Changes, Name};
+use thiserror::Error;
+
+/// What may happen in a world. Nodes are numbered: 0 is the primary, and the others are mirrors.
+#[derive(Drop)]
+pub enum Event {
+    /// The primary makes these changes.
+    Commit(Changes),
+    /// This mirror connects to the node that it is behind.
+    Connect(usize),
+    /// The node at the other end of this mirror's connection sends its next commit.
+    Serve(usize),
+    /// That node has no more to send for now: it sends a line feed.
+    Idle(usize),
+    /// This mirror's connection brings the next bytes, this many or all that remain.
+    Deliver(usize, usize),
+    /// This mirror's connection is cut.
+    Cut(usize),
+}
+
+/// What a world replies to an event.
+#[derive(Drop)]
+pub enum Reply {
+    /// The primary published the state of this token.
+    Committed(Name),
+    /// A connection was opened.
+    Opened,
+    /// The mirror's token is not held: its next connection is fresh.
+    Refused,
+    /// The node has published nothing.
+    NotYet,
+    /// What was sent.
+    Sent(Pulled),
+    /// A line feed was sent.
+    Idled,
+    /// How many times the mirror published.
+    Delivered(usize),
+    /// This mirror stopped feeding, and its connection is gone.
+    Broke(usize, FeedFault),
+    /// The connection is gone.
+    Cut,
+}
+
+/// Why an event was refused: the first of these that holds. A refused event changes nothing.
+#[derive(Clone, Copy, Debug, PartialEq, Eq, Error)]
+pub enum WorldFault {
+    /// No mirror has this number.
+    #[error("no such node")]
+    NoNode,
+    /// The mirror has no connection.
+    #[error("no connection")]
+    NoConnection,
+    /// The primary refused the commit.
+    #[error(transparent)]
+    Commit(CommitFault),
+    /// Memory ran out.
+    #[error("out of memory")]
+    Memory,
+}
+
+/// Why no world was made: the first of these that holds.
+#[derive(Clone, Copy, Debug, PartialEq, Eq, Error)]
+pub enum ShapeFault {
+    /// There are over 255 mirrors, or one is not behind an earlier node.
+    #[error("bad shape")]
+    BadShape,
+    /// Memory ran out.
+    #[error("out of memory")]
+    Memory,
+}

@@ -1,0 +1,45 @@
+//! The scenarios: calls that take memory, and what they have to answer and to leave. A further one is a function, its
+//! name here, and its line in the crate's file `stdout`.
+
+mod feeds;
+mod lines;
+mod nodes;
+mod stores;
+
+use crate::outcome::Outcome;
+use crate::trial::Trial;
+
+/// The names of the scenarios.
+pub const NAMES: &[&str] = &[
+    "feed",
+    "feed_pieces",
+    "feed_on",
+    "save",
+    "commit",
+    "open",
+    "pull",
+    "splitter",
+    "survey",
+    "batches",
+    "write",
+    "tables_apply",
+];
+
+/// Runs a scenario; none where no scenario has the name, or something else than its calls failed.
+pub fn run(name: &str, trial: &mut Trial) -> Option<Outcome> {
+    match name {
+        "feed" => feeds::feed(trial),
+        "feed_pieces" => feeds::feed_pieces(trial),
+        "feed_on" => feeds::feed_on(trial),
+        "save" => feeds::save(trial),
+        "commit" => nodes::commit(trial),
+        "open" => nodes::open(trial),
+        "pull" => nodes::pull(trial),
+        "splitter" => lines::splitter(trial),
+        "survey" => lines::survey(trial),
+        "batches" => lines::batches(trial),
+        "write" => lines::write(trial),
+        "tables_apply" => stores::tables_apply(trial),
+        _ => None,
+    }
+}

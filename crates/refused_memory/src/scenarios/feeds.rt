@@ -1,0 +1,151 @@
+//! Mirrors that are fed and saved.
+
+ghost use Rattle.std.specs.Prelude.{◌<◌};
+
+use crate::outcome::{Outcome, given};
+use crate::trial::Trial;
+use feed_node::{FeedFault, Limits, Mirror};
+use std::alloc::Global;
+
+/// Two notifications, the second with a token.
+pub const LINES: &[u8] = b"{\"type\":\"teams\",\"id\":\"1\",\"data\":{\"id\":\"1\"}}\n\
+{\"type\":\"teams\",\"id\":\"2\",\"data\":{\"id\":\"2\"},\"token\":\"b\"}\n";
+
+/// One behind them.
+const THIRD: &[u8] = b"{\"type\":\"teams\",\"id\":\"3\",\"data\":{\"id\":\"3\"}}\n";
+
+/// What the two publish.
+const SAVED: &[u8] = b"{\"type\":\"teams\",\"id\":null,\"data\":[]}\n\
+{\"type\":\"teams\",\"id\":\"1\",\"data\":{\"id\":\"1\"}}\n\
+{\"type\":\"teams\",\"id\":\"2\",\"data\":{\"id\":\"2\"},\"token\":\"b\"}\n";
+
+/// The two lines in one piece.
+pub fn feed(trial: &mut Trial) -> Option<Outcome> {
+    let (answer, mut mirror) = fed(trial, LINES, LINES.len())?;
+    Some(judged_publication(trial.alloc(), answer, &mut mirror))
+}
+
+/// The two lines in pieces of seven bytes.
+pub fn feed_pieces(trial: &mut Trial) -> Option<Outcome> {
+    let (answer, mut mirror) = fed(trial, LINES, 7)?;
+    Some(judged_publication(trial.alloc(), answer, &mut mirror))
+}
+
+/// The two lines and one behind them, whose want of memory takes nothing back.
+pub fn feed_on(trial: &mut Trial) -> Option<Outcome> {
+    let alloc = trial.alloc();
+    let mut text = Vec::new(alloc);
+    text.extend_from_slice(LINES).ok()?;
+    text.extend_from_slice(THIRD).ok()?;
+    let (answer, mut mirror) = fed(trial, &text, text.len())?;
+    Some(match answer {
+        Ok(count) => given(count == 1 && shows_both(alloc, &mirror), Outcome::Right),
+        Err(FeedFault::Memory) => {
+            let stands = if shows_nothing(alloc, &mirror) {
+                recovers(alloc, &mut mirror)
+            } else {
+                shows_both(alloc, &mirror) && goes_on(alloc, &mut mirror)
+            };
+            given(stands, Outcome::Memory)
+        }
+        Err(_) => Outcome::Wrong,
+    })
+}
+
+/// A snapshot of what the two lines publish.
+pub fn save(trial: &mut Trial) -> Option<Outcome> {
+    let alloc = trial.alloc();
+    let mut mirror = opened(alloc)?;
+    let count = mirror.feed(alloc, LINES).ok()?;
+    trial.begin();
+    let answer = mirror.save(alloc);
+    trial.end();
+    let stands = count == 1 && shows_both(alloc, &mirror) && is_open(alloc, &mut mirror);
+    Some(match answer {
+        Ok(text) => given(stands && text.as_slice() == SAVED, Outcome::Right),
+        Err(_) => given(stands, Outcome::Memory),
+    })
+}
+
+/// A mirror on its first connection.
+fn opened(alloc: Global) -> Option<Mirror> {
+    let mut mirror = Mirror::new(alloc, Limits::new(1000, 1000).ok()?).ok()?;
+    mirror.begin();
+    Some(mirror)
+}
+
+/// What a new mirror answers to a text in pieces of this length, and the mirror after it.
+fn fed(trial: &mut Trial, text: &[u8], length: usize) -> Option<(Result<usize, FeedFault>, Mirror)>
+    requires { 0 < length }
+{
+    let alloc = trial.alloc();
+    let mut mirror = opened(alloc)?;
+    trial.begin();
+    let answer = feed_in_pieces(alloc, &mut mirror, text, length);
+    trial.end();
+    Some((answer, mirror))
+}
+
+fn feed_in_pieces(
+    alloc: Global,
+    mirror: &mut Mirror,
+    text: &[u8],
+    length: usize,
+) -> Result<usize, FeedFault>
+    requires { 0 < length }
+{
+    let mut count: usize = 0;
+    for piece in text.chunks(length) {
+        count = count.saturating_add(mirror.feed(alloc, piece)?);
+    }
+    Ok(count)
+}
+
+/// The publication stands at the end of the text and takes no memory, so after a want of memory nothing is shown.
+fn judged_publication(
+    alloc: Global,
+    answer: Result<usize, FeedFault>,
+    mirror: &mut Mirror,
+) -> Outcome {
+    match answer {
+        Ok(count) => {
+            let shows = shows_both(alloc, mirror) && is_open(alloc, mirror);
+            given(count == 1 && shows, Outcome::Right)
+        }
+        Err(FeedFault::Memory) => {
+            let shows = shows_nothing(alloc, mirror) && recovers(alloc, mirror);
+            given(shows, Outcome::Memory)
+        }
+        Err(_) => Outcome::Wrong,
+    }
+}
+
+fn is_open(alloc: Global, mirror: &mut Mirror) -> bool {
+    mirror.feed(alloc, b"") == Ok(0)
+}
+
+/// The mirror is not open, and another connection publishes the two lines.
+fn recovers(alloc: Global, mirror: &mut Mirror) -> bool {
+    let is_closed = mirror.feed(alloc, b"") == Err(FeedFault::NotOpen);
+    mirror.begin();
+    is_closed && mirror.feed(alloc, LINES) == Ok(1) && shows_both(alloc, mirror)
+}
+
+/// The mirror is not open, and another connection takes the line behind the two.
+fn goes_on(alloc: Global, mirror: &mut Mirror) -> bool {
+    let is_closed = mirror.feed(alloc, b"") == Err(FeedFault::NotOpen);
+    mirror.begin();
+    is_closed && mirror.feed(alloc, THIRD) == Ok(0) && shows_both(alloc, mirror)
+}
+
+fn shows_nothing(alloc: Global, mirror: &Mirror) -> bool {
+    let node = mirror.node();
+    let saved = mirror.save(alloc);
+    node.published().is_none() && node.token().is_none() && saved.is_ok_and(|text| text.is_empty())
+}
+
+/// The mirror shows the two objects at `b`.
+fn shows_both(alloc: Global, mirror: &Mirror) -> bool {
+    let saved = mirror.save(alloc);
+    mirror.since() == Some("b") && saved.is_ok_and(|text| text.as_slice() == SAVED)
+}
