@@ -1,9 +1,11 @@
 pub mod Agreement
 pub mod Below
+pub mod Codes
 pub mod Connection
 pub mod Laws
 pub mod Log
 pub mod Position
 pub mod Reading
+pub mod States
 pub mod Step
 pub mod World

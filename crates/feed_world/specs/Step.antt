@@ -4,6 +4,7 @@ use Rattle.feed_tables.specs.declared.change.Change.{Change}
 use Rattle.feed_node.specs.declared.primary.CommitFault.{CommitFault}
 use Rattle.feed_node.specs.declared.primary.CommitFault.TheVariants.{EmptyBatch, LastToken, Memory as CommitMemory}
 use Rattle.feed_node.specs.declared.fault.FeedFault.TheVariants.{Memory as FeedMemory}
+use Rattle.feed_node.specs.declared.session.Pulled.{Pulled}
 use Rattle.feed_node.specs.declared.session.Pulled.TheVariants.{More, UpToDate, Gone}
 use Rattle.feed_node.specs.Log.{PrimaryState, token_after, commit_fault}
 use Rattle.feed_world.specs.declared.event.Event.{Event}
@@ -13,12 +14,17 @@ use Rattle.feed_world.specs.declared.event.Reply.TheVariants.{Committed, Opened,
 use Rattle.feed_world.specs.declared.event.WorldFault.{WorldFault}
 use Rattle.feed_world.specs.declared.event.WorldFault.TheVariants.{NoNode, NoConnection, Commit as CommitRefused, Memory}
 use Rattle.feed_world.specs.Connection.{Part, Commit, Line_feed, Connection, bytes_sent, blocks_between, moved_by, first_parts}
+use Rattle.feed_world.specs.Log.{Log}
 use Rattle.feed_world.specs.Position.{Position, node_at, renewed}
 use Rattle.feed_world.specs.World.{Mirror, World, mirror_at, with_mirror, place_at}
 
 -- a reply and the world after it, or why the event is refused
 abbrev pub Outcome : Type 0
 Outcome = Result (Reply × World) WorldFault
+
+-- a reply and the mirror after it
+abbrev pub Move : Type 0
+Move = Reply × Mirror
 
 -- ---- Commit: the log gains the changes, unless the primary refuses them
 
@@ -56,24 +62,23 @@ refused mirror = record { place = mirror.place; upstream = mirror.upstream; afre
 abbrev pub new_connection : Bool → ℕ → Connection
 new_connection fresh start = record { fresh = fresh; start = start; parts = first_parts fresh start; delivered = 0; last = start; over = false }
 
-abbrev pub opens : World → ℕ → Mirror → Bool → ℕ → Outcome
-opens world i mirror fresh start = Ok (Opened, with_mirror world i (linked mirror (Some (new_connection fresh start))))
+abbrev pub opens : Mirror → Bool → ℕ → Move
+opens mirror fresh start = (Opened, linked mirror (Some (new_connection fresh start)))
 
 abbrev pub holds_number : Position → ℕ → Bool
 holds_number server k = nat_le server.low k && nat_le k server.at
 
-abbrev pub connects_behind : World → ℕ → Mirror → Position → Position → Outcome
-connects_behind world i mirror server own =
-    if holds_number server own.at then opens world i mirror false own.at else Ok (Refused, with_mirror world i (refused mirror))
+abbrev pub connects_behind : Mirror → Position → ℕ → Move
+connects_behind mirror server own = if holds_number server own then opens mirror false own else (Refused, refused mirror)
 
-abbrev pub connects_to : World → ℕ → Mirror → Position → Option Position → Outcome
-connects_to world i mirror server None = opens world i mirror true server.at
-connects_to world i mirror server (Some own) =
-    if mirror.afresh then opens world i mirror true server.at else connects_behind world i mirror server own
+abbrev pub connects_to : Mirror → Position → Option Position → Move
+connects_to mirror server None = opens mirror true server.at
+connects_to mirror server (Some own) = if mirror.afresh then opens mirror true server.at else connects_behind mirror server own.at
 
-abbrev pub connects : World → ℕ → Mirror → Option Position → Outcome
-connects world i mirror None = Ok (NotYet, with_mirror world i (linked mirror None))
-connects world i mirror (Some server) = connects_to world i mirror server mirror.place
+-- to a server that is at this place
+abbrev pub connects : Mirror → Option Position → Move
+connects mirror None = (NotYet, linked mirror None)
+connects mirror (Some server) = connects_to mirror server mirror.place
 
 -- ---- Serve: the commit after the last one, where the server holds its token; else nothing more comes
 
@@ -83,32 +88,33 @@ with_more c = record { fresh = c.fresh; start = c.start; parts = c.parts ++ Comm
 abbrev pub ended : Connection → Connection
 ended c = record { fresh = c.fresh; start = c.start; parts = c.parts; delivered = c.delivered; last = c.last; over = true }
 
-abbrev pub ends : World → ℕ → Mirror → Connection → Outcome
-ends world i mirror c = Ok (Sent Gone, with_mirror world i (linked mirror (Some (ended c))))
+abbrev pub serves_behind : Connection → Position → Pulled × Connection
+serves_behind c server =
+    if c.last == server.at then (UpToDate, c)
+    else (if nat_le server.low c.last && nat_lt c.last server.at then (More, with_more c)
+    else (Gone, ended c))
 
-abbrev pub serves_from : World → ℕ → Mirror → Connection → Option Position → Outcome
-serves_from world i mirror c None = ends world i mirror c
-serves_from world i mirror c (Some server) =
-    if c.last == server.at then Ok (Sent UpToDate, world)
-    else (if nat_le server.low c.last && nat_lt c.last server.at then Ok (Sent More, with_mirror world i (linked mirror (Some (with_more c))))
-    else ends world i mirror c)
+abbrev pub serves_from : Connection → Option Position → Pulled × Connection
+serves_from c None = (Gone, ended c)
+serves_from c (Some server) = serves_behind c server
 
-abbrev pub serves : World → ℕ → Mirror → Connection → Outcome
-serves world i mirror c = if c.over then Ok (Sent Gone, world) else serves_from world i mirror c (place_at world mirror.upstream)
+-- by a server that is at this place
+abbrev pub serves : Connection → Option Position → Pulled × Connection
+serves c server = if c.over then (Gone, c) else serves_from c server
 
 -- ---- Idle: a line feed
 
 abbrev pub with_line_feed : Connection → Connection
 with_line_feed c = record { fresh = c.fresh; start = c.start; parts = c.parts ++ Line_feed ∷ []; delivered = c.delivered; last = c.last; over = c.over }
 
-abbrev pub idles : World → ℕ → Mirror → Connection → Outcome
-idles world i mirror c = if c.over then Ok (Sent Gone, world) else Ok (Idled, with_mirror world i (linked mirror (Some (with_line_feed c))))
+abbrev pub idles : Connection → Reply × Connection
+idles c = if c.over then (Sent Gone, c) else (Idled, with_line_feed c)
 
 -- ---- Deliver: the next n bytes, or all that remain
 
 -- how many bytes are delivered then
-abbrev pub reached : World → Connection → ℕ → ℕ
-reached world c n = min (c.delivered + n) (bytes_sent world.log c)
+abbrev pub reached : Log → Connection → ℕ → ℕ
+reached log c n = min (c.delivered + n) (bytes_sent log c)
 
 abbrev pub delivered_to : Connection → ℕ → Connection
 delivered_to c e = record { fresh = c.fresh; start = c.start; parts = c.parts; delivered = e; last = c.last; over = c.over }
@@ -118,38 +124,60 @@ abbrev pub brought : ℕ → Mirror → List Part → Option Connection → Mirr
 brought history mirror blocks connection =
     record { place = moved_by history mirror.place blocks; upstream = mirror.upstream; afresh = mirror.afresh && (length blocks == 0); connection = connection }
 
--- the world after e of the bytes sent were delivered
-abbrev pub brought_to : World → ℕ → Mirror → Connection → ℕ → Option Connection → World
-brought_to world i mirror c e connection = with_mirror world i (brought world.limits.history mirror (blocks_between world.log c c.delivered e) connection)
+-- the mirror after e of the bytes sent were delivered
+abbrev pub brought_to : ℕ → Log → Mirror → Connection → ℕ → Option Connection → Mirror
+brought_to history log mirror c e connection = brought history mirror (blocks_between log c c.delivered e) connection
 
-abbrev pub delivers : World → ℕ → Mirror → Connection → ℕ → Outcome
-delivers world i mirror c n =
-    let e = reached world c n in
-    Ok (Delivered (length (blocks_between world.log c c.delivered e)), brought_to world i mirror c e (Some (delivered_to c e)))
+abbrev pub delivers_up_to : ℕ → Log → Mirror → Connection → ℕ → Move
+delivers_up_to history log mirror c e =
+    (Delivered (length (blocks_between log c c.delivered e)), brought_to history log mirror c e (Some (delivered_to c e)))
+
+abbrev pub delivers : ℕ → Log → Mirror → Connection → ℕ → Move
+delivers history log mirror c n = delivers_up_to history log mirror c (reached log c n)
 
 -- ---- all events
 
--- what is done with the mirror of this number
-abbrev pub with_node : Option Mirror → (Mirror → Outcome) → Outcome
-with_node None act = Err NoNode
-with_node (Some mirror) act = act mirror
-
--- what is done with its connection
-abbrev pub with_connection : Option Connection → (Connection → Outcome) → Outcome
+-- what is done with a mirror's connection
+abbrev pub with_connection : Option Connection → (Connection → Move) → Result Move WorldFault
 with_connection None act = Err NoConnection
-with_connection (Some c) act = act c
+with_connection (Some c) act = Ok (act c)
 
-abbrev pub on_connection : World → ℕ → (Mirror → Connection → Outcome) → Outcome
-on_connection world i act = with_node (mirror_at world i) (λ mirror. with_connection mirror.connection (act mirror))
+abbrev pub mirror_connects : Mirror → Option Position → Result Move WorldFault
+mirror_connects mirror server = Ok (connects mirror server)
+
+abbrev pub mirror_serves : Mirror → Option Position → Result Move WorldFault
+mirror_serves mirror server = with_connection mirror.connection (λ c. let served = serves c server in (Sent served.0, linked mirror (Some served.1)))
+
+abbrev pub mirror_idles : Mirror → Result Move WorldFault
+mirror_idles mirror = with_connection mirror.connection (λ c. let idled = idles c in (idled.0, linked mirror (Some idled.1)))
+
+abbrev pub mirror_delivers : ℕ → Log → ℕ → Mirror → Result Move WorldFault
+mirror_delivers history log n mirror = with_connection mirror.connection (λ c. delivers history log mirror c n)
+
+abbrev pub mirror_cuts : Mirror → Result Move WorldFault
+mirror_cuts mirror = with_connection mirror.connection (λ c. (Cut, linked mirror None))
+
+-- the world with the mirror after its move
+abbrev pub after_move : World → ℕ → Result Move WorldFault → Outcome
+after_move world i (Err fault) = Err fault
+after_move world i (Ok move) = Ok (move.0, with_mirror world i move.1)
+
+-- what is done with the mirror of this number
+abbrev pub with_node : World → ℕ → Option Mirror → (Mirror → Result Move WorldFault) → Outcome
+with_node world i None act = Err NoNode
+with_node world i (Some mirror) act = after_move world i (act mirror)
+
+abbrev pub at_node : World → ℕ → (Mirror → Result Move WorldFault) → Outcome
+at_node world i act = with_node world i (mirror_at world i) act
 
 -- the reply to an event and the world after it, where memory suffices
 abbrev pub outcome : World → Event → Outcome
 outcome world (DoCommit changes) = commits world changes
-outcome world (Connect i) = with_node (mirror_at world i) (λ mirror. connects world i mirror (place_at world mirror.upstream))
-outcome world (Serve i) = on_connection world i (serves world i)
-outcome world (Idle i) = on_connection world i (idles world i)
-outcome world (Deliver i n) = on_connection world i (λ mirror c. delivers world i mirror c n)
-outcome world (DoCut i) = on_connection world i (λ mirror c. Ok (Cut, with_mirror world i (linked mirror None)))
+outcome world (Connect i) = at_node world i (λ mirror. mirror_connects mirror (place_at world mirror.upstream))
+outcome world (Serve i) = at_node world i (λ mirror. mirror_serves mirror (place_at world mirror.upstream))
+outcome world (Idle i) = at_node world i mirror_idles
+outcome world (Deliver i n) = at_node world i (mirror_delivers world.limits.history world.log n)
+outcome world (DoCut i) = at_node world i mirror_cuts
 
 -- The connection broke for want of memory: some of the bytes that were to be delivered count, and the connection is gone.
 pub record Breaks (old : World) (i n : ℕ) (new : World) : Type 0 where
@@ -159,8 +187,8 @@ pub record Breaks (old : World) (i n : ℕ) (new : World) : Type 0 where
   pub is_linked : mirror.connection ≡ Some connection
   pub e : ℕ
   pub from : connection.delivered ≤ e
-  pub to : e ≤ reached old connection n
-  pub after : new ≡ brought_to old i mirror connection e None
+  pub to : e ≤ reached old.log connection n
+  pub after : new ≡ with_mirror old i (brought_to old.limits.history old.log mirror connection e None)
 
 -- From the old world the event may have this reply and lead to the new one.
 abbrev pub Step : World → Event → Reply → World → Type 0

@@ -1,7 +1,12 @@
 //! What may happen in a world, and its replies.
 
+ghost use Rattle.std.specs.Prelude.{◌≡◌};
+ghost use Rattle.feed_world.specs.declared.event.WorldFault.TheVariants.{Memory as WorldMemory};
+ghost use Rattle.feed_world.specs.declared.event.ShapeFault.TheVariants.{Memory as ShapeMemory};
+
 use feed_node::{CommitFault, FeedFault, Pulled};
 use feed_tables::{Changes, Name};
+use std::alloc::{AllocError, AllocFailed};
 use thiserror::Error;
 
 /// What may happen in a world. Nodes are numbered: 0 is the primary, and the others are mirrors.
@@ -70,4 +75,28 @@ pub enum ShapeFault {
     /// Memory ran out.
     #[error("out of memory")]
     Memory,
+}
+
+impl From<AllocError> for WorldFault {
+    ghost from_gives = { λ _ fault. fault ≡ WorldMemory };
+
+    fn from(_error: AllocError) -> WorldFault {
+        WorldFault::Memory
+    }
+}
+
+impl<T: Drop> From<AllocFailed<T>> for WorldFault {
+    ghost from_gives = { λ _ fault. fault ≡ WorldMemory };
+
+    fn from(_error: AllocFailed<T>) -> WorldFault {
+        WorldFault::Memory
+    }
+}
+
+impl From<AllocError> for ShapeFault {
+    ghost from_gives = { λ _ fault. fault ≡ ShapeMemory };
+
+    fn from(_error: AllocError) -> ShapeFault {
+        ShapeFault::Memory
+    }
 }

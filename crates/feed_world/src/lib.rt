@@ -1,8 +1,16 @@
 //! Nodes and the connections between them under any schedule of events.
 #![tactic(auto)]
 
+mod connection;
 mod event;
+mod follower;
 mod laws;
+mod moves;
+mod world;
 
 pub use event::{Event, Reply, ShapeFault, WorldFault};
 pub use laws::world_laws;
+#[cfg(test)]
+mod tests;
+
+pub use world::{Link, World};

@@ -1,0 +1,25 @@
+-- The codes of what a world has, which the models need.
+use Rattle.std.specs.Prelude.{refl, ℕ, Bool, List, Option}
+use Rattle.std.specs.Coded.{Coded, code_by, coded×, coded_list, coded_option, coded_ℕ, coded_bool}
+use Rattle.feed_tables.specs.Codes.{text_code}
+use Rattle.feed_node.specs.declared.commit.Commit.{Commit}
+use Rattle.feed_node.specs.Codes.{commit_code, limits_code, mirror_code, primary_code}
+use Rattle.feed_node.specs.Limits.{Limits}
+use Rattle.feed_node.specs.Log.{PrimaryState}
+use Rattle.feed_node.specs.Mirroring.{MirrorState}
+use Rattle.feed_world.specs.States.{ConnectionState, FollowerState, WorldState}
+
+abbrev pub connection_code : Coded ConnectionState
+connection_code =
+    code_by ((List ℕ × List ℕ) × (ℕ × Bool)) (coded× (coded× text_code text_code) (coded× coded_ℕ coded_bool))
+    (λ c. ((c.token, c.text), (c.delivered, c.over))) (λ p. record { token = p.0.0; text = p.0.1; delivered = p.1.0; over = p.1.1 }) (λ _. refl)
+
+abbrev pub follower_code : Coded FollowerState
+follower_code =
+    code_by (MirrorState × (ℕ × Option ConnectionState)) (coded× mirror_code (coded× coded_ℕ (coded_option connection_code)))
+    (λ f. (f.mirror, (f.upstream, f.connection))) (λ p. record { mirror = p.0; upstream = p.1.0; connection = p.1.1 }) (λ _. refl)
+
+abbrev pub world_code : Coded WorldState
+world_code =
+    code_by ((Limits × PrimaryState) × (List Commit × List FollowerState)) (coded× (coded× limits_code primary_code) (coded× (coded_list commit_code) (coded_list follower_code)))
+    (λ w. ((w.limits, w.primary), (w.log, w.followers))) (λ p. record { limits = p.0.0; primary = p.0.1; log = p.1.0; followers = p.1.1 }) (λ _. refl)

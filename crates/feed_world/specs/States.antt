@@ -1,0 +1,174 @@
+-- What a world in memory has, and of which world of numbers it is the state.
+use Rattle.std.specs.Prelude.{◌≡◌, ℕ, zero, suc, option_map, ◌≤◌, Bool, false, true, List, [], ◌∷◌, length, map, take, flat_map, slice_get, Option, Some, None, IfSome, Result, Ok, Err, if◌then◌else◌}
+use Rattle.std.specs.Option.{option_and_then}
+use Rattle.feed_tables.specs.Tables.{no_tables, after_all}
+use Rattle.feed_node.specs.declared.fault.FeedFault.TheVariants.{Memory as FeedMemory}
+use Rattle.feed_world.specs.declared.event.Reply.{Reply}
+use Rattle.feed_world.specs.declared.event.Reply.TheVariants.{Broke}
+use Rattle.feed_world.specs.declared.event.ShapeFault.{ShapeFault}
+use Rattle.feed_world.specs.declared.event.ShapeFault.TheVariants.{BadShape, Memory as NoMemory}
+use Rattle.feed_world.specs.declared.event.WorldFault.{WorldFault}
+use Rattle.feed_world.specs.declared.event.WorldFault.TheVariants.{Memory}
+use Rattle.feed_node.specs.declared.commit.Commit.{Commit}
+use Rattle.feed_node.specs.Limits.{Limits}
+use Rattle.feed_node.specs.Log.{PrimaryState, token_after}
+use Rattle.feed_node.specs.Mirroring.{MirrorState, StandsAt, new_mirror}
+use Rattle.feed_node.specs.States.{NodeState, published_token}
+use Rattle.feed_note.specs.Publishing.{Published}
+use Rattle.feed_note.specs.declared.line.Line.{Line}
+use Rattle.feed_world.specs.Connection.{Connection, sent_text, blocks_within, moved_by}
+use Rattle.feed_world.specs.Log.{Log, IsLog}
+use Rattle.feed_world.specs.Position.{Position, IsPosition, IsPlace, commits_after, node_where}
+use Rattle.feed_world.specs.Reading.{IsOpened, opening_at}
+use Rattle.feed_world.specs.Step.{Move, primary_of, mirror_delivers, brought_to, reached, is_free_reply}
+use Rattle.feed_world.specs.World.{Mirror, World, HasShape}
+
+-- a connection: the token that its session has come to, the text that was sent, how many bytes of it were delivered, and
+-- whether the server sends no more
+pub record ConnectionState : Type 0 where
+  pub token : List ℕ
+  pub text : List ℕ
+  pub delivered : ℕ
+  pub over : Bool
+
+-- a mirror, the number of the node that it is behind, and its connection, if there is one
+pub record FollowerState : Type 0 where
+  pub mirror : MirrorState
+  pub upstream : ℕ
+  pub connection : Option ConnectionState
+
+-- a world: the limits of its nodes, the primary, what it has committed, and the mirrors
+pub record WorldState : Type 0 where
+  pub limits : Limits
+  pub primary : PrimaryState
+  pub log : List Commit
+  pub followers : List FollowerState
+
+-- a mirror without a connection
+abbrev pub new_follower : Limits → ℕ → FollowerState
+new_follower limits upstream = record { mirror = new_mirror limits; upstream = upstream; connection = None }
+
+-- why there is no world
+abbrev pub RefusesShape : List ℕ → ShapeFault → Type 0
+RefusesShape up BadShape = ¬ (HasShape up)
+RefusesShape up NoMemory = HasShape up
+
+-- the connection has the text that was sent on this one, and its session the last token
+pub record IsConnection (log : Log) (c : Connection) (s : ConnectionState) : Type 0 where
+  pub text : s.text ≡ sent_text log c
+  pub token : s.token ≡ token_after c.last
+  pub delivered : s.delivered ≡ c.delivered
+  pub within : c.delivered ≤ length (sent_text log c)
+  pub over : s.over ≡ c.over
+
+-- The mirror has read what was delivered on this connection, and is where the blocks of that bring it from where it was.
+-- One whose token was refused is on a fresh connection, and none came yet.
+pub record IsReading (limits : Limits) (log : Log) (m : Mirror) (c : Connection) (mirror : MirrorState) : Type 0 where
+  pub before : Option Position
+  pub opened : IsOpened limits log before c
+  pub place : m.place ≡ moved_by limits.history before (blocks_within log c.parts c.delivered)
+  pub notes : List Line
+  pub stands : StandsAt (opening_at log before c.fresh) (take c.delivered (sent_text log c)) notes mirror
+  pub afresh : m.afresh ≡ true → (c.fresh ≡ true) × (blocks_within log c.parts c.delivered ≡ [])
+
+-- both have a connection, this one; or neither has one, and the mirror is not open
+abbrev pub AreLinked : Limits → Log → Mirror → Option Connection → FollowerState → Option ConnectionState → Type 0
+AreLinked limits log m (Some c) f (Some s) = IsConnection log c s × IsReading limits log m c f.mirror
+AreLinked limits log m None f None = f.mirror.connection ≡ None
+AreLinked limits log m (Some c) f None = ⊥
+AreLinked limits log m None f (Some s) = ⊥
+
+-- the token that a mirror asks with
+abbrev pub asks_with : Log → Mirror → Option (List ℕ)
+asks_with log m = if m.afresh then None else published_token (node_where log m.place)
+
+-- the mirror shows what one at this place shows, and is behind the same node
+pub record IsMirror (limits : Limits) (log : Log) (m : Mirror) (f : FollowerState) : Type 0 where
+  pub place : IsPlace limits log m.place
+  pub upstream : f.upstream ≡ m.upstream
+  pub limits : f.mirror.limits ≡ limits
+  pub node : f.mirror.node ≡ node_where log m.place
+  pub since : f.mirror.since ≡ asks_with log m
+  pub linked : AreLinked limits log m m.connection f f.connection
+
+-- the mirror made this move, and gave its reply
+abbrev pub Moves : Limits → Log → Result Move WorldFault → Reply → FollowerState → Type 0
+Moves limits log (Ok move) reply f = (reply ≡ move.0) × IsMirror limits log move.1 f
+Moves limits log (Err fault) reply f = ⊥
+
+-- why it made no move; a want of memory only where the move takes memory
+abbrev pub RefusesMove : Result Move WorldFault → WorldFault → Type 0
+RefusesMove (Ok move) fault = (fault ≡ Memory) × (is_free_reply move.0 ≡ false)
+RefusesMove (Err reason) fault = fault ≡ reason
+
+-- the connection broke for want of memory after some of these bytes
+pub record BreaksMirror (limits : Limits) (log : Log) (m : Mirror) (bytes : ℕ) (f : FollowerState) : Type 0 where
+  pub connection : Connection
+  pub is_linked : m.connection ≡ Some connection
+  pub e : ℕ
+  pub from : connection.delivered ≤ e
+  pub to : e ≤ reached log connection bytes
+  pub is_mirror : IsMirror limits log (brought_to limits.history log m connection e None) f
+
+-- the mirror of this number was brought these bytes; it meets no fault but a want of memory
+abbrev pub IsBrought : Limits → Log → Mirror → ℕ → ℕ → Reply → FollowerState → Type 0
+IsBrought limits log m number bytes (Broke i fault) f = (i ≡ number) × (fault ≡ FeedMemory) × BreaksMirror limits log m bytes f
+IsBrought limits log m number bytes reply f = Moves limits log (mirror_delivers limits.history log bytes m) reply f
+
+-- each mirror is the one at its place
+abbrev pub AreMirrors : Limits → Log → List Mirror → List FollowerState → Type 0
+AreMirrors limits log [] [] = Unit {0}
+AreMirrors limits log (m ∷ ms) (f ∷ fs) = IsMirror limits log m f × AreMirrors limits log ms fs
+AreMirrors limits log [] (f ∷ fs) = ⊥
+AreMirrors limits log (m ∷ ms) [] = ⊥
+
+-- the state is that of this world
+pub record IsWorld (w : World) (s : WorldState) : Type 0 where
+  pub limits : s.limits ≡ w.limits
+  pub log : IsLog w.limits w.log
+  pub commits : s.log ≡ commits_after w.log 0 (length w.log)
+  pub latest : w.primary.at ≡ length w.log
+  pub place : IsPosition w.limits w.log w.primary
+  pub primary : s.primary ≡ primary_of w
+  pub shape : HasShape (map (λ m. m.upstream) w.mirrors)
+  pub mirrors : AreMirrors w.limits w.log w.mirrors s.followers
+
+-- the state is that of some world
+abbrev pub IsOfWorld : WorldState → Type 0
+IsOfWorld s = (w : World) × IsWorld w s
+
+-- ---- what all nodes have in common
+
+-- what each node shows: the primary first, and then the mirrors in order
+abbrev pub all_shown : WorldState → List NodeState
+all_shown s = s.primary.node ∷ map (λ f. f.mirror.node) s.followers
+
+-- what the node of this number shows, where there is one
+abbrev pub shown_at : WorldState → ℕ → Option NodeState
+shown_at s i = slice_get (all_shown s) i
+
+-- what is published is the primary's tables after exactly the commits up to the token that is published with it
+abbrev pub FollowsLog : List Commit → Published → Type 0
+FollowsLog log p = (k : ℕ) × (k ≤ length log) × (p.tables ≡ after_all no_tables (flat_map (λ c. c.changes) (take k log))) × (p.token ≡ token_after k)
+
+-- each node shows what the primary has committed up to its token, and nodes that have published one token have equal tables
+pub record NoFalseState (s : WorldState) : Type 0 where
+  pub follow : (i : ℕ) (node : NodeState) → shown_at s i ≡ Some node → IfSome node.published (FollowsLog s.log)
+  pub agree : (i j : ℕ) (one other : NodeState) (p q : Published) → shown_at s i ≡ Some one → shown_at s j ≡ Some other
+      → one.published ≡ Some p → other.published ≡ Some q → p.token ≡ q.token → p.tables ≡ q.tables
+
+-- ---- what a connection has carried
+
+-- how many bytes were sent, how many of them were delivered, and the last token that was sent or asked with
+pub record Carried : Type 0 where
+  pub sent : ℕ
+  pub delivered : ℕ
+  pub last : List ℕ
+
+abbrev pub carried : ConnectionState → Carried
+carried c = record { sent = length c.text; delivered = c.delivered; last = c.token }
+
+-- what the connection of this mirror has carried, where it has one
+abbrev pub link_at : WorldState → ℕ → Option Carried
+link_at s zero = None
+link_at s (suc i) = option_map carried (option_and_then (λ f. f.connection) (slice_get s.followers i))
