@@ -5,6 +5,7 @@ pub mod Fronts
 pub mod Growth
 pub mod Lines
 pub mod Listings
+pub mod Moved
 pub mod OneReading
 pub mod Schedules
 pub mod Scripts

@@ -41,7 +41,8 @@ mirror_at world (suc i) = slice_get world.mirrors i
 
 -- the world with another mirror of this number
 abbrev pub with_mirror : World → ℕ → Mirror → World
-with_mirror world i mirror = record { limits = world.limits; log = world.log; primary = world.primary; mirrors = slice_set world.mirrors (i - 1) mirror }
+with_mirror world zero mirror = world
+with_mirror world (suc i) mirror = record { limits = world.limits; log = world.log; primary = world.primary; mirrors = slice_set world.mirrors i mirror }
 
 -- where the node of this number is; nowhere, if it has published nothing or is not there
 abbrev pub place_at : World → ℕ → Option Position
