@@ -1,5 +1,5 @@
 -- What an event at one mirror does to all nodes.
-use Rattle.std.proofs.Common.{◌≡◌, refl, sym, ap, ◌∙◌, subst, ℕ, zero, suc, ◌+◌, ◌<◌, ◌≤◌, Bool, true, false, arith, List, [], ◌∷◌, length, map, Option, Some, None, Result, Ok, Err, IfOk, IfErr, slice_get, slice_set, get_or}
+use Rattle.std.proofs.Common.{◌≡◌, refl, sym, ap, ◌∙◌, subst, ℕ, zero, suc, ◌+◌, ◌-◌, ◌<◌, ◌≤◌, Bool, true, false, arith, List, [], ◌∷◌, ◌++◌, length, map, take, drop, Option, Some, None, Result, Ok, Err, IfOk, IfErr, slice_get, slice_set, get_or}
 use Rattle.std.proofs.lemmas.Option.{slice_get_past, slice_get-get_or}
 use Rattle.std.specs.Option.{option_and_then}
 use Rattle.std.specs.Prelude.{option_map, IsTrue, if◌then◌else◌}
@@ -332,3 +332,119 @@ module _ (w : World) (primary : PrimaryState) (fs : List FollowerState) (h : Are
   deliver_fails n (Err fault) k =
       let none = nothing_linked w.limits w.log at.0 _ at.2 k.1 in
       deliver_refused w number n fault k.0 (refuses w primary fs h number place same at.0 (mirror_delivers w.limits.history w.log n) at.1 fault (refused_unlinked at.0 _ fault none k.0))
+
+-- ---- the node that a mirror is behind, among the earlier ones
+
+set_behind : (fs : List FollowerState) (place : ℕ) (g : FollowerState) → take place fs ++ slice_set (drop place fs) 0 g ≡ slice_set fs place g
+set_behind fs zero g = refl
+set_behind [] (suc place) g = refl
+set_behind (f ∷ fs) (suc place) g = ap (λ xs. f ∷ xs) (set_behind fs place g)
+
+pub put_together : (fs early later : List FollowerState) (place : ℕ) (g : FollowerState) → early ≡ take place fs → later ≡ drop place fs → early ++ slice_set later 0 g ≡ slice_set fs place g
+put_together fs early later place g e l = ap (λ xs. xs ++ slice_set later 0 g) e ∙ ap (λ xs. take place fs ++ slice_set xs 0 g) l ∙ set_behind fs place g
+
+pub first_of_rest : (fs later : List FollowerState) (place : ℕ) (d : FollowerState) → ((k : ℕ) (x : FollowerState) → get_or later k x ≡ get_or fs (place + k) x) → get_or later 0 d ≡ get_or fs place d
+first_of_rest fs later place d k = k 0 d ∙ ap (λ n. get_or fs n d) (omega arith)
+
+get_of_take : {X : Type 0} (xs : List X) (n i : ℕ) (x : X) → slice_get (take n xs) i ≡ Some x → slice_get xs i ≡ Some x
+get_of_take xs zero i x e = absurd (cc)
+get_of_take [] (suc n) i x e = e
+get_of_take (y ∷ xs) (suc n) zero x e = e
+get_of_take (y ∷ xs) (suc n) (suc i) x e = get_of_take xs n i x e
+
+map_of_take : {X Y : Type 0} (g : X → Y) (xs : List X) (n : ℕ) → map g (take n xs) ≡ take n (map g xs)
+map_of_take g xs zero = refl
+map_of_take g [] (suc n) = refl
+map_of_take g (x ∷ xs) (suc n) = ap (λ ys. g x ∷ ys) (map_of_take g xs n)
+
+not_nowhere : {X Y : Type 0} (g : X → Y) (xs : List X) (i : ℕ) → i < length xs → slice_get (map g xs) i ≡ None → ⊥
+not_nowhere g [] i less e = absurd (omega arith)
+not_nowhere g (x ∷ xs) zero less e = absurd (cc)
+not_nowhere g (x ∷ xs) (suc i) less e = not_nowhere g xs i (omega arith) e
+
+shown_early : (primary : PrimaryState) (fs early : List FollowerState) (place : ℕ) → early ≡ take place fs → (i : ℕ) (node : NodeState) → Some node ≡ slice_get (all_shown primary early) i → slice_get (all_shown primary fs) i ≡ Some node
+shown_early primary fs early place t zero node e = sym e
+shown_early primary fs early place t (suc i) node e =
+    get_of_take (map (λ f. f.mirror.node) fs) place i node
+    (ap (λ l. slice_get l i) (sym (map_of_take (λ f. f.mirror.node) fs place)) ∙ ap (λ l. slice_get (map (λ f. f.mirror.node) l) i) (sym t) ∙ sym e)
+
+always_there : (primary : PrimaryState) (early : List FollowerState) (i : ℕ) → i ≤ length early → None ≡ slice_get (all_shown primary early) i → ⊥
+always_there primary early zero less e = absurd (cc)
+always_there primary early (suc i) less e = not_nowhere (λ f. f.mirror.node) early i (omega arith) (sym e)
+
+get_upstream : (ms : List Mirror) (place : ℕ) (m : Mirror) → slice_get ms place ≡ Some m → slice_get (map (λ a. a.upstream) ms) place ≡ Some m.upstream
+get_upstream [] place m e = absurd (cc)
+get_upstream (a ∷ ms) zero m e = ap upstream_of e
+  where
+    upstream_of : Option Mirror → Option ℕ
+    upstream_of None = None
+    upstream_of (Some b) = Some b.upstream
+get_upstream (a ∷ ms) (suc place) m e = get_upstream ms place m e
+
+module _ (w : World) (primary : PrimaryState) (fs : List FollowerState) (h : AreNodes w primary fs) (number place : ℕ) (same : number ≡ suc place) (d : FollowerState) (less : place < length fs)
+    (early : List FollowerState) (front : early ≡ take place fs) (f : FollowerState) (is : f ≡ get_or fs place d) (i : ℕ) (behind : i ≡ f.upstream) where
+  mirror_there : (m : Mirror) × (slice_get w.mirrors place ≡ Some m) × IsMirror w.limits w.log m f
+  mirror_there = subst (λ x. (m : Mirror) × (slice_get w.mirrors place ≡ Some m) × IsMirror w.limits w.log m x) (sym is) (there w primary fs h number place same d less)
+
+  same_server : i ≡ mirror_there.0.upstream
+  same_server = behind ∙ mirror_there.2.upstream
+
+  pub server_is_there : length early ≡ place → None ≡ slice_get (all_shown primary early) i → ⊥
+  server_is_there l e =
+      let u = h.shape.earlier place mirror_there.0.upstream (get_upstream w.mirrors place mirror_there.0 mirror_there.1) in
+      let v = same_server in
+      always_there primary early i (omega arith) e
+
+  server : (node : NodeState) → Some node ≡ slice_get (all_shown primary early) i → IsShown w mirror_there.0.upstream node
+  server node e = subst (λ j. IsShown w j node) same_server (shown w primary fs h i node (shown_early primary fs early place front i node e))
+
+  pub serve_leads : (node : NodeState) → Some node ≡ slice_get (all_shown primary early) i → (new : List FollowerState) (g : FollowerState) → new ≡ slice_set fs place g → (r : Result Reply WorldFault)
+      → ((m : Mirror) (at : Option Position) → IsPlace w.limits w.log at → node ≡ node_where w.log at → IsMirror w.limits w.log m f → IfOk r (λ reply. Moves w.limits w.log (mirror_serves m at) reply g))
+      → IfOk r (λ reply. NodesMove w primary (Serve number) reply new)
+  serve_leads node e new g n (Ok reply) k =
+      let t = mirror_there in
+      let s = server node e in
+      serve_moves w primary number reply new
+      (subst (LeadsTo w (outcome w (Serve number)) primary reply) (sym n)
+      (leads w primary fs h number place same t.0 (λ m. mirror_serves m (place_at w m.upstream)) t.1 (keeps_serve t.0 (place_at w t.0.upstream)) reply g (k t.0 (place_at w t.0.upstream) s.1 s.0 t.2)))
+  serve_leads node e new g n (Err fault) k = tt
+
+  pub serve_fails : (node : NodeState) → Some node ≡ slice_get (all_shown primary early) i → (r : Result Reply WorldFault)
+      → ((m : Mirror) (at : Option Position) → IsPlace w.limits w.log at → node ≡ node_where w.log at → IsMirror w.limits w.log m f → IfErr r (λ fault. RefusesMove (mirror_serves m at) fault))
+      → IfErr r (λ fault. IsRefused w (Serve number) fault)
+  serve_fails node e (Ok reply) k = tt
+  serve_fails node e (Err fault) k =
+      let t = mirror_there in
+      let s = server node e in
+      serve_refused w number fault (refuses w primary fs h number place same t.0 (λ m. mirror_serves m (place_at w m.upstream)) t.1 fault (k t.0 (place_at w t.0.upstream) s.1 s.0 t.2))
+
+  pub connect_leads : (node : NodeState) → Some node ≡ slice_get (all_shown primary early) i → (new : List FollowerState) (g : FollowerState) → new ≡ slice_set fs place g → (reply : Reply)
+      → ((m : Mirror) (at : Option Position) → IsPlace w.limits w.log at → node ≡ node_where w.log at → IsMirror w.limits w.log m f → Moves w.limits w.log (mirror_connects m at) reply g)
+      → NodesMove w primary (Connect number) reply new
+  connect_leads node e new g n reply k =
+      let t = mirror_there in
+      let s = server node e in
+      connect_moves w primary number reply new
+      (subst (LeadsTo w (outcome w (Connect number)) primary reply) (sym n)
+      (leads w primary fs h number place same t.0 (λ m. mirror_connects m (place_at w m.upstream)) t.1 (keeps_connect t.0 (place_at w t.0.upstream)) reply g (k t.0 (place_at w t.0.upstream) s.1 s.0 t.2)))
+
+  pub connect_fails : (node : NodeState) → Some node ≡ slice_get (all_shown primary early) i
+      → ((m : Mirror) (at : Option Position) → IsPlace w.limits w.log at → node ≡ node_where w.log at → IsMirror w.limits w.log m f → RefusesMove (mirror_connects m at) Memory)
+      → IsRefused w (Connect number) Memory
+  connect_fails node e k =
+      let t = mirror_there in
+      let s = server node e in
+      connect_refused w number Memory (refuses w primary fs h number place same t.0 (λ m. mirror_connects m (place_at w m.upstream)) t.1 Memory (k t.0 (place_at w t.0.upstream) s.1 s.0 t.2))
+
+get_node : (fs : List FollowerState) (place : ℕ) (d : FollowerState) → place < length fs → Some (get_or fs place d).mirror.node ≡ slice_get (map (λ f. f.mirror.node) fs) place
+get_node [] place d less = absurd (omega arith)
+get_node (f ∷ fs) zero d less = refl
+get_node (f ∷ fs) (suc place) d less = get_node fs place d (omega arith)
+
+at_number : (primary : PrimaryState) (fs : List FollowerState) (number place : ℕ) (d : FollowerState) → number ≡ suc place → place < length fs → Some (get_or fs place d).mirror.node ≡ slice_get (all_shown primary fs) number
+at_number primary fs number place d same less = get_node fs place d less ∙ ap (λ n. slice_get (all_shown primary fs) n) (sym same)
+
+pub among_mirrors : (primary : PrimaryState) (fs : List FollowerState) (number place : ℕ) (f : FollowerState) (node : NodeState) → 1 ≤ number → place ≡ number - 1 → place < length fs
+    → f ≡ get_or fs place f → node ≡ f.mirror.node → Some node ≡ slice_get (all_shown primary fs) number
+among_mirrors primary fs number place f node some same less is n =
+    ap Some (n ∙ ap (λ g. g.mirror.node) is) ∙ at_number primary fs number place f (omega arith) less
