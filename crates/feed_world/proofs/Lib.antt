@@ -8,4 +8,5 @@ pub mod Listings
 pub mod OneReading
 pub mod Schedules
 pub mod Scripts
+pub mod Served
 pub mod Tokens
