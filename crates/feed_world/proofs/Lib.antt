@@ -4,6 +4,7 @@ pub mod Commits
 pub mod Fronts
 pub mod Growth
 pub mod Lines
+pub mod Linked
 pub mod Listings
 pub mod OneReading
 pub mod Schedules
