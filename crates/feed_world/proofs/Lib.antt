@@ -4,9 +4,11 @@ pub mod Commits
 pub mod Fronts
 pub mod Growth
 pub mod Lines
+pub mod Linked
 pub mod Listings
 pub mod Moved
 pub mod OneReading
 pub mod Schedules
 pub mod Scripts
+pub mod Served
 pub mod Tokens
