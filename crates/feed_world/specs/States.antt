@@ -38,12 +38,14 @@ pub record FollowerState : Type 0 where
   pub upstream : ℕ
   pub connection : Option ConnectionState
 
--- a world: the limits of its nodes, the primary, what it has committed, and the mirrors
+-- a world: the primary, what it has committed, and the mirrors
 pub record WorldState : Type 0 where
-  pub limits : Limits
   pub primary : PrimaryState
   pub log : List Commit
   pub followers : List FollowerState
+
+abbrev pub world_state : PrimaryState → List Commit → List FollowerState → WorldState
+world_state primary log followers = record { primary = primary; log = log; followers = followers }
 
 -- a mirror without a connection
 abbrev pub new_follower : Limits → ℕ → FollowerState
@@ -134,7 +136,6 @@ pub record AreNodes (w : World) (primary : PrimaryState) (fs : List FollowerStat
 
 -- the state is that of this world
 pub record IsWorld (w : World) (s : WorldState) : Type 0 where
-  pub limits : s.limits ≡ w.limits
   pub commits : s.log ≡ commits_after w.log 0 (length w.log)
   pub nodes : AreNodes w s.primary s.followers
 
