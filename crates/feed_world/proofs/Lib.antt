@@ -11,4 +11,5 @@ pub mod OneReading
 pub mod Schedules
 pub mod Scripts
 pub mod Served
+pub mod Stepped
 pub mod Tokens
