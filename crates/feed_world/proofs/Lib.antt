@@ -1,5 +1,6 @@
 pub mod Agreement
 pub mod Batches
+pub mod Brought
 pub mod Commits
 pub mod Fronts
 pub mod Growth
