@@ -19,15 +19,10 @@ use Rattle.feed_world.specs.Step.{reached, delivered_to, delivers, with_connecti
 use Rattle.feed_world.specs.World.{Mirror}
 use Rattle.feed_world.proofs.Batches.{token_count-append}
 use Rattle.feed_world.proofs.Commits.{renewed_is_position}
-use Rattle.feed_world.proofs.Growth.{fewer_blocks, deliveries_compose}
+use Rattle.feed_world.proofs.Fronts.{not_zero}
+use Rattle.feed_world.proofs.Growth.{goes_up, fewer_blocks, deliveries_compose}
 
 -- ---- places
-
-goes_up : (k : ℕ) (parts : List Part) (last : ℕ) → GoOn k parts last → k ≤ last
-goes_up k [] last g = omega arith
-goes_up k (Line_feed ∷ parts) last g = goes_up k parts last g
-goes_up k (Commit n ∷ parts) last g = let later = goes_up (k + 1) parts last g.1 in omega arith
-goes_up k (Snapshot n ∷ parts) last g = absurd g
 
 module _ (limits : Limits) (log : Log) where
   choose_place : (place : Option Position) (b : Bool) (bs : List Part) → IsPlace limits log place → IsPlace limits log (moved_by limits.history place bs)
@@ -77,13 +72,6 @@ module _ (limits : Limits) (log : Log) where
 is_empty : (bs : List Part) → length bs ≡ 0 → bs ≡ []
 is_empty [] e = refl
 is_empty (b ∷ bs) e = absurd (omega arith)
-
-not_zero : (n : ℕ) → (suc n == 0) ≡ false
-not_zero n = by (suc n == 0) refl
-  where
-    by : (b : Bool) → (suc n == 0) ≡ b → (suc n == 0) ≡ false
-    by true e = let same : suc n ≡ 0 = eqb-true (suc n) 0 e in absurd (omega arith)
-    by false e = e
 
 -- a mirror that still awaits a snapshot is on a fresh connection, and none of its blocks came
 still_afresh : (afresh fresh : Bool) (xs ys : List Part) → (afresh ≡ true → (fresh ≡ true) × (xs ≡ []))

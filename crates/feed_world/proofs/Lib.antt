@@ -3,6 +3,7 @@ pub mod Batches
 pub mod Brought
 pub mod Commits
 pub mod Fronts
+pub mod Grown
 pub mod Growth
 pub mod Lines
 pub mod Listings
