@@ -1,7 +1,9 @@
 pub mod Agreement
 pub mod Batches
+pub mod Brought
 pub mod Commits
 pub mod Fronts
+pub mod Grown
 pub mod Growth
 pub mod Lines
 pub mod Linked
