@@ -1,6 +1,7 @@
 pub mod Agreement
 pub mod Batches
 pub mod Commits
+pub mod Connecting
 pub mod Fronts
 pub mod Growth
 pub mod Lines
