@@ -21,6 +21,7 @@ use Rattle.feed_node.specs.Log.{tokens_from}
 use Rattle.feed_world.specs.Reading.{opening_at, FrontsAreRead}
 use Rattle.feed_world.proofs.Batches.{batch_lines, batch_notes, ended-batch, length-batch_lines, batch_is_short, taken_batch, steps_batch, token_count-batch, token_count-append, PublishesNothing, part_of_batch, taken-append, taken-take, not_less, fits_by}
 use Rattle.feed_world.proofs.Commits.{state_one_more, changes_within, token_is_name, next_not_held, next_position, renewed_is_position, latest_at}
+use Rattle.feed_world.proofs.Growth.{goes_up}
 use Rattle.feed_world.proofs.Lines.{cuts_of_one, AreShort, unbroken, lines_behind, no_lines, front_lines}
 use Rattle.feed_world.proofs.Listings.{listing_is_some, size_none}
 
@@ -47,7 +48,7 @@ and_true : (b : Bool) → (b && true) ≡ b
 and_true true = refl
 and_true false = refl
 
-not_zero : (n : ℕ) → (suc n == 0) ≡ false
+pub not_zero : (n : ℕ) → (suc n == 0) ≡ false
 not_zero n = by (suc n == 0) refl
   where
     by : (b : Bool) → (suc n == 0) ≡ b → (suc n == 0) ≡ false
@@ -223,12 +224,6 @@ module _ (cut : LinesCut) (only_cut : LinesAreTheOnlyCut) (written : WrittenLine
         count = token_count-batch cs token some;
         before = λ j less. part_of_batch s cs token j (let l = length-batch_lines cs token in omega arith);
       }
-
-  goes_up : (k : ℕ) (parts : List Part) (last : ℕ) → GoOn k parts last → k ≤ last
-  goes_up k [] last g = omega arith
-  goes_up k (Line_feed ∷ parts) last g = goes_up k parts last g
-  goes_up k (Commit n ∷ parts) last g = let later = goes_up (k + 1) parts last g.1 in omega arith
-  goes_up k (Snapshot n ∷ parts) last g = absurd g
 
   -- from a position on
   since : (more : List Part) (p : Position) (last : ℕ) → IsPosition limits log p → GoOn p.at more last → last ≤ length log

@@ -1,8 +1,10 @@
 pub mod Agreement
 pub mod Batches
+pub mod Brought
 pub mod Commits
 pub mod Connecting
 pub mod Fronts
+pub mod Grown
 pub mod Growth
 pub mod Lines
 pub mod Linked
