@@ -2,6 +2,8 @@ pub mod Agreement
 pub mod Batches
 pub mod Brought
 pub mod Commits
+pub mod Committed
+pub mod Connecting
 pub mod Fronts
 pub mod Grown
 pub mod Growth

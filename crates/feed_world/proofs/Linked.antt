@@ -37,7 +37,7 @@ batch_has_text (c ∷ d ∷ cs) token some =
 
 -- ---- one part more
 
-not_within : (n d : ℕ) → d < n → nat_le n d ≡ false
+pub not_within : (n d : ℕ) → d < n → nat_le n d ≡ false
 not_within n d h = by (nat_le n d) refl
   where
     by : (b : Bool) → nat_le n d ≡ b → nat_le n d ≡ false
