@@ -3,12 +3,14 @@
 
 pub mod change;
 mod collection;
+mod laws;
 pub mod name;
 mod objects;
 mod place;
 pub mod tables;
 
 pub use change::{Change, Changes};
+pub use laws::table_laws;
 pub use name::{Name, NameFault};
 pub use tables::Tables;
 
