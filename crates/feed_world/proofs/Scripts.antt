@@ -54,7 +54,7 @@ module _ {X : Type 0} (m : FinMap byte_order X) (k : List ℕ) where
   entries-removed =
       let sorted = is_sorted-where_key byte_order (λ x. not (eq_by_cmp byte_order k x)) (entries m) (entries_sorted m) in
       let same : remove m k ≡ from_sorted (without k (entries m)) = same_map total (slice_cmp-IsAntisymmetric nat_cmp-IsAntisymmetric) _ _ (λ q.
-          get-remove total m k q ∙ ap (cond (eq_by_cmp byte_order q k) None) (get-entries m q) ∙ sym (get-from_sorted byte_order (without k (entries m)) q sorted ∙ found_without q)) in
+      get-remove total m k q ∙ ap (cond (eq_by_cmp byte_order q k) None) (get-entries m q) ∙ sym (get-from_sorted byte_order (without k (entries m)) q sorted ∙ found_without q)) in
       ap entries same ∙ entries-from_sorted byte_order (without k (entries m)) sorted
 
 abbrev Replies : Type 0
