@@ -1,13 +1,13 @@
 //! Names, changes and tables of contest objects.
 #![tactic(auto)]
 
-pub mod change;
+mod change;
 mod collection;
 mod laws;
-pub mod name;
+mod name;
 mod objects;
 mod place;
-pub mod tables;
+mod tables;
 
 pub use change::{Change, Changes};
 pub use laws::table_laws;
