@@ -1,10 +1,9 @@
 -- What a listing has: one change for each type and object, within the limits where its tables were made so.
-use Rattle.std.proofs.Common.{◌≡◌, refl, sym, ap, ◌∙◌, subst, ℕ, ◌+◌, true, false, cond, arith, List, [], ◌∷◌, length, Option, Some, None, Less, Equal, Greater, inl, inr, length-append, flat_map, sum_by}
+use Rattle.std.proofs.Common.{◌≡◌, refl, sym, ap, ◌∙◌, subst, ℕ, ◌+◌, true, false, cond, arith, List, [], ◌∷◌, length, Option, Some, None, inl, inr, length-append, flat_map, sum_by}
 use Rattle.std.specs.Prelude.{IfSome, ◌⊎◌}
 use Rattle.std.specs.List.{AllByRecursion}
 use Rattle.std.specs.Ordering.{eq_by_cmp}
-use Rattle.std.specs.FinMap.{FinMap, get, insert, remove, entries, entries_sorted, find, put, empty, from_sorted, entries-from_sorted, entries-insert, get-entries, same_entries_map, len-entries, len-empty, values}
-use Rattle.std.specs.FinMap.Entries.{by_order}
+use Rattle.std.specs.FinMap.{FinMap, get, insert, remove, entries, entries_sorted, find, empty, from_sorted, entries-from_sorted, entries-insert, get-entries, same_entries_map, len-entries, len-empty, values}
 use Rattle.std.proofs.lemmas.List.Elements.{recursion_from_All}
 use Rattle.feed_text.specs.Objects.{IsObjectText}
 use Rattle.feed_tables.specs.Bytes.{byte_order, without}
@@ -18,7 +17,7 @@ use Rattle.feed_tables.specs.declared.tables.Table.{Table}
 use Rattle.feed_tables.specs.declared.tables.Table.TheVariants.{One, Many}
 use Rattle.feed_tables.proofs.AtFork.{total}
 use Rattle.feed_tables.proofs.Maps.{in_order_without, from_sorted_without}
-use Rattle.feed_tables.proofs.Within.{all-filter, listing_within}
+use Rattle.feed_tables.proofs.Within.{AllNamed, named_put, all-filter, listing_within}
 use Rattle.feed_tables.proofs.TablesLaws.{sized, sized_is}
 
 -- ---- how many changes there are
@@ -54,21 +53,9 @@ listing_has_size contents =
 
 -- ---- what they hold
 
-abbrev AllNamed : {X : Type 0} → (X → Type 0) → List (List ℕ × X) → Type 0
-AllNamed Q es = AllByRecursion (λ e. IsName e.0 × Q e.1) es
-
 module _ {X : Type 0} (Q : X → Type 0) where
-  named_put : (k : List ℕ) (v : X) (es : List (List ℕ × X)) → IsName k → Q v → AllNamed Q es → AllNamed Q (put byte_order k v es)
-  named_put k v [] n h p = ((n, h), tt)
-  named_put k v (e ∷ es) n h p =
-      elim (byte_order k e.0) as (λ o. AllNamed Q (by_order o ((k, v) ∷ e ∷ es) ((e.0, v) ∷ es) (e ∷ put byte_order k v es))) [
-        | Less ↦ ((n, h), p)
-        | Equal ↦ ((p.0.0, h), p.1)
-        | Greater ↦ (p.0, named_put k v es n h p.1)
-      ]
-
   named_insert : (m : FinMap byte_order X) (k : List ℕ) (v : X) → IsName k → Q v → AllNamed Q (entries m) → AllNamed Q (entries (insert m k v))
-  named_insert m k v n h p = subst (AllNamed Q) (sym (entries-insert total m k v)) (named_put k v (entries m) n h p)
+  named_insert m k v n h p = subst (AllNamed Q) (sym (entries-insert total m k v)) (named_put Q k v (entries m) n h p)
 
   entries_without : (m : FinMap byte_order X) (k : List ℕ) → entries (remove m k) ≡ without k (entries m)
   entries_without m k =
