@@ -1,13 +1,13 @@
 -- A line has a meaning or a reason.
-use Rattle.std.proofs.Common.{◌≡◌, refl, sym, ap, ◌∙◌, subst, ℕ, ◌+◌, ◌≤◌, Bool, true, false, true≢false, List, [], ◌∷◌, ◌++◌, append_assoc, arith, inl, inr, Option, Some, None, IsUtf8}
+use Rattle.std.proofs.Common.{◌≡◌, refl, sym, ap, ◌∙◌, subst, ℕ, ◌+◌, Bool, true, false, true≢false, List, [], ◌∷◌, ◌++◌, append_assoc, arith, inl, inr, IsUtf8}
 use Rattle.std.specs.Prelude.{◌⊎◌}
 use Rattle.std.specs.List.{list_all}
 use Rattle.std.specs.Str.{is_utf8}
 use Rattle.std.proofs.lemmas.Bool.{cases_lt}
 use Rattle.std.proofs.lemmas.Str.{IsUtf8-from_is_utf8, is_utf8-from_IsUtf8}
-use Rattle.feed_text.specs.Json.{Value, HoldsObject, ObjectOrNone}
+use Rattle.feed_text.specs.Json.{Value, ObjectOrNone}
 use Rattle.feed_text.specs.Limits.{line_depth}
-use Rattle.feed_text.specs.Nesting.{openings, closings, LevelReaches, NestsTo}
+use Rattle.feed_text.specs.Nesting.{openings, closings, LevelReaches}
 use Rattle.feed_note.specs.declared.line.Line.{Line}
 use Rattle.feed_note.specs.declared.line.Line.TheVariants.{KeepAlive, Note}
 use Rattle.feed_note.specs.declared.line.LineFault.{LineFault}

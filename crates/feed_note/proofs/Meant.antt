@@ -2,8 +2,6 @@
 use Rattle.std.proofs.Common.{◌≡◌, refl, ℕ, Bool, true, false, true≢false, List, [], ◌∷◌, ◌&&◌, Option, None, Some, sym, ◌∙◌}
 use Rattle.std.specs.Prelude.{◌≢◌}
 use Rattle.feed_text.specs.Json.{Value, null_literal, true_literal, false_literal, number, string, empty_array, array, empty_object, object}
-use Rattle.feed_tables.specs.declared.change.Change.{Change}
-use Rattle.feed_note.specs.declared.line.Line.TheVariants.{Note}
 use Rattle.feed_note.specs.declared.line.LineFault.{LineFault}
 use Rattle.feed_note.specs.declared.line.LineFault.TheVariants.{NoType, BadMember, BadData, NoMeaning, BadElement, LongName, BigObject}
 use Rattle.feed_note.specs.Meaning.{one_object, all_objects, nothing, member_kind, member_text, is_string, is_array, content_of, told, first_fault, notification, has_no_type, has_bad_member, has_bad_data, has_no_meaning, has_bad_element, has_long_name, has_big_object, NotesHaveChanges}
