@@ -1,6 +1,6 @@
 -- What a mirror has read stays when more is sent on its connection.
-use Rattle.std.proofs.Common.{◌≡◌, refl, sym, ap, ◌∙◌, subst, ℕ, zero, suc, ◌+◌, ◌-◌, ◌<◌, ◌≤◌, Bool, true, false, ◌&&◌, arith, List, [], ◌∷◌, ◌++◌, length, take, Option, Some, None, nat_lt, nat_le, ltb-true, leb-true, length-append}
-use Rattle.std.specs.Prelude.{if◌then◌else◌, ◌==◌, ◌≢◌, Ok, Err}
+use Rattle.std.proofs.Common.{◌≡◌, refl, sym, ap, ◌∙◌, subst, ℕ, ◌+◌, ◌-◌, ◌<◌, ◌≤◌, Bool, true, false, ◌&&◌, arith, List, [], ◌∷◌, ◌++◌, length, take, Option, Some, None, nat_lt, nat_le, ltb-true, leb-true, length-append}
+use Rattle.std.specs.Prelude.{if◌then◌else◌, ◌==◌, ◌≢◌}
 use Rattle.std.proofs.lemmas.List.{take-append-le}
 use Rattle.feed_tables.specs.declared.change.Change.{Change}
 use Rattle.feed_note.specs.Texts.{batch_text}
@@ -13,11 +13,11 @@ use Rattle.feed_node.specs.Mirroring.{MirrorState, StandsAt}
 use Rattle.feed_world.specs.declared.event.Reply.{Reply}
 use Rattle.feed_world.specs.declared.event.Reply.TheVariants.{Sent, Idled}
 use Rattle.feed_world.specs.Connection.{Connection, Part, Commit, Line_feed, part_text, parts_text, sent_text, block_onto, blocks_within, moved_by, IsInOrder}
-use Rattle.feed_world.specs.Log.{Log, IsLog, changes_of_commit, commit_text}
+use Rattle.feed_world.specs.Log.{Log, IsLog, changes_of_commit}
 use Rattle.feed_world.specs.Position.{Position, IsPlace}
-use Rattle.feed_world.specs.Reading.{IsOpened, opening_at}
+use Rattle.feed_world.specs.Reading.{opening_at}
 use Rattle.feed_world.specs.States.{ConnectionState, FollowerState, IsConnection, IsReading, AreLinked, IsMirror, Moves}
-use Rattle.feed_world.specs.Step.{Move, serves, serves_from, serves_behind, idles, with_more, with_line_feed, ended, linked, with_connection, mirror_serves, mirror_idles}
+use Rattle.feed_world.specs.Step.{serves, serves_from, idles, with_more, with_line_feed, ended, linked, with_connection, mirror_serves, mirror_idles}
 use Rattle.feed_world.specs.World.{Mirror}
 use Rattle.feed_world.proofs.Growth.{sending_keeps_order}
 use Rattle.feed_world.proofs.Served.{one_part_more}

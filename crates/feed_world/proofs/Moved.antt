@@ -2,23 +2,22 @@
 use Rattle.std.proofs.Common.{◌≡◌, refl, sym, ap, ◌∙◌, subst, ℕ, zero, suc, ◌+◌, ◌-◌, ◌<◌, ◌≤◌, Bool, true, false, arith, List, [], ◌∷◌, ◌++◌, length, map, take, drop, Option, Some, None, Result, Ok, Err, IfOk, IfErr, slice_get, slice_set, get_or}
 use Rattle.std.proofs.lemmas.Option.{slice_get_past, slice_get-get_or}
 use Rattle.std.specs.Option.{option_and_then}
-use Rattle.std.specs.Prelude.{option_map, IsTrue, if◌then◌else◌}
+use Rattle.std.specs.Prelude.{IsTrue, if◌then◌else◌}
 use Rattle.feed_node.specs.declared.fault.FeedFault.{FeedFault}
 use Rattle.feed_node.specs.declared.fault.FeedFault.TheVariants.{Memory as FeedMemory}
 use Rattle.feed_node.specs.Limits.{Limits}
 use Rattle.feed_node.specs.Log.{PrimaryState}
 use Rattle.feed_node.specs.States.{NodeState}
-use Rattle.feed_world.specs.declared.event.Event.{Event}
-use Rattle.feed_world.specs.declared.event.Event.TheVariants.{Commit as DoCommit, Connect, Serve, Idle, Deliver, Cut as DoCut}
+use Rattle.feed_world.specs.declared.event.Event.TheVariants.{Connect, Serve, Idle, Deliver, Cut as DoCut}
 use Rattle.feed_world.specs.declared.event.Reply.{Reply}
 use Rattle.feed_world.specs.declared.event.Reply.TheVariants.{Committed, Opened, Refused, NotYet, Sent, Idled, Delivered, Broke, Cut}
 use Rattle.feed_world.specs.declared.event.WorldFault.{WorldFault}
 use Rattle.feed_world.specs.declared.event.WorldFault.TheVariants.{NoNode, NoConnection, Commit as CommitRefused, Memory}
 use Rattle.feed_world.specs.Log.{Log}
 use Rattle.feed_world.specs.Connection.{Connection}
-use Rattle.feed_world.specs.Position.{Position, IsPlace, node_where, node_at}
-use Rattle.feed_world.specs.States.{FollowerState, IsMirror, ConnectionState, AreLinked, AreMirrors, AreNodes, Moves, RefusesMove, BreaksMirror, MovesTo, NodesMove, IsBrought, all_shown}
-use Rattle.feed_world.specs.Step.{Move, Outcome, outcome, at_node, with_node, after_move, with_connection, is_free, is_free_reply, IsRefused, Step, Breaks, primary_of, mirror_connects, mirror_serves, mirror_idles, mirror_delivers, mirror_cuts, connects, connects_to, connects_behind, holds_number, brought_to}
+use Rattle.feed_world.specs.Position.{Position, IsPlace, node_where}
+use Rattle.feed_world.specs.States.{FollowerState, IsMirror, ConnectionState, AreLinked, AreMirrors, AreNodes, Moves, RefusesMove, BreaksMirror, NodesMove, IsBrought, all_shown}
+use Rattle.feed_world.specs.Step.{Move, Outcome, outcome, at_node, with_node, after_move, with_connection, is_free, is_free_reply, IsRefused, Step, Breaks, mirror_connects, mirror_serves, mirror_idles, mirror_delivers, mirror_cuts, connects, connects_to, holds_number, brought_to}
 use Rattle.feed_world.specs.World.{Mirror, World, HasShape, mirror_at, with_mirror, place_at}
 
 -- ---- lists of mirrors
