@@ -136,12 +136,12 @@ fn is_placed(alloc: Global, world: &World, model: &Numbers, number: usize) -> Op
 
 /// Whether a mirror's connection has carried what the model says.
 fn is_linked(alloc: Global, world: &World, model: &Numbers, number: usize) -> Option<bool> {
-    let Some(line) = &model.mirror(number)?.line else {
+    let Some(connection) = &model.mirror(number)?.connection else {
         return Some(world.link(number).is_none());
     };
     let link = world.link(number)?;
-    let counts = link.sent == line.sent && link.delivered == line.delivered;
-    Some(counts && is_decimal(alloc, link.last.text(), line.last)?)
+    let counts = link.sent == connection.sent && link.delivered == connection.delivered;
+    Some(counts && is_decimal(alloc, link.last.text(), connection.last)?)
 }
 
 /// Whether the world is as the model says.

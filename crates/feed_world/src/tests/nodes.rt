@@ -105,8 +105,8 @@ fn logs_commits(alloc: Global) -> Option<bool> {
     Some(empty && three && logged(alloc, &world)?.as_slice() == LOG)
 }
 
-/// What the log says up to a node's token is what the node has published.
-fn holds_held_tokens(alloc: Global) -> Option<bool> {
+/// A node holds its own token and the one before the commits that it keeps; after a snapshot it keeps none.
+fn holds_latest_tokens(alloc: Global) -> Option<bool> {
     let mut world = new_world(alloc, &[0], 1)?;
     let acts = [Commit(TEAM_1), Commit(TEAM_2), Connect(1), Deliver(1, ALL)];
     world.run(alloc, events(alloc, &acts)?).ok()?;
@@ -124,5 +124,5 @@ fn hands_commits_on(rt: HostRuntime) {
 #[test]
 fn keeps_a_log(rt: HostRuntime) {
     assert_eq!(rt; logs_commits(rt.alloc()), Some(true));
-    assert_eq!(rt; holds_held_tokens(rt.alloc()), Some(true));
+    assert_eq!(rt; holds_latest_tokens(rt.alloc()), Some(true));
 }

@@ -61,11 +61,11 @@ fn refuses_events(alloc: Global) -> Option<bool> {
     let empty = Event::Commit(Changes::new(alloc));
     let refused = Some(WorldFault::Commit(CommitFault::EmptyBatch));
     let commit = world.step(alloc, empty).err() == refused;
-    Some(node && connection && commit && has_no_history(alloc, &world)?)
+    Some(node && connection && commit && is_new(alloc, &world)?)
 }
 
 /// Whether nothing has happened in the world.
-fn has_no_history(alloc: Global, world: &World) -> Option<bool> {
+fn is_new(alloc: Global, world: &World) -> Option<bool> {
     let want = b"{\"type\":\"contest\",\"id\":null,\"data\":null,\"token\":\"0\"}\n";
     let primary = shows(alloc, world, 0, want)?;
     Some(primary && shows_nothing(world, 1) && world.log().is_empty() && world.link(1).is_none())
@@ -103,7 +103,7 @@ fn stops_at_a_refused_event(alloc: Global) -> Option<bool> {
 fn runs_no_event(alloc: Global) -> Option<bool> {
     let mut world = new_world(alloc, &[0], 1)?;
     let none = replies(alloc, &mut world, &[], "")?;
-    Some(none && has_no_history(alloc, &world)?)
+    Some(none && is_new(alloc, &world)?)
 }
 
 #[test]
