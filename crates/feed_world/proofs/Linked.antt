@@ -134,12 +134,16 @@ mirror_served limits log m place f s held is_log is_place is pulled t serving =
     by None l = absurd l
     by (Some c) l =
         let served = serving c l.1.opened.sent l.0 in
-        let within = l.0.within in
-        (ap Sent served.0, mirror_on limits log m f (Some (serves c place).1) (Some t) is (served.1,
-          served_any limits log c place (λ d. IsReading limits log (linked m (Some (serves c place).1)) d f.mirror) is_place
-          (same_reading limits log m c f.mirror l.1 (Some (serves c place).1))
-          (ended_reading limits log m c f.mirror l.1 (Some (serves c place).1))
-          (λ sent. more_reading limits log m c f.mirror l.1 (Some (serves c place).1) is_log within sent)))
+        let within = l.0.within in (
+          ap Sent served.0,
+          mirror_on limits log m f (Some (serves c place).1) (Some t) is (
+            served.1,
+            served_any limits log c place (λ d. IsReading limits log (linked m (Some (serves c place).1)) d f.mirror) is_place
+                (same_reading limits log m c f.mirror l.1 (Some (serves c place).1))
+                (ended_reading limits log m c f.mirror l.1 (Some (serves c place).1))
+                (λ sent. more_reading limits log m c f.mirror l.1 (Some (serves c place).1) is_log within sent),
+          ),
+        )
 
 pub mirror_idled : (limits : Limits) (log : Log) (m : Mirror) (f : FollowerState) (s : ConnectionState) → f.connection ≡ Some s
     → IsMirror limits log m f → (reply : Reply) (t : ConnectionState)
@@ -153,8 +157,12 @@ mirror_idled limits log m f s held is reply t idling =
     by None l = absurd l
     by (Some c) l =
         let idled = idling c l.0 in
-        let within = l.0.within in
-        (idled.0, mirror_on limits log m f (Some (idles c).1) (Some t) is (idled.1,
-          chosen (λ (r : Reply × Connection). IsReading limits log (linked m (Some (idles c).1)) r.1 f.mirror) c.over _ (Idled, with_line_feed c)
-          (λ e. same_reading limits log m c f.mirror l.1 (Some (idles c).1))
-          (line_feed_reading limits log m c f.mirror l.1 (Some (idles c).1) within)))
+        let within = l.0.within in (
+          idled.0,
+          mirror_on limits log m f (Some (idles c).1) (Some t) is (
+            idled.1,
+            chosen (λ (r : Reply × Connection). IsReading limits log (linked m (Some (idles c).1)) r.1 f.mirror) c.over _ (Idled, with_line_feed c)
+                (λ e. same_reading limits log m c f.mirror l.1 (Some (idles c).1))
+                (line_feed_reading limits log m c f.mirror l.1 (Some (idles c).1) within),
+          ),
+        )

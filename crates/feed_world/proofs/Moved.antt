@@ -56,6 +56,7 @@ same_upstreams (a ∷ ms) zero m n e u = ap (λ x. x ∷ map (λ b. b.upstream) 
     upstream_or : Option Mirror → ℕ
     upstream_or None = 0
     upstream_or (Some b) = b.upstream
+
     upstream_of : Some a ≡ Some m → a.upstream ≡ m.upstream
     upstream_of p = ap upstream_or p
 same_upstreams (a ∷ ms) (suc place) m n e u = ap (λ x. a.upstream ∷ x) (same_upstreams ms place m n e u)
@@ -159,6 +160,7 @@ module _ (w : World) (primary : PrimaryState) (fs : List FollowerState) (h : Are
       node_or : Option NodeState → NodeState
       node_or None = g.mirror.node
       node_or (Some n) = n
+
       same_node : Some g.mirror.node ≡ Some node → g.mirror.node ≡ node
       same_node p = ap node_or p
   shown_mirror (m ∷ ms) (g ∷ gs) (suc i) node k e = shown_mirror ms gs i node k.1 e
@@ -169,6 +171,7 @@ module _ (w : World) (primary : PrimaryState) (fs : List FollowerState) (h : Are
       node_or : Option NodeState → NodeState
       node_or None = primary.node
       node_or (Some n) = n
+
       same_node : Some primary.node ≡ Some node → primary.node ≡ node
       same_node p = ap node_or p
   shown (suc i) node e = shown_mirror w.mirrors fs i node h.mirrors e
@@ -307,7 +310,13 @@ module _ (w : World) (primary : PrimaryState) (fs : List FollowerState) (h : Are
       let after : World = with_mirror w (suc place) (brought_to w.limits.history w.log at.0 b.connection b.e None) in
       let there : mirror_at w number ≡ Some at.0 = ap (mirror_at w) same ∙ at.1 in
       let breaks : Breaks w number n after = record {
-        mirror = at.0; connection = b.connection; is_there = there; is_linked = b.is_linked; e = b.e; from = b.from; to = b.to;
+        mirror = at.0;
+        connection = b.connection;
+        is_there = there;
+        is_linked = b.is_linked;
+        e = b.e;
+        from = b.from;
+        to = b.to;
         after = ap (λ j. with_mirror w j (brought_to w.limits.history w.log at.0 b.connection b.e None)) (sym same);
       } in
       let step : Step w (Deliver number n) (Broke i fault) after = subst (λ x. Step w (Deliver number n) (Broke i x) after) (sym g) (e, breaks) in

@@ -11,7 +11,7 @@ returns-in_err-place-clause-err c w primary h =
 pub returns-clause-ok : goal.returns-clause-ok
 returns-clause-ok c w primary h =
     cut_leads w primary _ h c.args.number c.in_ok-place.place c.in_ok-place.ensures.ok.0 c.index-followers-place.result c.in_ok-place.ensures.ok.1 c.cut.result c.cut.new.self
-        (λ m k. c.cut.ensures.ok w.limits w.log m k)
+    (λ m k. c.cut.ensures.ok w.limits w.log m k)
 
 pub returns-clause-err : goal.returns-clause-err
 returns-clause-err c w primary h =

@@ -13,10 +13,10 @@ returns-in_err-place-clause-err c w primary h =
 pub returns-clause-ok : goal.returns-clause-ok
 returns-clause-ok c w primary h =
     idle_leads w primary _ h c.args.number c.in_ok-place.place c.in_ok-place.ensures.ok.0 c.index-followers-place.result c.in_ok-place.ensures.ok.1 c.idle.result c.idle.new.self
-        (λ m k. c.idle.ensures.ok w.limits w.log m k)
+    (λ m k. c.idle.ensures.ok w.limits w.log m k)
 
 -- src/moves.rt:83:1
 pub returns-clause-err : goal.returns-clause-err
 returns-clause-err c w primary h =
     idle_fails w primary _ h c.args.number c.in_ok-place.place c.in_ok-place.ensures.ok.0 c.index-followers-place.result c.in_ok-place.ensures.ok.1 c.idle.result
-        (λ m k. c.idle.ensures.err w.limits w.log m k)
+    (λ m k. c.idle.ensures.err w.limits w.log m k)
