@@ -12,6 +12,7 @@ pub mod Linked
 pub mod Listings
 pub mod Moved
 pub mod OneReading
+pub mod Reached
 pub mod Schedules
 pub mod Scripts
 pub mod Served

@@ -213,3 +213,12 @@ carried_on log c = record { sent = bytes_sent log c; delivered = c.delivered; la
 -- what the connection of this mirror of the world has carried, where it has one
 abbrev pub carried_at : World → ℕ → Option Carried
 carried_at w i = option_map (carried_on w.log) (connection_at w i)
+
+-- a node at this place has this number, or a later one
+abbrev pub HasReached : Option Position → ℕ → Type 0
+HasReached None k = ⊥
+HasReached (Some p) k = k ≤ p.at
+
+-- where all that was sent on the connection was delivered, the mirror has the number of the last of it, or a later one
+abbrev pub HasReadAll : Log → Option Position → Connection → Type 0
+HasReadAll log place c = c.delivered ≡ bytes_sent log c → HasReached place c.last

@@ -1,0 +1,79 @@
+-- A mirror that was brought all that was sent is where the last of it was sent.
+use Rattle.std.proofs.Common.{◌≡◌, refl, sym, ap, ◌∙◌, subst, ℕ, zero, suc, ◌+◌, ◌-◌, ◌≤◌, Bool, true, false, arith, List, [], ◌∷◌, ◌++◌, length, Option, Some, None, IfSome, nat_le, leb-true, leb-false, length-append, slice_get}
+use Rattle.std.specs.Prelude.{if◌then◌else◌}
+use Rattle.std.specs.Option.{option_and_then}
+use Rattle.feed_node.specs.Limits.{Limits}
+use Rattle.feed_world.specs.Connection.{Part, Snapshot, Commit, Line_feed, Connection, part_text, parts_text, bytes_sent, block_onto, blocks_within, moved_by, GoOn, first_parts, IsInOrder}
+use Rattle.feed_world.specs.Log.{Log}
+use Rattle.feed_world.specs.Position.{Position, renewed}
+use Rattle.feed_world.specs.Reading.{IsOpened}
+use Rattle.feed_world.specs.States.{ConnectionState, FollowerState, WorldState, AreLinked, AreMirrors, IsReading, IsWorld, HasReached, HasReadAll}
+use Rattle.feed_world.specs.World.{Mirror, World, mirror_at, place_at, connection_at}
+
+abbrev blocks_of : List Part → List Part
+blocks_of [] = []
+blocks_of (part ∷ parts) = block_onto part (blocks_of parts)
+
+within : (a b : ℕ) (part : Part) (bs cs : List Part) → bs ≡ cs → (if nat_le a (a + b) then block_onto part bs else []) ≡ block_onto part cs
+within a b part bs cs e = by (nat_le a (a + b)) refl
+  where
+    by : (t : Bool) → nat_le a (a + b) ≡ t → (if t then block_onto part bs else []) ≡ block_onto part cs
+    by true f = ap (block_onto part) e
+    by false f = let less = leb-false a (a + b) f in absurd (omega arith)
+
+all_blocks : (log : Log) (parts : List Part) (n : ℕ) → n ≡ length (parts_text log parts) → blocks_within log parts n ≡ blocks_of parts
+all_blocks log [] n e = refl
+all_blocks log (part ∷ parts) n e =
+    let a = length (part_text log part) in
+    let b = length (parts_text log parts) in
+    let whole : n ≡ a + b = e ∙ length-append (part_text log part) (parts_text log parts) in
+    let rest : n - a ≡ b = omega (arith, whole) in
+    subst (λ m. (if nat_le a m then block_onto part (blocks_within log parts (n - a)) else []) ≡ block_onto part (blocks_of parts)) (sym whole)
+    (within a b part (blocks_within log parts (n - a)) (blocks_of parts) (all_blocks log parts (n - a) rest))
+
+-- it is at this number
+abbrev IsAt : ℕ → Option Position → Type 0
+IsAt k None = ⊥
+IsAt k (Some p) = p.at ≡ k
+
+goes_to : (history : ℕ) (parts : List Part) (k last : ℕ) (p : Position) → p.at ≡ k → GoOn k parts last → IsAt last (moved_by history (Some p) (blocks_of parts))
+goes_to history [] k last p e g = e ∙ g
+goes_to history (Line_feed ∷ parts) k last p e g = goes_to history parts k last p e g
+goes_to history (Commit n ∷ parts) k last p e g = goes_to history parts (k + 1) last (renewed history n p.low) g.0 g.1
+goes_to history (Snapshot n ∷ parts) k last p e g = absurd g
+
+comes_to : (history : ℕ) (before : Option Position) (fresh : Bool) (start last : ℕ) (more : List Part) → (fresh ≡ false → (own : Position) × (before ≡ Some own) × (own.at ≡ start)) → GoOn start more last
+    → IsAt last (moved_by history before (blocks_of (first_parts fresh start ++ more)))
+comes_to history before true start last more s g = goes_to history more start last (record { at = start; low = start }) refl g
+comes_to history before false start last more s g =
+    let own = s refl in
+    subst (λ o. IsAt last (moved_by history o (blocks_of more))) (sym own.1) (goes_to history more start last own.0 own.2 g)
+
+reached_by : (last : ℕ) (place : Option Position) → IsAt last place → HasReached place last
+reached_by last None h = absurd h
+reached_by last (Some p) h = omega (arith, h)
+
+read_all : (limits : Limits) (log : Log) (m : Mirror) (c : Connection) (f : FollowerState) (s : ConnectionState) → AreLinked limits log m (Some c) f (Some s) → HasReadAll log m.place c
+read_all limits log m c f s h all =
+    let r = h.1 in
+    let o = r.opened in
+    let order = o.order in
+    let blocks : blocks_within log c.parts c.delivered ≡ blocks_of (first_parts c.fresh c.start ++ order.more) = all_blocks log c.parts c.delivered all ∙ ap blocks_of order.parts in
+    reached_by c.last m.place
+    (subst (IsAt c.last) (sym (r.place ∙ ap (moved_by limits.history r.before) blocks)) (comes_to limits.history r.before c.fresh c.start c.last order.more o.start order.go_on))
+
+linked_all : (limits : Limits) (log : Log) (m : Mirror) (f : FollowerState) (c : Option Connection) (s : Option ConnectionState) → AreLinked limits log m c f s → IfSome c (HasReadAll log m.place)
+linked_all limits log m f None s h = tt
+linked_all limits log m f (Some c) None h = absurd h
+linked_all limits log m f (Some c) (Some s) h = read_all limits log m c f s h
+
+all_at : (limits : Limits) (log : Log) (ms : List Mirror) (fs : List FollowerState) (i : ℕ) → AreMirrors limits log ms fs
+    → IfSome (option_and_then (λ m. m.connection) (slice_get ms i)) (HasReadAll log (option_and_then (λ m. m.place) (slice_get ms i)))
+all_at limits log [] fs i h = tt
+all_at limits log (m ∷ ms) [] i h = absurd h
+all_at limits log (m ∷ ms) (f ∷ fs) zero h = linked_all limits log m f m.connection f.connection h.0.linked
+all_at limits log (m ∷ ms) (f ∷ fs) (suc i) h = all_at limits log ms fs i h.1
+
+pub has_read_all : (w : World) (s : WorldState) → IsWorld w s → (i : ℕ) → IfSome (connection_at w i) (HasReadAll w.log (place_at w i))
+has_read_all w s h zero = tt
+has_read_all w s h (suc i) = all_at w.limits w.log w.mirrors s.followers i h.nodes.mirrors
