@@ -1,6 +1,6 @@
 -- What a mirror has read stays when more is sent on its connection.
-use Rattle.std.proofs.Common.{◌≡◌, refl, sym, ap, ◌∙◌, subst, ℕ, zero, suc, ◌+◌, ◌-◌, ◌<◌, ◌≤◌, Bool, true, false, ◌&&◌, arith, List, [], ◌∷◌, ◌++◌, length, take, Option, Some, None, nat_lt, nat_le, ltb-true, leb-true, length-append}
-use Rattle.std.specs.Prelude.{if◌then◌else◌, ◌==◌, ◌≢◌, Ok, Err}
+use Rattle.std.proofs.Common.{◌≡◌, refl, sym, ap, ◌∙◌, subst, ℕ, ◌+◌, ◌-◌, ◌<◌, ◌≤◌, Bool, true, false, ◌&&◌, arith, List, [], ◌∷◌, ◌++◌, length, take, Option, Some, None, nat_lt, nat_le, ltb-true, leb-true, length-append}
+use Rattle.std.specs.Prelude.{if◌then◌else◌, ◌==◌, ◌≢◌}
 use Rattle.std.proofs.lemmas.List.{take-append-le}
 use Rattle.feed_tables.specs.declared.change.Change.{Change}
 use Rattle.feed_note.specs.Texts.{batch_text}
@@ -13,11 +13,11 @@ use Rattle.feed_node.specs.Mirroring.{MirrorState, StandsAt}
 use Rattle.feed_world.specs.declared.event.Reply.{Reply}
 use Rattle.feed_world.specs.declared.event.Reply.TheVariants.{Sent, Idled}
 use Rattle.feed_world.specs.Connection.{Connection, Part, Commit, Line_feed, part_text, parts_text, sent_text, block_onto, blocks_within, moved_by, IsInOrder}
-use Rattle.feed_world.specs.Log.{Log, IsLog, changes_of_commit, commit_text}
+use Rattle.feed_world.specs.Log.{Log, IsLog, changes_of_commit}
 use Rattle.feed_world.specs.Position.{Position, IsPlace}
-use Rattle.feed_world.specs.Reading.{IsOpened, opening_at}
+use Rattle.feed_world.specs.Reading.{opening_at}
 use Rattle.feed_world.specs.States.{ConnectionState, FollowerState, IsConnection, IsReading, AreLinked, IsMirror, Moves}
-use Rattle.feed_world.specs.Step.{Move, serves, serves_from, serves_behind, idles, with_more, with_line_feed, ended, linked, with_connection, mirror_serves, mirror_idles}
+use Rattle.feed_world.specs.Step.{serves, serves_from, idles, with_more, with_line_feed, ended, linked, with_connection, mirror_serves, mirror_idles}
 use Rattle.feed_world.specs.World.{Mirror}
 use Rattle.feed_world.proofs.Growth.{sending_keeps_order}
 use Rattle.feed_world.proofs.Served.{one_part_more}
@@ -134,12 +134,16 @@ mirror_served limits log m place f s held is_log is_place is pulled t serving =
     by None l = absurd l
     by (Some c) l =
         let served = serving c l.1.opened.sent l.0 in
-        let within = l.0.within in
-        (ap Sent served.0, mirror_on limits log m f (Some (serves c place).1) (Some t) is (served.1,
-          served_any limits log c place (λ d. IsReading limits log (linked m (Some (serves c place).1)) d f.mirror) is_place
-          (same_reading limits log m c f.mirror l.1 (Some (serves c place).1))
-          (ended_reading limits log m c f.mirror l.1 (Some (serves c place).1))
-          (λ sent. more_reading limits log m c f.mirror l.1 (Some (serves c place).1) is_log within sent)))
+        let within = l.0.within in (
+          ap Sent served.0,
+          mirror_on limits log m f (Some (serves c place).1) (Some t) is (
+            served.1,
+            served_any limits log c place (λ d. IsReading limits log (linked m (Some (serves c place).1)) d f.mirror) is_place
+                (same_reading limits log m c f.mirror l.1 (Some (serves c place).1))
+                (ended_reading limits log m c f.mirror l.1 (Some (serves c place).1))
+                (λ sent. more_reading limits log m c f.mirror l.1 (Some (serves c place).1) is_log within sent),
+          ),
+        )
 
 pub mirror_idled : (limits : Limits) (log : Log) (m : Mirror) (f : FollowerState) (s : ConnectionState) → f.connection ≡ Some s
     → IsMirror limits log m f → (reply : Reply) (t : ConnectionState)
@@ -153,8 +157,12 @@ mirror_idled limits log m f s held is reply t idling =
     by None l = absurd l
     by (Some c) l =
         let idled = idling c l.0 in
-        let within = l.0.within in
-        (idled.0, mirror_on limits log m f (Some (idles c).1) (Some t) is (idled.1,
-          chosen (λ (r : Reply × Connection). IsReading limits log (linked m (Some (idles c).1)) r.1 f.mirror) c.over _ (Idled, with_line_feed c)
-          (λ e. same_reading limits log m c f.mirror l.1 (Some (idles c).1))
-          (line_feed_reading limits log m c f.mirror l.1 (Some (idles c).1) within)))
+        let within = l.0.within in (
+          idled.0,
+          mirror_on limits log m f (Some (idles c).1) (Some t) is (
+            idled.1,
+            chosen (λ (r : Reply × Connection). IsReading limits log (linked m (Some (idles c).1)) r.1 f.mirror) c.over _ (Idled, with_line_feed c)
+                (λ e. same_reading limits log m c f.mirror l.1 (Some (idles c).1))
+                (line_feed_reading limits log m c f.mirror l.1 (Some (idles c).1) within),
+          ),
+        )

@@ -1,4 +1,4 @@
-use Rattle.std.proofs.Common.{refl, sym, subst, true, false, rules}
+use Rattle.std.proofs.Common.{refl, sym, subst, true, rules}
 use Rattle.std.specs.Prelude.{Result, Ok, Err, OnErr}
 use Rattle.feed_world.specs.States.{IsConnection}
 use Rattle.feed_world.proofs.Served.{pulled, commit_is_next}
