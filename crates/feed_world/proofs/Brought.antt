@@ -1,8 +1,7 @@
 -- A mirror that has read a front of what was sent on its connection is where the whole blocks of that front bring it.
-use Rattle.std.proofs.Common.{◌≡◌, refl, sym, ap, ◌∙◌, subst, ℕ, zero, suc, ◌+◌, ◌-◌, ◌<◌, ◌≤◌, min, Bool, true, false, ◌&&◌, arith, List, [], ◌∷◌, ◌++◌, length, take, drop, append_assoc, length-append, length-drop, length-take-le, take-take, take-append-drop, Option, Some, None, Ok, nat_le, eqb-true}
+use Rattle.std.proofs.Common.{◌≡◌, refl, sym, ap, ◌∙◌, subst, ℕ, suc, ◌+◌, ◌-◌, ◌≤◌, min, Bool, true, false, ◌&&◌, arith, List, [], ◌∷◌, ◌++◌, length, take, drop, append_assoc, length-append, length-drop, length-take-le, take-take, take-append-drop, Option, Some, None, Ok, nat_le, eqb-true}
 use Rattle.std.specs.Prelude.{if◌then◌else◌, ◌==◌}
 use Rattle.feed_note.specs.declared.line.Line.{Line}
-use Rattle.feed_note.specs.Lines.{rest}
 use Rattle.feed_node.specs.declared.fault.FeedFault.{FeedFault}
 use Rattle.feed_node.specs.declared.fault.FeedFault.TheVariants.{NotOpen, LongLine, Line as BadLine, TokenAgain, StageFull, Memory as FeedMemory}
 use Rattle.feed_node.specs.Limits.{Limits}
@@ -10,12 +9,12 @@ use Rattle.feed_node.specs.Mirroring.{MirrorState, StandsAt, Fed, Faulted, HasLo
 use Rattle.feed_node.specs.Reading.{Opening, Reads, FaultsAt, reads, keep_latest, awaits_reset}
 use Rattle.feed_node.specs.States.{published_token}
 use Rattle.feed_world.specs.declared.event.Reply.TheVariants.{Delivered, Broke}
-use Rattle.feed_world.specs.Connection.{Part, Snapshot, Commit, Line_feed, Connection, part_text, sent_text, bytes_sent, blocks_within, blocks_between, moved_by, GoOn, first_parts, IsInOrder}
+use Rattle.feed_world.specs.Connection.{Part, Snapshot, Commit, Line_feed, Connection, part_text, sent_text, blocks_within, blocks_between, moved_by, GoOn, first_parts}
 use Rattle.feed_world.specs.Log.{Log, IsLog}
 use Rattle.feed_world.specs.Position.{Position, node_where, renewed, IsPosition, IsPlace}
 use Rattle.feed_world.specs.Reading.{opening_at, IsOpened, FrontsAreRead, ReadingIsOne}
 use Rattle.feed_world.specs.States.{ConnectionState, FollowerState, IsConnection, IsReading, AreLinked, IsMirror, asks_with, Moves, BreaksMirror, IsBrought}
-use Rattle.feed_world.specs.Step.{reached, delivered_to, delivers, with_connection, mirror_delivers, brought_to}
+use Rattle.feed_world.specs.Step.{reached, delivers, with_connection, mirror_delivers, brought_to}
 use Rattle.feed_world.specs.World.{Mirror}
 use Rattle.feed_world.proofs.Batches.{token_count-append}
 use Rattle.feed_world.proofs.Commits.{renewed_is_position}
@@ -103,13 +102,13 @@ asks_after token true false xs (y ∷ ys) less h old = let k = h refl in let f :
 
 -- ---- what was read
 
--- what lines that say this leave, where they are those of the first n bytes that were sent
+-- what these lines leave, which are those of the first n bytes that were sent
 record ReadsTo (limits : Limits) (log : Log) (place : Option Position) (c : Connection) (notes : List Line) (n : ℕ) : Type 0 where
   shows : keep_latest limits.history (reads (opening_at log place c.fresh) notes) ≡ node_where log (moved_by limits.history place (blocks_within log c.parts n))
   awaits : awaits_reset (opening_at log place c.fresh) notes ≡ (c.fresh && (length (blocks_within log c.parts n) == 0))
   count : token_count notes ≡ length (blocks_within log c.parts n)
 
--- a front of what was sent on the connection on which the mirror stands, with nothing bad, and no less than was delivered
+-- the first n bytes that were sent, no fewer than were delivered, have nothing bad, and their lines say this
 record IsFrontRead (limits : Limits) (log : Log) (place : Option Position) (c : Connection) (n : ℕ) (notes : List Line) : Type 0 where
   front : List ℕ
   behind : List ℕ
@@ -118,7 +117,7 @@ record IsFrontRead (limits : Limits) (log : Log) (place : Option Position) (c : 
   nothing_bad : Reads limits (opening_at log place c.fresh) front notes
   further : c.delivered ≤ n
 
--- where the mirror is then
+-- where the mirror is then, and what it shows and asks with
 record IsBroughtTo (limits : Limits) (log : Log) (m : Mirror) (place : Option Position) (c : Connection) (n : ℕ) (notes : List Line) : Type 0 where
   within : IsPlace limits log (brought_to limits.history log m c n None).place
   node : keep_latest limits.history (reads (opening_at log place c.fresh) notes) ≡ node_where log (brought_to limits.history log m c n None).place
@@ -129,6 +128,10 @@ record IsBroughtTo (limits : Limits) (log : Log) (m : Mirror) (place : Option Po
   count : token_count notes ≡ length (blocks_within log c.parts n)
 
 module _ (fronts : FrontsAreRead) (one : ReadingIsOne) (limits : Limits) (log : Log) (is_log : IsLog limits log) where
+  -- the token of a mirror that was here, after these blocks
+  abbrev token_at : Option Position → List Part → Option (List ℕ)
+  token_at place blocks = published_token (node_where log (moved_by limits.history place blocks))
+
   reads_to : (place : Option Position) (c : Connection) (front behind : List ℕ) (notes : List Line) (n : ℕ) → IsOpened limits log place c
       → front ++ behind ≡ sent_text log c → length front ≡ n → Reads limits (opening_at log place c.fresh) front notes → ReadsTo limits log place c notes n
   reads_to place c front behind notes n o whole size r =
@@ -145,37 +148,59 @@ module _ (fronts : FrontsAreRead) (one : ReadingIsOne) (limits : Limits) (log : 
       (take-append-drop c.delivered (sent_text log c)) (length-take-le c.delivered (sent_text log c) within)
       (subst (λ l. Reads l (opening_at log r.before c.fresh) (take c.delivered (sent_text log c)) r.notes) h.bounds r.stands.nothing_bad)
 
+  -- so it asked with this
+  asked_before : (m : Mirror) (c : Connection) (f : FollowerState) → IsMirror limits log m f → (r : IsReading limits log m c f.mirror) → c.delivered ≤ length (sent_text log c)
+      → (if c.fresh && (length (blocks_within log c.parts c.delivered) == 0) then None else token_at r.before (blocks_within log c.parts c.delivered))
+      ≡ (if m.afresh then None else token_at r.before (blocks_within log c.parts c.delivered))
+  asked_before m c f h r within =
+      let old = read_before m c f h r within in
+      (λ i. if sym old.awaits i then None else published_token (sym old.shows i))
+      ∙ sym (ap (λ s. s.since) r.stands.state) ∙ h.since ∙ ap (λ q. if m.afresh then None else published_token (node_where log q)) r.place
+
   brings : (m : Mirror) (c : Connection) (f : FollowerState) → IsMirror limits log m f → (r : IsReading limits log m c f.mirror) → c.delivered ≤ length (sent_text log c)
       → (n : ℕ) (notes : List Line) → IsFrontRead limits log r.before c n notes → IsBroughtTo limits log m r.before c n notes
   brings m c f h r within n notes e =
-      let old = read_before m c f h r within in
       let new = reads_to r.before c e.front e.behind notes n r.opened e.whole e.size e.nothing_bad in
-      let opening = opening_at log r.before c.fresh in
       let xs = blocks_within log c.parts c.delivered in
       let ys = blocks_within log c.parts n in
       let between = blocks_between log c c.delivered n in
-      let moves : moved_by limits.history m.place between ≡ moved_by limits.history r.before ys =
-          ap (λ q. moved_by limits.history q between) r.place ∙ deliveries_compose log limits.history r.before c.parts c.delivered n e.further in
-      let token : List Part → Option (List ℕ) = (λ bs. published_token (node_where log (moved_by limits.history r.before bs))) in
-      let asked : (if c.fresh && (length xs == 0) then None else token xs) ≡ (if m.afresh then None else token xs) =
-          (λ i. if sym old.awaits i then None else published_token (sym old.shows i))
-          ∙ sym (ap (λ s. s.since) r.stands.state) ∙ h.since ∙ ap (λ q. if m.afresh then None else published_token (node_where log q)) r.place in
+      let moves = ap (λ q. moved_by limits.history q between) r.place ∙ deliveries_compose log limits.history r.before c.parts c.delivered n e.further in
       record {
         within = subst (IsPlace limits log) (sym moves) (place_after limits log r.before c n r.opened);
         node = new.shows ∙ ap (node_where log) (sym moves);
         since =
             (λ i. if new.awaits i then None else published_token (new.shows i))
-            ∙ asks_after token m.afresh c.fresh xs ys (fewer_blocks log c.parts c.delivered n e.further) r.afresh asked
+            ∙ asks_after (token_at r.before) m.afresh c.fresh xs ys (fewer_blocks log c.parts c.delivered n e.further) r.afresh (asked_before m c f h r within)
             ∙ ap (λ q. if m.afresh && (length between == 0) then None else published_token (node_where log q)) (sym moves);
         afresh = still_afresh m.afresh c.fresh xs ys r.afresh;
         moves = moves;
         count = new.count;
       }
 
+-- ---- a piece
+
 -- what was delivered and the next piece
 joined : (d e : ℕ) (text piece : List ℕ) → d ≤ e → piece ≡ drop d (take e text) → take d text ++ piece ≡ take e text
 joined d e text piece h p =
     ap (λ ys. take d text ++ ys) p ∙ ap (λ xs. xs ++ drop d (take e text)) (sym (take-take d e text h)) ∙ take-append-drop d (take e text)
+
+-- what was delivered and a part of the piece
+shorter : (before counted uncounted piece front behind text : List ℕ) → counted ++ uncounted ≡ piece → before ++ piece ≡ front → front ++ behind ≡ text
+    → (before ++ counted) ++ (uncounted ++ behind) ≡ text
+shorter before counted uncounted piece front behind text p q r =
+    append_assoc before counted (uncounted ++ behind)
+    ∙ ap (λ xs. before ++ xs) (sym (append_assoc counted uncounted behind) ∙ ap (λ xs. xs ++ behind) p)
+    ∙ sym (append_assoc before piece behind)
+    ∙ ap (λ xs. xs ++ behind) q
+    ∙ r
+
+no_longer : (before counted uncounted piece front : List ℕ) → counted ++ uncounted ≡ piece → before ++ piece ≡ front → length before + length counted ≤ length front
+no_longer before counted uncounted piece front p q =
+    let a = length-append before piece in
+    let b = length-append counted uncounted in
+    let c = ap length p in
+    let d = ap length q in
+    omega arith
 
 -- a connection's next bytes
 pub record IsNext (s : ConnectionState) (bytes : ℕ) (piece : List ℕ) : Type 0 where
@@ -263,26 +288,15 @@ module _ (fronts : FrontsAreRead) (one : ReadingIsOne) (limits : Limits) (log : 
         let text = sent_text log c in
         let opening = opening_at log r.before c.fresh in
         let n = d + length l.counted in
-        let whole : (take d text ++ l.counted) ++ (l.uncounted ++ drop e text) ≡ text =
-            append_assoc (take d text) l.counted (l.uncounted ++ drop e text)
-            ∙ ap (λ zs. take d text ++ zs) (sym (append_assoc l.counted l.uncounted (drop e text)) ∙ ap (λ ys. ys ++ drop e text) l.whole)
-            ∙ sym (append_assoc (take d text) piece (drop e text))
-            ∙ ap (λ xs. xs ++ drop e text) makes_front
-            ∙ take-append-drop e text in
-        let so_far : length (take d text) ≡ d = length-take-le d text k.within in
-        let size : length (take d text ++ l.counted) ≡ n = let a = length-append (take d text) l.counted in omega arith in
-        let ends : length (take e text) ≡ e = length-take-le e text reaches.1 in
-        let to : n ≤ e =
-            let a = ap length makes_front in
-            let b = length-append (take d text) piece in
-            let p = ap length l.whole in
-            let q = length-append l.counted l.uncounted in
-            omega arith in
+        let so_far = length-take-le d text k.within in
+        let ends = length-take-le e text reaches.1 in
+        let size = length-append (take d text) l.counted in
+        let most = no_longer (take d text) l.counted l.uncounted piece (take e text) l.whole makes_front in
         let b = brings fronts one limits log is_log m c f h r k.within n l.notes (record {
           front = take d text ++ l.counted;
           behind = l.uncounted ++ drop e text;
-          whole = whole;
-          size = size;
+          whole = shorter (take d text) l.counted l.uncounted piece (take e text) (drop e text) text l.whole makes_front (take-append-drop e text);
+          size = omega arith;
           nothing_bad = subst (λ l'. Reads l' opening (take d text ++ l.counted) l.notes) h.bounds l.nothing_bad;
           further = omega arith;
         }) in
@@ -291,7 +305,7 @@ module _ (fronts : FrontsAreRead) (one : ReadingIsOne) (limits : Limits) (log : 
           is_linked = there;
           e = n;
           from = omega arith;
-          to = to;
+          to = omega arith;
           is_mirror = record {
             place = b.within;
             upstream = h.upstream;

@@ -3,6 +3,7 @@ use Rattle.std.proofs.Common.{◌≡◌, refl, sym, ap, ◌∙◌, subst, ℕ, z
 use Rattle.std.specs.Prelude.{if◌then◌else◌, ◌==◌}
 use Rattle.std.proofs.lemmas.List.Sums.{fold-append}
 use Rattle.feed_text.specs.Limits.{line_bytes}
+use Rattle.feed_tables.specs.Listings.{ListingRestores, ListingHasSize, ListingIsWithin}
 use Rattle.feed_tables.specs.Tables.{after_all, no_tables, listing, size}
 use Rattle.feed_note.specs.declared.line.Line.{Line}
 use Rattle.feed_note.specs.declared.line.Line.TheVariants.{KeepAlive}
@@ -13,7 +14,7 @@ use Rattle.feed_node.specs.Log.{token_after}
 use Rattle.feed_node.specs.Mirroring.{token_count}
 use Rattle.feed_node.specs.States.{reset_to}
 use Rattle.feed_node.specs.Staging.{Standing, step, steps, AllTaken}
-use Rattle.feed_world.specs.Below.{ListingRestores, ListingHasSize, ListingIsWithin, StepsRead, TakenAreGood, standing_after}
+use Rattle.feed_node.specs.Steps.{StepsRead, TakenAreGood, standing_after}
 use Rattle.feed_world.specs.Connection.{Part, Snapshot, Commit, Line_feed, part_text, parts_text, block_onto, blocks_within, moved_by, GoOn, first_parts}
 use Rattle.feed_world.specs.Log.{Log, all_changes, state_after, changes_of_commit, IsLog}
 use Rattle.feed_world.specs.Position.{Position, commits_after, node_at, node_where, renewed, IsPosition, IsPlace}

@@ -10,8 +10,10 @@ pub mod Growth
 pub mod Lines
 pub mod Linked
 pub mod Listings
+pub mod Moved
 pub mod OneReading
 pub mod Schedules
 pub mod Scripts
 pub mod Served
+pub mod Stepped
 pub mod Tokens
