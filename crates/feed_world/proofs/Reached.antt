@@ -1,14 +1,13 @@
 -- A mirror that was brought all that was sent is where the last of it was sent.
-use Rattle.std.proofs.Common.{◌≡◌, refl, sym, ap, ◌∙◌, subst, ℕ, zero, suc, ◌+◌, ◌-◌, ◌≤◌, Bool, true, false, arith, List, [], ◌∷◌, ◌++◌, length, Option, Some, None, IfSome, nat_le, leb-true, leb-false, length-append, slice_get}
+use Rattle.std.proofs.Common.{◌≡◌, refl, sym, ap, ◌∙◌, subst, ℕ, zero, suc, ◌+◌, ◌-◌, Bool, true, false, arith, List, [], ◌∷◌, ◌++◌, length, Option, Some, None, IfSome, nat_le, leb-false, length-append, slice_get}
 use Rattle.std.specs.Prelude.{if◌then◌else◌}
 use Rattle.std.specs.Option.{option_and_then}
 use Rattle.feed_node.specs.Limits.{Limits}
-use Rattle.feed_world.specs.Connection.{Part, Snapshot, Commit, Line_feed, Connection, part_text, parts_text, bytes_sent, block_onto, blocks_within, moved_by, GoOn, first_parts, IsInOrder}
+use Rattle.feed_world.specs.Connection.{Part, Snapshot, Commit, Line_feed, Connection, part_text, parts_text, block_onto, blocks_within, moved_by, GoOn, first_parts}
 use Rattle.feed_world.specs.Log.{Log}
 use Rattle.feed_world.specs.Position.{Position, renewed}
-use Rattle.feed_world.specs.Reading.{IsOpened}
-use Rattle.feed_world.specs.States.{ConnectionState, FollowerState, WorldState, AreLinked, AreMirrors, IsReading, IsWorld, HasReached, HasReadAll}
-use Rattle.feed_world.specs.World.{Mirror, World, mirror_at, place_at, connection_at}
+use Rattle.feed_world.specs.States.{ConnectionState, FollowerState, WorldState, AreLinked, AreMirrors, IsWorld, HasReached, HasReadAll}
+use Rattle.feed_world.specs.World.{Mirror, World, place_at, connection_at}
 
 abbrev blocks_of : List Part → List Part
 blocks_of [] = []
