@@ -3,6 +3,7 @@ use Rattle.std.specs.Prelude.{◌≡◌, ℕ, zero, suc, option_map, ◌≤◌, 
 use Rattle.std.specs.Option.{option_and_then}
 use Rattle.feed_tables.specs.Tables.{no_tables, after_all}
 use Rattle.feed_node.specs.declared.fault.FeedFault.TheVariants.{Memory as FeedMemory}
+use Rattle.feed_world.specs.declared.event.Event.{Event}
 use Rattle.feed_world.specs.declared.event.Reply.{Reply}
 use Rattle.feed_world.specs.declared.event.Reply.TheVariants.{Broke}
 use Rattle.feed_world.specs.declared.event.ShapeFault.{ShapeFault}
@@ -20,7 +21,7 @@ use Rattle.feed_world.specs.Connection.{Connection, sent_text, blocks_within, mo
 use Rattle.feed_world.specs.Log.{Log, IsLog}
 use Rattle.feed_world.specs.Position.{Position, IsPosition, IsPlace, commits_after, node_where}
 use Rattle.feed_world.specs.Reading.{IsOpened, opening_at}
-use Rattle.feed_world.specs.Step.{Move, primary_of, mirror_delivers, brought_to, reached, is_free_reply}
+use Rattle.feed_world.specs.Step.{Move, Step, Run, RunUpTo, primary_of, mirror_delivers, brought_to, reached, is_free_reply}
 use Rattle.feed_world.specs.World.{Mirror, World, HasShape}
 
 -- a connection: the token that its session has come to, the text that was sent, how many bytes of it were delivered, and
@@ -86,7 +87,7 @@ asks_with log m = if m.afresh then None else published_token (node_where log m.p
 pub record IsMirror (limits : Limits) (log : Log) (m : Mirror) (f : FollowerState) : Type 0 where
   pub place : IsPlace limits log m.place
   pub upstream : f.upstream ≡ m.upstream
-  pub limits : f.mirror.limits ≡ limits
+  pub bounds : f.mirror.limits ≡ limits
   pub node : f.mirror.node ≡ node_where log m.place
   pub since : f.mirror.since ≡ asks_with log m
   pub linked : AreLinked limits log m m.connection f f.connection
@@ -122,30 +123,61 @@ AreMirrors limits log (m ∷ ms) (f ∷ fs) = IsMirror limits log m f × AreMirr
 AreMirrors limits log [] (f ∷ fs) = ⊥
 AreMirrors limits log (m ∷ ms) [] = ⊥
 
+-- the primary and the mirrors are those of this world
+pub record AreNodes (w : World) (primary : PrimaryState) (fs : List FollowerState) : Type 0 where
+  pub log : IsLog w.limits w.log
+  pub latest : w.primary.at ≡ length w.log
+  pub place : IsPosition w.limits w.log w.primary
+  pub shows : primary ≡ primary_of w
+  pub shape : HasShape (map (λ m. m.upstream) w.mirrors)
+  pub mirrors : AreMirrors w.limits w.log w.mirrors fs
+
 -- the state is that of this world
 pub record IsWorld (w : World) (s : WorldState) : Type 0 where
   pub limits : s.limits ≡ w.limits
-  pub log : IsLog w.limits w.log
   pub commits : s.log ≡ commits_after w.log 0 (length w.log)
-  pub latest : w.primary.at ≡ length w.log
-  pub place : IsPosition w.limits w.log w.primary
-  pub primary : s.primary ≡ primary_of w
-  pub shape : HasShape (map (λ m. m.upstream) w.mirrors)
-  pub mirrors : AreMirrors w.limits w.log w.mirrors s.followers
+  pub nodes : AreNodes w s.primary s.followers
 
 -- the state is that of some world
 abbrev pub IsOfWorld : WorldState → Type 0
 IsOfWorld s = (w : World) × IsWorld w s
 
+-- an event at a mirror led to this world, which has the same log
+pub record MovesTo (w : World) (event : Event) (reply : Reply) (after : World) : Type 0 where
+  pub step : Step w event reply after
+  pub limits : after.limits ≡ w.limits
+  pub log : after.log ≡ w.log
+
+-- the event led to a world whose mirrors these are
+abbrev pub NodesMove : World → PrimaryState → Event → Reply → List FollowerState → Type 0
+NodesMove w primary event reply fs = (after : World) × MovesTo w event reply after × AreNodes after primary fs
+
+-- the event led to a world of which this is the state
+abbrev pub WorldMoves : World → Event → Reply → WorldState → Type 0
+WorldMoves w event reply s = (after : World) × Step w event reply after × IsWorld after s
+
+-- the events, one after another, led to a world of which this is the state
+abbrev pub WorldRuns : World → List Event → List Reply → WorldState → Type 0
+WorldRuns w events replies s = (after : World) × Run w events replies after × IsWorld after s
+
+-- the first refused event ended the run; those before it led to a world of which this is the state
+abbrev pub WorldRunsUpTo : World → List Event → WorldFault → WorldState → Type 0
+WorldRunsUpTo w events fault s = (after : World) × RunUpTo w events fault after × IsWorld after s
+
+-- no mirror stopped feeding but for want of memory
+abbrev pub BreaksForMemory : Reply → Type 0
+BreaksForMemory (Broke i fault) = fault ≡ FeedMemory
+BreaksForMemory reply = Unit {0}
+
 -- ---- what all nodes have in common
 
 -- what each node shows: the primary first, and then the mirrors in order
-abbrev pub all_shown : WorldState → List NodeState
-all_shown s = s.primary.node ∷ map (λ f. f.mirror.node) s.followers
+abbrev pub all_shown : PrimaryState → List FollowerState → List NodeState
+all_shown primary fs = primary.node ∷ map (λ f. f.mirror.node) fs
 
 -- what the node of this number shows, where there is one
 abbrev pub shown_at : WorldState → ℕ → Option NodeState
-shown_at s i = slice_get (all_shown s) i
+shown_at s i = slice_get (all_shown s.primary s.followers) i
 
 -- what is published is the primary's tables after exactly the commits up to the token that is published with it
 abbrev pub FollowsLog : List Commit → Published → Type 0

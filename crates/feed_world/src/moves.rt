@@ -1,12 +1,24 @@
 //! Events at the mirror of a number. Mirrors are numbered from 1, in order.
 
+ghost use Rattle.std.specs.Prelude.{◌≡◌, ◌<◌, ◌≤◌, ℕ, suc, length, slice_get, option_map, IfOk, IfErr, OnErr};
+ghost use Rattle.std.specs.Option.{option_copied};
+ghost use Rattle.feed_node.specs.Log.{PrimaryState};
+ghost use Rattle.feed_world.specs.declared.event.Event.TheVariants.{Connect, Serve, Idle, Deliver, Cut as DoCut};
+ghost use Rattle.feed_world.specs.declared.event.WorldFault.TheVariants.{NoNode};
+ghost use Rattle.feed_world.specs.States.{AreNodes, NodesMove, all_shown};
+ghost use Rattle.feed_world.specs.Step.{IsRefused};
+ghost use Rattle.feed_world.specs.World.{World as Numbers};
+
 use crate::event::{Reply, WorldFault};
 use crate::follower::Follower;
 use feed_node::{Node, Primary};
 use std::alloc::Global;
 
 /// The place of the mirror of this number.
-fn place_of(followers: &[Follower], number: usize) -> Result<usize, WorldFault> {
+fn place_of(followers: &[Follower], number: usize) -> Result<usize, WorldFault>
+    ensures ok { IfOk result (λ place. (number ≡ suc place) × (place < length followers.now)) }
+    ensures err { IfErr result (λ fault. (fault ≡ NoNode) × ((place : ℕ) → number ≡ suc place → length followers.now ≤ place)) }
+{
     match number.checked_sub(1) {
         Some(place) if place < followers.len() => Ok(place),
         _ => Err(WorldFault::NoNode),
@@ -18,7 +30,9 @@ pub(crate) fn node_among<'a>(
     primary: &'a Primary,
     followers: &'a [Follower],
     number: usize,
-) -> Option<&'a Node> {
+) -> Option<&'a Node>
+    ensures { option_map (λ node. node.shown) (option_copied result) ≡ slice_get (all_shown primary.now followers.now) number }
+{
     match number.checked_sub(1) {
         Some(place) => Some(followers.get(place)?.node()),
         None => Some(primary.node()),
@@ -31,7 +45,11 @@ pub(crate) fn connect(
     primary: &Primary,
     followers: &mut [Follower],
     number: usize,
-) -> Result<Reply, WorldFault> {
+) -> Result<Reply, WorldFault>
+    ensures ok { (w : Numbers) → AreNodes w primary.now followers.old → IfOk result (λ reply. NodesMove w primary.now (Connect number) reply followers.new) }
+    ensures err { (w : Numbers) → AreNodes w primary.now followers.old → IfErr result (λ fault. IsRefused w (Connect number) fault) }
+    ensures unchanged { OnErr result (followers.new ≡ followers.old) }
+{
     let place = place_of(followers, number)?;
     let (earlier, later) = followers.split_at_mut(place);
     let follower = &mut later[0];
@@ -47,7 +65,11 @@ pub(crate) fn serve(
     primary: &Primary,
     followers: &mut [Follower],
     number: usize,
-) -> Result<Reply, WorldFault> {
+) -> Result<Reply, WorldFault>
+    ensures ok { (w : Numbers) → AreNodes w primary.now followers.old → IfOk result (λ reply. NodesMove w primary.now (Serve number) reply followers.new) }
+    ensures err { (w : Numbers) → AreNodes w primary.now followers.old → IfErr result (λ fault. IsRefused w (Serve number) fault) }
+    ensures unchanged { OnErr result (followers.new ≡ followers.old) }
+{
     let place = place_of(followers, number)?;
     let (earlier, later) = followers.split_at_mut(place);
     let follower = &mut later[0];
@@ -58,24 +80,36 @@ pub(crate) fn serve(
 }
 
 /// That node has no more to send for now.
-pub(crate) fn idle(followers: &mut [Follower], number: usize) -> Result<Reply, WorldFault> {
+pub(crate) fn idle(followers: &mut [Follower], number: usize) -> Result<Reply, WorldFault>
+    ensures ok { (w : Numbers) (primary : PrimaryState) → AreNodes w primary followers.old → IfOk result (λ reply. NodesMove w primary (Idle number) reply followers.new) }
+    ensures err { (w : Numbers) (primary : PrimaryState) → AreNodes w primary followers.old → IfErr result (λ fault. IsRefused w (Idle number) fault) }
+    ensures unchanged { OnErr result (followers.new ≡ followers.old) }
+{
     let place = place_of(followers, number)?;
     followers[place].idle()
 }
 
-/// The mirror's connection brings its next bytes.
+/// The mirror's connection brings its next bytes, this many or all that remain.
 pub(crate) fn deliver(
     alloc: Global,
     followers: &mut [Follower],
     number: usize,
     bytes: usize,
-) -> Result<Reply, WorldFault> {
+) -> Result<Reply, WorldFault>
+    ensures ok { (w : Numbers) (primary : PrimaryState) → AreNodes w primary followers.old → IfOk result (λ reply. NodesMove w primary (Deliver number bytes) reply followers.new) }
+    ensures err { (w : Numbers) (primary : PrimaryState) → AreNodes w primary followers.old → IfErr result (λ fault. IsRefused w (Deliver number bytes) fault) }
+    ensures unchanged { OnErr result (followers.new ≡ followers.old) }
+{
     let place = place_of(followers, number)?;
     followers[place].deliver(alloc, number, bytes)
 }
 
 /// The mirror's connection is cut.
-pub(crate) fn cut(followers: &mut [Follower], number: usize) -> Result<Reply, WorldFault> {
+pub(crate) fn cut(followers: &mut [Follower], number: usize) -> Result<Reply, WorldFault>
+    ensures ok { (w : Numbers) (primary : PrimaryState) → AreNodes w primary followers.old → IfOk result (λ reply. NodesMove w primary (DoCut number) reply followers.new) }
+    ensures err { (w : Numbers) (primary : PrimaryState) → AreNodes w primary followers.old → IfErr result (λ fault. IsRefused w (DoCut number) fault) }
+    ensures unchanged { OnErr result (followers.new ≡ followers.old) }
+{
     let place = place_of(followers, number)?;
     followers[place].cut()
 }
