@@ -2,7 +2,7 @@
 ghost use Rattle.std.specs.Prelude.{◌≡◌};
 
 use crate::input::InputFault;
-use crate::play::{PlayCause, PlayFault};
+use crate::play_fault::{PlayCause, PlayFault};
 use feed_node::FeedFault;
 use feed_note::{LineStop, SurveyFault};
 use std::alloc::AllocError;

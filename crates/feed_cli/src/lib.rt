@@ -7,7 +7,8 @@ pub mod device;
 mod fault;
 mod input;
 pub mod memory;
-mod play;
+mod play_fault;
+mod player;
 mod playing;
 mod script;
 pub mod stream;
@@ -16,7 +17,8 @@ mod told;
 mod words;
 
 pub use commands::run;
-pub use play::{PlayCause, PlayFault, play};
+pub use play_fault::{PlayCause, PlayFault};
+pub use player::play;
 
 #[cfg(test)]
 mod tests;

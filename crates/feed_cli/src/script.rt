@@ -1,6 +1,6 @@
 //! The lines of a script: their words, and what they ask for.
 
-use crate::play::PlayCause;
+use crate::play_fault::PlayCause;
 use feed_note::split_line;
 use std::alloc::Global;
 

@@ -1,7 +1,8 @@
 //! Scripts, with what is told of them, written by hand from the rules on worlds.
 
 use crate::memory::{MemReader, MemWriter};
-use crate::play::{PlayCause, PlayFault, play};
+use crate::play_fault::{PlayCause, PlayFault};
+use crate::player::play;
 use crate::run;
 use feed_node::CommitFault;
 use feed_note::LineFault;

@@ -1,0 +1,77 @@
+//! Why a script is not played to its end.
+
+use feed_node::CommitFault;
+use feed_note::LineFault;
+use feed_world::{ShapeFault, WorldFault};
+use std::alloc::{AllocError, AllocFailed};
+use thiserror::Error;
+
+/// Why a script was not played to its end, and at which of its lines, counted from 1. That is the line of what was to
+/// happen, or the feed line that can't be read.
+#[derive(Clone, Copy, Debug, PartialEq, Eq, Error)]
+#[error("line {line}: {cause}")]
+pub struct PlayFault {
+    pub line: u64,
+    pub cause: PlayCause,
+}
+
+/// Why a script was not played to its end.
+#[derive(Clone, Copy, Debug, PartialEq, Eq, Error)]
+pub enum PlayCause {
+    /// The line has none of the forms that a line may have there, or more feed lines were announced than follow.
+    #[error("bad script")]
+    Script,
+    /// The first line's limits are out of range.
+    #[error("bad limits")]
+    Limits,
+    /// There are over 255 mirrors, or one is not behind an earlier node.
+    #[error("bad shape")]
+    Shape,
+    /// The feed line means nothing. It is no want of memory.
+    #[error(transparent)]
+    Line(LineFault),
+    /// The world refused what was to happen. It is no want of memory.
+    #[error(transparent)]
+    World(WorldFault),
+    #[error("out of memory")]
+    Memory,
+}
+
+impl From<LineFault> for PlayCause {
+    fn from(fault: LineFault) -> PlayCause {
+        match fault {
+            LineFault::Memory => PlayCause::Memory,
+            reason => PlayCause::Line(reason),
+        }
+    }
+}
+
+impl From<WorldFault> for PlayCause {
+    fn from(fault: WorldFault) -> PlayCause {
+        match fault {
+            WorldFault::Memory | WorldFault::Commit(CommitFault::Memory) => PlayCause::Memory,
+            reason => PlayCause::World(reason),
+        }
+    }
+}
+
+impl From<ShapeFault> for PlayCause {
+    fn from(fault: ShapeFault) -> PlayCause {
+        match fault {
+            ShapeFault::BadShape => PlayCause::Shape,
+            ShapeFault::Memory => PlayCause::Memory,
+        }
+    }
+}
+
+impl From<AllocError> for PlayCause {
+    fn from(_error: AllocError) -> PlayCause {
+        PlayCause::Memory
+    }
+}
+
+impl<T: Drop> From<AllocFailed<T>> for PlayCause {
+    fn from(_error: AllocFailed<T>) -> PlayCause {
+        PlayCause::Memory
+    }
+}
