@@ -1,3 +1,6 @@
 mod CountingLemmas
 mod DeviceLemmas
 mod FeedingLemmas
+mod LineLemmas
+mod NumberLemmas
+mod WordLemmas

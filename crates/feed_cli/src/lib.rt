@@ -6,6 +6,7 @@ mod commands;
 pub mod device;
 mod fault;
 mod input;
+mod lines;
 pub mod memory;
 mod play_fault;
 mod player;

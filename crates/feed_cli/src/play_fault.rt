@@ -1,5 +1,9 @@
 //! Why a script is not played to its end.
 
+ghost use Rattle.std.specs.Prelude.{◌≡◌};
+ghost use Rattle.feed_cli.specs.Stopping.{cause_of_line, cause_of_world, cause_of_shape};
+ghost use Rattle.feed_cli.specs.declared.play_fault.PlayCause.TheVariants.{Memory};
+
 use feed_node::CommitFault;
 use feed_note::LineFault;
 use feed_world::{ShapeFault, WorldFault};
@@ -38,6 +42,8 @@ pub enum PlayCause {
 }
 
 impl From<LineFault> for PlayCause {
+    ghost from_gives = { λ fault cause. cause ≡ cause_of_line fault };
+
     fn from(fault: LineFault) -> PlayCause {
         match fault {
             LineFault::Memory => PlayCause::Memory,
@@ -47,6 +53,8 @@ impl From<LineFault> for PlayCause {
 }
 
 impl From<WorldFault> for PlayCause {
+    ghost from_gives = { λ fault cause. cause ≡ cause_of_world fault };
+
     fn from(fault: WorldFault) -> PlayCause {
         match fault {
             WorldFault::Memory | WorldFault::Commit(CommitFault::Memory) => PlayCause::Memory,
@@ -56,6 +64,8 @@ impl From<WorldFault> for PlayCause {
 }
 
 impl From<ShapeFault> for PlayCause {
+    ghost from_gives = { λ fault cause. cause ≡ cause_of_shape fault };
+
     fn from(fault: ShapeFault) -> PlayCause {
         match fault {
             ShapeFault::BadShape => PlayCause::Shape,
@@ -65,12 +75,16 @@ impl From<ShapeFault> for PlayCause {
 }
 
 impl From<AllocError> for PlayCause {
+    ghost from_gives = { λ _ cause. cause ≡ Memory };
+
     fn from(_error: AllocError) -> PlayCause {
         PlayCause::Memory
     }
 }
 
 impl<T: Drop> From<AllocFailed<T>> for PlayCause {
+    ghost from_gives = { λ _ cause. cause ≡ Memory };
+
     fn from(_error: AllocFailed<T>) -> PlayCause {
         PlayCause::Memory
     }

@@ -1,7 +1,8 @@
 //! Scripts of what happens in a world, played.
 
 use crate::play_fault::{PlayCause, PlayFault};
-use crate::script::{Action, Lines, Shape, read_action, read_shape};
+use crate::lines::Lines;
+use crate::script::{Action, read_action, read_world};
 use crate::told::{print_reply, print_shown};
 use feed_node::Limits;
 use feed_note::{LINE_BYTES, Line, read_line};
@@ -11,15 +12,14 @@ use std::alloc::Global;
 
 /// The world that the first line of a script asks for.
 fn make_world(alloc: Global, line: &[u8]) -> Result<World, PlayCause> {
-    let Shape {
-        history,
-        staged,
-        upstreams,
-    } = read_shape(alloc, line)?;
-    let Ok(limits) = Limits::new(history, staged) else {
+    let numbers = read_world(alloc, line)?;
+    let [history, staged, upstreams @ ..] = numbers.as_slice() else {
+        return Err(PlayCause::Script);
+    };
+    let Ok(limits) = Limits::new(*history, *staged) else {
         return Err(PlayCause::Limits);
     };
-    Ok(World::new(alloc, upstreams.as_slice(), limits)?)
+    Ok(World::new(alloc, upstreams, limits)?)
 }
 
 /// Adds the changes of a feed line. Its token says nothing here. A line over the line limit is none of a feed, so it is

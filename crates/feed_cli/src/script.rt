@@ -1,7 +1,15 @@
 //! The lines of a script: their words, and what they ask for.
 
+ghost use Rattle.std.specs.Prelude.{◌≡◌, ◌≢◌, ◌≤◌, ◌<◌, ◌++◌, ◌∷◌, [], ℕ, List, length, position, Option, Some, None, IfSome, IfNone, IfOk, IfErr, true, IsTrue};
+ghost use Rattle.std.specs.Option.{option_and_then};
+ghost use Rattle.std.specs.Char.{is_ascii_digit};
+ghost use Rattle.std.specs.List.{list_all};
+ghost use Rattle.std.specs.Str.{bytes_eq};
+ghost use Rattle.std.specs.Str.Parse.{digits_value};
+ghost use Rattle.feed_cli.specs.Script.{is_space, words, is_number as says_number, number_in, numbers_in, one_of, two_of, asked_by, world_numbers, shape_in, action_in};
+ghost use Rattle.feed_cli.specs.declared.play_fault.PlayCause.TheVariants.{Script, Memory};
+
 use crate::play_fault::PlayCause;
-use feed_note::split_line;
 use std::alloc::Global;
 
 /// What a line of a script asks for. Nodes are numbered, and the primary is 0.
@@ -23,145 +31,149 @@ pub enum Action {
     Show(usize),
 }
 
-/// What the first line of a script says of the world.
-#[derive(Drop)]
-pub struct Shape {
-    /// How many commits a node keeps.
-    pub history: usize,
-    /// How many changes may wait for a token.
-    pub staged: usize,
-    /// The node that each mirror is behind, from mirror 1 on.
-    pub upstreams: Vec<usize>,
-}
-
 /// The greatest number of digits of a number.
 const DIGITS: usize = 9;
 
+fn space_in(text: &[u8]) -> Option<usize>
+    ensures { result ≡ position is_space text.now }
+{
+    text.iter().position(|byte| *byte == b' ')
+}
+
 /// The first word of a text, and what is behind the space after it.
-fn split_word(text: &[u8]) -> (&[u8], Option<&[u8]>) {
-    match text.iter().position(|byte| *byte == b' ') {
+fn split_word(text: &[u8]) -> (&[u8], Option<&[u8]>)
+    ensures last { IfNone result.1 (words text.now ≡ result.0.now ∷ []) }
+    ensures more { IfSome result.1 (λ behind. words text.now ≡ result.0.now ∷ words behind.now) }
+    ensures shorter { IfSome result.1 (λ behind. length behind.now < length text.now) }
+{
+    match space_in(text) {
         Some(end) => (&text[..end], Some(&text[end + 1..])),
         None => (text, None),
     }
 }
 
-fn is_number(word: &[u8]) -> bool {
-    (1..=DIGITS).contains(&word.len()) && word.iter().all(|byte| byte.is_ascii_digit())
+fn are_digits(word: &[u8]) -> bool
+    ensures { result ≡ list_all is_ascii_digit word.now }
+{
+    word.iter().all(|byte| byte.is_ascii_digit())
+}
+
+fn is_number(word: &[u8]) -> bool
+    ensures { result ≡ says_number word.now }
+{
+    !word.is_empty() && word.len() <= DIGITS && are_digits(word)
+}
+
+/// The number that decimal digits say.
+fn value_of(digits: &[u8]) -> usize
+    requires { says_number digits.now ≡ true }
+    ensures { result ≡ digits_value 10 digits.now }
+{
+    let mut number = 0;
+    'digits: for digit in digits {
+        number = number * 10 + usize::from(*digit - b'0');
+    }
+    number
 }
 
 /// The number that a word says: 1 to 9 decimal digits.
-fn read_number(word: &[u8]) -> Option<usize> {
-    if !is_number(word) {
-        return None;
+fn read_number(word: &[u8]) -> Option<usize>
+    ensures { result ≡ number_in word.now }
+{
+    if is_number(word) {
+        Some(value_of(word))
+    } else {
+        None
     }
-    let mut number = 0;
-    for digit in word {
-        number = number * 10 + usize::from(*digit - b'0');
-    }
-    Some(number)
 }
 
 /// The numbers that the words of a text say.
-fn read_numbers(alloc: Global, text: &[u8]) -> Result<Vec<usize>, PlayCause> {
+fn read_numbers(alloc: Global, text: &[u8]) -> Result<Vec<usize>, PlayCause>
+    ensures ok { IfOk result (λ numbers. numbers_in (words text.now) ≡ Some numbers.items) }
+    ensures err { IfErr result (λ cause. cause ≢ Memory → (cause ≡ Script) × (numbers_in (words text.now) ≡ None)) }
+{
     let mut numbers = Vec::new(alloc);
-    let mut rest = Some(text);
-    while let Some(words) = rest {
-        let (word, behind) = split_word(words);
+    let mut left = text;
+    'words: loop {
+        let (word, behind) = split_word(left);
         let Some(number) = read_number(word) else {
             return Err(PlayCause::Script);
         };
         numbers.push(number)?;
-        rest = behind;
+        match behind {
+            Some(more) => left = more,
+            None => return Ok(numbers),
+        }
     }
-    Ok(numbers)
 }
 
-/// What the first line of a script says.
-pub fn read_shape(alloc: Global, line: &[u8]) -> Result<Shape, PlayCause> {
-    let (b"world", Some(limits)) = split_word(line) else {
-        return Err(PlayCause::Script);
-    };
-    let (history, Some(behind)) = split_word(limits) else {
-        return Err(PlayCause::Script);
-    };
-    let (staged, mirrors) = split_word(behind);
-    let (Some(history), Some(staged)) = (read_number(history), read_number(staged)) else {
-        return Err(PlayCause::Script);
-    };
-    let upstreams = match mirrors {
-        Some(mirrors) => read_numbers(alloc, mirrors)?,
-        None => Vec::new(alloc),
-    };
-    Ok(Shape {
-        history,
-        staged,
-        upstreams,
-    })
+/// Whether a word is this text.
+fn is(word: &[u8], text: &str) -> bool
+    ensures { result ≡ bytes_eq word.now text.now }
+{
+    word == text.as_bytes()
 }
 
-/// Two numbers.
-fn read_pair(text: &[u8]) -> Option<(usize, usize)> {
-    let (first, second) = split_word(text);
-    Some((read_number(first)?, read_number(second?)?))
+/// The numbers behind the name of a script's first line.
+pub fn read_world(alloc: Global, line: &[u8]) -> Result<Vec<usize>, PlayCause>
+    ensures ok { IfOk result (λ numbers. world_numbers (words line.now) ≡ Some numbers.items) }
+    ensures err { IfErr result (λ cause. cause ≢ Memory → (cause ≡ Script) × (shape_in line.now ≡ None)) }
+{
+    let (name, numbers) = split_word(line);
+    match numbers {
+        Some(numbers) if is(name, "world") => read_numbers(alloc, numbers),
+        _ => Err(PlayCause::Script),
+    }
 }
 
-/// What a further line of a script asks for.
-pub fn read_action(line: &[u8]) -> Option<Action> {
+/// The number that a text says, where it is one word.
+fn read_one(text: &[u8]) -> Option<usize>
+    ensures { result ≡ option_and_then one_of (numbers_in (words text.now)) }
+{
+    // No digit is a space.
+    read_number(text)
+}
+
+/// The numbers that a text of two words says.
+fn read_two(text: &[u8]) -> Option<(usize, usize)>
+    ensures { result ≡ option_and_then two_of (numbers_in (words text.now)) }
+{
+    let (first, behind) = split_word(text);
+    let first = read_number(first)?;
+    Some((first, read_one(behind?)?))
+}
+
+/// What this name asks for with one number.
+fn action_named(name: &[u8], number: usize) -> Option<Action>
+    ensures { result ≡ asked_by name.now (number ∷ []) }
+{
+    if is(name, "commit") {
+        Some(Action::Commit(number))
+    } else if is(name, "connect") {
+        Some(Action::Connect(number))
+    } else if is(name, "serve") {
+        Some(Action::Serve(number))
+    } else if is(name, "idle") {
+        Some(Action::Idle(number))
+    } else if is(name, "cut") {
+        Some(Action::Cut(number))
+    } else if is(name, "show") {
+        Some(Action::Show(number))
+    } else {
+        None
+    }
+}
+
+/// What a line of a script asks for that is not the first.
+pub fn read_action(line: &[u8]) -> Option<Action>
+    ensures { result ≡ action_in line.now }
+{
     let (name, numbers) = split_word(line);
     let numbers = numbers?;
-    match name {
-        b"deliver" => {
-            let (mirror, bytes) = read_pair(numbers)?;
-            Some(Action::Deliver(mirror, bytes))
-        }
-        b"commit" => Some(Action::Commit(read_number(numbers)?)),
-        b"connect" => Some(Action::Connect(read_number(numbers)?)),
-        b"serve" => Some(Action::Serve(read_number(numbers)?)),
-        b"idle" => Some(Action::Idle(read_number(numbers)?)),
-        b"cut" => Some(Action::Cut(read_number(numbers)?)),
-        b"show" => Some(Action::Show(read_number(numbers)?)),
-        _ => None,
+    if is(name, "deliver") {
+        let (mirror, bytes) = read_two(numbers)?;
+        return Some(Action::Deliver(mirror, bytes));
     }
-}
-
-/// The lines of a script that are still to be read, and how many were read.
-#[derive(Clone, Copy)]
-pub struct Lines<'a> {
-    rest: &'a [u8],
-    number: u64,
-}
-
-impl<'a> Lines<'a> {
-    /// The lines of this script.
-    pub fn new(script: &'a [u8]) -> Lines<'a> {
-        Lines {
-            rest: script,
-            number: 0,
-        }
-    }
-
-    /// The number of the last line that was read, counted from 1.
-    pub fn number(&self) -> u64 {
-        self.number
-    }
-
-    /// The next line, without its line feed. An unfinished last line is none.
-    pub fn next_line(&mut self) -> Option<&'a [u8]> {
-        let (line, behind) = split_line(self.rest)?;
-        self.rest = behind;
-        self.number += 1;
-        Some(line)
-    }
-
-    /// Whether there are so many lines.
-    pub fn has(&self, count: usize) -> bool {
-        let mut rest = self.rest;
-        for _line in 0..count {
-            let Some((_, behind)) = split_line(rest) else {
-                return false;
-            };
-            rest = behind;
-        }
-        true
-    }
+    let number = read_one(numbers)?;
+    action_named(name, number)
 }
