@@ -4,6 +4,7 @@ pub mod Device
 pub mod Faults
 pub mod Memory
 pub mod Playing
+pub mod Plays
 pub mod Printing
 pub mod Script
 pub mod Status

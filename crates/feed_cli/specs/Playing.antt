@@ -6,8 +6,12 @@ use Rattle.feed_note.specs.Texts.{snapshot_text}
 use Rattle.feed_node.specs.States.{NodeState}
 use Rattle.feed_node.specs.declared.fault.FeedFault.TheVariants.{Memory}
 use Rattle.feed_node.specs.declared.session.Pulled.TheVariants.{More, UpToDate, Gone}
+use Rattle.feed_world.specs.declared.event.Event.{Event}
 use Rattle.feed_world.specs.declared.event.Reply.{Reply}
 use Rattle.feed_world.specs.declared.event.Reply.TheVariants as reply
+use Rattle.feed_world.specs.States.{IsWorld, WorldState, shown_at}
+use Rattle.feed_world.specs.Step.{Step}
+use Rattle.feed_world.specs.World.{World}
 
 abbrev pub as_line : List ℕ → List ℕ
 as_line text = text ++ line_feed ∷ []
@@ -35,3 +39,21 @@ shown_text (Some pair) = snapshot_text (pair.tables) (pair.token)
 -- these bytes were appended
 abbrev pub Prints : List ℕ → List ℕ → (List ℕ → Type 0) → Type 0
 Prints old new Is = (text : List ℕ) × Is text × (new ≡ old ++ text)
+
+-- the world replied to the event, and that is told
+abbrev pub IsReplied : World → Event → List ℕ → World → Type 0
+IsReplied old event text new = (reply : Reply) × Step old event reply new × Tells reply text
+
+-- the same, in memory: of whichever world the state was, that replied
+abbrev pub Replies : Event → WorldState → WorldState → List ℕ → List ℕ → Type 0
+Replies event old new printed_old printed_new =
+    (w : World) → IsWorld w old → (after : World) × IsWorld after new × Prints printed_old printed_new (λ text. IsReplied w event text after)
+
+-- the node of this number shows this, and that is printed
+abbrev pub Shows : WorldState → ℕ → List ℕ → List ℕ → Type 0
+Shows state number printed_old printed_new =
+    (node : NodeState) × (shown_at state number ≡ Some node) × (printed_new ≡ printed_old ++ shown_text node.published)
+
+-- these bytes were printed, after what was
+abbrev pub Grows : List ℕ → List ℕ → Type 0
+Grows old new = (text : List ℕ) × (new ≡ old ++ text)

@@ -1,5 +1,5 @@
 -- What the lines of a script say.
-use Rattle.std.specs.Prelude.{ℕ, Bool, List, [], ◌∷◌, length, Option, Some, None, option_map, if◌then◌else◌, ◌==◌, ◌&&◌, nat_le, codes}
+use Rattle.std.specs.Prelude.{ℕ, ◌+◌, Bool, List, [], ◌∷◌, length, Option, Some, None, option_map, if◌then◌else◌, ◌==◌, ◌&&◌, nat_le, codes}
 use Rattle.std.specs.Option.{option_and_then}
 use Rattle.std.specs.Char.{is_ascii_digit}
 use Rattle.std.specs.List.{list_all}
@@ -86,3 +86,7 @@ shape_in line = option_and_then shape_by (world_numbers (words line))
 pub record LinesLeft : Type 0 where
   pub left : List (List ℕ)
   pub read : ℕ
+
+-- how many lines there are, those that were read among them
+abbrev pub all_lines : LinesLeft → ℕ
+all_lines l = l.read + length l.left

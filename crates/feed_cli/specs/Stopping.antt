@@ -1,5 +1,11 @@
 -- Why a script is not played to its end.
-use Rattle.std.specs.Prelude.{ℕ}
+use Rattle.std.specs.Prelude.{◌≡◌, ℕ, ◌<◌, ◌≤◌, Bool, true, false, List, length, None}
+use Rattle.feed_text.specs.Limits.{line_bytes}
+use Rattle.feed_note.specs.Meaning.{Reason}
+use Rattle.feed_world.specs.States.{IsWorld, WorldState, shown_at}
+use Rattle.feed_world.specs.Step.{IsRefused}
+use Rattle.feed_world.specs.World.{World as Numbers}
+use Rattle.feed_world.specs.declared.event.Event.{Event}
 use Rattle.feed_node.specs.declared.primary.CommitFault.TheVariants as commit
 use Rattle.feed_note.specs.declared.line.LineFault.{LineFault}
 use Rattle.feed_note.specs.declared.line.LineFault.TheVariants as fault
@@ -8,7 +14,7 @@ use Rattle.feed_world.specs.declared.event.ShapeFault.TheVariants as shape
 use Rattle.feed_world.specs.declared.event.WorldFault.{WorldFault}
 use Rattle.feed_world.specs.declared.event.WorldFault.TheVariants as world
 use Rattle.feed_cli.specs.declared.play_fault.PlayCause.{PlayCause}
-use Rattle.feed_cli.specs.declared.play_fault.PlayCause.TheVariants.{Line, World, Shape, Memory}
+use Rattle.feed_cli.specs.declared.play_fault.PlayCause.TheVariants.{Script, Limits, Shape, Line, World, Memory}
 
 -- a feed line has no meaning
 abbrev pub cause_of_line : LineFault → PlayCause
@@ -25,3 +31,39 @@ cause_of_world reason = World reason
 abbrev pub cause_of_shape : ShapeFault → PlayCause
 cause_of_shape shape.BadShape = Shape
 cause_of_shape shape.Memory = Memory
+
+-- why a feed line stops a script: it is longer than a line of a feed may be, or it has no meaning
+abbrev pub StopsFeed : List ℕ → PlayCause → Type 0
+StopsFeed line Script = line_bytes < length line
+StopsFeed line (Line why) = (length line ≤ line_bytes) × Reason line why
+StopsFeed line Limits = ⊥
+StopsFeed line Shape = ⊥
+StopsFeed line (World why) = ⊥
+StopsFeed line Memory = ⊥
+
+-- why an event stops a script: each world of which this is the state refuses it; for want of memory nothing is said
+abbrev pub StopsEvent : WorldState → Event → PlayCause → Type 0
+StopsEvent state event (World why) = (w : Numbers) → IsWorld w state → IsRefused w event why
+StopsEvent state event Memory = Unit {0}
+StopsEvent state event Script = ⊥
+StopsEvent state event Limits = ⊥
+StopsEvent state event Shape = ⊥
+StopsEvent state event (Line why) = ⊥
+
+-- why what a node shows can't be printed
+abbrev pub StopsShow : WorldState → ℕ → PlayCause → Type 0
+StopsShow state number (World why) = (why ≡ world.NoNode) × (shown_at state number ≡ None)
+StopsShow state number Memory = Unit {0}
+StopsShow state number Script = ⊥
+StopsShow state number Limits = ⊥
+StopsShow state number Shape = ⊥
+StopsShow state number (Line why) = ⊥
+
+-- the line is one of the script's, this one or a later one
+pub record IsLineFrom (first last line : ℕ) : Type 0 where
+  pub from : first ≤ line
+  pub to : line ≤ last
+
+abbrev pub is_memory : PlayCause → Bool
+is_memory Memory = true
+is_memory cause = false

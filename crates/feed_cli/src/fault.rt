@@ -2,7 +2,7 @@
 ghost use Rattle.std.specs.Prelude.{◌≡◌};
 
 use crate::input::InputFault;
-use crate::play_fault::{PlayCause, PlayFault};
+use crate::play_fault::PlayFault;
 use feed_node::FeedFault;
 use feed_note::{LineStop, SurveyFault};
 use std::alloc::AllocError;
@@ -47,7 +47,7 @@ impl Fault {
         match self {
             Fault::Memory => 5,
             Fault::Read | Fault::Write | Fault::Turns => 4,
-            Fault::Play(fault) if fault.cause == PlayCause::Memory => 5,
+            Fault::Play(fault) if fault.is_want_of_memory() => 5,
             Fault::TooLong | Fault::Feed(_) | Fault::Survey(_) | Fault::Play(_) => 2,
             Fault::Unpublished => 3,
         }

@@ -1,7 +1,7 @@
 //! Why a script is not played to its end.
 
 ghost use Rattle.std.specs.Prelude.{◌≡◌};
-ghost use Rattle.feed_cli.specs.Stopping.{cause_of_line, cause_of_world, cause_of_shape};
+ghost use Rattle.feed_cli.specs.Stopping.{cause_of_line, cause_of_world, cause_of_shape, is_memory};
 ghost use Rattle.feed_cli.specs.declared.play_fault.PlayCause.TheVariants.{Memory};
 
 use feed_node::CommitFault;
@@ -17,6 +17,15 @@ use thiserror::Error;
 pub struct PlayFault {
     pub line: u64,
     pub cause: PlayCause,
+}
+
+impl PlayFault {
+    /// Whether memory ran out.
+    pub fn is_want_of_memory(&self) -> bool
+        ensures { result ≡ is_memory self.now.cause }
+    {
+        matches!(self.cause, PlayCause::Memory)
+    }
 }
 
 /// Why a script was not played to its end.
