@@ -1,5 +1,5 @@
 -- What the command `play` reads and prints. What is printed is so far known only to be printed whole, or a front of it.
-use Rattle.std.specs.Prelude.{◌≡◌, ℕ, ◌+◌, Bool, true, false, List, length, Option}
+use Rattle.std.specs.Prelude.{◌≡◌, ◌⊎◌, ℕ, ◌+◌, Bool, true, List, length, Option}
 use Rattle.std.specs.Io.KnownBytes.{Appends, Keeps}
 use Rattle.feed_note.specs.Lines.{lines}
 use Rattle.feed_cli.specs.Counting.{IsWhole, InputTooLong}
@@ -23,12 +23,17 @@ pub record PlayedFront (input_old input_new out_old out_new : Option (List ℕ))
   pub whole : IsWhole input_old input_new script
   pub printed : AppendsFront out_old out_new told
 
--- the whole input was read, and stops at one of its lines, or at the one that is missing; what was told before was
--- printed, or a front of it where memory ran out
+-- the text was printed; or, where memory ran out, a front of it
+abbrev pub IsPrinted : Bool → Option (List ℕ) → Option (List ℕ) → List ℕ → Type 0
+IsPrinted without_memory out_old out_new told = Appends out_old out_new told ⊎ ((without_memory ≡ true) × AppendsFront out_old out_new told)
+
+-- the whole input was read, and stops at one of its lines, or at the one that is missing; what was told before was printed
 pub record Stopped (why : PlayFault) (input_old input_new out_old out_new : Option (List ℕ)) : Type 0 where
-  pub front : PlayedFront input_old input_new out_old out_new
-  pub line : IsLineFrom 1 (length (lines front.script) + 1) why.line
-  pub all : is_memory why.cause ≡ false → Appends out_old out_new front.told
+  pub script : List ℕ
+  pub told : List ℕ
+  pub whole : IsWhole input_old input_new script
+  pub line : IsLineFrom 1 (length (lines script) + 1) why.line
+  pub printed : IsPrinted (is_memory why.cause) out_old out_new told
 
 -- what was read and printed where the command fails
 abbrev pub PlayFails : Fault → Option (List ℕ) → Option (List ℕ) → Option (List ℕ) → Option (List ℕ) → Type 0
