@@ -1,5 +1,6 @@
 mod CountingLemmas
 mod DeviceLemmas
+mod FeedLemmas
 mod FeedingLemmas
 mod LineLemmas
 mod NumberLemmas

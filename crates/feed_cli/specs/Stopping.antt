@@ -1,5 +1,12 @@
 -- Why a script is not played to its end.
-use Rattle.std.specs.Prelude.{◌≡◌, ℕ, ◌<◌, ◌≤◌, Bool, true, false, List, length, None}
+use Rattle.std.specs.Prelude.{◌≡◌, ℕ, ◌<◌, ◌≤◌, ◌+◌, ◌⊎◌, Bool, true, false, List, ◌∷◌, ◌++◌, length, None}
+use Rattle.std.specs.List.{AllZip}
+use Rattle.feed_tables.specs.declared.change.Change.{Change}
+use Rattle.feed_note.specs.Counts.{IsRead}
+use Rattle.feed_note.specs.Notes.{all_changes}
+use Rattle.feed_note.specs.declared.line.Line.{Line as Note}
+use Rattle.feed_cli.specs.Script.{LinesLeft}
+use Rattle.feed_cli.specs.declared.play_fault.PlayFault.{PlayFault}
 use Rattle.feed_text.specs.Limits.{line_bytes}
 use Rattle.feed_note.specs.Meaning.{Reason}
 use Rattle.feed_world.specs.States.{IsWorld, WorldState, shown_at}
@@ -67,3 +74,34 @@ pub record IsLineFrom (first last line : ℕ) : Type 0 where
 abbrev pub is_memory : PlayCause → Bool
 is_memory Memory = true
 is_memory cause = false
+
+-- the next lines, so many, were read as feed lines, and these are their changes
+pub record TakesFeed (old new : LinesLeft) (count : ℕ) (changes : List Change) : Type 0 where
+  pub feed : List (List ℕ)
+  pub notes : List Note
+  pub left : old.left ≡ feed ++ new.left
+  pub many : length feed ≡ count
+  pub read : new.read ≡ old.read + count
+  pub meant : AllZip IsRead feed notes
+  pub are : changes ≡ all_changes notes
+
+-- fewer lines follow than were announced: that stops the script at the line that announced them
+pub record HasTooFew (old : LinesLeft) (count : ℕ) (why : PlayFault) : Type 0 where
+  pub few : length old.left < count
+  pub is : why ≡ record { line = old.read; cause = Script }
+
+-- a feed line stops the script, and those before it are read
+pub record HasBadFeed (old : LinesLeft) (count : ℕ) (why : PlayFault) : Type 0 where
+  pub good : List (List ℕ)
+  pub bad : List ℕ
+  pub more : List (List ℕ)
+  pub notes : List Note
+  pub left : old.left ≡ good ++ bad ∷ more
+  pub enough : count ≤ length old.left
+  pub announced : length good < count
+  pub meant : AllZip IsRead good notes
+  pub line : why.line ≡ old.read + length good + 1
+  pub stops : StopsFeed bad why.cause
+
+abbrev pub StopsCommit : LinesLeft → ℕ → PlayFault → Type 0
+StopsCommit old count why = HasTooFew old count why ⊎ HasBadFeed old count why

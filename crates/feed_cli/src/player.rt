@@ -8,7 +8,7 @@ ghost use Rattle.feed_note.specs.Notes.{changes_in};
 ghost use Rattle.feed_note.specs.declared.line.Line.{Line as Note};
 ghost use Rattle.feed_cli.specs.Playing.{Replies, Shows, Grows};
 ghost use Rattle.feed_cli.specs.Script.{all_lines};
-ghost use Rattle.feed_cli.specs.Stopping.{StopsFeed, StopsEvent, StopsShow, IsLineFrom};
+ghost use Rattle.feed_cli.specs.Stopping.{StopsFeed, StopsEvent, StopsShow, TakesFeed, StopsCommit, IsLineFrom};
 ghost use Rattle.feed_cli.specs.declared.play_fault.PlayCause.TheVariants.{Memory};
 
 use crate::lines::Lines;
@@ -50,6 +50,9 @@ fn read_feed_line(alloc: Global, line: &[u8], changes: &mut Vec<Change>) -> Resu
 
 /// The changes of the next feed lines, this many.
 fn read_changes(alloc: Global, lines: &mut Lines<'_>, count: usize) -> Result<Changes, PlayFault>
+    ensures ok { IfOk result (λ changes. TakesFeed lines.old lines.new count changes) }
+    ensures err { IfErr result (λ fault. fault.cause ≢ Memory → StopsCommit lines.old count fault) }
+
     ensures all { all_lines lines.new ≡ all_lines lines.old }
     ensures later { lines.old.read ≤ lines.new.read }
     ensures fewer { length lines.new.left ≤ length lines.old.left }
@@ -65,7 +68,12 @@ fn read_changes(alloc: Global, lines: &mut Lines<'_>, count: usize) -> Result<Ch
     let mut changes = Vec::new(alloc);
     'lines: for _line in 0..count {
         let Some(line) = lines.next_line() else {
-            break 'lines;
+            // There are as many lines, as was seen.
+            let line = lines.number();
+            return Err(PlayFault {
+                line,
+                cause: PlayCause::Script,
+            });
         };
         if let Err(cause) = read_feed_line(alloc, line, &mut changes) {
             let line = lines.number();
