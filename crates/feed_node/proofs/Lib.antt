@@ -3,7 +3,6 @@ pub mod Going
 pub mod Keeping
 pub mod Latest
 pub mod Marked
-pub mod Meant
 pub mod Mirrored
 pub mod Numbering
 pub mod Onward

@@ -10,3 +10,4 @@ pub mod Shown
 pub mod Staged
 pub mod Staging
 pub mod States
+pub mod Steps

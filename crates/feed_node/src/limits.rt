@@ -45,16 +45,16 @@ impl Limits {
         }
     }
 
-    /// How many commits are kept at most.
-    pub(crate) fn history(self) -> usize
+    /// How many commits are kept at most, 1 to 65,536.
+    pub fn history(self) -> usize
         ensures history { result ≡ self.history }
         ensures within { IsInRange self.history self.staged }
     {
         self.history
     }
 
-    /// How many changes may wait for a token, and what the size of published tables may be.
-    pub(crate) fn staged(self) -> usize
+    /// How many changes may wait for a token at most, 1 to 1,000,000; and the greatest size of published tables.
+    pub fn staged(self) -> usize
         ensures staged { result ≡ self.staged }
         ensures within { IsInRange self.history self.staged }
     {

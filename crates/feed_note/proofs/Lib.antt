@@ -22,3 +22,5 @@ pub mod OneMeaning
 pub mod Openings
 pub mod Piecewise
 pub mod Usual
+pub mod Decided
+pub mod Meant

@@ -25,15 +25,22 @@ module _ {X : Type 0} (P : X → Type 0) where
       let rest = all-filter keep xs p.1 in
       elim (keep x) as (λ b. AllByRecursion P (cond b (x ∷ filter keep xs) (filter keep xs))) [ true ↦ (p.0, rest) | false ↦ rest ]
 
--- a table put under a type
-pub all-put : (k : List ℕ) (t : Table) (es : List (List ℕ × Table)) → IsName k → IsTable t → AreTypes es → AreTypes (put byte_order k t es)
-all-put k t [] n h p = ((n, h), tt)
-all-put k t (e ∷ es) n h p =
-    elim (byte_order k e.0) as (λ o. AreTypes (by_order o ((k, t) ∷ e ∷ es) ((e.0, t) ∷ es) (e ∷ put byte_order k t es))) [
+-- the keys are names, and this holds of the values
+abbrev pub AllNamed : {X : Type 0} → (X → Type 0) → List (List ℕ × X) → Type 0
+AllNamed Q es = AllByRecursion (λ e. IsName e.0 × Q e.1) es
+
+-- a value put under a name
+pub named_put : {X : Type 0} (Q : X → Type 0) (k : List ℕ) (v : X) (es : List (List ℕ × X)) → IsName k → Q v → AllNamed Q es → AllNamed Q (put byte_order k v es)
+named_put Q k v [] n h p = ((n, h), tt)
+named_put Q k v (e ∷ es) n h p =
+    elim (byte_order k e.0) as (λ o. AllNamed Q (by_order o ((k, v) ∷ e ∷ es) ((e.0, v) ∷ es) (e ∷ put byte_order k v es))) [
       | Less ↦ ((n, h), p)
       | Equal ↦ ((p.0.0, h), p.1)
-      | Greater ↦ (p.0, all-put k t es n h p.1)
+      | Greater ↦ (p.0, named_put Q k v es n h p.1)
     ]
+
+pub all-put : (k : List ℕ) (t : Table) (es : List (List ℕ × Table)) → IsName k → IsTable t → AreTypes es → AreTypes (put byte_order k t es)
+all-put = named_put IsTable
 
 pub types_either : {A E : Type 0} (es fs : List (List ℕ × Table)) (k : List ℕ) (t : Table) → AreTypes es → IsName k → IsTable t
     → (r : Result A E) → OnOk r (fs ≡ put byte_order k t es) → OnErr r (fs ≡ es) → AreTypes fs

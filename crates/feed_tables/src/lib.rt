@@ -1,14 +1,16 @@
 //! Names, changes and tables of contest objects.
 #![tactic(auto)]
 
-pub mod change;
+mod change;
 mod collection;
-pub mod name;
+mod laws;
+mod name;
 mod objects;
 mod place;
-pub mod tables;
+mod tables;
 
 pub use change::{Change, Changes};
+pub use laws::table_laws;
 pub use name::{Name, NameFault};
 pub use tables::Tables;
 

@@ -3,6 +3,7 @@ use Rattle.std.proofs.Common.{◌≡◌, refl, sym, ap, ◌∙◌, subst, ℕ, z
 use Rattle.std.specs.Prelude.{if◌then◌else◌, ◌==◌}
 use Rattle.std.proofs.lemmas.List.Sums.{fold-append}
 use Rattle.feed_text.specs.Limits.{line_bytes}
+use Rattle.feed_tables.specs.Listings.{ListingRestores, ListingHasSize, ListingIsWithin}
 use Rattle.feed_tables.specs.Tables.{after_all, no_tables, listing, size}
 use Rattle.feed_note.specs.declared.line.Line.{Line}
 use Rattle.feed_note.specs.declared.line.Line.TheVariants.{KeepAlive}
@@ -13,7 +14,7 @@ use Rattle.feed_node.specs.Log.{token_after}
 use Rattle.feed_node.specs.Mirroring.{token_count}
 use Rattle.feed_node.specs.States.{reset_to}
 use Rattle.feed_node.specs.Staging.{Standing, step, steps, AllTaken}
-use Rattle.feed_world.specs.Below.{ListingRestores, ListingHasSize, ListingIsWithin, StepsRead, TakenAreGood, standing_after}
+use Rattle.feed_node.specs.Steps.{StepsRead, TakenAreGood, standing_after}
 use Rattle.feed_world.specs.Connection.{Part, Snapshot, Commit, Line_feed, part_text, parts_text, block_onto, blocks_within, moved_by, GoOn, first_parts}
 use Rattle.feed_world.specs.Log.{Log, all_changes, state_after, changes_of_commit, IsLog}
 use Rattle.feed_world.specs.Position.{Position, commits_after, node_at, node_where, renewed, IsPosition, IsPlace}
@@ -21,6 +22,7 @@ use Rattle.feed_node.specs.Log.{tokens_from}
 use Rattle.feed_world.specs.Reading.{opening_at, FrontsAreRead}
 use Rattle.feed_world.proofs.Batches.{batch_lines, batch_notes, ended-batch, length-batch_lines, batch_is_short, taken_batch, steps_batch, token_count-batch, token_count-append, PublishesNothing, part_of_batch, taken-append, taken-take, not_less, fits_by}
 use Rattle.feed_world.proofs.Commits.{state_one_more, changes_within, token_is_name, next_not_held, next_position, renewed_is_position, latest_at}
+use Rattle.feed_world.proofs.Growth.{goes_up}
 use Rattle.feed_world.proofs.Lines.{cuts_of_one, AreShort, unbroken, lines_behind, no_lines, front_lines}
 use Rattle.feed_world.proofs.Listings.{listing_is_some, size_none}
 
@@ -47,7 +49,7 @@ and_true : (b : Bool) → (b && true) ≡ b
 and_true true = refl
 and_true false = refl
 
-not_zero : (n : ℕ) → (suc n == 0) ≡ false
+pub not_zero : (n : ℕ) → (suc n == 0) ≡ false
 not_zero n = by (suc n == 0) refl
   where
     by : (b : Bool) → (suc n == 0) ≡ b → (suc n == 0) ≡ false
@@ -223,12 +225,6 @@ module _ (cut : LinesCut) (only_cut : LinesAreTheOnlyCut) (written : WrittenLine
         count = token_count-batch cs token some;
         before = λ j less. part_of_batch s cs token j (let l = length-batch_lines cs token in omega arith);
       }
-
-  goes_up : (k : ℕ) (parts : List Part) (last : ℕ) → GoOn k parts last → k ≤ last
-  goes_up k [] last g = omega arith
-  goes_up k (Line_feed ∷ parts) last g = goes_up k parts last g
-  goes_up k (Commit n ∷ parts) last g = let later = goes_up (k + 1) parts last g.1 in omega arith
-  goes_up k (Snapshot n ∷ parts) last g = absurd g
 
   -- from a position on
   since : (more : List Part) (p : Position) (last : ℕ) → IsPosition limits log p → GoOn p.at more last → last ≤ length log

@@ -1,21 +1,23 @@
 -- Whatever happens in a world, each node stays at a number of the log.
-use Rattle.std.proofs.Common.{◌≡◌, refl, sym, subst, ℕ, zero, suc, ◌+◌, ◌-◌, ◌<◌, ◌≤◌, Bool, true, false, ◌&&◌, arith, List, [], ◌∷◌, ◌++◌, length, drop, map, length-append, Option, Some, None, Ok, Err, IfSome, nat_le, nat_lt, ltb-true}
+use Rattle.std.proofs.Common.{◌≡◌, refl, sym, subst, ℕ, zero, suc, ◌+◌, ◌-◌, ◌<◌, ◌≤◌, Bool, true, false, ◌&&◌, arith, List, [], ◌∷◌, ◌++◌, length, drop, map, length-append, Option, Some, None, Result, Ok, Err, IfOk, IfSome, nat_le, nat_lt, ltb-true}
 use Rattle.std.specs.Prelude.{if◌then◌else◌, slice_get, slice_set, ◌==◌}
 use Rattle.std.specs.Option.{option_and_then}
 use Rattle.std.specs.List.{AllByRecursion}
 use Rattle.feed_tables.specs.declared.change.Change.{Change}
 use Rattle.feed_node.specs.declared.fault.FeedFault.TheVariants.{NotOpen, LongLine, Line as BadLine, TokenAgain, StageFull, Memory as FeedMemory}
 use Rattle.feed_node.specs.declared.primary.CommitFault.{CommitFault}
+use Rattle.feed_node.specs.declared.session.Pulled.{Pulled}
 use Rattle.feed_node.specs.Log.{commit_fault}
 use Rattle.feed_world.specs.declared.event.Event.{Event}
 use Rattle.feed_world.specs.declared.event.Event.TheVariants.{Commit as DoCommit, Connect, Serve, Idle, Deliver, Cut as DoCut}
 use Rattle.feed_world.specs.declared.event.Reply.{Reply}
 use Rattle.feed_world.specs.declared.event.Reply.TheVariants.{Committed, Opened, Refused, NotYet, Sent, Idled, Delivered, Broke, Cut}
+use Rattle.feed_world.specs.declared.event.WorldFault.{WorldFault}
 use Rattle.feed_world.specs.Agreement.{IsStateOfLog, AllFollow, EveryRunAgrees}
 use Rattle.feed_world.specs.Connection.{Part, Snapshot, Commit, Line_feed, Connection, part_text, block_onto, blocks_within, blocks_between, moved, moved_by}
 use Rattle.feed_world.specs.Log.{Log}
 use Rattle.feed_world.specs.Position.{Position, node_where}
-use Rattle.feed_world.specs.Step.{Outcome, Step, Run, outcome, commits_unless, primary_of, with_node, with_connection, connects, connects_to, holds_number, opens, new_connection, linked, refused, serves, serves_from, with_more, ended, ends, idles, with_line_feed, delivers, delivered_to, brought_to, reached}
+use Rattle.feed_world.specs.Step.{Move, Outcome, Step, Run, outcome, commits_unless, primary_of, after_move, with_node, with_connection, connects, connects_to, holds_number, opens, new_connection, linked, serves, serves_from, idles, delivered_to, brought_to, reached}
 use Rattle.feed_world.specs.World.{World, Mirror, new_world, new_mirror, mirror_at, with_mirror, place_at}
 use Rattle.feed_world.proofs.Agreement.{agree}
 
@@ -115,15 +117,72 @@ moved_by_in : (history n : ℕ) (place : Option Position) (bs : List Part) → I
 moved_by_in history n place [] h p = h
 moved_by_in history n place (b ∷ bs) h p = moved_by_in history n (moved history place b) bs (moved_in history n place b h p.0) p.1
 
--- ---- events
+-- ---- what happens to one mirror
 
-choose : (b : Bool) (x y : Outcome) → (b ≡ true → Leads x) → (b ≡ false → Leads y) → Leads (if b then x else y)
-choose true x y f g = f refl
-choose false x y f g = g refl
+choose : (n : ℕ) (b : Bool) (x y : Move) → (b ≡ true → IsMirrorIn n x.1) → (b ≡ false → IsMirrorIn n y.1) → IsMirrorIn n (if b then x else y).1
+choose n true x y f g = f refl
+choose n false x y f g = g refl
+
+choose_sent : (n : ℕ) (b : Bool) (x y : Pulled × Connection) → (b ≡ true → IsSentIn n x.1) → (b ≡ false → IsSentIn n y.1) → IsSentIn n (if b then x else y).1
+choose_sent n true x y f g = f refl
+choose_sent n false x y f g = g refl
+
+choose_idled : (n : ℕ) (b : Bool) (x y : Reply × Connection) → IsSentIn n x.1 → IsSentIn n y.1 → IsSentIn n (if b then x else y).1
+choose_idled n true x y f g = f
+choose_idled n false x y f g = g
 
 second_true : (a b : Bool) → (a && b) ≡ true → b ≡ true
 second_true true b e = e
 second_true false b e = absurd (cc)
+
+module _ (n : ℕ) where
+  linked_in : (m : Mirror) (c : Option Connection) → IsMirrorIn n m → IfSome c (IsSentIn n) → IsMirrorIn n (linked m c)
+  linked_in m c p q = record { place = p.place; connection = q }
+
+  opens_in : (m : Mirror) (fresh : Bool) (start : ℕ) → IsMirrorIn n m → start ≤ n → IsMirrorIn n (opens m fresh start).1
+  opens_in m true start p s = linked_in m (Some (new_connection true start)) p (record { parts = (s, tt); last = s })
+  opens_in m false start p s = linked_in m (Some (new_connection false start)) p (record { parts = tt; last = s })
+
+  connect_to_in : (m : Mirror) (server : Position) (own : Option Position) → IsMirrorIn n m → server.at ≤ n → IsPlaceIn n own → IsMirrorIn n (connects_to m server own).1
+  connect_to_in m server None p s q = opens_in m true server.at p s
+  connect_to_in m server (Some own) p s q =
+      choose n m.afresh _ _ (λ e. opens_in m true server.at p s)
+      (λ e. choose n (holds_number server own.at) _ _ (λ f. opens_in m false own.at p q) (λ f. record { place = p.place; connection = tt }))
+
+  connect_in : (m : Mirror) (server : Option Position) → IsMirrorIn n m → IsPlaceIn n server → IsMirrorIn n (connects m server).1
+  connect_in m None p s = linked_in m None p tt
+  connect_in m (Some server) p s = connect_to_in m server m.place p s p.place
+
+  serve_from_in : (c : Connection) (server : Option Position) → IsSentIn n c → IsPlaceIn n server → IsSentIn n (serves_from c server).1
+  serve_from_in c None s q = record { parts = s.parts; last = s.last }
+  serve_from_in c (Some server) s q =
+      choose_sent n (c.last == server.at) _ _ (λ e. s)
+      (λ e. choose_sent n (nat_le server.low c.last && nat_lt c.last server.at) _ _
+      (λ f. let less : c.last < server.at = ltb-true c.last server.at (second_true (nat_le server.low c.last) (nat_lt c.last server.at) f) in
+      let there : server.at ≤ n = q in
+      let within : c.last + 1 ≤ n = omega arith in
+      record { parts = all_one_more (IsPartIn n) c.parts (Commit (c.last + 1)) s.parts within; last = within })
+      (λ f. record { parts = s.parts; last = s.last }))
+
+  serve_in : (c : Connection) (server : Option Position) → IsSentIn n c → IsPlaceIn n server → IsSentIn n (serves c server).1
+  serve_in c server s q = choose_sent n c.over _ _ (λ e. s) (λ e. serve_from_in c server s q)
+
+  idle_in : (c : Connection) → IsSentIn n c → IsSentIn n (idles c).1
+  idle_in c s = choose_idled n c.over _ _ s (record { parts = all_one_more (IsPartIn n) c.parts Line_feed s.parts tt; last = s.last })
+
+  brought_in : (history : ℕ) (log : Log) (m : Mirror) (c : Connection) (e : ℕ) (after : Option Connection) → IsMirrorIn n m → IsSentIn n c → IfSome after (IsSentIn n) → IsMirrorIn n (brought_to history log m c e after)
+  brought_in history log m c e after p s q =
+      record {
+        place = moved_by_in history n m.place (blocks_between log c c.delivered e) p.place
+            (all_drop (IsPartIn n) (length (blocks_within log c.parts c.delivered)) (blocks_within log c.parts e) (blocks_in log n c.parts e s.parts));
+        connection = q;
+      }
+
+  at_link : (m : Mirror) (o : Option Connection) (act : Connection → Move) → IfSome o (IsSentIn n) → ((c : Connection) → IsSentIn n c → IsMirrorIn n (act c).1) → IfOk (with_connection o act) (λ move. IsMirrorIn n move.1)
+  at_link m None act p f = tt
+  at_link m (Some c) act p f = f c p
+
+-- ---- what happens in a world
 
 module _ (w : World) (h : IsWorldIn w) where
   place_of : (o : Option Mirror) → IfSome o (IsMirrorIn (length w.log)) → IsPlaceIn (length w.log) (option_and_then (λ mirror. mirror.place) o)
@@ -139,10 +198,8 @@ module _ (w : World) (h : IsWorldIn w) where
   mirror_in (suc i) = all_get (IsMirrorIn (length w.log)) w.mirrors i h.mirrors
 
   set_in : (i : ℕ) (m : Mirror) → IsMirrorIn (length w.log) m → IsWorldIn (with_mirror w i m)
-  set_in i m p = record { primary = h.primary; mirrors = all_set (IsMirrorIn (length w.log)) w.mirrors (i - 1) m p h.mirrors }
-
-  linked_in : (i : ℕ) (m : Mirror) (c : Option Connection) → IsMirrorIn (length w.log) m → IfSome c (IsSentIn (length w.log)) → IsWorldIn (with_mirror w i (linked m c))
-  linked_in i m c p q = set_in i (linked m c) (record { place = p.place; connection = q })
+  set_in zero m p = h
+  set_in (suc i) m p = record { primary = h.primary; mirrors = all_set (IsMirrorIn (length w.log)) w.mirrors i m p h.mirrors }
 
   commit_leads : (changes : List Change) (fault : Option CommitFault) → Leads (commits_unless w changes fault)
   commit_leads changes (Some fault) = tt
@@ -154,73 +211,27 @@ module _ (w : World) (h : IsWorldIn w) where
         mirrors = all_imply (IsMirrorIn (length w.log)) (IsMirrorIn (length (w.log ++ changes ∷ []))) (mirror_grows (length w.log) (length (w.log ++ changes ∷ [])) (omega arith)) w.mirrors h.mirrors;
       }
 
-  opens_leads : (i : ℕ) (m : Mirror) (fresh : Bool) (start : ℕ) → IsMirrorIn (length w.log) m → start ≤ length w.log → Leads (opens w i m fresh start)
-  opens_leads i m true start p s = linked_in i m (Some (new_connection true start)) p (record { parts = (s, tt); last = s })
-  opens_leads i m false start p s = linked_in i m (Some (new_connection false start)) p (record { parts = tt; last = s })
+  move_leads : (i : ℕ) (r : Result Move WorldFault) → IfOk r (λ move. IsMirrorIn (length w.log) move.1) → Leads (after_move w i r)
+  move_leads i (Ok move) p = set_in i move.1 p
+  move_leads i (Err fault) p = tt
 
-  connect_to_leads : (i : ℕ) (m : Mirror) (server : Position) (own : Option Position) → IsMirrorIn (length w.log) m → server.at ≤ length w.log → IsPlaceIn (length w.log) own → Leads (connects_to w i m server own)
-  connect_to_leads i m server None p s q = opens_leads i m true server.at p s
-  connect_to_leads i m server (Some own) p s q =
-      choose m.afresh _ _ (λ e. opens_leads i m true server.at p s)
-      (λ e. choose (holds_number server own.at) _ _ (λ f. opens_leads i m false own.at p q) (λ f. set_in i (refused m) (record { place = p.place; connection = tt })))
-
-  connect_leads : (i : ℕ) (m : Mirror) (server : Option Position) → IsMirrorIn (length w.log) m → IsPlaceIn (length w.log) server → Leads (connects w i m server)
-  connect_leads i m None p s = linked_in i m None p tt
-  connect_leads i m (Some server) p s = connect_to_leads i m server m.place p s p.place
-
-  ends_leads : (i : ℕ) (m : Mirror) (c : Connection) → IsMirrorIn (length w.log) m → IsSentIn (length w.log) c → Leads (ends w i m c)
-  ends_leads i m c p s = linked_in i m (Some (ended c)) p (record { parts = s.parts; last = s.last })
-
-  serve_from_leads : (i : ℕ) (m : Mirror) (c : Connection) (server : Option Position) → IsMirrorIn (length w.log) m → IsSentIn (length w.log) c → IsPlaceIn (length w.log) server → Leads (serves_from w i m c server)
-  serve_from_leads i m c None p s q = ends_leads i m c p s
-  serve_from_leads i m c (Some server) p s q =
-      choose (c.last == server.at) _ _ (λ e. h)
-      (λ e. choose (nat_le server.low c.last && nat_lt c.last server.at) _ _
-      (λ f. let less : c.last < server.at = ltb-true c.last server.at (second_true (nat_le server.low c.last) (nat_lt c.last server.at) f) in
-      let there : server.at ≤ length w.log = q in
-      let within : c.last + 1 ≤ length w.log = omega arith in
-      linked_in i m (Some (with_more c)) p (record { parts = all_one_more (IsPartIn (length w.log)) c.parts (Commit (c.last + 1)) s.parts within; last = within }))
-      (λ f. ends_leads i m c p s))
-
-  serve_leads : (i : ℕ) (m : Mirror) (c : Connection) → IsMirrorIn (length w.log) m → IsSentIn (length w.log) c → Leads (serves w i m c)
-  serve_leads i m c p s = choose c.over _ _ (λ e. h) (λ e. serve_from_leads i m c (place_at w m.upstream) p s (place_in m.upstream))
-
-  idle_leads : (i : ℕ) (m : Mirror) (c : Connection) → IsMirrorIn (length w.log) m → IsSentIn (length w.log) c → Leads (idles w i m c)
-  idle_leads i m c p s =
-      choose c.over _ _ (λ e. h)
-      (λ e. linked_in i m (Some (with_line_feed c)) p (record { parts = all_one_more (IsPartIn (length w.log)) c.parts Line_feed s.parts tt; last = s.last }))
-
-  brought_in : (i : ℕ) (m : Mirror) (c : Connection) (e : ℕ) (after : Option Connection) → IsMirrorIn (length w.log) m → IsSentIn (length w.log) c → IfSome after (IsSentIn (length w.log))
-      → IsWorldIn (brought_to w i m c e after)
-  brought_in i m c e after p s q =
-      set_in i _ (record {
-        place = moved_by_in w.limits.history (length w.log) m.place (blocks_between w.log c c.delivered e) p.place
-            (all_drop (IsPartIn (length w.log)) (length (blocks_within w.log c.parts c.delivered)) (blocks_within w.log c.parts e) (blocks_in w.log (length w.log) c.parts e s.parts));
-        connection = q;
-      })
-
-  deliver_leads : (i n : ℕ) (m : Mirror) (c : Connection) → IsMirrorIn (length w.log) m → IsSentIn (length w.log) c → Leads (delivers w i m c n)
-  deliver_leads i n m c p s = brought_in i m c (reached w c n) (Some (delivered_to c (reached w c n))) p s (record { parts = s.parts; last = s.last })
-
-  at_node : (o : Option Mirror) (act : Mirror → Outcome) → IfSome o (IsMirrorIn (length w.log)) → ((m : Mirror) → IsMirrorIn (length w.log) m → Leads (act m)) → Leads (with_node o act)
-  at_node None act p f = tt
-  at_node (Some m) act p f = f m p
-
-  at_connection : (o : Option Connection) (act : Connection → Outcome) → IfSome o (IsSentIn (length w.log)) → ((c : Connection) → IsSentIn (length w.log) c → Leads (act c)) → Leads (with_connection o act)
-  at_connection None act p f = tt
-  at_connection (Some c) act p f = f c p
-
-  on_connection_leads : (i : ℕ) (act : Mirror → Connection → Outcome) → ((m : Mirror) (c : Connection) → IsMirrorIn (length w.log) m → IsSentIn (length w.log) c → Leads (act m c))
-      → Leads (with_node (mirror_at w i) (λ mirror. with_connection mirror.connection (act mirror)))
-  on_connection_leads i act f = at_node (mirror_at w i) _ (mirror_in i) (λ m p. at_connection m.connection (act m) p.connection (λ c s. f m c p s))
+  node_leads : (i : ℕ) (o : Option Mirror) (act : Mirror → Result Move WorldFault) → IfSome o (IsMirrorIn (length w.log))
+      → ((m : Mirror) → IsMirrorIn (length w.log) m → IfOk (act m) (λ move. IsMirrorIn (length w.log) move.1)) → Leads (with_node w i o act)
+  node_leads i None act p f = tt
+  node_leads i (Some m) act p f = move_leads i (act m) (f m p)
 
   event_leads : (event : Event) → Leads (outcome w event)
   event_leads (DoCommit changes) = commit_leads changes (commit_fault (primary_of w) changes)
-  event_leads (Connect i) = at_node (mirror_at w i) _ (mirror_in i) (λ m p. connect_leads i m (place_at w m.upstream) p (place_in m.upstream))
-  event_leads (Serve i) = on_connection_leads i (serves w i) (serve_leads i)
-  event_leads (Idle i) = on_connection_leads i (idles w i) (idle_leads i)
-  event_leads (Deliver i n) = on_connection_leads i (λ m c. delivers w i m c n) (deliver_leads i n)
-  event_leads (DoCut i) = on_connection_leads i _ (λ m c p s. linked_in i m None p tt)
+  event_leads (Connect i) = node_leads i (mirror_at w i) _ (mirror_in i) (λ m p. connect_in (length w.log) m (place_at w m.upstream) p (place_in m.upstream))
+  event_leads (Serve i) =
+      node_leads i (mirror_at w i) _ (mirror_in i)
+      (λ m p. at_link (length w.log) m m.connection _ p.connection (λ c s. linked_in (length w.log) m _ p (serve_in (length w.log) c (place_at w m.upstream) s (place_in m.upstream))))
+  event_leads (Idle i) = node_leads i (mirror_at w i) _ (mirror_in i) (λ m p. at_link (length w.log) m m.connection _ p.connection (λ c s. linked_in (length w.log) m _ p (idle_in (length w.log) c s)))
+  event_leads (Deliver i n) =
+      node_leads i (mirror_at w i) _ (mirror_in i)
+      (λ m p. at_link (length w.log) m m.connection _ p.connection
+      (λ c s. brought_in (length w.log) w.limits.history w.log m c (reached w.log c n) (Some (delivered_to c (reached w.log c n))) p s (record { parts = s.parts; last = s.last })))
+  event_leads (DoCut i) = node_leads i (mirror_at w i) _ (mirror_in i) (λ m p. at_link (length w.log) m m.connection _ p.connection (λ c s. linked_in (length w.log) m None p tt))
 
 step_leads : (w : World) (event : Event) (reply : Reply) (new : World) → IsWorldIn w → Step w event reply new → IsWorldIn new
 step_leads w (DoCommit changes) reply new h s = subst Leads s (event_leads w h (DoCommit changes))
@@ -244,7 +255,7 @@ step_leads w (Deliver i n) (Broke b StageFull) new h s = subst Leads s (event_le
 step_leads w (Deliver i n) (Broke b FeedMemory) new h (same, s) =
     let p : IsMirrorIn (length w.log) s.mirror = subst (λ o. IfSome o (IsMirrorIn (length w.log))) s.is_there (mirror_in w h i) in
     let q : IsSentIn (length w.log) s.connection = subst (λ o. IfSome o (IsSentIn (length w.log))) s.is_linked p.connection in
-    subst IsWorldIn (sym s.after) (brought_in w h i s.mirror s.connection s.e None p q tt)
+    subst IsWorldIn (sym s.after) (set_in w h i _ (brought_in (length w.log) w.limits.history w.log s.mirror s.connection s.e None p q tt))
 
 run_leads : (w : World) (events : List Event) (replies : List Reply) (new : World) → IsWorldIn w → Run w events replies new → IsWorldIn new
 run_leads w [] [] new h r = subst IsWorldIn (sym r) h

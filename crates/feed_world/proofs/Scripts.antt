@@ -1,13 +1,16 @@
 -- Runs of a world, computed.
-use Rattle.std.proofs.Common.{◌≡◌, sym, ◌∙◌, ℕ, List, [], ◌∷◌, ◌++◌, length, Option, Some, None, Result, Ok, Err, refl, codes, Bool, true, false, arith}
+use Rattle.std.proofs.Common.{◌≡◌, sym, ap, ◌∙◌, ℕ, List, [], ◌∷◌, ◌++◌, length, Option, Some, None, Result, Ok, Err, refl, codes, Bool, true, false, cond, not, arith}
 use Rattle.std.specs.Fmt.{digits}
-use Rattle.std.specs.FinMap.{FinMap, empty, entries, get-entries, len-entries, len-empty, insert, remove, put, entries-insert}
+use Rattle.std.specs.Cmp.{IsTotalOrder, eq_by_cmp_equiv, alike_right}
+use Rattle.std.specs.Cmp.Lexicographic.{nat_list_cmp_total}
+use Rattle.std.specs.Ordering.{eq_by_cmp, is_eq}
+use Rattle.std.specs.FinMap.{FinMap, empty, entries, entries_sorted, find, from_sorted, entries-from_sorted, get-from_sorted, get-entries, get-remove, same_map, len-entries, len-empty, insert, remove, put, entries-insert, slice_cmp-IsAntisymmetric, nat_cmp-IsAntisymmetric}
+use Rattle.std.specs.FinMap.Entries.{is_sorted-where_key, find-where_key}
 use Rattle.feed_text.specs.Strings.{written_string}
 use Rattle.feed_tables.specs.Bytes.{byte_order, without}
 use Rattle.feed_tables.specs.Tables.{after}
 use Rattle.feed_tables.specs.declared.change.Change.{Change}
 use Rattle.feed_tables.specs.declared.change.Change.TheVariants.{Set, Remove, Single, Clear}
-use Rattle.feed_tables.proofs.AtFork.{total}
 use Rattle.feed_note.specs.Texts.{published_text}
 use Rattle.feed_node.specs.declared.primary.CommitFault.TheVariants.{EmptyBatch}
 use Rattle.feed_node.specs.declared.session.Pulled.TheVariants.{More, UpToDate, Gone}
@@ -22,7 +25,6 @@ use Rattle.feed_world.specs.Log.{Log}
 use Rattle.feed_world.specs.Position.{Position}
 use Rattle.feed_world.specs.World.{World, Mirror, new_world, node_of}
 use Rattle.feed_world.specs.Step.{Outcome, outcome}
-use Rattle.feed_world.proofs.Listings.{entries_without}
 
 no_length : {A : Type 0} (es : List A) → length es ≡ 0 → es ≡ []
 no_length [] e = refl
@@ -31,11 +33,29 @@ no_length (x ∷ es) e = absurd (omega arith)
 entries-empty : (X : Type 0) → entries (empty {X = X} {R = byte_order}) ≡ []
 entries-empty X = no_length _ (sym (len-entries (empty {X = X} {R = byte_order})) ∙ len-empty byte_order X)
 
+total : IsTotalOrder byte_order
+total = nat_list_cmp_total
+
 entries-inserted : {X : Type 0} (m : FinMap byte_order X) (k : List ℕ) (v : X) → entries (insert m k v) ≡ put byte_order k v (entries m)
 entries-inserted m k v = entries-insert total m k v
 
-entries-removed : {X : Type 0} (m : FinMap byte_order X) (k : List ℕ) → entries (remove m k) ≡ without k (entries m)
-entries-removed m k = entries_without (λ v. Unit {0}) m k
+turned : {A : Type 0} (b : Bool) (x y : A) → cond (not b) x y ≡ cond b y x
+turned true x y = refl
+turned false x y = refl
+
+module _ {X : Type 0} (m : FinMap byte_order X) (k : List ℕ) where
+  found_without : (q : List ℕ) → find byte_order q (without k (entries m)) ≡ cond (eq_by_cmp byte_order q k) None (find byte_order q (entries m))
+  found_without q =
+      find-where_key byte_order (λ x. not (eq_by_cmp byte_order k x)) q (λ x t. ap (λ r. not (is_eq r)) (sym (alike_right total q x k t))) (entries m)
+      ∙ turned (eq_by_cmp byte_order k q) _ _
+      ∙ ap (λ b. cond b None (find byte_order q (entries m))) ((eq_by_cmp_equiv total).symm k q)
+
+  entries-removed : entries (remove m k) ≡ without k (entries m)
+  entries-removed =
+      let sorted = is_sorted-where_key byte_order (λ x. not (eq_by_cmp byte_order k x)) (entries m) (entries_sorted m) in
+      let same : remove m k ≡ from_sorted (without k (entries m)) = same_map total (slice_cmp-IsAntisymmetric nat_cmp-IsAntisymmetric) _ _ (λ q.
+      get-remove total m k q ∙ ap (cond (eq_by_cmp byte_order q k) None) (get-entries m q) ∙ sym (get-from_sorted byte_order (without k (entries m)) q sorted ∙ found_without q)) in
+      ap entries same ∙ entries-from_sorted byte_order (without k (entries m)) sorted
 
 abbrev Replies : Type 0
 Replies = List (Result Reply WorldFault)

@@ -3,8 +3,7 @@ use Rattle.std.specs.Prelude.{refl, ℕ, Bool, List, Option}
 use Rattle.std.specs.Coded.{Coded, code_by, coded×, coded_list, coded_option, coded_ℕ, coded_bool}
 use Rattle.feed_tables.specs.Codes.{text_code}
 use Rattle.feed_node.specs.declared.commit.Commit.{Commit}
-use Rattle.feed_node.specs.Codes.{commit_code, limits_code, mirror_code, primary_code}
-use Rattle.feed_node.specs.Limits.{Limits}
+use Rattle.feed_node.specs.Codes.{commit_code, mirror_code, primary_code}
 use Rattle.feed_node.specs.Log.{PrimaryState}
 use Rattle.feed_node.specs.Mirroring.{MirrorState}
 use Rattle.feed_world.specs.States.{ConnectionState, FollowerState, WorldState}
@@ -21,5 +20,5 @@ follower_code =
 
 abbrev pub world_code : Coded WorldState
 world_code =
-    code_by ((Limits × PrimaryState) × (List Commit × List FollowerState)) (coded× (coded× limits_code primary_code) (coded× (coded_list commit_code) (coded_list follower_code)))
-    (λ w. ((w.limits, w.primary), (w.log, w.followers))) (λ p. record { limits = p.0.0; primary = p.0.1; log = p.1.0; followers = p.1.1 }) (λ _. refl)
+    code_by (PrimaryState × (List Commit × List FollowerState)) (coded× primary_code (coded× (coded_list commit_code) (coded_list follower_code)))
+    (λ w. (w.primary, (w.log, w.followers))) (λ p. record { primary = p.0; log = p.1.0; followers = p.1.1 }) (λ _. refl)

@@ -1,5 +1,4 @@
 pub mod Agreement
-pub mod Below
 pub mod Codes
 pub mod Connection
 pub mod Laws

@@ -17,12 +17,12 @@ use Rattle.feed_node.specs.Mirroring.{MirrorState, StandsAt, new_mirror}
 use Rattle.feed_node.specs.States.{NodeState, published_token}
 use Rattle.feed_note.specs.Publishing.{Published}
 use Rattle.feed_note.specs.declared.line.Line.{Line}
-use Rattle.feed_world.specs.Connection.{Connection, sent_text, blocks_within, moved_by}
+use Rattle.feed_world.specs.Connection.{Connection, sent_text, bytes_sent, blocks_within, moved_by}
 use Rattle.feed_world.specs.Log.{Log, IsLog}
 use Rattle.feed_world.specs.Position.{Position, IsPosition, IsPlace, commits_after, node_where}
 use Rattle.feed_world.specs.Reading.{IsOpened, opening_at}
 use Rattle.feed_world.specs.Step.{Move, Step, Run, RunUpTo, primary_of, mirror_delivers, brought_to, reached, is_free_reply}
-use Rattle.feed_world.specs.World.{Mirror, World, HasShape}
+use Rattle.feed_world.specs.World.{Mirror, World, HasShape, connection_at}
 
 -- a connection: the token that its session has come to, the text that was sent, how many bytes of it were delivered, and
 -- whether the server sends no more
@@ -38,12 +38,14 @@ pub record FollowerState : Type 0 where
   pub upstream : ℕ
   pub connection : Option ConnectionState
 
--- a world: the limits of its nodes, the primary, what it has committed, and the mirrors
+-- a world: the primary, what it has committed, and the mirrors
 pub record WorldState : Type 0 where
-  pub limits : Limits
   pub primary : PrimaryState
   pub log : List Commit
   pub followers : List FollowerState
+
+abbrev pub world_state : PrimaryState → List Commit → List FollowerState → WorldState
+world_state primary log followers = record { primary = primary; log = log; followers = followers }
 
 -- a mirror without a connection
 abbrev pub new_follower : Limits → ℕ → FollowerState
@@ -134,7 +136,6 @@ pub record AreNodes (w : World) (primary : PrimaryState) (fs : List FollowerStat
 
 -- the state is that of this world
 pub record IsWorld (w : World) (s : WorldState) : Type 0 where
-  pub limits : s.limits ≡ w.limits
   pub commits : s.log ≡ commits_after w.log 0 (length w.log)
   pub nodes : AreNodes w s.primary s.followers
 
@@ -204,3 +205,11 @@ carried c = record { sent = length c.text; delivered = c.delivered; last = c.tok
 abbrev pub link_at : WorldState → ℕ → Option Carried
 link_at s zero = None
 link_at s (suc i) = option_map carried (option_and_then (λ f. f.connection) (slice_get s.followers i))
+
+-- the same of a connection of numbers
+abbrev pub carried_on : Log → Connection → Carried
+carried_on log c = record { sent = bytes_sent log c; delivered = c.delivered; last = token_after c.last }
+
+-- what the connection of this mirror of the world has carried, where it has one
+abbrev pub carried_at : World → ℕ → Option Carried
+carried_at w i = option_map (carried_on w.log) (connection_at w i)

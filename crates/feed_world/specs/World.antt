@@ -1,5 +1,5 @@
 -- A world of nodes: a primary, and mirrors each behind another node.
-use Rattle.std.specs.Prelude.{◌≡◌, ℕ, zero, suc, ◌-◌, ◌≤◌, Bool, false, List, [], length, map, Option, Some, None, slice_get, slice_set}
+use Rattle.std.specs.Prelude.{◌≡◌, ℕ, zero, suc, ◌≤◌, Bool, false, List, [], length, map, Option, Some, None, slice_get, slice_set}
 use Rattle.std.specs.Option.{option_and_then}
 use Rattle.feed_node.specs.Limits.{Limits}
 use Rattle.feed_node.specs.States.{NodeState}
@@ -41,7 +41,8 @@ mirror_at world (suc i) = slice_get world.mirrors i
 
 -- the world with another mirror of this number
 abbrev pub with_mirror : World → ℕ → Mirror → World
-with_mirror world i mirror = record { limits = world.limits; log = world.log; primary = world.primary; mirrors = slice_set world.mirrors (i - 1) mirror }
+with_mirror world zero mirror = world
+with_mirror world (suc i) mirror = record { limits = world.limits; log = world.log; primary = world.primary; mirrors = slice_set world.mirrors i mirror }
 
 -- where the node of this number is; nowhere, if it has published nothing or is not there
 abbrev pub place_at : World → ℕ → Option Position

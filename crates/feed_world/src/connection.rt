@@ -56,10 +56,10 @@ impl Connection {
     /// The server sends its next commit. Where it no longer holds the session's token, it sends no more.
     pub fn serve(&mut self, alloc: Global, server: &Node) -> Result<Pulled, AllocError>
         ensures ok { (limits : Bounds) (log : Log) (c : Sending) (place : Option Position)
-            → IsLog limits log → IsPlace limits log place → server.now.shown ≡ node_where log place → IsConnection log c self.old
+            → IsLog limits log → IsPlace limits log place → server.now.shown ≡ node_where log place → c.last ≤ length log → IsConnection log c self.old
             → IfOk result (λ pulled. (pulled ≡ (serves c place).0) × IsConnection log (serves c place).1 self.new) }
         ensures err { (limits : Bounds) (log : Log) (c : Sending) (place : Option Position)
-            → IsLog limits log → IsPlace limits log place → server.now.shown ≡ node_where log place → IsConnection log c self.old
+            → IsLog limits log → IsPlace limits log place → server.now.shown ≡ node_where log place → c.last ≤ length log → IsConnection log c self.old
             → OnErr result ((serves c place).0 ≡ More) }
         ensures unchanged { OnErr result (self.new ≡ self.old) }
     {

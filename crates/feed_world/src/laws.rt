@@ -1,20 +1,12 @@
 //! Laws of the definitions.
 
 ghost use Rattle.feed_world.specs.Agreement.{NodesAgree, EveryRunAgrees};
-ghost use Rattle.feed_world.specs.Below.{ListingRestores, ListingHasSize, ListingIsWithin, StepsRead, TakenAreGood};
 ghost use Rattle.feed_world.specs.Laws.{GrowthKeeps, SendingKeepsOrder, DeliveriesCompose};
 ghost use Rattle.feed_world.specs.Reading.{FrontsAreRead, ReadingIsOne, TokensTellStates};
 
+use feed_node::node_laws;
 use feed_note::{line_laws, written_lines_law};
-
-// Of listings, and of reading line by line.
-fn laws_below()
-    ensures restores { ListingRestores }
-    ensures sized { ListingHasSize }
-    ensures within { ListingIsWithin }
-    ensures read { StepsRead }
-    ensures good { TakenAreGood }
-{}
+use feed_tables::table_laws;
 
 /// Whatever front of what was sent on a connection came, it has nothing bad, and the mirror that reads it is where its
 /// whole blocks bring it, however the front was cut. Where nothing is bad, no fault stands. A token names one state of a
@@ -32,5 +24,6 @@ pub fn world_laws()
 {
     line_laws();
     written_lines_law();
-    laws_below();
+    table_laws();
+    node_laws();
 }

@@ -10,6 +10,7 @@ mod world;
 
 pub use event::{Event, Reply, ShapeFault, WorldFault};
 pub use laws::world_laws;
+
 #[cfg(test)]
 mod tests;
 

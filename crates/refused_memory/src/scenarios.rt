@@ -5,6 +5,7 @@ mod feeds;
 mod lines;
 mod nodes;
 mod stores;
+mod worlds;
 
 use crate::outcome::Outcome;
 use crate::trial::Trial;
@@ -23,6 +24,10 @@ pub const NAMES: &[&str] = &[
     "batches",
     "write",
     "tables_apply",
+    "world_new",
+    "world_lost",
+    "world_gone",
+    "world_followed",
 ];
 
 /// Runs a scenario; none where no scenario has the name, or something else than its calls failed.
@@ -40,6 +45,10 @@ pub fn run(name: &str, trial: &mut Trial) -> Option<Outcome> {
         "batches" => lines::batches(trial),
         "write" => lines::write(trial),
         "tables_apply" => stores::tables_apply(trial),
+        "world_new" => worlds::world_new(trial),
+        "world_lost" => worlds::world_lost(trial),
+        "world_gone" => worlds::world_gone(trial),
+        "world_followed" => worlds::world_followed(trial),
         _ => None,
     }
 }

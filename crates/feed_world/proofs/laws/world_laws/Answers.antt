@@ -8,8 +8,9 @@ use Rattle.feed_world.proofs.laws.world_laws.Goals as goal
 
 pub returns-clause-fronts : goal.returns-clause-fronts
 returns-clause-fronts c =
-    let below = c.laws_below.ensures in
-    fronts_are_read c.line_laws.ensures.cut c.line_laws.ensures.only_cut c.written_lines_law.ensures below.restores below.sized below.within below.read below.good
+    let tables = c.table_laws.ensures in
+    let node = c.node_laws.ensures in
+    fronts_are_read c.line_laws.ensures.cut c.line_laws.ensures.only_cut c.written_lines_law.ensures tables.restores tables.sized tables.within node.read node.good
 
 pub returns-clause-one : goal.returns-clause-one
 returns-clause-one c = reading_is_one c.line_laws.ensures.one_meaning

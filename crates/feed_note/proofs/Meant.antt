@@ -1,12 +1,10 @@
--- A notification that means something makes a change.
+-- A notification makes a change.
 use Rattle.std.proofs.Common.{◌≡◌, refl, ℕ, Bool, true, false, true≢false, List, [], ◌∷◌, ◌&&◌, Option, None, Some, sym, ◌∙◌}
 use Rattle.std.specs.Prelude.{◌≢◌}
 use Rattle.feed_text.specs.Json.{Value, null_literal, true_literal, false_literal, number, string, empty_array, array, empty_object, object}
-use Rattle.feed_tables.specs.declared.change.Change.{Change}
-use Rattle.feed_note.specs.declared.line.Line.TheVariants.{Note}
 use Rattle.feed_note.specs.declared.line.LineFault.{LineFault}
 use Rattle.feed_note.specs.declared.line.LineFault.TheVariants.{NoType, BadMember, BadData, NoMeaning, BadElement, LongName, BigObject}
-use Rattle.feed_note.specs.Meaning.{one_object, all_objects, nothing, member_kind, member_text, is_string, is_array, content_of, told, first_fault, notification, has_no_type, has_bad_member, has_bad_data, has_no_meaning, has_bad_element, has_long_name, has_big_object, Means}
+use Rattle.feed_note.specs.Meaning.{one_object, all_objects, nothing, member_kind, member_text, is_string, is_array, content_of, told, first_fault, notification, has_no_type, has_bad_member, has_bad_data, has_no_meaning, has_bad_element, has_long_name, has_big_object, NotesHaveChanges}
 
 fourth_fails : (a b c d : Bool) (f g h k : LineFault) (rows : List (Bool × LineFault)) → first_fault ((a, f) ∷ (b, g) ∷ (c, h) ∷ (d, k) ∷ rows) ≡ None → d ≡ false
 fourth_fails true b c d f g h k rows e = absurd (cc)
@@ -55,8 +53,8 @@ tells kind id (Some (array es)) e = tells_all kind (member_text id) _ (no_text i
 tells kind id (Some (empty_object w)) e = tells_one kind (member_text id) _
 tells kind id (Some (object ms)) e = tells_one kind (member_text id) _
 
-pub makes_a_change : (x : List ℕ) (changes : List Change) (token : Option (List ℕ)) → Means x (Note changes token) → changes ≢ []
-makes_a_change x changes token (v, scanned, right, is, named) =
+pub notes_have_changes : NotesHaveChanges
+notes_have_changes x changes token (v, scanned, right, is, named) =
     let n = notification v in
     let rows = (has_bad_element n, BadElement) ∷ (has_long_name n, LongName) ∷ (has_big_object n, BigObject) ∷ [] in
     λ none. tells _ n.id n.content (fourth_fails (has_no_type n) (has_bad_member n) (has_bad_data n) (has_no_meaning n) NoType BadMember BadData NoMeaning rows right) (sym is ∙ none)

@@ -1,0 +1,18 @@
+-- Laws of listings: what the changes of a snapshot are to the tables that it lists.
+use Rattle.std.specs.Prelude.{◌≡◌, ◌⊎◌, List, length}
+use Rattle.std.specs.List.{AllByRecursion}
+use Rattle.feed_tables.specs.declared.change.Change.{Change}
+use Rattle.feed_tables.specs.Changes.{IsChange}
+use Rattle.feed_tables.specs.Tables.{Contents, no_tables, after_all, listing, size}
+
+-- a listing, taken from empty tables, restores its tables
+abbrev pub ListingRestores : Type 0
+ListingRestores = (contents : Contents) → after_all no_tables (listing contents) ≡ contents
+
+-- it has one change for each type and each object of a collection, and one where there is no type
+abbrev pub ListingHasSize : Type 0
+ListingHasSize = (contents : Contents) → (length (listing contents) ≡ size contents) ⊎ (length (listing contents) ≡ 1)
+
+-- where the changes that made the tables are within the limits, so are those of the listing
+abbrev pub ListingIsWithin : Type 0
+ListingIsWithin = (changes : List Change) → AllByRecursion IsChange changes → AllByRecursion IsChange (listing (after_all no_tables changes))

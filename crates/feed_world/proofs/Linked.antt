@@ -1,0 +1,168 @@
+-- What a mirror has read stays when more is sent on its connection.
+use Rattle.std.proofs.Common.{◌≡◌, refl, sym, ap, ◌∙◌, subst, ℕ, ◌+◌, ◌-◌, ◌<◌, ◌≤◌, Bool, true, false, ◌&&◌, arith, List, [], ◌∷◌, ◌++◌, length, take, Option, Some, None, nat_lt, nat_le, ltb-true, leb-true, length-append}
+use Rattle.std.specs.Prelude.{if◌then◌else◌, ◌==◌, ◌≢◌}
+use Rattle.std.proofs.lemmas.List.{take-append-le}
+use Rattle.feed_tables.specs.declared.change.Change.{Change}
+use Rattle.feed_note.specs.Texts.{batch_text}
+use Rattle.feed_note.specs.Written.{written, written_line}
+use Rattle.feed_node.specs.declared.session.Pulled.{Pulled}
+use Rattle.feed_node.specs.declared.session.Pulled.TheVariants.{More, UpToDate, Gone}
+use Rattle.feed_node.specs.Limits.{Limits}
+use Rattle.feed_node.specs.Log.{token_after}
+use Rattle.feed_node.specs.Mirroring.{MirrorState, StandsAt}
+use Rattle.feed_world.specs.declared.event.Reply.{Reply}
+use Rattle.feed_world.specs.declared.event.Reply.TheVariants.{Sent, Idled}
+use Rattle.feed_world.specs.Connection.{Connection, Part, Commit, Line_feed, part_text, parts_text, sent_text, block_onto, blocks_within, moved_by, IsInOrder}
+use Rattle.feed_world.specs.Log.{Log, IsLog, changes_of_commit}
+use Rattle.feed_world.specs.Position.{Position, IsPlace}
+use Rattle.feed_world.specs.Reading.{opening_at}
+use Rattle.feed_world.specs.States.{ConnectionState, FollowerState, IsConnection, IsReading, AreLinked, IsMirror, Moves}
+use Rattle.feed_world.specs.Step.{serves, serves_from, idles, with_more, with_line_feed, ended, linked, with_connection, mirror_serves, mirror_idles}
+use Rattle.feed_world.specs.World.{Mirror}
+use Rattle.feed_world.proofs.Growth.{sending_keeps_order}
+use Rattle.feed_world.proofs.Served.{one_part_more}
+
+-- ---- a batch has text
+
+written_has_text : (c : Change) (token : Option (List ℕ)) → 0 < length (written c token)
+written_has_text c token = let l = length-append (written_line c token) (10 ∷ []) in omega arith
+
+pub batch_has_text : (cs : List Change) (token : List ℕ) → cs ≢ [] → 0 < length (batch_text cs token)
+batch_has_text [] token some = absurd (some refl)
+batch_has_text (c ∷ []) token some = written_has_text c (Some token)
+batch_has_text (c ∷ d ∷ cs) token some =
+    let l = length-append (written c None) (batch_text (d ∷ cs) token) in
+    let w = written_has_text c None in
+    omega (arith, l, w)
+
+-- ---- one part more
+
+pub not_within : (n d : ℕ) → d < n → nat_le n d ≡ false
+not_within n d h = by (nat_le n d) refl
+  where
+    by : (b : Bool) → nat_le n d ≡ b → nat_le n d ≡ false
+    by true e = let l = leb-true n d e in absurd (omega (arith, h, l))
+    by false e = e
+
+blocks_before : (log : Log) (parts : List Part) (part : Part) (d : ℕ) → d ≤ length (parts_text log parts) → 0 < length (part_text log part)
+    → blocks_within log (parts ++ part ∷ []) d ≡ blocks_within log parts d
+blocks_before log [] part d h some = ap (λ b. if b then block_onto part [] else []) (not_within (length (part_text log part)) d (omega (arith, h, some)))
+blocks_before log (p ∷ parts) part d h some =
+    let l = length-append (part_text log p) (parts_text log parts) in
+    ap (λ bs. if nat_le (length (part_text log p)) d then block_onto p bs else []) (blocks_before log parts part (d - length (part_text log p)) (omega (arith, h, l)) some)
+
+module _ (limits : Limits) (log : Log) (m : Mirror) (c : Connection) (mirror : MirrorState) (reading : IsReading limits log m c mirror) (next : Option Connection) where
+  ended_reading : IsReading limits log (linked m next) (ended c) mirror
+  ended_reading =
+      let opened = reading.opened in
+      let order = opened.order in
+      record {
+        before = reading.before;
+        opened = record { mirror = opened.mirror; start = opened.start; order = record { more = order.more; parts = order.parts; go_on = order.go_on }; sent = opened.sent };
+        place = reading.place;
+        notes = reading.notes;
+        stands = reading.stands;
+        afresh = reading.afresh;
+      }
+
+  same_reading : IsReading limits log (linked m next) c mirror
+  same_reading = record { before = reading.before; opened = reading.opened; place = reading.place; notes = reading.notes; stands = reading.stands; afresh = reading.afresh }
+
+  reading_on : (part : Part) (last : ℕ) → c.delivered ≤ length (sent_text log c) → 0 < length (part_text log part) → last ≤ length log
+      → IsInOrder (record { fresh = c.fresh; start = c.start; parts = c.parts ++ part ∷ []; delivered = c.delivered; last = last; over = c.over })
+      → IsReading limits log (linked m next) (record { fresh = c.fresh; start = c.start; parts = c.parts ++ part ∷ []; delivered = c.delivered; last = last; over = c.over }) mirror
+  reading_on part last within some sent order =
+      let opened = reading.opened in
+      let blocks = blocks_before log c.parts part c.delivered within some in
+      let text = ap (take c.delivered) (one_part_more log c.parts part) ∙ take-append-le c.delivered (parts_text log c.parts) (part_text log part) within in
+      record {
+        before = reading.before;
+        opened = record { mirror = opened.mirror; start = opened.start; order = order; sent = sent };
+        place = reading.place ∙ ap (moved_by limits.history reading.before) (sym blocks);
+        notes = reading.notes;
+        stands = subst (λ t. StandsAt (opening_at log reading.before c.fresh) t reading.notes mirror) (sym text) reading.stands;
+        afresh = λ e. let h = reading.afresh e in (h.0, blocks ∙ h.1);
+      }
+
+  line_feed_reading : c.delivered ≤ length (sent_text log c) → IsReading limits log (linked m next) (with_line_feed c) mirror
+  line_feed_reading within = reading_on Line_feed c.last within (omega arith) reading.opened.sent (sending_keeps_order.line_feed c reading.opened.order)
+
+  more_reading : IsLog limits log → c.delivered ≤ length (sent_text log c) → c.last < length log → IsReading limits log (linked m next) (with_more c) mirror
+  more_reading is_log within sent =
+      let accepted = is_log.accepted (c.last + 1) (omega arith) (omega (arith, sent)) in
+      reading_on (Commit (c.last + 1)) (c.last + 1) within (batch_has_text (changes_of_commit log (c.last + 1)) (token_after (c.last + 1)) accepted.some) (omega (arith, sent))
+      (sending_keeps_order.commit c reading.opened.order)
+
+-- ---- what a serve leaves
+
+chosen : {X : Type 0} (P : X → Type 0) (b : Bool) (x y : X) → (b ≡ true → P x) → P y → P (if b then x else y)
+chosen P true x y h k = h refl
+chosen P false x y h k = k
+
+both_true : (a b : Bool) → (a && b) ≡ true → b ≡ true
+both_true true b e = e
+both_true false b e = absurd (cc)
+
+served_any : (limits : Limits) (log : Log) (c : Connection) (place : Option Position) (P : Connection → Type 0) → IsPlace limits log place
+    → P c → P (ended c) → (c.last < length log → P (with_more c)) → P (serves c place).1
+served_any limits log c place P h now over more = chosen (λ (r : Pulled × Connection). P r.1) c.over (Gone, c) (serves_from c place) (λ e. now) (from place h)
+  where
+    from : (q : Option Position) → IsPlace limits log q → P (serves_from c q).1
+    from None i = over
+    from (Some p) i =
+        chosen (λ (r : Pulled × Connection). P r.1) (c.last == p.at) (UpToDate, c) (if nat_le p.low c.last && nat_lt c.last p.at then (More, with_more c) else (Gone, ended c)) (λ e. now)
+        (chosen (λ (r : Pulled × Connection). P r.1) (nat_le p.low c.last && nat_lt c.last p.at) (More, with_more c) (Gone, ended c)
+        (λ e. let less = ltb-true c.last p.at (both_true (nat_le p.low c.last) (nat_lt c.last p.at) e) in let within = i.in_log in more (omega (arith, less, within))) over)
+
+-- ---- mirrors
+
+-- the mirror with another connection
+mirror_on : (limits : Limits) (log : Log) (m : Mirror) (f : FollowerState) (next : Option Connection) (other : Option ConnectionState) → IsMirror limits log m f
+    → AreLinked limits log (linked m next) next (record { mirror = f.mirror; upstream = f.upstream; connection = other }) other
+    → IsMirror limits log (linked m next) (record { mirror = f.mirror; upstream = f.upstream; connection = other })
+mirror_on limits log m f next other is l = record { place = is.place; upstream = is.upstream; bounds = is.bounds; node = is.node; since = is.since; linked = l }
+
+pub mirror_served : (limits : Limits) (log : Log) (m : Mirror) (place : Option Position) (f : FollowerState) (s : ConnectionState) → f.connection ≡ Some s
+    → IsLog limits log → IsPlace limits log place → IsMirror limits log m f → (pulled : Pulled) (t : ConnectionState)
+    → ((c : Connection) → c.last ≤ length log → IsConnection log c s → (pulled ≡ (serves c place).0) × IsConnection log (serves c place).1 t)
+    → Moves limits log (mirror_serves m place) (Sent pulled) (record { mirror = f.mirror; upstream = f.upstream; connection = Some t })
+mirror_served limits log m place f s held is_log is_place is pulled t serving =
+    by m.connection (subst (AreLinked limits log m m.connection f) held is.linked)
+  where
+    by : (o : Option Connection) → AreLinked limits log m o f (Some s)
+        → Moves limits log (with_connection o (λ c. (Sent (serves c place).0, linked m (Some (serves c place).1)))) (Sent pulled) (record { mirror = f.mirror; upstream = f.upstream; connection = Some t })
+    by None l = absurd l
+    by (Some c) l =
+        let served = serving c l.1.opened.sent l.0 in
+        let within = l.0.within in (
+          ap Sent served.0,
+          mirror_on limits log m f (Some (serves c place).1) (Some t) is (
+            served.1,
+            served_any limits log c place (λ d. IsReading limits log (linked m (Some (serves c place).1)) d f.mirror) is_place
+                (same_reading limits log m c f.mirror l.1 (Some (serves c place).1))
+                (ended_reading limits log m c f.mirror l.1 (Some (serves c place).1))
+                (λ sent. more_reading limits log m c f.mirror l.1 (Some (serves c place).1) is_log within sent),
+          ),
+        )
+
+pub mirror_idled : (limits : Limits) (log : Log) (m : Mirror) (f : FollowerState) (s : ConnectionState) → f.connection ≡ Some s
+    → IsMirror limits log m f → (reply : Reply) (t : ConnectionState)
+    → ((c : Connection) → IsConnection log c s → (reply ≡ (idles c).0) × IsConnection log (idles c).1 t)
+    → Moves limits log (mirror_idles m) reply (record { mirror = f.mirror; upstream = f.upstream; connection = Some t })
+mirror_idled limits log m f s held is reply t idling =
+    by m.connection (subst (AreLinked limits log m m.connection f) held is.linked)
+  where
+    by : (o : Option Connection) → AreLinked limits log m o f (Some s)
+        → Moves limits log (with_connection o (λ c. ((idles c).0, linked m (Some (idles c).1)))) reply (record { mirror = f.mirror; upstream = f.upstream; connection = Some t })
+    by None l = absurd l
+    by (Some c) l =
+        let idled = idling c l.0 in
+        let within = l.0.within in (
+          idled.0,
+          mirror_on limits log m f (Some (idles c).1) (Some t) is (
+            idled.1,
+            chosen (λ (r : Reply × Connection). IsReading limits log (linked m (Some (idles c).1)) r.1 f.mirror) c.over _ (Idled, with_line_feed c)
+                (λ e. same_reading limits log m c f.mirror l.1 (Some (idles c).1))
+                (line_feed_reading limits log m c f.mirror l.1 (Some (idles c).1) within),
+          ),
+        )
