@@ -1,6 +1,5 @@
 //! Scripts of what happens in a world, played.
 
-use crate::play_fault::{PlayCause, PlayFault};
 ghost use Rattle.std.specs.Prelude.{◌≡◌, ◌≢◌, ◌≤◌, ◌+◌, ◌++◌, length, Ok, Err, IfOk, IfErr, OnOk, OnErr};
 ghost use Rattle.feed_note.specs.Counts.{IsRead};
 ghost use Rattle.feed_note.specs.Lines.{lines as lines_of, HasNoLineFeed};
@@ -12,6 +11,7 @@ ghost use Rattle.feed_cli.specs.Stopping.{StopsFeed, StopsEvent, StopsShow, Take
 ghost use Rattle.feed_cli.specs.declared.play_fault.PlayCause.TheVariants.{Memory};
 
 use crate::lines::Lines;
+use crate::play_fault::{PlayCause, PlayFault};
 use crate::script::{Action, read_action, read_world};
 use crate::told::{print_reply, print_shown};
 use feed_node::Limits;
@@ -145,13 +145,22 @@ fn play_line(
         Action::Show(node) => at(number, show(alloc, world, node, out)),
         Action::Commit(count) => {
             let changes = read_changes(alloc, lines, count)?;
-            at(number, play_event(alloc, world, Event::Commit(changes), out))
+            at(
+                number,
+                play_event(alloc, world, Event::Commit(changes), out),
+            )
         }
-        Action::Connect(mirror) => at(number, play_event(alloc, world, Event::Connect(mirror), out)),
+        Action::Connect(mirror) => at(
+            number,
+            play_event(alloc, world, Event::Connect(mirror), out),
+        ),
         Action::Serve(mirror) => at(number, play_event(alloc, world, Event::Serve(mirror), out)),
         Action::Idle(mirror) => at(number, play_event(alloc, world, Event::Idle(mirror), out)),
         Action::Deliver(mirror, bytes) => {
-            at(number, play_event(alloc, world, Event::Deliver(mirror, bytes), out))
+            at(
+                number,
+                play_event(alloc, world, Event::Deliver(mirror, bytes), out),
+            )
         }
         Action::Cut(mirror) => at(number, play_event(alloc, world, Event::Cut(mirror), out)),
     }

@@ -10,25 +10,14 @@ use feed_world::WorldFault;
 use std::alloc::Global;
 
 /// Whether the script prints this and ends like this.
-fn plays(
-    alloc: Global,
-    script: &str,
-    printed: &str,
-    ended: Result<(), PlayFault>,
-) -> Option<bool> {
+fn plays(alloc: Global, script: &str, printed: &str, ended: Result<(), PlayFault>) -> Option<bool> {
     let mut out = Vec::new(alloc);
     let played = play(alloc, script.as_bytes(), &mut out);
     Some(played == ended && out.as_slice() == printed.as_bytes())
 }
 
 /// Whether the script prints this and stops at this line.
-fn stops(
-    alloc: Global,
-    script: &str,
-    printed: &str,
-    line: u64,
-    cause: PlayCause,
-) -> Option<bool> {
+fn stops(alloc: Global, script: &str, printed: &str, line: u64, cause: PlayCause) -> Option<bool> {
     plays(alloc, script, printed, Err(PlayFault { line, cause }))
 }
 
@@ -55,12 +44,18 @@ const SERVED_TOLD: &str =
 
 #[test]
 fn tells_a_lost_token(rt: HostRuntime) {
-    assert_eq!(rt; plays(rt.alloc(), LOST_TOKEN, LOST_TOKEN_TOLD, Ok(())), Some(true));
+    assert_eq!(rt;
+        plays(rt.alloc(), LOST_TOKEN, LOST_TOKEN_TOLD, Ok(())),
+        Some(true)
+    );
 }
 
 #[test]
 fn tells_a_reset_relay(rt: HostRuntime) {
-    assert_eq!(rt; plays(rt.alloc(), RELAY_RESET, RELAY_RESET_TOLD, Ok(())), Some(true));
+    assert_eq!(rt;
+        plays(rt.alloc(), RELAY_RESET, RELAY_RESET_TOLD, Ok(())),
+        Some(true)
+    );
 }
 
 #[test]
@@ -173,8 +168,20 @@ fn refuses_feed_lines(alloc: Global) -> Option<bool> {
     Some(
         stops(alloc, few, "nothing\n", 3, PlayCause::Script)?
             && stops(alloc, unfinished, "nothing\n", 3, PlayCause::Script)?
-            && stops(alloc, faulty, "nothing\n", 5, PlayCause::Line(LineFault::Syntax))?
-            && stops(alloc, meaningless, "", 3, PlayCause::Line(LineFault::NoType))?,
+            && stops(
+                alloc,
+                faulty,
+                "nothing\n",
+                5,
+                PlayCause::Line(LineFault::Syntax),
+            )?
+            && stops(
+                alloc,
+                meaningless,
+                "",
+                3,
+                PlayCause::Line(LineFault::NoType),
+            )?,
     )
 }
 
@@ -190,8 +197,13 @@ fn refuses_events(alloc: Global) -> Option<bool> {
     let large = PlayCause::World(WorldFault::Commit(CommitFault::TooLarge));
     let two = "world 1 1\ncommit 1\n{\"type\":\"teams\",\"data\":[{\"id\":\"1\"}]}\n";
     Some(
-        stops(alloc, "world 1 1 0\nshow 1\nshow 2\n", "nothing\n", 3, no_node)?
-            && stops(alloc, "world 1 1 0\nconnect 0\n", "", 2, no_node)?
+        stops(
+            alloc,
+            "world 1 1 0\nshow 1\nshow 2\n",
+            "nothing\n",
+            3,
+            no_node,
+        )? && stops(alloc, "world 1 1 0\nconnect 0\n", "", 2, no_node)?
             && stops(
                 alloc,
                 "world 1 1 0\nserve 1\n",
@@ -215,12 +227,14 @@ fn runs(alloc: Global, script: &str, status: u8, printed: &str, told: &str) -> O
     let mut input = MemReader::new(script.as_bytes().to_vec(alloc).ok()?, 7);
     let mut out = MemWriter::new(alloc, 5);
     let mut err = MemWriter::new(alloc, 3);
-    let ended = run(alloc, &["tunygarop", "play"], &mut input, &mut out, &mut err);
-    Some(
-        ended == status
-            && out.written() == printed.as_bytes()
-            && err.written() == told.as_bytes(),
-    )
+    let ended = run(
+        alloc,
+        &["tunygarop", "play"],
+        &mut input,
+        &mut out,
+        &mut err,
+    );
+    Some(ended == status && out.written() == printed.as_bytes() && err.written() == told.as_bytes())
 }
 
 #[test]
