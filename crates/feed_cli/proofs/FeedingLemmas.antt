@@ -144,6 +144,7 @@ err_by limits a b o p (Err fault.Memory) d = absurd d.whole.fed
 err_by limits a b o p (Err fault.Write) d = absurd d.whole.fed
 err_by limits a b o p (Err fault.TooLong) d = absurd d.whole.fed
 err_by limits a b o p (Err (fault.Survey why)) d = absurd d.whole.fed
+err_by limits a b o p (Err (fault.Play why)) d = absurd d.whole.fed
 err_by limits a b o p (Err fault.Unpublished) d = absurd d.whole.fed
 
 done_by : (limits : Limits) (a b o p : Option (List ℕ)) (text all : List ℕ) (ended : Result (Unit {0}) Fault) (shown : Option Published) (is_published : Bool)

@@ -1,3 +1,7 @@
 mod CountingLemmas
 mod DeviceLemmas
+mod FeedLemmas
 mod FeedingLemmas
+mod LineLemmas
+mod NumberLemmas
+mod WordLemmas

@@ -68,6 +68,7 @@ CountFails (fault.Survey why) old new = InputStops old new why
 CountFails fault.Write old new = ⊥
 CountFails fault.Turns old new = ⊥
 CountFails (fault.Feed why) old new = ⊥
+CountFails (fault.Play why) old new = ⊥
 CountFails fault.Unpublished old new = ⊥
 
 -- a front of the counts was printed where a write failed, and nothing where the input can't be counted

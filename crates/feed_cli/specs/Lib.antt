@@ -3,6 +3,10 @@ pub mod Counting
 pub mod Device
 pub mod Faults
 pub mod Memory
+pub mod Playing
+pub mod Plays
 pub mod Printing
+pub mod Script
 pub mod Status
+pub mod Stopping
 pub mod Stream

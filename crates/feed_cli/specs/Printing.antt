@@ -61,6 +61,7 @@ IsFed limits (Err fault.Memory) old new shown = ⊥
 IsFed limits (Err fault.Write) old new shown = ⊥
 IsFed limits (Err fault.TooLong) old new shown = ⊥
 IsFed limits (Err (fault.Survey why)) old new shown = ⊥
+IsFed limits (Err (fault.Play why)) old new shown = ⊥
 IsFed limits (Err fault.Unpublished) old new shown = ⊥
 
 -- the input was read like that, and the snapshot of what is published was printed
@@ -102,3 +103,4 @@ TablesFail limits (fault.Feed why) input_old input_new out_old out_new = Printed
 TablesFail limits fault.Unpublished input_old input_new out_old out_new = PrintedNone limits input_old input_new out_old out_new
 TablesFail limits fault.TooLong input_old input_new out_old out_new = ⊥
 TablesFail limits (fault.Survey why) input_old input_new out_old out_new = ⊥
+TablesFail limits (fault.Play why) input_old input_new out_old out_new = ⊥

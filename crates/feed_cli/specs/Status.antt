@@ -1,5 +1,6 @@
 -- The statuses that the program ends with.
-use Rattle.std.specs.Prelude.{◌≡◌, ◌⊎◌, ℕ, max}
+use Rattle.std.specs.Prelude.{◌≡◌, ◌⊎◌, ℕ, max, if◌then◌else◌}
+use Rattle.feed_cli.specs.Stopping.{is_memory}
 use Rattle.feed_cli.specs.declared.fault.Fault.{Fault}
 use Rattle.feed_cli.specs.declared.fault.Fault.TheVariants as fault
 
@@ -12,6 +13,7 @@ status_of fault.Turns = 4
 status_of fault.TooLong = 2
 status_of (fault.Feed why) = 2
 status_of (fault.Survey why) = 2
+status_of (fault.Play why) = if is_memory why.cause then 5 else 2
 status_of fault.Unpublished = 3
 
 -- the status after a fault was told; where it could not be, a device has failed too

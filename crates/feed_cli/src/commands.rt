@@ -6,6 +6,7 @@ ghost use Rattle.feed_cli.specs.Status.{IsToldStatus};
 use crate::check::print_counts;
 use crate::device::{FeedRead, FeedWrite, write_all};
 use crate::fault::Fault;
+use crate::playing::print_played;
 use crate::tables::print_tables;
 use crate::words::{Request, parse_words};
 use clap::error::ErrorKind;
@@ -85,6 +86,7 @@ fn perform<R: FeedRead, W: FeedWrite>(
     match request {
         Request::Tables(limits) => print_tables(alloc, limits, input, out),
         Request::Check => print_counts(alloc, input, out),
+        Request::Play => print_played(alloc, input, out),
     }
 }
 

@@ -2,6 +2,7 @@
 ghost use Rattle.std.specs.Prelude.{◌≡◌};
 
 use crate::input::InputFault;
+use crate::play_fault::PlayFault;
 use feed_node::FeedFault;
 use feed_note::{LineStop, SurveyFault};
 use std::alloc::AllocError;
@@ -28,6 +29,9 @@ pub enum Fault {
     /// A line of the input can't be read. It is no want of memory.
     #[error("line {}: {}", .0.line, .0.stop)]
     Survey(SurveyFault),
+    /// The input, a script, was not played to its end.
+    #[error("{0}")]
+    Play(PlayFault),
     #[error("nothing published")]
     Unpublished,
 }
@@ -43,7 +47,8 @@ impl Fault {
         match self {
             Fault::Memory => 5,
             Fault::Read | Fault::Write | Fault::Turns => 4,
-            Fault::TooLong | Fault::Feed(_) | Fault::Survey(_) => 2,
+            Fault::Play(fault) if fault.is_want_of_memory() => 5,
+            Fault::TooLong | Fault::Feed(_) | Fault::Survey(_) | Fault::Play(_) => 2,
             Fault::Unpublished => 3,
         }
     }

@@ -15,6 +15,9 @@ pub enum InputFault {
     Memory,
 }
 
+/// The most bytes of an input that is read whole.
+pub const INPUT_BYTES: usize = 67_108_864;
+
 /// The most bytes that are read at once.
 pub const PIECE: usize = 4096;
 

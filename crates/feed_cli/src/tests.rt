@@ -136,10 +136,10 @@ fn prints_tables(rt: HostRuntime) -> Result<(), Fail> {
 }
 
 const HELP: &str =
-    "Mirrors the event feed of a programming contest (CLICS Contest API 2023-06)\n\nUsage: tunygarop <COMMAND>\n\nCommands:\n  tables  Prints the tables that the event feed on standard input has published\n  check   Counts the lines of the event feed on standard input, or names the first that can't be read\n  help    Print this message or the help of the given subcommand(s)\n\nOptions:\n  -h, --help  Print help\n";
+    "Mirrors the event feed of a programming contest (CLICS Contest API 2023-06)\n\nUsage: tunygarop <COMMAND>\n\nCommands:\n  tables  Prints the tables that the event feed on standard input has published\n  check   Counts the lines of the event feed on standard input, or names the first that can't be read\n  play    Plays the script of events on standard input in a world of nodes, and prints what is replied\n  help    Print this message or the help of the given subcommand(s)\n\nOptions:\n  -h, --help  Print help\n";
 
 const NO_COMMAND: &str =
-    "error: 'tunygarop' requires a subcommand but one was not provided\n  [subcommands: tables, check, help]\n\nUsage: tunygarop <COMMAND>\n\nFor more information, try '--help'.\n";
+    "error: 'tunygarop' requires a subcommand but one was not provided\n  [subcommands: tables, check, play, help]\n\nUsage: tunygarop <COMMAND>\n\nFor more information, try '--help'.\n";
 
 /// Words that ask for no command, with the texts of the Rust crate clap.
 const WORDS: [Case; 8] = [

@@ -11,6 +11,8 @@ pub enum Request {
     Tables(Limits),
     /// What the lines of the feed on standard input are, counted.
     Check,
+    /// What happens in a world by the script on standard input.
+    Play,
 }
 
 impl Request {
@@ -19,6 +21,7 @@ impl Request {
         match self {
             Request::Tables(_) => "tables",
             Request::Check => "check",
+            Request::Play => "play",
         }
     }
 }
@@ -50,11 +53,15 @@ fn program<'a>(alloc: Global) -> Result<Command<'a>, AllocError> {
     let check = Command::new(alloc, "check").about(
         "Counts the lines of the event feed on standard input, or names the first that can't be read",
     );
+    let play = Command::new(alloc, "play").about(
+        "Plays the script of events on standard input in a world of nodes, and prints what is replied",
+    );
     Command::new(alloc, "tunygarop")
         .about("Mirrors the event feed of a programming contest (CLICS Contest API 2023-06)")
         .subcommand_required(true)
         .subcommand(tables)?
-        .subcommand(check)
+        .subcommand(check)?
+        .subcommand(play)
 }
 
 /// The limits that the options ask for; none where one is out of its range, which its parser has refused.
@@ -70,6 +77,7 @@ pub fn parse_words<'a>(alloc: Global, words: &'a [&'a str]) -> Result<Request, E
     let matches = program.try_get_matches_from_mut(words)?;
     let request = match matches.subcommand() {
         Some(("tables", options)) => limits_given(options).map(Request::Tables),
+        Some(("play", _)) => Some(Request::Play),
         _ => Some(Request::Check),
     };
     match request {
