@@ -1,5 +1,5 @@
 -- Lemmas on the lines of a script.
-use Rattle.std.proofs.Common.{◌≡◌, refl, sym, ap, ◌∙◌, ℕ, ◌+◌, ◌<◌, ◌≤◌, Bool, true, false, not, ◌&&◌, List, [], ◌∷◌, ◌++◌, length, arith, nat_le, leb-true}
+use Rattle.std.proofs.Common.{◌≡◌, refl, ap, ◌∙◌, ℕ, ◌<◌, Bool, true, false, not, List, [], ◌∷◌, ◌++◌, arith, nat_le, leb-true}
 use Rattle.feed_note.specs.Lines.{is_line_feed, lines, HasNoLineFeed}
 use Rattle.feed_cli.specs.Script.{LinesLeft}
 use Rattle.feed_cli.proofs.WordLemmas.{first_true, second_true, negated}

@@ -1,5 +1,5 @@
 -- Lemmas on the numbers of a line.
-use Rattle.std.proofs.Common.{◌≡◌, refl, sym, ap, ◌∙◌, subst, ℕ, ◌+◌, ◌*◌, ◌-◌, ◌^◌, ◌<◌, ◌≤◌, Bool, true, false, not, cond, ◌&&◌, true≢false, eqb-true, List, [], ◌∷◌, ◌++◌, length, take, get_or, Option, Some, None, option_map, arith, append_assoc, nat_le, leb-true}
+use Rattle.std.proofs.Common.{◌≡◌, refl, sym, ap, ◌∙◌, subst, ℕ, ◌+◌, ◌*◌, ◌^◌, ◌<◌, ◌≤◌, Bool, true, false, not, cond, ◌&&◌, true≢false, eqb-true, List, [], ◌∷◌, ◌++◌, length, take, get_or, Option, Some, None, option_map, arith, append_assoc, nat_le, leb-true}
 use Rattle.std.specs.Option.{option_and_then}
 use Rattle.std.specs.Char.{digit_value, is_ascii_digit}
 use Rattle.std.specs.List.{list_all}
@@ -9,7 +9,7 @@ use Rattle.std.proofs.lemmas.Str.Parse.{IsNumeralModel, numerals_by_value, tells
 use Rattle.std.proofs.lemmas.Str.{digit_value_digit}
 use Rattle.std.proofs.lemmas.Int.Digits.{digits_value_more}
 use Rattle.feed_note.specs.Lines.{onto_first}
-use Rattle.feed_cli.specs.Script.{is_space, is_number, number_in, numbers_in, one_of, two_of, words}
+use Rattle.feed_cli.specs.Script.{is_space, is_number, number_in, numbers_in, one_of, words}
 use Rattle.feed_cli.proofs.WordLemmas.{stays, both, first_true, second_true, one_word}
 
 and_false : (a : Bool) → (a && false) ≡ false

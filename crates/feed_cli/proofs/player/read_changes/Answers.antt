@@ -1,4 +1,4 @@
-use Rattle.std.proofs.Common.{ap, arith, length, ◌+◌}
+use Rattle.std.proofs.Common.{ap, arith, length}
 use Rattle.feed_cli.proofs.FeedLemmas.{takes_more}
 use Rattle.feed_cli.proofs.player.read_changes.Goals as goal
 

@@ -1,4 +1,4 @@
-use Rattle.std.proofs.Common.{◌≡◌, ◌∙◌, ◌∷◌, ◌++◌, [], sym, ap}
+use Rattle.std.proofs.Common.{◌∙◌, sym, ap}
 use Rattle.feed_cli.specs.Script.{words, numbers_in}
 use Rattle.feed_cli.proofs.NumberLemmas.{behind, starts, numbers_more}
 use Rattle.feed_cli.proofs.script.read_numbers.Goals as goal

@@ -1,4 +1,4 @@
-use Rattle.std.proofs.Common.{◌≡◌, ◌∷◌, ◌∙◌, sym, ap, take, drop, ◌+◌, ◌-◌, length, arith, length-drop}
+use Rattle.std.proofs.Common.{◌∷◌, ◌∙◌, sym, ap, take, ◌+◌}
 use Rattle.std.proofs.lemmas.List.{take_rest}
 use Rattle.feed_cli.specs.Script.{words}
 use Rattle.feed_cli.proofs.WordLemmas.{none_found, found_at}

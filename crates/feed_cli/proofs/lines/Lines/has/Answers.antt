@@ -1,4 +1,4 @@
-use Rattle.std.proofs.Common.{◌∙◌, ap, sym, arith, length}
+use Rattle.std.proofs.Common.{ap, arith, length}
 use Rattle.feed_cli.proofs.LineLemmas.{no_line, first_line, is_more}
 use Rattle.feed_cli.proofs.lines.Lines.has.Goals as goal
 

@@ -1,4 +1,4 @@
-use Rattle.std.proofs.Common.{◌∙◌, ◌+◌, ap, sym, refl, arith}
+use Rattle.std.proofs.Common.{◌∙◌, sym, refl, arith}
 use Rattle.feed_cli.proofs.LineLemmas.{no_line, first_line, left_is, read_is}
 use Rattle.feed_cli.proofs.lines.Lines.next_line.Goals as goal
 
