@@ -1,9 +1,9 @@
 //! Connections of a world: what a node sent to a mirror, and how much of it came.
 
-ghost use Rattle.std.specs.Prelude.{◌≡◌, ◌+◌, ◌≤◌, Bool, true, false, length, take, drop, min, ◌-◌, Option, None, IfOk, OnErr};
+ghost use Rattle.std.specs.Prelude.{◌≡◌, ◌+◌, ◌≤◌, true, false, length, take, drop, min, ◌-◌, Option, IfOk, OnErr};
 ghost use Rattle.feed_node.specs.Limits.{Limits as Bounds};
 ghost use Rattle.feed_node.specs.declared.session.Pulled.TheVariants.{More};
-ghost use Rattle.feed_world.specs.Connection.{Connection as Sending, IsInOrder};
+ghost use Rattle.feed_world.specs.Connection.{Connection as Sending};
 ghost use Rattle.feed_world.specs.Log.{Log, IsLog};
 ghost use Rattle.feed_world.specs.Position.{Position, IsPlace, node_where};
 ghost use Rattle.feed_world.specs.States.{IsConnection};
