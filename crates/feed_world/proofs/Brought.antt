@@ -1,5 +1,5 @@
 -- A mirror that has read a front of what was sent on its connection is where the whole blocks of that front bring it.
-use Rattle.std.proofs.Common.{◌≡◌, refl, sym, ap, ◌∙◌, subst, ℕ, suc, ◌+◌, ◌-◌, ◌≤◌, min, Bool, true, false, ◌&&◌, arith, List, [], ◌∷◌, ◌++◌, length, take, drop, append_assoc, length-append, length-drop, length-take-le, take-take, take-append-drop, Option, Some, None, Ok, nat_le, eqb-true}
+use Rattle.std.proofs.Common.{◌≡◌, refl, sym, ap, ◌∙◌, subst, ℕ, zero, suc, ◌+◌, ◌-◌, ◌<◌, ◌≤◌, min, Bool, true, false, ◌&&◌, arith, List, [], ◌∷◌, ◌++◌, length, take, drop, append_assoc, length-append, length-drop, length-take-le, take-take, take-append-drop, Option, Some, None, Ok, nat_le, nat_lt, eqb-true, ltb-true, ltb-false}
 use Rattle.std.specs.Prelude.{if◌then◌else◌, ◌==◌}
 use Rattle.feed_note.specs.declared.line.Line.{Line}
 use Rattle.feed_node.specs.declared.fault.FeedFault.{FeedFault}
@@ -202,6 +202,11 @@ no_longer before counted uncounted piece front p q =
     let d = ap length q in
     omega arith
 
+drop_take_same : (n : ℕ) (xs : List ℕ) → drop n (take n xs) ≡ []
+drop_take_same zero xs = refl
+drop_take_same (suc n) [] = refl
+drop_take_same (suc n) (x ∷ xs) = drop_take_same n xs
+
 -- a connection's next bytes
 pub record IsNext (s : ConnectionState) (bytes : ℕ) (piece : List ℕ) : Type 0 where
   pub are : piece ≡ drop s.delivered (take (min (s.delivered + bytes) (length s.text)) s.text)
@@ -280,9 +285,21 @@ module _ (fronts : FrontsAreRead) (one : ReadingIsOne) (limits : Limits) (log : 
           },
         )
 
-    lost_some : m.connection ≡ Some c → HasLost (opening_at log r.before c.fresh) (take c.delivered (sent_text log c)) piece f.mirror new
+    nothing_next : reached log c bytes ≤ c.delivered → piece ≡ []
+    nothing_next none =
+        let same : reached log c bytes ≡ c.delivered = omega (arith, none, reaches.0) in
+        next.are ∙ (λ i. drop (k.delivered i) (take (min (k.delivered i + bytes) (length (k.text i))) (k.text i))) ∙ ap (λ n. drop c.delivered (take n (sent_text log c))) same ∙ drop_take_same c.delivered (sent_text log c)
+
+    some_next : (piece ≡ [] → ⊥) → c.delivered < reached log c bytes
+    some_next never = by (nat_lt c.delivered (reached log c bytes)) refl
+      where
+        by : (b : Bool) → nat_lt c.delivered (reached log c bytes) ≡ b → c.delivered < reached log c bytes
+        by true e = ltb-true c.delivered (reached log c bytes) e
+        by false e = absurd (never (nothing_next (ltb-false c.delivered (reached log c bytes) e)))
+
+    lost_some : (piece ≡ [] → ⊥) → m.connection ≡ Some c → HasLost (opening_at log r.before c.fresh) (take c.delivered (sent_text log c)) piece f.mirror new
         → BreaksMirror limits log m bytes (record { mirror = new; upstream = f.upstream; connection = None })
-    lost_some there l =
+    lost_some never there l =
         let d = c.delivered in
         let e = reached log c bytes in
         let text = sent_text log c in
@@ -303,6 +320,7 @@ module _ (fronts : FrontsAreRead) (one : ReadingIsOne) (limits : Limits) (log : 
         record {
           connection = c;
           is_linked = there;
+          some = some_next never;
           e = n;
           from = omega arith;
           to = omega arith;
@@ -325,14 +343,14 @@ module _ (fronts : FrontsAreRead) (one : ReadingIsOne) (limits : Limits) (log : 
         one.faultless limits opening (take e text) read.notes notes fault read.nothing_bad
         (subst (λ bs. FaultsAt limits opening bs notes fault) makes_front (subst (λ l. FaultsAt l opening (take c.delivered text ++ piece) notes fault) h.bounds stop.first))
 
-    stopped : (fault : FeedFault) → m.connection ≡ Some c → Faulted (opening_at log r.before c.fresh) (take c.delivered (sent_text log c)) piece f.mirror new fault
+    stopped : (fault : FeedFault) → (piece ≡ [] → fault ≡ FeedMemory → ⊥) → m.connection ≡ Some c → Faulted (opening_at log r.before c.fresh) (take c.delivered (sent_text log c)) piece f.mirror new fault
         → (fault ≡ FeedMemory) × BreaksMirror limits log m bytes (record { mirror = new; upstream = f.upstream; connection = None })
-    stopped FeedMemory there l = (refl, lost_some there l)
-    stopped NotOpen there l = absurd (faultless NotOpen l.0 l.1)
-    stopped LongLine there l = absurd (faultless LongLine l.0 l.1)
-    stopped (BadLine fault) there l = absurd (faultless (BadLine fault) l.0 l.1)
-    stopped TokenAgain there l = absurd (faultless TokenAgain l.0 l.1)
-    stopped StageFull there l = absurd (faultless StageFull l.0 l.1)
+    stopped FeedMemory never there l = (refl, lost_some (λ e. never e refl) there l)
+    stopped NotOpen never there l = absurd (faultless NotOpen l.0 l.1)
+    stopped LongLine never there l = absurd (faultless LongLine l.0 l.1)
+    stopped (BadLine fault) never there l = absurd (faultless (BadLine fault) l.0 l.1)
+    stopped TokenAgain never there l = absurd (faultless TokenAgain l.0 l.1)
+    stopped StageFull never there l = absurd (faultless StageFull l.0 l.1)
 
   pub brings_all : f.connection ≡ Some s → (count : ℕ) → Feeds f.mirror piece new count → (after : ConnectionState) → after ≡ past s bytes
       → Moves limits log (mirror_delivers limits.history log bytes m) (Delivered count) (record { mirror = new; upstream = f.upstream; connection = Some after })
@@ -345,9 +363,9 @@ module _ (fronts : FrontsAreRead) (one : ReadingIsOne) (limits : Limits) (log : 
       by None l = absurd l
       by (Some c) l = all_taken c l.0 l.1 count feeds
 
-  pub brings_some : f.connection ≡ Some s → (number : ℕ) (fault : FeedFault) → Stops f.mirror piece new fault → (after : Option ConnectionState) → after ≡ None
+  pub brings_some : f.connection ≡ Some s → (number : ℕ) (fault : FeedFault) → (piece ≡ [] → fault ≡ FeedMemory → ⊥) → Stops f.mirror piece new fault → (after : Option ConnectionState) → after ≡ None
       → IsBrought limits log m number bytes (Broke number fault) (record { mirror = new; upstream = f.upstream; connection = after })
-  brings_some there number fault stops after is =
+  brings_some there number fault never stops after is =
       subst (λ o. IsBrought limits log m number bytes (Broke number fault) (record { mirror = new; upstream = f.upstream; connection = o })) (sym is)
       (by m.connection refl (subst (AreLinked limits log m m.connection f) there h.linked))
     where
@@ -356,5 +374,5 @@ module _ (fronts : FrontsAreRead) (one : ReadingIsOne) (limits : Limits) (log : 
       by None e l = absurd l
       by (Some c) e l =
           let r = l.1 in
-          let stop = stopped c l.0 r fault e (stops (opening_at log r.before c.fresh) (take c.delivered (sent_text log c)) r.notes r.stands) in
+          let stop = stopped c l.0 r fault never e (stops (opening_at log r.before c.fresh) (take c.delivered (sent_text log c)) r.notes r.stands) in
           (refl, stop.0, stop.1)

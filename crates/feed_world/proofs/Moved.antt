@@ -314,6 +314,7 @@ module _ (w : World) (primary : PrimaryState) (fs : List FollowerState) (h : Are
         connection = b.connection;
         is_there = there;
         is_linked = b.is_linked;
+        some = b.some;
         e = b.e;
         from = b.from;
         to = b.to;

@@ -1,5 +1,5 @@
 -- What a world in memory has, and of which world of numbers it is the state.
-use Rattle.std.specs.Prelude.{◌≡◌, ℕ, zero, suc, option_map, ◌≤◌, Bool, false, true, List, [], ◌∷◌, length, map, take, flat_map, slice_get, Option, Some, None, IfSome, Result, Ok, Err, if◌then◌else◌}
+use Rattle.std.specs.Prelude.{◌≡◌, ◌<◌, ℕ, zero, suc, option_map, ◌≤◌, Bool, false, true, List, [], ◌∷◌, length, map, take, flat_map, slice_get, Option, Some, None, IfSome, Result, Ok, Err, if◌then◌else◌}
 use Rattle.std.specs.Option.{option_and_then}
 use Rattle.feed_tables.specs.Tables.{no_tables, after_all}
 use Rattle.feed_node.specs.declared.fault.FeedFault.TheVariants.{Memory as FeedMemory}
@@ -104,10 +104,11 @@ abbrev pub RefusesMove : Result Move WorldFault → WorldFault → Type 0
 RefusesMove (Ok move) fault = (fault ≡ Memory) × (is_free_reply move.0 ≡ false)
 RefusesMove (Err reason) fault = fault ≡ reason
 
--- the connection broke for want of memory after some of these bytes
+-- the connection had bytes to deliver, and broke for want of memory after some of them
 pub record BreaksMirror (limits : Limits) (log : Log) (m : Mirror) (bytes : ℕ) (f : FollowerState) : Type 0 where
   pub connection : Connection
   pub is_linked : m.connection ≡ Some connection
+  pub some : connection.delivered < reached log connection bytes
   pub e : ℕ
   pub from : connection.delivered ≤ e
   pub to : e ≤ reached log connection bytes

@@ -1,5 +1,5 @@
 -- What each event does to a world, and the reply. An event has one reply, but where memory ran out.
-use Rattle.std.specs.Prelude.{◌≡◌, ◌⊎◌, ℕ, ◌+◌, ◌≤◌, Bool, true, false, ◌&&◌, List, [], ◌∷◌, ◌++◌, length, Option, Some, None, Result, Ok, Err, min, if◌then◌else◌, nat_lt, nat_le, ◌==◌, IsTrue}
+use Rattle.std.specs.Prelude.{◌≡◌, ◌≢◌, ◌⊎◌, ℕ, ◌+◌, ◌<◌, ◌≤◌, Bool, true, false, ◌&&◌, List, [], ◌∷◌, ◌++◌, length, Option, Some, None, Result, Ok, Err, min, if◌then◌else◌, nat_lt, nat_le, ◌==◌, IsTrue}
 use Rattle.feed_tables.specs.declared.change.Change.{Change}
 use Rattle.feed_node.specs.declared.primary.CommitFault.{CommitFault}
 use Rattle.feed_node.specs.declared.primary.CommitFault.TheVariants.{EmptyBatch, LastToken, Memory as CommitMemory}
@@ -179,12 +179,13 @@ outcome world (Idle i) = at_node world i mirror_idles
 outcome world (Deliver i n) = at_node world i (mirror_delivers world.limits.history world.log n)
 outcome world (DoCut i) = at_node world i mirror_cuts
 
--- The connection broke for want of memory: some of the bytes that were to be delivered count, and the connection is gone.
+-- The connection broke for want of memory, with bytes to deliver: some of them count, and the connection is gone.
 pub record Breaks (old : World) (i n : ℕ) (new : World) : Type 0 where
   pub mirror : Mirror
   pub connection : Connection
   pub is_there : mirror_at old i ≡ Some mirror
   pub is_linked : mirror.connection ≡ Some connection
+  pub some : connection.delivered < reached old.log connection n
   pub e : ℕ
   pub from : connection.delivered ≤ e
   pub to : e ≤ reached old.log connection n
@@ -205,11 +206,13 @@ Run old (event ∷ events) [] new = ⊥
 abbrev pub is_free_reply : Reply → Bool
 is_free_reply (Sent UpToDate) = true
 is_free_reply (Sent Gone) = true
+is_free_reply Refused = true
+is_free_reply NotYet = true
 is_free_reply Cut = true
 is_free_reply reply = false
 
--- what takes no memory: an event at no node or no connection, a commit without changes or without a token, a pull with
--- nothing to send, and a cut
+-- what takes no memory: an event at no node or no connection, a commit without changes or where no token is left, a
+-- connect that opens nothing, a pull with nothing to send, and a cut
 abbrev pub is_free : Outcome → Bool
 is_free (Err NoNode) = true
 is_free (Err NoConnection) = true
@@ -230,9 +233,9 @@ IsRefused world (DoCommit changes) (CommitRefused CommitMemory) = ¬ (TakesNone 
 IsRefused world event fault = outcome world event ≡ Err fault
 
 -- The first refused event ends the run, and those before it stand. The room for the replies may be refused before the
--- first event.
+-- first event, where there is one.
 abbrev pub RunUpTo : World → List Event → WorldFault → World → Type 0
 RunUpTo old events fault new =
-    ((fault ≡ Memory) × (new ≡ old))
+    ((fault ≡ Memory) × (events ≢ []) × (new ≡ old))
     ⊎ ((done : List Event) × (event : Event) × (later : List Event) × (replies : List Reply)
     × (events ≡ done ++ event ∷ later) × Run old done replies new × IsRefused new event fault)
