@@ -1,8 +1,10 @@
 -- Lemmas on runs of a script.
-use Rattle.std.proofs.Common.{◌≡◌, ◌≢◌, refl, sym, ap, ◌∙◌, subst, ℕ, zero, suc, ◌+◌, ◌-◌, ◌<◌, ◌≤◌, arith, take, length-drop, List, [], ◌∷◌, ◌++◌, length, map, drop, get_or, slice_get, Option, Some, None, inl, inr, Result, Ok, Err, OnOk, OnErr, IfErr, IfOk}
-use Rattle.std.proofs.lemmas.List.{take_all}
+use Rattle.std.proofs.Common.{◌≡◌, ◌≢◌, refl, sym, ap, ◌∙◌, subst, ℕ, zero, suc, ◌+◌, ◌-◌, ◌<◌, ◌≤◌, arith, take, length-drop, List, [], ◌∷◌, ◌++◌, length, map, drop, get_or, slice_get, Option, Some, None, inl, inr, Result, Ok, Err, OnOk, OnErr, IfErr, IfOk, IfSome, Bor, append_assoc}
+use Rattle.std.proofs.lemmas.List.{append-nil, take_all}
+use Rattle.std.specs.Prelude.{unwrap_or}
 use Rattle.std.specs.Option.{option_and_then}
 use Rattle.feed_tables.specs.declared.change.Change.{Change}
+use Rattle.feed_note.specs.Lines.{lines as lines_of}
 use Rattle.feed_node.specs.Limits.{Limits, IsInRange}
 use Rattle.feed_node.specs.States.{NodeState}
 use Rattle.feed_world.specs.Log.{Log}
@@ -14,8 +16,8 @@ use Rattle.feed_world.specs.declared.event.Event.TheVariants as event
 use Rattle.feed_world.specs.declared.event.ShapeFault.{ShapeFault}
 use Rattle.feed_world.specs.declared.event.ShapeFault.TheVariants as shape
 use Rattle.feed_world.specs.declared.event.WorldFault.{WorldFault}
-use Rattle.feed_cli.specs.Playing.{Replies, Shows, Prints, shown_text}
-use Rattle.feed_cli.specs.Running.{Makes, MakesNone, HasBadLimits, Happens, DoesAsked, LineDone, LineStops, StopsAsked, StopsShowing}
+use Rattle.feed_cli.specs.Playing.{Replies, Shows, Prints, Grows, shown_text}
+use Rattle.feed_cli.specs.Running.{Makes, MakesNone, HasBadLimits, Happens, DoesAsked, LineDone, LineStops, StopsAsked, StopsShowing, PlaysNext, PlaysOn, PlaysUpTo}
 use Rattle.feed_cli.specs.Script.{Asked, LinesLeft, action_in, shape_by, shape_in, words, world_numbers}
 use Rattle.feed_cli.specs.Stopping.{StopsShow, TakesFeed, cause_of_shape}
 use Rattle.feed_cli.specs.declared.play_fault.PlayCause.{PlayCause}
@@ -153,3 +155,51 @@ module _ (line : List ℕ) (lines : LinesLeft) where
   shows_not (Ok u) p number i state is at told stops = tt
   shows_not (Err why) p number i state is at told stops = λ w stands some.
       subst (λ o. StopsAsked o w lines why) (sym is) (no_show i state w stands why.line why.cause (told.0 ∙ at) some (subst (λ q. IfErr q (λ cause. StopsShow state i cause)) told.1 stops))
+
+-- ---- a whole script
+
+-- the lines before, and one more
+pub grows_more : (initial before now : List ℕ) → Grows initial before → Grows before now → Grows initial now
+grows_more initial before now (told, one) (text, two) = (told ++ text, two ∙ ap (λ l. l ++ text) one ∙ append_assoc initial told text)
+
+-- printed from here on, of a run that leads to the world of this state
+abbrev pub HasPlayed : List ℕ → WorldState → LinesLeft → List ℕ → List ℕ → Type 0
+HasPlayed script state lines initial now = (w : World) × IsWorld w state × Prints initial now (λ told. PlaysUpTo script told w lines)
+
+pub played_more : (script : List ℕ) (old new : WorldState) (initial before now line : List ℕ) (lines behind left : LinesLeft) → HasPlayed script old lines initial before
+    → lines.left ≡ line ∷ behind.left → behind.read ≡ lines.read + 1 → LineDone line old new behind left before now → HasPlayed script new left initial now
+played_more script old new initial before now line lines behind left (w, stands, (told, up, grown)) is read done =
+    let (then, state, (text, does, more)) = done w stands in
+    let next : PlaysNext w lines text then left = record { line = line; behind = behind; next = record { left = is; read = read }; does = does } in
+    (then, state, (
+      told ++ text,
+      record { first = up.first; more = up.more; lines = up.lines; start = up.start; makes = up.makes; plays = PlaysOn.one_more told text w then lines left up.plays next },
+      more ∙ ap (λ l. l ++ text) grown ∙ append_assoc initial told text,
+    ))
+
+-- no line says a world in no bytes
+no_world : (w : World) → Makes [] w → ⊥
+unfolding words
+no_world w makes = absurd (none_some makes.says)
+  where
+    none_some : {a : Asked} → None ≡ Some a → ⊥
+    none_some e = absurd (cc)
+
+-- nothing was played yet
+pub begun : (script : List ℕ) (first empty : Bor (List ℕ)) (o : Option (Bor (List ℕ))) (begin behind : LinesLeft) (state : WorldState) (initial : List ℕ) → begin ≡ record { left = lines_of script; read = 0 }
+    → IfSome o (λ line. (begin.left ≡ line.now ∷ behind.left) × (behind.read ≡ begin.read + 1)) → first ≡ unwrap_or o empty → empty.now ≡ []
+    → (w : World) × IsWorld w state × Makes first.now w → HasPlayed script state behind initial initial
+begun script first empty None begin behind state initial is some e nothing (w, stands, makes) = absurd (no_world w (subst (λ l. Makes l w) (ap (λ l. l.now) e ∙ nothing) makes))
+begun script first empty (Some line) begin behind state initial is (left, read) e nothing (w, stands, makes) =
+    (w, stands, (
+      [],
+      record {
+        first = line.now;
+        more = behind.left;
+        lines = sym (ap (λ b. b.left) is) ∙ left;
+        start = w;
+        makes = subst (λ l. Makes l w) (ap (λ l. l.now) e) makes;
+        plays = subst (λ n. PlaysOn w (record { left = behind.left; read = n }) [] w behind) (read ∙ ap (λ b. b.read + 1) is) PlaysOn.none;
+      },
+      sym (append-nil initial),
+    ))

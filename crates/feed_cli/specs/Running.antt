@@ -131,3 +131,70 @@ LineDone line old new behind left printed_old printed_new =
 -- for want of memory nothing is said
 abbrev pub LineStops : List ℕ → WorldState → LinesLeft → PlayFault → Type 0
 LineStops line old behind why = (w : World) → IsWorld w old → why.cause ≢ cause.Memory → StopsAsked (action_in line) w behind why
+
+-- ---- several lines, and a whole script
+
+-- the next line, and the lines behind it
+pub record IsNext (lines : LinesLeft) (line : List ℕ) (behind : LinesLeft) : Type 0 where
+  pub left : lines.left ≡ line ∷ behind.left
+  pub read : behind.read ≡ lines.read + 1
+
+-- what the next line asks for is done
+pub record PlaysNext (old : World) (lines : LinesLeft) (text : List ℕ) (new : World) (left : LinesLeft) : Type 0 where
+  pub line : List ℕ
+  pub behind : LinesLeft
+  pub next : IsNext lines line behind
+  pub does : DoesAsked (action_in line) old behind text new left
+
+-- what the next lines ask for is done, one after another, and this is printed in all
+pub data PlaysOn (start : World) (lines : LinesLeft) : List ℕ → World → LinesLeft → Type 0 where
+  none : PlaysOn start lines [] start lines
+  one_more : (told text : List ℕ) (old new : World) (at left : LinesLeft) → PlaysOn start lines told old at → PlaysNext old at text new left → PlaysOn start lines (told ++ text) new left
+
+-- the lines of a script behind the first one
+abbrev pub behind_first : List (List ℕ) → LinesLeft
+behind_first more = record { left = more; read = 1 }
+
+-- The first line of the script makes a world. What the next ones ask for is done in it, and this is printed: then the
+-- world is this one, and these lines are left.
+pub record PlaysUpTo (script told : List ℕ) (world : World) (left : LinesLeft) : Type 0 where
+  pub first : List ℕ
+  pub more : List (List ℕ)
+  pub lines : lines_of script ≡ first ∷ more
+  pub start : World
+  pub makes : Makes first start
+  pub plays : PlaysOn start (behind_first more) told world left
+
+-- what all lines of the script ask for is done, and this is printed
+pub record Plays (script told : List ℕ) : Type 0 where
+  pub world : World
+  pub end : LinesLeft
+  pub up_to : PlaysUpTo script told world end
+  pub none_left : end.left ≡ []
+
+-- the first of these lines; an empty one, where there is none
+abbrev pub first_line : List (List ℕ) → List ℕ
+first_line [] = []
+first_line (line ∷ more) = line
+
+-- the first line makes no world, and nothing is printed
+pub record StopsAtFirst (script told : List ℕ) (why : PlayFault) : Type 0 where
+  pub nothing : told ≡ []
+  pub line : why.line ≡ 1
+  pub makes_none : MakesNone (first_line (lines_of script)) why.cause
+
+-- A further line stops the script. What the lines before it ask for is done, and this is printed. For want of memory
+-- nothing is said of the line, but that the fault is told there or at a later one.
+pub record StopsLater (script told : List ℕ) (why : PlayFault) : Type 0 where
+  pub world : World
+  pub at : LinesLeft
+  pub before : PlaysUpTo script told world at
+  pub line : List ℕ
+  pub behind : LinesLeft
+  pub next : IsNext at line behind
+  pub stops : why.cause ≢ cause.Memory → StopsAsked (action_in line) world behind why
+  pub from : behind.read ≤ why.line
+
+-- the script stops there, and this is printed before
+abbrev pub Stops : List ℕ → List ℕ → PlayFault → Type 0
+Stops script told why = StopsAtFirst script told why ⊎ StopsLater script told why

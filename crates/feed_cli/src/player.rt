@@ -5,8 +5,8 @@ ghost use Rattle.feed_note.specs.Counts.{IsRead};
 ghost use Rattle.feed_note.specs.Lines.{lines as lines_of, HasNoLineFeed};
 ghost use Rattle.feed_note.specs.Notes.{changes_in};
 ghost use Rattle.feed_note.specs.declared.line.Line.{Line as Note};
-ghost use Rattle.feed_cli.specs.Playing.{Replies, Shows, Grows};
-ghost use Rattle.feed_cli.specs.Running.{Makes, MakesNone, LineDone, LineStops};
+ghost use Rattle.feed_cli.specs.Playing.{Replies, Shows, Prints, Grows};
+ghost use Rattle.feed_cli.specs.Running.{Makes, MakesNone, LineDone, LineStops, Plays, Stops};
 ghost use Rattle.feed_cli.specs.Script.{all_lines};
 ghost use Rattle.feed_cli.specs.Stopping.{StopsFeed, StopsEvent, StopsShow, TakesFeed, StopsCommit, IsLineFrom};
 ghost use Rattle.feed_cli.specs.declared.play_fault.PlayCause.TheVariants.{Memory};
@@ -179,6 +179,9 @@ fn play_line(
 /// Plays a script: makes the world of its first line, does what each further line asks for, one after the other, and
 /// appends what is told of it. At the first fault it stops; what was told before stays.
 pub fn play(alloc: Global, script: &[u8], out: &mut Vec<u8>) -> Result<(), PlayFault>
+    ensures ok { OnOk result (Prints out.old.items out.new.items (λ told. Plays script.now told)) }
+    ensures err { IfErr result (λ fault. Prints out.old.items out.new.items (λ told. Stops script.now told fault)) }
+
     ensures grows { Grows out.old.items out.new.items }
     ensures line { IfErr result (λ fault. IsLineFrom 1 (length (lines_of script.now) + 1) fault.line) }
 {
