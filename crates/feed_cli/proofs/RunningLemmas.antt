@@ -203,3 +203,7 @@ begun script first empty (Some line) begin behind state initial is (left, read) 
       },
       sym (append-nil initial),
     ))
+
+-- what was printed where nothing was
+pub told_by : (P : List ℕ → Type 0) (old now text : List ℕ) → old ≡ [] → text ≡ now → Prints old now P → P text
+told_by P old now text none same (told, holds, grown) = subst P (sym (same ∙ grown ∙ ap (λ l. l ++ told) none)) holds
