@@ -1,5 +1,5 @@
 -- Lemmas on runs of a script.
-use Rattle.std.proofs.Common.{◌≡◌, ◌≢◌, refl, sym, ap, ◌∙◌, subst, ℕ, zero, suc, ◌+◌, ◌-◌, ◌<◌, ◌≤◌, arith, take, length-drop, List, [], ◌∷◌, ◌++◌, length, map, drop, get_or, slice_get, Option, Some, None, inl, inr, Result, Ok, Err, OnOk, OnErr, IfErr, IfOk, IfSome, Bor, append_assoc}
+use Rattle.std.proofs.Common.{◌≡◌, ◌≢◌, refl, sym, ap, ◌∙◌, subst, ℕ, zero, suc, ◌+◌, ◌-◌, ◌<◌, ◌≤◌, arith, take, length-drop, List, [], ◌∷◌, ◌++◌, length, map, drop, get_or, slice_get, Option, Some, None, Result, Ok, Err, OnOk, IfErr, IfSome, Bor, append_assoc}
 use Rattle.std.proofs.lemmas.List.{append-nil, take_all}
 use Rattle.std.specs.Prelude.{unwrap_or}
 use Rattle.std.specs.Option.{option_and_then}
@@ -15,7 +15,6 @@ use Rattle.feed_world.specs.declared.event.Event.{Event}
 use Rattle.feed_world.specs.declared.event.Event.TheVariants as event
 use Rattle.feed_world.specs.declared.event.ShapeFault.{ShapeFault}
 use Rattle.feed_world.specs.declared.event.ShapeFault.TheVariants as shape
-use Rattle.feed_world.specs.declared.event.WorldFault.{WorldFault}
 use Rattle.feed_cli.specs.Playing.{Replies, Shows, Prints, Grows, shown_text}
 use Rattle.feed_cli.specs.Running.{Makes, MakesNone, HasBadLimits, Happens, DoesAsked, LineDone, LineStops, StopsAsked, StopsShowing, PlaysNext, PlaysOn, PlaysUpTo}
 use Rattle.feed_cli.specs.Script.{Asked, LinesLeft, action_in, shape_by, shape_in, words, world_numbers}
@@ -59,14 +58,17 @@ module _ (line xs ns : List ℕ) (said : world_numbers (words line) ≡ Some ns)
     behind_two up which = which ∙ take_all (length xs - 2) (drop 2 xs) (omega (arith, length-drop 2 xs))
 
     pub made : (up : List ℕ) (state : WorldState) → up ≡ take (length xs - 2) (drop 2 xs) → IsWorld (new_world limits up) state → (w : World) × IsWorld w state × Makes line w
-    made up state which stands =
-        (new_world limits up, stands, record {
-          asked = asked_by xs;
-          says = says;
-          limits = in_range;
-          shape = subst HasShape (upstreams_kept up ∙ behind_two up which) stands.nodes.shape;
-          is = ap (λ l. new_world l up) is ∙ ap (new_world (record { history = get_or xs 0 0; staged = get_or xs 1 0 })) (behind_two up which);
-        })
+    made up state which stands = (
+      new_world limits up,
+      stands,
+      record {
+        asked = asked_by xs;
+        says = says;
+        limits = in_range;
+        shape = subst HasShape (upstreams_kept up ∙ behind_two up which) stands.nodes.shape;
+        is = ap (λ l. new_world l up) is ∙ ap (new_world (record { history = get_or xs 0 0; staged = get_or xs 1 0 })) (behind_two up which);
+      },
+    )
 
     pub made_none : (up : List ℕ) (why : ShapeFault) (cause : PlayCause) → up ≡ take (length xs - 2) (drop 2 xs) → RefusesShape up why → cause ≡ cause_of_shape why → MakesNone line cause
     made_none up why cause which bad told = subst (MakesNone line) (sym told) (refused why (subst (λ l. RefusesShape l why) (behind_two up which) bad))
@@ -170,12 +172,15 @@ pub played_more : (script : List ℕ) (old new : WorldState) (initial before now
     → lines.left ≡ line ∷ behind.left → behind.read ≡ lines.read + 1 → LineDone line old new behind left before now → HasPlayed script new left initial now
 played_more script old new initial before now line lines behind left (w, stands, (told, up, grown)) is read done =
     let (then, state, (text, does, more)) = done w stands in
-    let next : PlaysNext w lines text then left = record { line = line; behind = behind; next = record { left = is; read = read }; does = does } in
-    (then, state, (
-      told ++ text,
-      record { first = up.first; more = up.more; lines = up.lines; start = up.start; makes = up.makes; plays = PlaysOn.one_more told text w then lines left up.plays next },
-      more ∙ ap (λ l. l ++ text) grown ∙ append_assoc initial told text,
-    ))
+    let next : PlaysNext w lines text then left = record { line = line; behind = behind; next = record { left = is; read = read }; does = does } in (
+      then,
+      state,
+      (
+        told ++ text,
+        record { first = up.first; more = up.more; lines = up.lines; start = up.start; makes = up.makes; plays = PlaysOn.one_more told text w then lines left up.plays next },
+        more ∙ ap (λ l. l ++ text) grown ∙ append_assoc initial told text,
+      ),
+    )
 
 -- no line says a world in no bytes
 no_world : (w : World) → Makes [] w → ⊥
@@ -190,19 +195,22 @@ pub begun : (script : List ℕ) (first empty : Bor (List ℕ)) (o : Option (Bor 
     → IfSome o (λ line. (begin.left ≡ line.now ∷ behind.left) × (behind.read ≡ begin.read + 1)) → first ≡ unwrap_or o empty → empty.now ≡ []
     → (w : World) × IsWorld w state × Makes first.now w → HasPlayed script state behind initial initial
 begun script first empty None begin behind state initial is some e nothing (w, stands, makes) = absurd (no_world w (subst (λ l. Makes l w) (ap (λ l. l.now) e ∙ nothing) makes))
-begun script first empty (Some line) begin behind state initial is (left, read) e nothing (w, stands, makes) =
-    (w, stands, (
-      [],
-      record {
-        first = line.now;
-        more = behind.left;
-        lines = sym (ap (λ b. b.left) is) ∙ left;
-        start = w;
-        makes = subst (λ l. Makes l w) (ap (λ l. l.now) e) makes;
-        plays = subst (λ n. PlaysOn w (record { left = behind.left; read = n }) [] w behind) (read ∙ ap (λ b. b.read + 1) is) PlaysOn.none;
-      },
-      sym (append-nil initial),
-    ))
+begun script first empty (Some line) begin behind state initial is (left, read) e nothing (w, stands, makes) = (
+  w,
+  stands,
+  (
+    [],
+    record {
+      first = line.now;
+      more = behind.left;
+      lines = sym (ap (λ b. b.left) is) ∙ left;
+      start = w;
+      makes = subst (λ l. Makes l w) (ap (λ l. l.now) e) makes;
+      plays = subst (λ n. PlaysOn w (record { left = behind.left; read = n }) [] w behind) (read ∙ ap (λ b. b.read + 1) is) PlaysOn.none;
+    },
+    sym (append-nil initial),
+  ),
+)
 
 -- what was printed where nothing was
 pub told_by : (P : List ℕ → Type 0) (old now text : List ℕ) → old ≡ [] → text ≡ now → Prints old now P → P text

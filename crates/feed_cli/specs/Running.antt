@@ -2,7 +2,7 @@
 use Rattle.std.specs.Prelude.{◌≡◌, ◌≢◌, ℕ, ◌+◌, ◌≤◌, ◌<◌, ◌⊎◌, List, [], ◌∷◌, ◌++◌, length, Option, Some, None}
 use Rattle.feed_tables.specs.declared.change.Change.{Change}
 use Rattle.feed_note.specs.Lines.{lines as lines_of}
-use Rattle.feed_node.specs.Limits.{Limits, IsInRange}
+use Rattle.feed_node.specs.Limits.{IsInRange}
 use Rattle.feed_world.specs.States.{IsWorld, WorldState}
 use Rattle.feed_world.specs.Step.{IsRefused}
 use Rattle.feed_world.specs.World.{World, HasShape, new_world, node_of}

@@ -1,4 +1,4 @@
-use Rattle.std.proofs.Common.{◌≡◌, refl, Err, Ok}
+use Rattle.std.proofs.Common.{refl}
 use Rattle.std.proofs.lemmas.Result.{err_from_is_err_and}
 use Rattle.feed_cli.proofs.RunningLemmas.{bad_limits, made, made_none}
 use Rattle.feed_cli.proofs.player.make_world.Goals as goal

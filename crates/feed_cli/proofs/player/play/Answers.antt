@@ -1,4 +1,4 @@
-use Rattle.std.proofs.Common.{◌≡◌, ap, arith, length, refl, [], sym}
+use Rattle.std.proofs.Common.{ap, arith, length, refl, [], sym}
 use Rattle.std.proofs.lemmas.List.{append-nil}
 use Rattle.feed_cli.proofs.RunningLemmas.{begun, grows_more, played_more}
 use Rattle.feed_cli.proofs.player.play.Goals as goal

@@ -1,4 +1,4 @@
-use Rattle.std.proofs.Common.{◌≡◌, ◌∙◌, sym, ap, Some}
+use Rattle.std.proofs.Common.{◌∙◌, sym, ap, Some}
 use Rattle.feed_world.specs.declared.event.Event.TheVariants as event
 use Rattle.feed_cli.specs.declared.script.Action.TheVariants as action
 use Rattle.feed_cli.proofs.RunningLemmas.{through, OnOk-weaker, happens, commits, shows, shows_not}

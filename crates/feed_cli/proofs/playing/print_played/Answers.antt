@@ -1,5 +1,4 @@
-use Rattle.std.proofs.Common.{rules, ◌≡◌, ◌∙◌, sym, inl, inr}
-use Rattle.feed_cli.specs.Plays.{StopsByFault}
+use Rattle.std.proofs.Common.{rules, ◌∙◌, sym, inl, inr}
 use Rattle.feed_cli.specs.Running.{Plays, Stops}
 use Rattle.feed_cli.proofs.RunningLemmas.{told_by}
 use Rattle.feed_cli.proofs.playing.print_played.Goals as goal
