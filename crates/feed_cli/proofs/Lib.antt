@@ -4,4 +4,5 @@ mod FeedLemmas
 mod FeedingLemmas
 mod LineLemmas
 mod NumberLemmas
+mod RunningLemmas
 mod WordLemmas

@@ -6,6 +6,7 @@ pub mod Memory
 pub mod Playing
 pub mod Plays
 pub mod Printing
+pub mod Running
 pub mod Script
 pub mod Status
 pub mod Stopping

@@ -1,37 +1,48 @@
--- What the command `play` reads and prints. What is printed is so far known only to be printed whole, or a front of it.
-use Rattle.std.specs.Prelude.{◌≡◌, ◌⊎◌, ℕ, ◌+◌, Bool, true, List, length, Option}
+-- What the command `play` reads and prints.
+use Rattle.std.specs.Prelude.{◌≡◌, ◌⊎◌, ℕ, ◌+◌, Bool, true, false, List, length, Option}
 use Rattle.std.specs.Io.KnownBytes.{Appends, Keeps}
 use Rattle.feed_note.specs.Lines.{lines}
 use Rattle.feed_cli.specs.Counting.{IsWhole, InputTooLong}
 use Rattle.feed_cli.specs.Device.{AppendsFront}
+use Rattle.feed_cli.specs.Running.{Plays, Stops}
 use Rattle.feed_cli.specs.Stopping.{IsLineFrom, is_memory}
 use Rattle.feed_cli.specs.declared.fault.Fault.{Fault}
 use Rattle.feed_cli.specs.declared.fault.Fault.TheVariants as fault
 use Rattle.feed_cli.specs.declared.play_fault.PlayFault.{PlayFault}
 
--- the whole input was read, and what was told of it was printed
+-- the whole input was read, and what its lines ask for was printed
 pub record Played (input_old input_new out_old out_new : Option (List ℕ)) : Type 0 where
   pub script : List ℕ
   pub told : List ℕ
   pub whole : IsWhole input_old input_new script
+  pub plays : Plays script told
   pub printed : Appends out_old out_new told
 
--- the same, but that only a front was printed
+-- the script stops at a fault, and not for want of memory; this is told before
+pub record StopsByFault (script told : List ℕ) : Type 0 where
+  pub why : PlayFault
+  pub stops : Stops script told why
+  pub no_memory : is_memory why.cause ≡ false
+
+-- the same, up to the first fault if there is one, but that only a front was printed
 pub record PlayedFront (input_old input_new out_old out_new : Option (List ℕ)) : Type 0 where
   pub script : List ℕ
   pub told : List ℕ
   pub whole : IsWhole input_old input_new script
+  pub plays : Plays script told ⊎ StopsByFault script told
   pub printed : AppendsFront out_old out_new told
 
 -- the text was printed; or, where memory ran out, a front of it
 abbrev pub IsPrinted : Bool → Option (List ℕ) → Option (List ℕ) → List ℕ → Type 0
 IsPrinted without_memory out_old out_new told = Appends out_old out_new told ⊎ ((without_memory ≡ true) × AppendsFront out_old out_new told)
 
--- the whole input was read, and stops at one of its lines, or at the one that is missing; what was told before was printed
+-- the whole input was read, and stops at one of its lines, or at the one that is missing; what the lines before it ask for
+-- was printed
 pub record Stopped (why : PlayFault) (input_old input_new out_old out_new : Option (List ℕ)) : Type 0 where
   pub script : List ℕ
   pub told : List ℕ
   pub whole : IsWhole input_old input_new script
+  pub stops : Stops script told why
   pub line : IsLineFrom 1 (length (lines script) + 1) why.line
   pub printed : IsPrinted (is_memory why.cause) out_old out_new told
 

@@ -5,10 +5,13 @@ ghost use Rattle.feed_note.specs.Counts.{IsRead};
 ghost use Rattle.feed_note.specs.Lines.{lines as lines_of, HasNoLineFeed};
 ghost use Rattle.feed_note.specs.Notes.{changes_in};
 ghost use Rattle.feed_note.specs.declared.line.Line.{Line as Note};
-ghost use Rattle.feed_cli.specs.Playing.{Replies, Shows, Grows};
+ghost use Rattle.feed_cli.specs.Playing.{Replies, Shows, Prints, Grows};
+ghost use Rattle.feed_cli.specs.Running.{Makes, MakesNone, LineDone, LineStops, Plays, Stops};
 ghost use Rattle.feed_cli.specs.Script.{all_lines};
 ghost use Rattle.feed_cli.specs.Stopping.{StopsFeed, StopsEvent, StopsShow, TakesFeed, StopsCommit, IsLineFrom};
 ghost use Rattle.feed_cli.specs.declared.play_fault.PlayCause.TheVariants.{Memory};
+ghost use Rattle.feed_world.specs.States.{IsWorld};
+ghost use Rattle.feed_world.specs.World.{World as Numbers};
 
 use crate::lines::Lines;
 use crate::play_fault::{PlayCause, PlayFault};
@@ -21,7 +24,10 @@ use feed_world::{Event, World, WorldFault};
 use std::alloc::Global;
 
 /// The world that the first line of a script asks for.
-fn make_world(alloc: Global, line: &[u8]) -> Result<World, PlayCause> {
+fn make_world(alloc: Global, line: &[u8]) -> Result<World, PlayCause>
+    ensures ok { IfOk result (λ world. (w : Numbers) × IsWorld w world × Makes line.now w) }
+    ensures err { IfErr result (λ cause. MakesNone line.now cause) }
+{
     let numbers = read_world(alloc, line)?;
     let [history, staged, upstreams @ ..] = numbers.as_slice() else {
         return Err(PlayCause::Script);
@@ -131,6 +137,10 @@ fn play_line(
     lines: &mut Lines<'_>,
     out: &mut Vec<u8>,
 ) -> Result<(), PlayFault>
+    ensures ok { OnOk result (LineDone line.now world.old world.new lines.old lines.new out.old.items out.new.items) }
+    ensures err { IfErr result (λ fault. LineStops line.now world.old lines.old fault) }
+    ensures quiet { OnErr result (out.new.items ≡ out.old.items) }
+
     ensures grows { Grows out.old.items out.new.items }
     ensures all { all_lines lines.new ≡ all_lines lines.old }
     ensures later { lines.old.read ≤ lines.new.read }
@@ -169,6 +179,9 @@ fn play_line(
 /// Plays a script: makes the world of its first line, does what each further line asks for, one after the other, and
 /// appends what is told of it. At the first fault it stops; what was told before stays.
 pub fn play(alloc: Global, script: &[u8], out: &mut Vec<u8>) -> Result<(), PlayFault>
+    ensures ok { OnOk result (Prints out.old.items out.new.items (λ told. Plays script.now told)) }
+    ensures err { IfErr result (λ fault. Prints out.old.items out.new.items (λ told. Stops script.now told fault)) }
+
     ensures grows { Grows out.old.items out.new.items }
     ensures line { IfErr result (λ fault. IsLineFrom 1 (length (lines_of script.now) + 1) fault.line) }
 {

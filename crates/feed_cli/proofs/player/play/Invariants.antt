@@ -1,6 +1,9 @@
--- What was printed stays, and no line is lost.
+-- What was printed is what the lines so far ask for, of a run that leads to the world in memory; and no line is lost.
 use Rattle.std.proofs.Common.{◌≡◌, length}
-use Rattle.feed_cli.specs.Playing.{Grows}
+use Rattle.feed_world.specs.States.{IsWorld}
+use Rattle.feed_world.specs.World.{World}
+use Rattle.feed_cli.specs.Playing.{Prints, Grows}
+use Rattle.feed_cli.specs.Running.{PlaysUpTo}
 use Rattle.feed_cli.specs.Script.{all_lines}
 use Rattle.feed_cli.proofs.player.play.Given as goal
 
@@ -8,6 +11,7 @@ abbrev pub invariant-lines : goal.invariant-lines
 invariant-lines l = record {
   grows : Grows l.initial.out.items l.out.items;
   all : all_lines l.lines ≡ all_lines l.initial.lines;
+  played : (w : World) × IsWorld w l.world × Prints l.initial.out.items l.out.items (λ told. PlaysUpTo l.fn.script told w l.lines);
 }
 
 abbrev pub decreases-lines : goal.decreases-lines
