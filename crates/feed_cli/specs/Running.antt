@@ -11,7 +11,7 @@ use Rattle.feed_world.specs.declared.event.Event.TheVariants as event
 use Rattle.feed_world.specs.declared.event.WorldFault.TheVariants.{NoNode}
 use Rattle.feed_cli.specs.Playing.{IsReplied, Prints, shown_text}
 use Rattle.feed_cli.specs.Script.{Asked, LinesLeft, action_in, shape_in}
-use Rattle.feed_cli.specs.Stopping.{TakesFeed, StopsCommit}
+use Rattle.feed_cli.specs.Stopping.{TakesFeed, StopsCommit, cause_of_world}
 use Rattle.feed_cli.specs.declared.play_fault.PlayCause.{PlayCause}
 use Rattle.feed_cli.specs.declared.play_fault.PlayCause.TheVariants as cause
 use Rattle.feed_cli.specs.declared.play_fault.PlayFault.{PlayFault}
@@ -84,9 +84,9 @@ DoesAsked None old behind text new left = ⊥
 
 -- ---- why a further line stops the script
 
--- the world refuses the event
+-- the world refuses the event, and not for want of memory
 abbrev pub Refuses : World → Event → PlayCause → Type 0
-Refuses w what (cause.World why) = IsRefused w what why
+Refuses w what (cause.World why) = (cause_of_world why ≡ cause.World why) × IsRefused w what why
 Refuses w what cause.Script = ⊥
 Refuses w what cause.Limits = ⊥
 Refuses w what cause.Shape = ⊥

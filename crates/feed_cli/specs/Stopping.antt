@@ -48,12 +48,10 @@ StopsFeed line Shape = ⊥
 StopsFeed line (World why) = ⊥
 StopsFeed line Memory = ⊥
 
--- why an event stops a script: each world of which this is the state refuses it; for want of memory nothing is said, and it
--- is told as that alone
+-- why an event stops a script: each world of which this is the state refuses it, and not for want of memory, of which nothing
+-- is said
 abbrev pub StopsEvent : WorldState → Event → PlayCause → Type 0
-StopsEvent state event (World world.Memory) = ⊥
-StopsEvent state event (World (world.Commit commit.Memory)) = ⊥
-StopsEvent state event (World why) = (w : Numbers) → IsWorld w state → IsRefused w event why
+StopsEvent state event (World why) = (cause_of_world why ≡ World why) × ((w : Numbers) → IsWorld w state → IsRefused w event why)
 StopsEvent state event Memory = Unit {0}
 StopsEvent state event Script = ⊥
 StopsEvent state event Limits = ⊥
