@@ -15,7 +15,8 @@ use crate::naming::{Naming, read_naming};
 use feed_text::{Item, Kind, ObjectText, elements, last_member, nests_to, text_laws};
 use std::alloc::{AllocError, Global};
 
-/// An element of a collection: what its id names, and its object, or nothing where that is too large.
+/// An element of a collection: what its id names, and its object, or nothing where that is too
+/// large.
 #[derive(Drop)]
 pub struct Element {
     pub id: Naming,
@@ -61,8 +62,8 @@ fn openings(text: &[u8]) -> usize
         .count()
 }
 
-/// Whether an object's text is too long or nests too deep. A text of fewer than two bytes or one opening bracket for each
-/// level doesn't.
+/// Whether an object's text is too long or nests too deep. A text of fewer than two bytes or one
+/// opening bracket for each level doesn't.
 fn is_too_large(text: &[u8]) -> bool
     requires { HoldsReadable 101 (text.now, Object) }
     ensures { (v : Value) → IsReadable 101 v → kind_of v ≡ Object → text.now ≡ print v → result ≡ too_large v }

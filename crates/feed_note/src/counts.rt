@@ -31,8 +31,8 @@ pub struct Counts {
 #[derive(Clone, Copy, Debug, PartialEq, Eq, Error)]
 #[error("{stop}")]
 pub struct SurveyFault {
-    /// The number of the line. A rest that is too long is the line after the last; for want of memory the number says
-    /// nothing.
+    /// The number of the line. A rest that is too long is the line after the last; for want of
+    /// memory the number says nothing.
     pub line: u64,
     pub stop: LineStop,
 }

@@ -136,7 +136,8 @@ fn find_fields<'a>(alloc: Global, members: &Members<'a>) -> Result<Fields<'a>, A
     })
 }
 
-/// What the members name. A fault is that of an absent type, or of a type, an id or a token that is no text.
+/// What the members name. A fault is that of an absent type, or of a type, an id or a token that is
+/// no text.
 pub fn read_names(alloc: Global, fields: &Fields<'_>) -> Result<Names, LineFault>
     requires { AreSpelt fields.now }
     ensures { (n : Notification) → Spell fields.now n → MatchResult result (λ names. AreNamesOf names n) (IsFirstFault n) }
