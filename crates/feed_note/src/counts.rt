@@ -72,7 +72,8 @@ impl Counts {
 /// Counts what the lines of a feed are, or names the first that can't be read.
 pub fn survey(alloc: Global, bytes: &[u8]) -> Result<Counts, SurveyFault>
     ensures ok { IfOk result (λ counts. Counted bytes.now counts) }
-    ensures err { IfErr result (λ fault. fault.stop ≢ LineStop.Memory → StopsAt bytes.now fault.line fault.stop) }
+    ensures err { IfErr result (λ fault.
+        fault.stop ≢ LineStop.Memory → StopsAt bytes.now fault.line fault.stop) }
 {
     let mut counts = Counts::none();
     let mut rest = bytes;

@@ -33,7 +33,8 @@ fn take_lines(
     splitter: &mut Splitter,
     all: &mut Vec<Vec<u8>>,
 ) -> Result<(), SplitFault>
-    ensures ok { OnOk result (TakesLines splitter.old (texts_of all.old.items) (texts_of all.new.items) splitter.new) }
+    ensures ok { OnOk result (TakesLines
+        splitter.old (texts_of all.old.items) (texts_of all.new.items) splitter.new) }
     ensures long { IsErrOf result SplitFault.LongLine → HasLongLine splitter.old }
 {
     'lines: loop {
