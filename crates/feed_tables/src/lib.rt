@@ -11,7 +11,7 @@ mod tables;
 
 pub use change::{Change, Changes};
 pub use laws::table_laws;
-pub use name::{Name, NameFault};
+pub use name::{NAME_BYTES, Name, NameFault};
 pub use tables::Tables;
 
 #[cfg(test)]

@@ -19,7 +19,7 @@ use Rattle.feed_text.specs.Strings.{Says, says, written_byte, written_string, Is
 use Rattle.feed_text.proofs.Strings.{both_true, unescaped_is}
 use Rattle.feed_text.proofs.TreeScalars.{both, unescaped_test, all_bytes, bytes_all}
 use Rattle.feed_text.proofs.Utf8.{utf8_behind, utf8_before}
-use Rattle.feed_text.proofs.WrittenStrings.{written_string_says}
+use Rattle.feed_text.proofs.WrittenStrings.{written_string_says, written_is_quoted, written_says}
 
 below_space : (b c : ℕ) → is_unescaped b ≡ true → c < 32 → (b == c) ≡ false
 below_space b c h lt = ne_eqb b c (λ e. absurd (omega (arith, leb-true 32 b (both_true (leb 32 b) _ h).0)))
@@ -145,3 +145,9 @@ string_value (object ms) ok e = absurd cc
 
 pub string_text_is_string : TextOfStringIsString
 string_text_is_string x v s e = subst IsString (sym s.text) (string_value v s.valid e)
+
+pub ruleset plain_texts = (content_text, content_says, content_plain, not_plain)
+
+pub ruleset contents = (content_utf8, content_is_front)
+
+pub ruleset written = (written_is_quoted, written_says, written_unescaped)
