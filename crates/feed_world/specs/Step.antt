@@ -1,12 +1,12 @@
 -- What each event does to a world, and the reply. An event has one reply, but where memory ran out.
-use Rattle.std.specs.Prelude.{◌≡◌, ◌≢◌, ◌⊎◌, ℕ, ◌+◌, ◌<◌, ◌≤◌, Bool, true, false, ◌&&◌, List, [], ◌∷◌, ◌++◌, length, Option, Some, None, Result, Ok, Err, min, if◌then◌else◌, nat_lt, nat_le, ◌==◌, IsTrue}
+use Rattle.std.specs.Prelude.{◌≡◌, ◌≢◌, ◌⊎◌, ℕ, ◌+◌, ◌<◌, ◌≤◌, Bool, true, false, ◌&&◌, List, [], ◌∷◌, ◌++◌, length, Option, Some, None, Result, Ok, Err, min, if◌then◌else◌, nat_lt, nat_le, ◌==◌, IsSome, IsTrue}
 use Rattle.feed_tables.specs.declared.change.Change.{Change}
 use Rattle.feed_node.specs.declared.primary.CommitFault.{CommitFault}
-use Rattle.feed_node.specs.declared.primary.CommitFault.TheVariants.{EmptyBatch, LastToken, Memory as CommitMemory}
+use Rattle.feed_node.specs.declared.primary.CommitFault.TheVariants.{Memory as CommitMemory}
 use Rattle.feed_node.specs.declared.fault.FeedFault.TheVariants.{Memory as FeedMemory}
 use Rattle.feed_node.specs.declared.session.Pulled.{Pulled}
 use Rattle.feed_node.specs.declared.session.Pulled.TheVariants.{More, UpToDate, Gone}
-use Rattle.feed_node.specs.Log.{PrimaryState, token_after, commit_fault}
+use Rattle.feed_node.specs.Log.{PrimaryState, token_after, early_fault, commit_fault}
 use Rattle.feed_world.specs.declared.event.Event.{Event}
 use Rattle.feed_world.specs.declared.event.Event.TheVariants.{Commit as DoCommit, Connect, Serve, Idle, Deliver, Cut as DoCut}
 use Rattle.feed_world.specs.declared.event.Reply.{Reply}
@@ -211,17 +211,17 @@ is_free_reply NotYet = true
 is_free_reply Cut = true
 is_free_reply reply = false
 
--- what takes no memory: an event at no node or no connection, a commit without changes or where no token is left, a
--- connect that opens nothing, a pull with nothing to send, and a cut
+-- an event at no node or no connection takes no memory, nor do a connect that opens nothing, a pull with nothing to send,
+-- and a cut
 abbrev pub is_free : Outcome → Bool
 is_free (Err NoNode) = true
 is_free (Err NoConnection) = true
-is_free (Err (CommitRefused EmptyBatch)) = true
-is_free (Err (CommitRefused LastToken)) = true
 is_free (Err fault) = false
 is_free (Ok p) = is_free_reply p.0
 
+-- nor does a commit that is refused before its tables are made
 abbrev pub TakesNone : World → Event → Type 0
+TakesNone world (DoCommit changes) = IsSome (early_fault (primary_of world) changes)
 TakesNone world event = IsTrue (is_free (outcome world event))
 
 -- The event is refused in this world, for this fault. A want of memory refuses an event only where memory is taken; within

@@ -1,5 +1,5 @@
 -- A world of nodes: a primary, and mirrors each behind another node.
-use Rattle.std.specs.Prelude.{◌≡◌, ℕ, zero, suc, ◌≤◌, Bool, false, List, [], length, map, Option, Some, None, slice_get, slice_set}
+use Rattle.std.specs.Prelude.{◌≡◌, ℕ, zero, suc, ◌≤◌, ◌+◌, Bool, false, List, [], length, map, Option, Some, None, slice_get, slice_set}
 use Rattle.std.specs.Option.{option_and_then}
 use Rattle.feed_node.specs.Limits.{Limits}
 use Rattle.feed_node.specs.States.{NodeState}
@@ -22,9 +22,13 @@ pub record World : Type 0 where
   pub primary : Position
   pub mirrors : List Mirror
 
--- there are at most 255 mirrors, and each is behind an earlier node
+-- how many nodes a world has at most
+abbrev pub most_nodes : ℕ
+most_nodes = 256
+
+-- the primary and the mirrors are no more nodes than a world has at most, and each mirror is behind an earlier node
 pub record HasShape (upstreams : List ℕ) : Type 0 where
-  pub few : length upstreams ≤ 255
+  pub few : 1 + length upstreams ≤ most_nodes
   pub earlier : (i upstream : ℕ) → slice_get upstreams i ≡ Some upstream → upstream ≤ i
 
 abbrev pub new_mirror : ℕ → Mirror

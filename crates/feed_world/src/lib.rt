@@ -14,4 +14,4 @@ pub use laws::world_laws;
 #[cfg(test)]
 mod tests;
 
-pub use world::{Link, World};
+pub use world::{Link, MOST_NODES, World};
