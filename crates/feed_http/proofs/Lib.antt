@@ -1,0 +1,4 @@
+pub mod AskedLemmas
+pub mod DeviceLemmas
+pub mod RefusalTexts
+pub mod TextLemmas

@@ -1,0 +1,14 @@
+pub mod Answer
+pub mod Answered
+pub mod Asked
+pub mod AskedFor
+pub mod Device
+pub mod Framed
+pub mod HeadRead
+pub mod Heads
+pub mod Laws
+pub mod Memory
+pub mod Place
+pub mod RequestText
+pub mod Served
+pub mod Stream
