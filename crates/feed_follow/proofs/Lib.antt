@@ -1,0 +1,3 @@
+pub mod AfterLine
+pub mod ChunkReading
+pub mod ChunkedRuns
