@@ -20,6 +20,3 @@ mod words;
 pub use commands::run;
 pub use play_fault::{PlayCause, PlayFault};
 pub use player::play;
-
-#[cfg(test)]
-mod tests;

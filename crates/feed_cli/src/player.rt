@@ -196,6 +196,3 @@ pub fn play(alloc: Global, script: &[u8], out: &mut Vec<u8>) -> Result<(), PlayF
     }
     Ok(())
 }
-
-#[cfg(test)]
-mod tests;
