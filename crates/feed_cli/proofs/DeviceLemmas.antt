@@ -1,24 +1,9 @@
--- Lemmas on what reads give and writes take.
-use Rattle.std.proofs.Common.{◌≡◌, ℕ, ◌+◌, ◌^◌, inl, inr, arith, ◌-◌, ◌≤◌, List, ◌++◌, length, take, drop, sym, ap, ◌∙◌, append_assoc, take-append-drop, subst, Option}
-use Rattle.std.proofs.lemmas.List.{length-take-le, take_rest}
-use Rattle.std.proofs.Math.Seq.{take-append_seam}
+-- Lemmas on what reads give.
+use Rattle.std.proofs.Common.{◌≡◌, ℕ, ◌+◌, ◌^◌, inl, inr, arith, ◌-◌, List, ◌++◌, sym, ap, ◌∙◌, append_assoc, subst, Option}
 use Rattle.std.proofs.lemmas.Bool.{cases_lt}
 use Rattle.std.specs.Io.KnownBytes.{Consumes}
 use Rattle.std.proofs.KnownBytes.{Consumes-trans}
-use Rattle.feed_cli.specs.Device.{counted, RoseBy, Moved, MovedSome}
-
--- what was copied is the front of what was left
-pub given_front : (left copied tail : List ℕ) (n : ℕ) → copied ≡ take n left → n ≤ length left → left ≡ take n (copied ++ tail) ++ drop n left
-given_front left copied tail n e fits =
-    let len : length copied ≡ n = ap length e ∙ length-take-le n left fits in
-    let whole : take n (copied ++ tail) ≡ copied = ap (λ k. take k (copied ++ tail)) (sym len) ∙ take-append_seam copied tail in
-    sym (take-append-drop n left) ∙ ap (λ l. l ++ drop n left) (sym e ∙ sym whole)
-
--- the front of the rest joins what is done
-pub moves_front : (all done rest : List ℕ) (n : ℕ) → all ≡ done ++ rest → all ≡ (done ++ take n rest) ++ take (length rest - n) (drop n rest)
-moves_front all done rest n e =
-    e ∙ ap (λ l. done ++ l) (sym (take-append-drop n rest)) ∙ sym (append_assoc done (take n rest) (drop n rest))
-    ∙ ap (λ l. (done ++ take n rest) ++ l) (sym (take_rest rest n))
+use Rattle.feed_http.specs.Device.{counted, RoseBy, Moved, MovedSome}
 
 -- the count is one more, or stands
 rose_on : (old new n : ℕ) → new ≡ counted (old + n) 1 → RoseBy old new (n + 1)

@@ -1,8 +1,4 @@
-mod CountingLemmas
+mod CheckLemmas
 mod DeviceLemmas
-mod FeedLemmas
-mod FeedingLemmas
-mod LineLemmas
-mod NumberLemmas
-mod RunningLemmas
-mod WordLemmas
+mod PlayLemmas
+mod TablesLemmas

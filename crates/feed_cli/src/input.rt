@@ -1,9 +1,9 @@
 //! Input that is read whole.
 ghost use Rattle.std.specs.Prelude.{◌≡◌, ◌<◌, ◌≤◌, ◌+◌, vec_len, IfOk, OnOk, OnErr, IsErrOf};
 ghost use Rattle.std.specs.Io.KnownBytes.{IsAtEnd};
-ghost use Rattle.feed_cli.specs.Device.{HasFailed, Moved, MovedSome};
+ghost use Rattle.feed_http.specs.Device.{HasFailed, Moved, MovedSome};
 
-use crate::device::{Failed, FeedRead};
+use feed_http::device::{Failed, FeedRead};
 
 /// Why input was not read whole.
 #[derive(Clone, Copy, Debug, PartialEq, Eq)]

@@ -4,11 +4,23 @@ use clap::{Arg, ArgMatches, Command, Error, value_parser};
 use feed_node::Limits;
 use std::alloc::{AllocError, Global};
 
+/// The name of the program.
+pub const PROGRAM: &str = "tunygarop";
+
+/// How `tables` feeds its mirror, and what it tells.
+#[derive(Clone, Copy)]
+pub struct TablesOptions {
+    /// The mirror's limits.
+    pub limits: Limits,
+    /// Whether a fault of the feed is told with the number of its line.
+    pub verbose: bool,
+}
+
 /// What a command line asks for.
 #[derive(Clone, Copy)]
 pub enum Request {
-    /// The snapshot of what the feed on standard input publishes to a mirror with these limits.
-    Tables(Limits),
+    /// The snapshot of what the feed on standard input publishes to a mirror.
+    Tables(TablesOptions),
     /// What the lines of the feed on standard input are, counted.
     Check,
     /// What happens in a world by the script on standard input.
@@ -56,7 +68,7 @@ fn program<'a>(alloc: Global) -> Result<Command<'a>, AllocError> {
     let play = Command::new(alloc, "play").about(
         "Plays the script of events on standard input in a world of nodes, and prints what is replied",
     );
-    Command::new(alloc, "tunygarop")
+    Command::new(alloc, PROGRAM)
         .about("Mirrors the event feed of a programming contest (CLICS Contest API 2023-06)")
         .subcommand_required(true)
         .subcommand(tables)?
@@ -64,11 +76,13 @@ fn program<'a>(alloc: Global) -> Result<Command<'a>, AllocError> {
         .subcommand(play)
 }
 
-/// The limits that the options ask for; none where one is out of its range, which its parser has refused.
-fn limits_given(matches: &ArgMatches<'_>) -> Option<Limits> {
+/// What the options ask for; none where a limit is out of its range, which its parser has refused.
+fn tables_options(matches: &ArgMatches<'_>) -> Option<TablesOptions> {
     let history = matches.get_one::<u64>("history")?;
     let staged = matches.get_one::<u64>("staged")?;
-    Limits::new(history as usize, staged as usize).ok()
+    let limits = Limits::new(history as usize, staged as usize).ok()?;
+    let verbose = matches.get_flag("verbose");
+    Some(TablesOptions { limits, verbose })
 }
 
 /// What the words ask for; the first of them is the program's name.
@@ -76,7 +90,7 @@ pub fn parse_words<'a>(alloc: Global, words: &'a [&'a str]) -> Result<Request, E
     let mut program = program(alloc)?;
     let matches = program.try_get_matches_from_mut(words)?;
     let request = match matches.subcommand() {
-        Some(("tables", options)) => limits_given(options).map(Request::Tables),
+        Some(("tables", options)) => tables_options(options).map(Request::Tables),
         Some(("play", _)) => Some(Request::Play),
         _ => Some(Request::Check),
     };

@@ -1,0 +1,145 @@
+//! Feeds, with what `tables` prints of each, written by hand from the notification format and the rules on lines and
+//! tokens.
+
+use crate::run::{Case, LARGE, ONE_TEAM, ONE_TEAM_PRINTED, SMALL, TABLES, all_pass};
+use std::test::Fail;
+
+const REPEATED: &str = r#"{"type":"teams","id":"1","data":{},"token":"1"}
+{"type":"teams","id":"2","data":{},"token":"2"}
+{"type":"teams","id":"3","data":{},"token":"3"}
+{"type":"teams","id":"1","data":null,"token":"1"}
+"#;
+
+/// Feeds that are read to their end and publish.
+const PUBLISHED: [Case; 6] = [
+    Case {
+        words: TABLES,
+        input: ONE_TEAM,
+        status: 0,
+        out: ONE_TEAM_PRINTED,
+        err: "",
+    },
+    Case {
+        words: TABLES,
+        input: r#"{"type":"state","id":null,"data":{"ended":null},"token":"s","time":"x"}
+"#,
+        status: 0,
+        out: r#"{"type":"state","id":null,"data":{"ended":null},"token":"s"}
+"#,
+        err: "",
+    },
+    // Deletions of an id that a singleton and no collection hold.
+    Case {
+        words: TABLES,
+        input: r#"{"type":"state","id":null,"data":{},"token":"1"}
+{"type":"state","id":"9","data":null,"token":"2"}
+{"type":"teams","id":"9","data":null,"token":"3"}
+"#,
+        status: 0,
+        out: r#"{"type":"state","id":null,"data":{},"token":"3"}
+"#,
+        err: "",
+    },
+    // Keep-alives, and a change behind the last token.
+    Case {
+        words: TABLES,
+        input: "\n{\"type\":\"teams\",\"id\":null,\"data\":[{\"id\":\"b\"},{\"id\":\"a\"}],\"token\":\"1\"}\n\
+ \t\r\n{\"type\":\"teams\",\"id\":\"a\",\"data\":null}\n",
+        status: 0,
+        out: r#"{"type":"teams","id":null,"data":[]}
+{"type":"teams","id":"a","data":{"id":"a"}}
+{"type":"teams","id":"b","data":{"id":"b"},"token":"1"}
+"#,
+        err: "",
+    },
+    // An array takes the place of the collection.
+    Case {
+        words: TABLES,
+        input: r#"{"type":"teams","id":null,"data":[{"id":"1"},{"id":"2"}],"token":"a"}
+{"type":"teams","id":null,"data":[{"id":"3"}],"token":"b"}
+"#,
+        status: 0,
+        out: r#"{"type":"teams","id":null,"data":[]}
+{"type":"teams","id":"3","data":{"id":"3"},"token":"b"}
+"#,
+        err: "",
+    },
+    // A token that is too old to be held is a new one.
+    Case {
+        words: &["tunygarop", "tables", "--history", "1"],
+        input: REPEATED,
+        status: 0,
+        out: r#"{"type":"teams","id":null,"data":[]}
+{"type":"teams","id":"2","data":{}}
+{"type":"teams","id":"3","data":{},"token":"1"}
+"#,
+        err: "",
+    },
+];
+
+/// Feeds that publish nothing, or have a line that is refused.
+const REFUSED: [Case; 5] = [
+    Case {
+        words: TABLES,
+        input: "",
+        status: 3,
+        out: "",
+        err: "tables: nothing published\n",
+    },
+    // The last line is not ended.
+    Case {
+        words: TABLES,
+        input: r#"{"type":"teams","id":"7","data":{"id":"7","n": 1.50},"token":"a"}"#,
+        status: 3,
+        out: "",
+        err: "tables: nothing published\n",
+    },
+    // More changes wait than are allowed.
+    Case {
+        words: &["tunygarop", "tables", "--staged", "2", "--history", "1"],
+        input: r#"{"type":"state","data":{},"token":"a"}
+{"type":"teams","id":"1","data":{}}
+{"type":"teams","id":"2","data":{}}
+{"type":"teams","id":"3","data":{}}
+"#,
+        status: 2,
+        out: r#"{"type":"state","id":null,"data":{},"token":"a"}
+"#,
+        err: "tables: stage full\n",
+    },
+    // The second line means nothing.
+    Case {
+        words: TABLES,
+        input: r#"{"type":"teams","id":"7","data":{"id":"7","n": 1.50},"token":"a"}
+{"type":"teams","id":"7","data":[]}
+{"type":"teams","id":"7","data":null,"token":"b"}
+"#,
+        status: 2,
+        out: ONE_TEAM_PRINTED,
+        err: "tables: no meaning\n",
+    },
+    // The last line's token is held.
+    Case {
+        words: TABLES,
+        input: REPEATED,
+        status: 2,
+        out: r#"{"type":"teams","id":null,"data":[]}
+{"type":"teams","id":"1","data":{}}
+{"type":"teams","id":"2","data":{}}
+{"type":"teams","id":"3","data":{},"token":"3"}
+"#,
+        err: "tables: token again\n",
+    },
+];
+
+#[test]
+fn prints_tables(rt: HostRuntime) -> Result<(), Fail> {
+    all_pass(&rt, &PUBLISHED, &SMALL)?;
+    all_pass(&rt, &PUBLISHED, &LARGE)
+}
+
+#[test]
+fn tells_faults(rt: HostRuntime) -> Result<(), Fail> {
+    all_pass(&rt, &REFUSED, &SMALL)?;
+    all_pass(&rt, &REFUSED, &LARGE)
+}
