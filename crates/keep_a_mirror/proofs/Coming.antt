@@ -7,7 +7,7 @@ use Rattle.feed_node.specs.declared.fault.FeedFault.{FeedFault}
 use Rattle.feed_node.specs.declared.fault.FeedFault.TheVariants as fault
 use Rattle.feed_node.specs.Limits.{Limits}
 use Rattle.feed_node.specs.Reading.{Opening, Reads}
-use Rattle.feed_node.specs.Mirroring.{MirrorState, StandsAt, Fed, Faulted, HasStopped, HasLost, present_opening, mirror_after, cut_off}
+use Rattle.feed_node.specs.Mirroring.{MirrorState, StandsAt, Fed, Faulted, HasStopped, present_opening, mirror_after, cut_off}
 use Rattle.keep_a_mirror.specs.Following.{HasFollowed}
 
 -- the mirror stands after some of the bytes, and these are the others

@@ -1,4 +1,4 @@
-use Rattle.std.proofs.Common.{rules, ◌≡◌, length}
+use Rattle.std.proofs.Common.{rules}
 use Rattle.std.proofs.lemmas.List.{nil_from_length}
 use Rattle.keep_a_mirror.proofs.Coming.{none_yet, one_more, all_come, closed_by, cut_in_two, on_any}
 use Rattle.keep_a_mirror.proofs.follow.follow.Goals as goal
