@@ -1,14 +1,14 @@
 -- What has come of a connection, piece by piece.
-use Rattle.std.proofs.Common.{◌≡◌, refl, sym, ap, ◌∙◌, subst, ℕ, List, [], ◌++◌, None, append_assoc, append-nil, take, drop}
+use Rattle.std.proofs.Common.{◌≡◌, refl, sym, ap, ◌∙◌, subst, ℕ, List, [], ◌++◌, append_assoc, append-nil, take, drop}
 use Rattle.std.proofs.lemmas.List.{take-append-drop}
-use Rattle.std.specs.Prelude.{Result, Ok, Err, OnErr}
+use Rattle.std.specs.Prelude.{Result, Err, IfErr}
 use Rattle.feed_note.specs.declared.line.Line.{Line}
 use Rattle.feed_node.specs.declared.fault.FeedFault.{FeedFault}
 use Rattle.feed_node.specs.declared.fault.FeedFault.TheVariants as fault
 use Rattle.feed_node.specs.Limits.{Limits}
-use Rattle.feed_node.specs.Reading.{Opening, Reads}
+use Rattle.feed_node.specs.Reading.{Opening, Reads, FaultsAt}
 use Rattle.feed_node.specs.Mirroring.{MirrorState, StandsAt, Fed, Faulted, HasStopped, HasLost, present_opening, mirror_after, cut_off}
-use Rattle.keep_a_mirror.specs.Following.{HasFollowed}
+use Rattle.keep_a_mirror.specs.Following.{HasFollowed, EndsBy, HasGivenUp, shows_after}
 
 -- the mirror stands after some of the bytes, and these are the others
 pub record HasCome (limits : Limits) (opening : Opening) (all behind : List ℕ) (mirror : MirrorState) : Type 0 where
@@ -33,12 +33,17 @@ one_more limits opening all behind front back old new count come cut fed = recor
   limits_are = fed.limits ∙ come.limits_are;
 }
 
+-- the same notes under equal limits
+same_shown : (old mirror : MirrorState) (notes : List Line) (new : MirrorState) → mirror.limits ≡ old.limits
+    → new ≡ cut_off (mirror_after mirror.limits (present_opening old) notes []) → new ≡ shows_after old notes
+same_shown old mirror notes new same e = e ∙ ap (λ l. cut_off (mirror_after l (present_opening old) notes [])) same
+
 followed_at : (old : MirrorState) (all bytes : List ℕ) (notes : List Line) (mirror new : MirrorState) → bytes ≡ all → mirror.limits ≡ old.limits
     → StandsAt (present_opening old) bytes notes mirror → new ≡ cut_off mirror → HasFollowed old all new
 followed_at old all bytes notes mirror new whole same stands cut = record {
   notes = notes;
   nothing_bad = subst (λ t. Reads old.limits (present_opening old) t notes) whole (subst (λ l. Reads l (present_opening old) bytes notes) same stands.nothing_bad);
-  state = cut ∙ ap cut_off stands.state ∙ ap (λ l. cut_off (mirror_after l (present_opening old) notes [])) same;
+  state = same_shown old mirror notes new same (cut ∙ ap cut_off stands.state);
 }
 
 -- all has come, and the connection is cut
@@ -50,19 +55,49 @@ all_come old all behind mirror new come none cut =
 pub cut_in_two : (n : ℕ) (all front back : List ℕ) → front ≡ take n all → back ≡ drop n all → front ++ back ≡ all
 cut_in_two n all front back f b = ap (λ t. t ++ back) f ∙ ap (λ t. take n all ++ t) b ∙ take-append-drop n all
 
-pub on_any : {T E : Type 0} (r : Result T E) (P : Type 0) → P → OnErr r P
-on_any (Ok x) P p = tt
-on_any (Err e) P p = p
+-- what came, a front of the next piece, and all behind that
+in_all : (bytes counted uncounted piece back rest all : List ℕ) → counted ++ uncounted ≡ piece → piece ++ back ≡ rest → bytes ++ rest ≡ all
+    → (bytes ++ counted) ++ (uncounted ++ back) ≡ all
+in_all bytes counted uncounted piece back rest all c p w =
+    append_assoc bytes counted (uncounted ++ back)
+    ∙ ap (λ t. bytes ++ t) (sym (append_assoc counted uncounted back) ∙ ap (λ t. t ++ back) c ∙ p) ∙ w
 
-stopped_closed : (opening : Opening) (bytes : List ℕ) (why : FeedFault) (old new : MirrorState) → (notes : List Line) × HasStopped opening bytes notes why old new
-    → new.connection ≡ None
-stopped_closed opening bytes why old new (notes, stopped) = ap (λ m. m.connection) stopped.state
+stopped_at : (old mirror : MirrorState) (bytes piece back rest all : List ℕ) (why : FeedFault) (new : MirrorState) → mirror.limits ≡ old.limits
+    → piece ++ back ≡ rest → bytes ++ rest ≡ all → ((notes : List Line) → FaultsAt old.limits (present_opening old) (bytes ++ piece) notes why → EndsBy old.limits (present_opening old) (bytes ++ piece) notes why)
+    → (notes : List Line) × HasStopped (present_opening old) (bytes ++ piece) notes why mirror new → HasGivenUp old all why new
+stopped_at old mirror bytes piece back rest all why new same cut whole ends (notes, stopped) = record {
+  front = bytes ++ piece;
+  behind = back;
+  whole = append_assoc bytes piece back ∙ ap (λ t. bytes ++ t) cut ∙ whole;
+  notes = notes;
+  ends = ends notes (subst (λ l. FaultsAt l (present_opening old) (bytes ++ piece) notes why) same stopped.first);
+  state = same_shown old mirror notes new same stopped.state;
+}
 
--- after a fault the mirror is not open
-pub closed_by : (opening : Opening) (before piece : List ℕ) (old new : MirrorState) (why : FeedFault) → Faulted opening before piece old new why → new.connection ≡ None
-closed_by opening before piece old new fault.NotOpen f = stopped_closed opening (before ++ piece) fault.NotOpen old new f
-closed_by opening before piece old new fault.LongLine f = stopped_closed opening (before ++ piece) fault.LongLine old new f
-closed_by opening before piece old new (fault.Line line) f = stopped_closed opening (before ++ piece) (fault.Line line) old new f
-closed_by opening before piece old new fault.TokenAgain f = stopped_closed opening (before ++ piece) fault.TokenAgain old new f
-closed_by opening before piece old new fault.StageFull f = stopped_closed opening (before ++ piece) fault.StageFull old new f
-closed_by opening before piece old new fault.Memory f = ap (λ m. m.connection) f.state
+lost_at : (old mirror : MirrorState) (bytes piece back rest all : List ℕ) (new : MirrorState) → mirror.limits ≡ old.limits → piece ++ back ≡ rest → bytes ++ rest ≡ all
+    → HasLost (present_opening old) bytes piece mirror new → HasGivenUp old all fault.Memory new
+lost_at old mirror bytes piece back rest all new same cut whole lost = record {
+  front = bytes ++ lost.counted;
+  behind = lost.uncounted ++ back;
+  whole = in_all bytes lost.counted lost.uncounted piece back rest all lost.whole cut whole;
+  notes = lost.notes;
+  ends = subst (λ l. Reads l (present_opening old) (bytes ++ lost.counted) lost.notes) same lost.nothing_bad;
+  state = same_shown old mirror lost.notes new same lost.state;
+}
+
+given_up_at : (old mirror : MirrorState) (bytes piece back rest all : List ℕ) (why : FeedFault) (new : MirrorState) → mirror.limits ≡ old.limits → piece ++ back ≡ rest
+    → bytes ++ rest ≡ all → Faulted (present_opening old) bytes piece mirror new why → HasGivenUp old all why new
+given_up_at old mirror bytes piece back rest all fault.NotOpen new same cut whole f = stopped_at old mirror bytes piece back rest all fault.NotOpen new same cut whole (λ notes e. e) f
+given_up_at old mirror bytes piece back rest all fault.LongLine new same cut whole f = stopped_at old mirror bytes piece back rest all fault.LongLine new same cut whole (λ notes e. e) f
+given_up_at old mirror bytes piece back rest all (fault.Line line) new same cut whole f = stopped_at old mirror bytes piece back rest all (fault.Line line) new same cut whole (λ notes e. e) f
+given_up_at old mirror bytes piece back rest all fault.TokenAgain new same cut whole f = stopped_at old mirror bytes piece back rest all fault.TokenAgain new same cut whole (λ notes e. e) f
+given_up_at old mirror bytes piece back rest all fault.StageFull new same cut whole f = stopped_at old mirror bytes piece back rest all fault.StageFull new same cut whole (λ notes e. e) f
+given_up_at old mirror bytes piece back rest all fault.Memory new same cut whole f = lost_at old mirror bytes piece back rest all new same cut whole f
+
+-- a fault of the next piece, as it is told
+pub given_up : {T : Type 0} (old mirror : MirrorState) (piece back rest all : List ℕ) (given why : FeedFault) (new : MirrorState) (result : Result T FeedFault)
+    (come : HasCome old.limits (present_opening old) all rest mirror) → piece ++ back ≡ rest → Faulted (present_opening old) come.bytes piece mirror new given
+    → result ≡ Err why → why ≡ given → IfErr result (λ f. HasGivenUp old all f new)
+given_up old mirror piece back rest all given why new result come cut f is told =
+    subst (λ r. IfErr r (λ f. HasGivenUp old all f new)) (sym is)
+    (subst (λ w. HasGivenUp old all w new) (sym told) (given_up_at old mirror come.bytes piece back rest all given new come.limits_are cut come.whole f))
