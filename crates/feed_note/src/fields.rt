@@ -6,7 +6,7 @@ ghost use Rattle.feed_text.specs.Strings.{Says};
 ghost use Rattle.feed_note.specs.Meaning.{Notification};
 ghost use Rattle.feed_note.specs.Naming.{IsSpeltValue};
 ghost use Rattle.feed_note.specs.Reading.{last_value_spelt, HasFields, AreSpelt, AreUsual, Spell, AreNamesOf, IsFirstFault};
-ghost use Rattle.feed_note.specs.Unreadable.{is_unreadable as unreadable_test, is_unreadable_or_null};
+ghost use Rattle.feed_note.specs.Naming.{is_unreadable as unreadable_test, is_unreadable_or_null};
 
 use crate::line::LineFault;
 use crate::naming::{Naming, read_member_naming, read_naming};
