@@ -1,5 +1,5 @@
 -- What a world in memory has, and of which world of numbers it is the state.
-use Rattle.std.specs.Prelude.{◌≡◌, ◌<◌, ℕ, zero, suc, option_map, ◌≤◌, Bool, false, true, List, [], ◌∷◌, length, map, take, flat_map, slice_get, Option, Some, None, IfSome, Result, Ok, Err, if◌then◌else◌}
+use Rattle.std.specs.Prelude.{◌≡◌, ◌<◌, ℕ, zero, suc, ◌+◌, min, option_map, ◌≤◌, Bool, false, true, List, [], ◌∷◌, length, map, take, flat_map, slice_get, Option, Some, None, IfSome, Result, Ok, Err, if◌then◌else◌}
 use Rattle.std.specs.Option.{option_and_then}
 use Rattle.feed_tables.specs.Tables.{no_tables, after_all}
 use Rattle.feed_node.specs.declared.fault.FeedFault.TheVariants.{Memory as FeedMemory}
@@ -38,6 +38,16 @@ pub record FollowerState : Type 0 where
   pub upstream : ℕ
   pub connection : Option ConnectionState
 
+abbrev pub sending : List ℕ → List ℕ → ℕ → Bool → ConnectionState
+sending token text delivered over = record { token = token; text = text; delivered = delivered; over = over }
+
+-- how many bytes are delivered after the next ones, this many or all that remain
+abbrev pub delivered_after : ConnectionState → ℕ → ℕ
+delivered_after c bytes = min (c.delivered + bytes) (length c.text)
+
+abbrev pub follower_state : MirrorState → ℕ → Option ConnectionState → FollowerState
+follower_state mirror upstream connection = record { mirror = mirror; upstream = upstream; connection = connection }
+
 -- a world: the primary, what it has committed, and the mirrors
 pub record WorldState : Type 0 where
   pub primary : PrimaryState
@@ -49,7 +59,7 @@ world_state primary log followers = record { primary = primary; log = log; follo
 
 -- a mirror without a connection
 abbrev pub new_follower : Limits → ℕ → FollowerState
-new_follower limits upstream = record { mirror = new_mirror limits; upstream = upstream; connection = None }
+new_follower limits upstream = follower_state (new_mirror limits) upstream None
 
 -- why there is no world
 abbrev pub RefusesShape : List ℕ → ShapeFault → Type 0
@@ -199,8 +209,11 @@ pub record Carried : Type 0 where
   pub delivered : ℕ
   pub last : List ℕ
 
+abbrev pub carrying : ℕ → ℕ → List ℕ → Carried
+carrying sent delivered last = record { sent = sent; delivered = delivered; last = last }
+
 abbrev pub carried : ConnectionState → Carried
-carried c = record { sent = length c.text; delivered = c.delivered; last = c.token }
+carried c = carrying (length c.text) c.delivered c.token
 
 -- what the connection of this mirror has carried, where it has one
 abbrev pub link_at : WorldState → ℕ → Option Carried
@@ -209,7 +222,7 @@ link_at s (suc i) = option_map carried (option_and_then (λ f. f.connection) (sl
 
 -- the same of a connection of numbers
 abbrev pub carried_on : Log → Connection → Carried
-carried_on log c = record { sent = bytes_sent log c; delivered = c.delivered; last = token_after c.last }
+carried_on log c = carrying (bytes_sent log c) c.delivered (token_after c.last)
 
 -- what the connection of this mirror of the world has carried, where it has one
 abbrev pub carried_at : World → ℕ → Option Carried
