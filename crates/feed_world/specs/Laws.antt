@@ -23,5 +23,5 @@ abbrev pub DeliveriesCompose : Type 0
 DeliveriesCompose =
     (log : Log) (history : ℕ) (place : Option Position) (parts : List Part) (d e : ℕ) → d ≤ e
     → moved_by history (moved_by history place (blocks_within log parts d)) (drop (length
-        (blocks_within log parts d)) (blocks_within log parts e))
+    (blocks_within log parts d)) (blocks_within log parts e))
     ≡ moved_by history place (blocks_within log parts e)

@@ -39,7 +39,7 @@ abbrev pub FrontsAreRead : Type 0
 FrontsAreRead =
     (limits : Limits) (log : Log) (place : Option Position) (c : Connection) (front behind : List ℕ)
     → IsLog limits log → IsOpened limits log place c → front ++ behind ≡ sent_text log c
-        → IsRead limits log place c front
+    → IsRead limits log place c front
 
 -- where nothing is bad, the lines say one thing, and no fault stands
 pub record ReadingIsOne : Type 0 where

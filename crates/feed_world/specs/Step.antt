@@ -30,8 +30,11 @@ Move = Reply × Mirror
 
 abbrev pub primary_of : World → PrimaryState
 primary_of world =
-    record { limits = world.limits; count = world.primary.at;
-        node = node_at world.log world.primary }
+    record {
+      limits = world.limits;
+      count = world.primary.at;
+      node = node_at world.log world.primary;
+    }
 
 abbrev pub committed : World → List Change → World
 committed world changes =
@@ -56,8 +59,12 @@ commits world changes = commits_unless world changes (commit_fault (primary_of w
 -- the mirror with this connection, or none
 abbrev pub linked : Mirror → Option Connection → Mirror
 linked mirror connection =
-    record { place = mirror.place; upstream = mirror.upstream; afresh = mirror.afresh;
-        connection = connection }
+    record {
+      place = mirror.place;
+      upstream = mirror.upstream;
+      afresh = mirror.afresh;
+      connection = connection;
+    }
 
 -- the mirror whose token was refused
 abbrev pub refused : Mirror → Mirror
@@ -67,8 +74,14 @@ refused mirror =
 -- a connection on which nothing was delivered
 abbrev pub new_connection : Bool → ℕ → Connection
 new_connection fresh start =
-    record { fresh = fresh; start = start; parts = first_parts fresh start; delivered = 0;
-        last = start; over = false }
+    record {
+      fresh = fresh;
+      start = start;
+      parts = first_parts fresh start;
+      delivered = 0;
+      last = start;
+      over = false;
+    }
 
 abbrev pub opens : Mirror → Bool → ℕ → Move
 opens mirror fresh start = (Opened, linked mirror (Some (new_connection fresh start)))
@@ -94,13 +107,25 @@ connects mirror (Some server) = connects_to mirror server mirror.place
 
 abbrev pub with_more : Connection → Connection
 with_more c =
-    record { fresh = c.fresh; start = c.start; parts = c.parts ++ Commit (c.last + 1) ∷ [];
-        delivered = c.delivered; last = c.last + 1; over = c.over }
+    record {
+      fresh = c.fresh;
+      start = c.start;
+      parts = c.parts ++ Commit (c.last + 1) ∷ [];
+      delivered = c.delivered;
+      last = c.last + 1;
+      over = c.over;
+    }
 
 abbrev pub ended : Connection → Connection
 ended c =
-    record { fresh = c.fresh; start = c.start; parts = c.parts; delivered = c.delivered;
-        last = c.last; over = true }
+    record {
+      fresh = c.fresh;
+      start = c.start;
+      parts = c.parts;
+      delivered = c.delivered;
+      last = c.last;
+      over = true;
+    }
 
 abbrev pub serves_behind : Connection → Position → Pulled × Connection
 serves_behind c server =
@@ -120,8 +145,14 @@ serves c server = if c.over then (Gone, c) else serves_from c server
 
 abbrev pub with_line_feed : Connection → Connection
 with_line_feed c =
-    record { fresh = c.fresh; start = c.start; parts = c.parts ++ Line_feed ∷ [];
-        delivered = c.delivered; last = c.last; over = c.over }
+    record {
+      fresh = c.fresh;
+      start = c.start;
+      parts = c.parts ++ Line_feed ∷ [];
+      delivered = c.delivered;
+      last = c.last;
+      over = c.over;
+    }
 
 abbrev pub idles : Connection → Reply × Connection
 idles c = if c.over then (Sent Gone, c) else (Idled, with_line_feed c)
@@ -134,14 +165,24 @@ reached log c n = min (c.delivered + n) (bytes_sent log c)
 
 abbrev pub delivered_to : Connection → ℕ → Connection
 delivered_to c e =
-    record { fresh = c.fresh; start = c.start; parts = c.parts; delivered = e; last = c.last;
-        over = c.over }
+    record {
+      fresh = c.fresh;
+      start = c.start;
+      parts = c.parts;
+      delivered = e;
+      last = c.last;
+      over = c.over;
+    }
 
 -- the mirror to which its connection brought these blocks
 abbrev pub brought : ℕ → Mirror → List Part → Option Connection → Mirror
 brought history mirror blocks connection =
-    record { place = moved_by history mirror.place blocks; upstream = mirror.upstream;
-        afresh = mirror.afresh && (length blocks == 0); connection = connection }
+    record {
+      place = moved_by history mirror.place blocks;
+      upstream = mirror.upstream;
+      afresh = mirror.afresh && (length blocks == 0);
+      connection = connection;
+    }
 
 -- the mirror after e of the bytes sent were delivered
 abbrev pub brought_to : ℕ → Log → Mirror → Connection → ℕ → Option Connection → Mirror
@@ -149,9 +190,11 @@ brought_to history log mirror c e connection =
     brought history mirror (blocks_between log c c.delivered e) connection
 
 abbrev pub delivers_up_to : ℕ → Log → Mirror → Connection → ℕ → Move
-delivers_up_to history log mirror c e =
-    (Delivered (length (blocks_between log c c.delivered e)), brought_to history log mirror c e
-        (Some (delivered_to c e)))
+delivers_up_to history log mirror c e = (
+  Delivered (length (blocks_between log c c.delivered e)),
+  brought_to history log mirror c e
+      (Some (delivered_to c e)),
+)
 
 abbrev pub delivers : ℕ → Log → Mirror → Connection → ℕ → Move
 delivers history log mirror c n = delivers_up_to history log mirror c (reached log c n)
@@ -169,12 +212,15 @@ mirror_connects mirror server = Ok (connects mirror server)
 abbrev pub mirror_serves : Mirror → Option Position → Result Move WorldFault
 mirror_serves mirror server =
     with_connection mirror.connection (λ c. let served = serves c server in
-        (Sent served.0, linked mirror (Some served.1)))
+    (Sent served.0, linked mirror (Some served.1)))
 
 abbrev pub mirror_idles : Mirror → Result Move WorldFault
 mirror_idles mirror =
-    with_connection mirror.connection (λ c. let idled = idles c in (idled.0, linked mirror
-        (Some idled.1)))
+    with_connection mirror.connection (λ c. let idled = idles c in (
+      idled.0,
+      linked mirror
+          (Some idled.1),
+    ))
 
 abbrev pub mirror_delivers : ℕ → Log → ℕ → Mirror → Result Move WorldFault
 mirror_delivers history log n mirror =
