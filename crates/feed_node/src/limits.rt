@@ -14,11 +14,12 @@ pub struct BadLimits;
 /// How many commits any node keeps at most.
 pub const MOST_COMMITS: usize = 65_536;
 
-/// How many changes may wait for a token at any node at most; and the greatest size of any published tables.
+/// How many changes may wait for a token at any node at most; and the greatest size of any
+/// published tables.
 pub const MOST_CHANGES: usize = 1_000_000;
 
-/// How many commits a node keeps, 1 to [`MOST_COMMITS`], and how many changes may wait for a token, 1 to
-/// [`MOST_CHANGES`]; the second bounds the size of the tables that it publishes, too.
+/// How many commits a node keeps, 1 to [`MOST_COMMITS`], and how many changes may wait for a token,
+/// 1 to [`MOST_CHANGES`]; the second bounds the size of the tables that it publishes, too.
 #[derive(Clone, Copy)]
 pub struct Limits {
     history: usize,
@@ -40,7 +41,8 @@ impl Model for Limits {
 impl Limits {
     /// The limits, where they are in range.
     pub fn new(history: usize, staged: usize) -> Result<Limits, BadLimits>
-        ensures ok { IfOk result (λ limits. limits ≡ record { history = history; staged = staged }) }
+        ensures ok { IfOk result (λ limits. limits
+            ≡ record { history = history; staged = staged }) }
         ensures within { IfOk result (λ limits. IsInRange limits.history limits.staged) }
         ensures err { OnErr result (¬ (IsInRange history staged)) }
     {
@@ -59,8 +61,8 @@ impl Limits {
         self.history
     }
 
-    /// How many changes may wait for a token at most, 1 to [`MOST_CHANGES`]; and the greatest size of published
-    /// tables.
+    /// How many changes may wait for a token at most, 1 to [`MOST_CHANGES`]; and the greatest size
+    /// of published tables.
     pub fn staged(self) -> usize
         ensures staged { result ≡ self.staged }
         ensures within { IsInRange self.history self.staged }

@@ -32,11 +32,18 @@ pub record HasShape (upstreams : List ℕ) : Type 0 where
   pub earlier : (i upstream : ℕ) → slice_get upstreams i ≡ Some upstream → upstream ≤ i
 
 abbrev pub new_mirror : ℕ → Mirror
-new_mirror upstream = record { place = None; upstream = upstream; afresh = false; connection = None }
+new_mirror upstream =
+    record { place = None; upstream = upstream; afresh = false; connection = None }
 
 -- the world at the start; the mirror of number i + 1 is behind the node that stands at place i of the list
 abbrev pub new_world : Limits → List ℕ → World
-new_world limits upstreams = record { limits = limits; log = []; primary = record { at = 0; low = 0 }; mirrors = map new_mirror upstreams }
+new_world limits upstreams =
+    record {
+      limits = limits;
+      log = [];
+      primary = record { at = 0; low = 0 };
+      mirrors = map new_mirror upstreams;
+    }
 
 -- the mirror of this number, where there is one
 abbrev pub mirror_at : World → ℕ → Option Mirror
@@ -46,7 +53,13 @@ mirror_at world (suc i) = slice_get world.mirrors i
 -- the world with another mirror of this number
 abbrev pub with_mirror : World → ℕ → Mirror → World
 with_mirror world zero mirror = world
-with_mirror world (suc i) mirror = record { limits = world.limits; log = world.log; primary = world.primary; mirrors = slice_set world.mirrors i mirror }
+with_mirror world (suc i) mirror =
+    record {
+      limits = world.limits;
+      log = world.log;
+      primary = world.primary;
+      mirrors = slice_set world.mirrors i mirror;
+    }
 
 -- where the node of this number is; nowhere, if it has published nothing or is not there
 abbrev pub place_at : World → ℕ → Option Position
