@@ -94,6 +94,3 @@ pub fn survey(alloc: Global, bytes: &[u8]) -> Result<Counts, SurveyFault>
         }
     }
 }
-
-#[cfg(test)]
-mod tests;

@@ -13,6 +13,3 @@ pub use change::{Change, Changes};
 pub use laws::table_laws;
 pub use name::{NAME_BYTES, Name, NameFault};
 pub use tables::Tables;
-
-#[cfg(test)]
-mod tests;

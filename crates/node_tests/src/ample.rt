@@ -1,8 +1,10 @@
 //! Many events in ample memory, each beside a plain model of a world.
 
-use super::model::{Answer, Happening, Numbers};
-use super::*;
-use feed_node::CommitFault;
+use crate::model::{Answer, Happening, Numbers};
+use feed_node::{CommitFault, Limits, Pulled};
+use feed_note::batches;
+use feed_world::{Event, Reply, World, WorldFault};
+use std::alloc::Global;
 
 /// Numbers from 0 to 32,767, in an order that is always the same.
 #[derive(Drop)]
@@ -57,7 +59,7 @@ fn draw_commit(alloc: Global, draws: &mut Draws) -> Option<Drawn> {
     ).ok()?;
     let line = format!(in alloc; "{},\"token\":\"-\"}}\n", set.as_str()).ok()?;
     Some(Drawn {
-        event: Event::Commit(changes(alloc, line.as_bytes())?),
+        event: Event::Commit(batches(alloc, line.as_bytes()).ok()?.pop()?),
         // A bracket and a line feed end the line.
         happening: Happening::Commit(object, set.len().saturating_add(2)),
     })

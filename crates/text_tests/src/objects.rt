@@ -1,0 +1,62 @@
+//! Object texts.
+
+use crate::parts::{Parts, joined};
+use feed_text::{ObjectFault, ObjectText};
+use std::alloc::Global;
+use std::test::Fail;
+
+/// Texts that are taken, or the fault of which is told: the first of a list.
+const TEXTS: [(Parts, Option<ObjectFault>); 12] = [
+    (&[(r#"{"a":1}"#, 1)], None),
+    (&[(r#"{"a":""#, 1), ("x", 1_048_568), (r#""}"#, 1)], None),
+    (
+        &[(r#"{"a":""#, 1), ("x", 1_048_569), (r#""}"#, 1)],
+        Some(ObjectFault::Long),
+    ),
+    (&[(r#"{"a":"#, 100), ("1", 1), ("}", 100)], None),
+    (
+        &[(r#"{"a":"#, 101), ("1", 1), ("}", 101)],
+        Some(ObjectFault::Deep),
+    ),
+    (&[(r#"{"a":"#, 101)], Some(ObjectFault::Deep)),
+    (
+        &[(r#"{"a":"#, 101), ("\n", 1)],
+        Some(ObjectFault::LineBreak),
+    ),
+    (&[("{\"a\":\n1}", 1)], Some(ObjectFault::LineBreak)),
+    (&[("{\"a\":1,\n\"b\":2}", 1)], Some(ObjectFault::LineBreak)),
+    (&[(r#" {"a":1}"#, 1)], Some(ObjectFault::Syntax)),
+    (&[(r#"{"a":1} "#, 1)], Some(ObjectFault::Syntax)),
+    (&[("[1]", 1)], Some(ObjectFault::Syntax)),
+];
+
+#[test]
+fn takes_objects(rt: HostRuntime) -> Result<(), Fail> {
+    for (row, (parts, want)) in TEXTS.iter().enumerate() {
+        let text = joined(rt.alloc(), parts)?;
+        let fault = ObjectText::parse(rt.alloc(), text.as_bytes()).err();
+        assert_eq!(rt; fault, *want, "row {row}");
+    }
+    Ok(())
+}
+
+#[test]
+fn takes_no_other_bytes(rt: HostRuntime) {
+    let fault = ObjectText::parse(rt.alloc(), b"{\"a\":\"\xff\n\"}").err();
+    assert_eq!(rt; fault, Some(ObjectFault::Utf8));
+}
+
+/// Whether an object keeps its text, and its copy and what is made of its bytes have the same.
+fn keeps(alloc: Global, text: &[u8]) -> Result<bool, Fail> {
+    let object = ObjectText::parse(alloc, text)?;
+    let copy = object.copy()?;
+    let again = ObjectText::from_object(alloc, object.bytes())?;
+    Ok(object.bytes() == text && copy.bytes() == text && again.bytes() == text)
+}
+
+#[test]
+fn keeps_objects(rt: HostRuntime) -> Result<(), Fail> {
+    assert!(rt; keeps(rt.alloc(), b"{\"a\":1}")?);
+    assert!(rt; keeps(rt.alloc(), b"{\"id\":\"7\",\"n\": 1.50}")?);
+    Ok(())
+}
