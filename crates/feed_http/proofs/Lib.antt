@@ -1,4 +1,6 @@
 pub mod AskedLemmas
 pub mod DeviceLemmas
 pub mod RefusalTexts
+pub mod RequestLemmas
+pub mod ServingLemmas
 pub mod TextLemmas

@@ -1,6 +1,6 @@
 -- What is written here is read here as it was meant.
-use Rattle.std.specs.Prelude.{◌≡◌, ℕ, ◌≤◌, List, [], length, Option, IfSome, IsUtf8, Ok}
-use Rattle.feed_http.specs.Place.{Place, place_of}
+use Rattle.std.specs.Prelude.{◌≡◌, ℕ, ◌≤◌, List, [], length, Option, IfSome, IsUtf8}
+use Rattle.feed_http.specs.Place.{Place, IsPlace}
 use Rattle.feed_http.specs.RequestText.{request_text}
 use Rattle.feed_http.specs.Asked.{Asked, Asks, feed}
 
@@ -10,5 +10,5 @@ AskedOnce = (bytes contest : List ℕ) (a b : Asked) → Asks bytes contest a �
 
 -- a request with an empty base asks for the feed of its contest after its token
 abbrev pub RequestIsRead : Type 0
-RequestIsRead = (place : Place) (since : Option (List ℕ)) → place_of place.host place.base place.contest ≡ Ok place → place.base ≡ []
+RequestIsRead = (place : Place) (since : Option (List ℕ)) → IsPlace place → place.base ≡ []
     → IfSome since (λ token. (length token ≤ 255) × IsUtf8 token) → Asks (request_text place since) place.contest (feed 1 since)

@@ -5,10 +5,12 @@ pub mod AskedFor
 pub mod Device
 pub mod Framed
 pub mod HeadRead
+pub mod HeadReading
 pub mod Heads
 pub mod Laws
 pub mod Memory
 pub mod Place
 pub mod RequestText
 pub mod Served
+pub mod Serving
 pub mod Stream

@@ -36,15 +36,23 @@ is_base text = is_text_of 255 (codes "._-~/") text && is_rooted text
 abbrev pub is_contest : List ℕ → Bool
 is_contest text = nat_lt 0 (length text) && is_text_of 64 (codes "._-") text
 
+-- the place of these three texts
+abbrev pub make_place : List ℕ → List ℕ → List ℕ → Place
+make_place host base contest = record { host = host; base = base; contest = contest }
+
 -- the place that the three texts make, or the first of them that is no such text
 abbrev pub place_of : List ℕ → List ℕ → List ℕ → Result Place PlaceFault
 place_of host base contest =
     if not (is_host host) then Err BadHost
     else (if not (is_base base) then Err BadBase
     else (if not (is_contest contest) then Err BadContest
-    else Ok (record { host = host; base = base; contest = contest })))
+    else Ok (make_place host base contest)))
+
+-- the texts of a place have the forms that they should have
+abbrev pub IsPlace : Place → Type 0
+IsPlace place = place_of place.host place.base place.contest ≡ Ok place
 
 -- why three texts are no place: the first of the reasons; or memory ran out, and nothing else is wrong
 abbrev pub RefusesPlace : List ℕ → List ℕ → List ℕ → PlaceFault → Type 0
-RefusesPlace host base contest Memory = place_of host base contest ≡ Ok (record { host = host; base = base; contest = contest })
+RefusesPlace host base contest Memory = IsPlace (make_place host base contest)
 RefusesPlace host base contest fault = place_of host base contest ≡ Err fault

@@ -15,9 +15,10 @@ use httparse::Status;
 use httparse::spans::{EMPTY_HEADER_SPAN, HeaderSpan, RequestSpans, parse_request};
 use std::alloc::{AllocError, Global};
 
-/// What a client asks for: nothing that can be had, or the feed, with its version of HTTP/1 and its token.
+/// What a client asks for: nothing that can be had, or the feed, with its version of HTTP/1 and its
+/// token.
 #[derive(Debug, Drop)]
-pub enum AskedFor {
+pub(crate) enum AskedFor {
     Refused(Refusal),
     Feed(u8, Option<String>),
 }
@@ -25,11 +26,14 @@ pub enum AskedFor {
 /// The whole head at the front, if there is one.
 fn whole_request(bytes: &[u8], headers: &mut [HeaderSpan]) -> Option<RequestSpans>
     requires { length headers.old ≡ 64 }
-    ensures found { IfSome result (λ spans. (head : RequestHead) × IsRequestAt bytes.now headers.new spans head
+    ensures found { IfSome result (λ spans. (head : RequestHead)
+        × IsRequestAt bytes.now headers.new spans head
         × IsHeadSize (print_request head) (length head.fields)) }
     ensures within { IfSome result (λ spans. spans.len ≤ length bytes.now) }
-    ensures method { IfSome result (λ spans. (spans.method.start ≤ spans.method.end) × (spans.method.end ≤ length bytes.now)) }
-    ensures path { IfSome result (λ spans. (spans.path.start ≤ spans.path.end) × (spans.path.end ≤ length bytes.now)) }
+    ensures method { IfSome result (λ spans. (spans.method.start ≤ spans.method.end) ×
+        (spans.method.end ≤ length bytes.now)) }
+    ensures path { IfSome result (λ spans. (spans.path.start ≤ spans.path.end) ×
+        (spans.path.end ≤ length bytes.now)) }
     ensures none { IfNone result (HasNoWholeRequest bytes.now) }
 {
     match parse_request(bytes, headers) {
@@ -58,7 +62,11 @@ fn is_get(method: &[u8]) -> bool
 }
 
 /// Reads a request for the feed of a contest.
-pub fn read_request(alloc: Global, bytes: &[u8], contest: &str) -> Result<AskedFor, AllocError>
+pub(crate) fn read_request(
+    alloc: Global,
+    bytes: &[u8],
+    contest: &str,
+) -> Result<AskedFor, AllocError>
     ensures { IfOk result (λ asked. Asks bytes.now contest.now (asked_of asked)) }
 {
     let mut headers = [EMPTY_HEADER_SPAN; 64];

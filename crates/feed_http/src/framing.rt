@@ -6,15 +6,16 @@ ghost use Rattle.feed_http.specs.Framed as framed;
 
 use std::alloc::{AllocError, Global};
 
-/// How the body of an answer is framed: to the end of the connection, or in chunks (RFC 9112, sections 6.3 and 7.1).
+/// How the body of an answer is framed: to the end of the connection, or in chunks (RFC 9112,
+/// sections 6.3 and 7.1).
 #[derive(Clone, Copy, Debug, PartialEq, Eq)]
 pub enum Framing {
     Close,
     Chunked,
 }
 
-/// Appends the bytes as they stand in a body. Of no bytes nothing is appended: an empty chunk would end the body. For want
-/// of memory nothing is appended, either.
+/// Appends the bytes as they stand in a body. Of no bytes nothing is appended: an empty chunk would
+/// end the body. For want of memory nothing is appended, either.
 pub fn frame(
     alloc: Global,
     framing: Framing,

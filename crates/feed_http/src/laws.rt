@@ -1,7 +1,8 @@
 //! Laws of the definitions.
-ghost use Rattle.feed_http.specs.Laws.{AskedOnce};
+ghost use Rattle.feed_http.specs.Laws.{AskedOnce, RequestIsRead};
 
-/// Bytes ask for one thing.
+/// Bytes ask for one thing, and a request that is written here is read as it was meant.
 pub fn http_laws()
-    ensures { AskedOnce }
+    ensures asked { AskedOnce }
+    ensures request { RequestIsRead }
 {}

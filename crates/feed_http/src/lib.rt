@@ -3,8 +3,11 @@
 
 mod answering;
 mod asked;
+mod asking;
 pub mod device;
+mod fault;
 mod framing;
+mod head_reading;
 mod heads;
 mod laws;
 pub mod memory;
@@ -12,12 +15,16 @@ mod place;
 mod refusal;
 mod request;
 mod request_target;
+mod serving;
 pub mod stream;
 
 pub use answering::{Answered, answer};
+pub use asking::ask;
 pub use device::{FeedRead, FeedWrite};
+pub use fault::{EngineFault, Served};
 pub use framing::{Framing, frame, frame_end};
 pub use laws::http_laws;
 pub use memory::{MemReader, MemWriter};
 pub use place::{Place, PlaceFault};
 pub use request::request_text;
+pub use serving::serve_node;

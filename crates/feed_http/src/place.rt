@@ -14,8 +14,8 @@ pub enum PlaceFault {
     /// The host is not 1 to 255 letters, digits and characters of `.-:[]`.
     #[error("bad host")]
     BadHost,
-    /// The base is not empty, nor is it at most 255 letters, digits and characters of `._-~/` that begin with a slash and
-    /// do not end in one.
+    /// The base is not empty, nor is it at most 255 letters, digits and characters of `._-~/` that
+    /// begin with a slash and do not end in one.
     #[error("bad base")]
     BadBase,
     /// The contest is not 1 to 64 letters, digits and characters of `._-`.
@@ -34,7 +34,8 @@ impl From<AllocError> for PlaceFault {
     }
 }
 
-/// Where a feed is asked for: the server's host, the base path of its API, and the id of the contest.
+/// Where a feed is asked for: the server's host, the base path of its API, and the id of the
+/// contest.
 #[derive(Drop)]
 pub struct Place {
     host: String,
@@ -43,25 +44,21 @@ pub struct Place {
 }
 
 impl Model for Place {
-    ghost use Rattle.std.specs.Prelude.{◌≡◌, string_bytes, Ok};
+    ghost use Rattle.std.specs.Prelude.{string_bytes};
     ghost use Rattle.feed_http.specs.Place as places;
 
     ghost Value = { places.Place };
 
-    ghost view = { λ p. record { host = string_bytes p.host; base = string_bytes p.base; contest = string_bytes p.contest } };
+    ghost view = { λ p. places.make_place (string_bytes p.host) (string_bytes p.base)
+        (string_bytes p.contest) };
 
-    ghost invariant = { λ p. places.place_of (string_bytes p.host) (string_bytes p.base) (string_bytes p.contest)
-        ≡ Ok (record { host = string_bytes p.host; base = string_bytes p.base; contest = string_bytes p.contest }) };
+    ghost invariant = { λ p. places.IsPlace (places.make_place (string_bytes p.host)
+        (string_bytes p.base) (string_bytes p.contest)) };
 }
 
 impl Place {
     /// The place that the three texts make. Letters are those of ASCII; a host may have a port.
-    pub fn new(
-        alloc: Global,
-        host: &str,
-        base: &str,
-        contest: &str,
-    ) -> Result<Place, PlaceFault>
+    pub fn new(alloc: Global, host: &str, base: &str, contest: &str) -> Result<Place, PlaceFault>
         ensures ok { IfOk result (λ place. place_of host.now base.now contest.now ≡ Ok place) }
         ensures err { IfErr result (λ fault. RefusesPlace host.now base.now contest.now fault) }
     {

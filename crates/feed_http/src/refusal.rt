@@ -6,7 +6,7 @@ use http::StatusCode;
 
 /// Why a request for a feed is refused: the first of these that holds.
 #[derive(Clone, Copy, Debug, PartialEq, Eq)]
-pub enum Refusal {
+pub(crate) enum Refusal {
     /// The head is over its limits.
     LargeHead,
     /// There is no whole head, or its target is no path that can be read.
@@ -43,22 +43,34 @@ impl Refusal {
     {
         match self {
             Refusal::LargeHead => {
-                b"HTTP/1.1 431 Request Header Fields Too Large\r\nContent-Type: application/json\r\nContent-Length: 39\r\nConnection: close\r\n\r\n{\"code\":431,\"message\":\"head too large\"}"
+                b"HTTP/1.1 431 Request Header Fields Too Large\r\n\
+                  Content-Type: application/json\r\nContent-Length: 39\r\n\
+                  Connection: close\r\n\r\n{\"code\":431,\"message\":\"head too large\"}"
             }
             Refusal::Unreadable => {
-                b"HTTP/1.1 400 Bad Request\r\nContent-Type: application/json\r\nContent-Length: 36\r\nConnection: close\r\n\r\n{\"code\":400,\"message\":\"bad request\"}"
+                b"HTTP/1.1 400 Bad Request\r\nContent-Type: application/json\r\n\
+                  Content-Length: 36\r\nConnection: close\r\n\r\n\
+                  {\"code\":400,\"message\":\"bad request\"}"
             }
             Refusal::NotGet => {
-                b"HTTP/1.1 405 Method Not Allowed\r\nContent-Type: application/json\r\nAllow: GET\r\nContent-Length: 43\r\nConnection: close\r\n\r\n{\"code\":405,\"message\":\"method not allowed\"}"
+                b"HTTP/1.1 405 Method Not Allowed\r\nContent-Type: application/json\r\n\
+                  Allow: GET\r\nContent-Length: 43\r\nConnection: close\r\n\r\n\
+                  {\"code\":405,\"message\":\"method not allowed\"}"
             }
             Refusal::OtherPath => {
-                b"HTTP/1.1 404 Not Found\r\nContent-Type: application/json\r\nContent-Length: 34\r\nConnection: close\r\n\r\n{\"code\":404,\"message\":\"not found\"}"
+                b"HTTP/1.1 404 Not Found\r\nContent-Type: application/json\r\n\
+                  Content-Length: 34\r\nConnection: close\r\n\r\n\
+                  {\"code\":404,\"message\":\"not found\"}"
             }
             Refusal::NothingPublished => {
-                b"HTTP/1.1 503 Service Unavailable\r\nContent-Type: application/json\r\nContent-Length: 42\r\nConnection: close\r\n\r\n{\"code\":503,\"message\":\"nothing published\"}"
+                b"HTTP/1.1 503 Service Unavailable\r\nContent-Type: application/json\r\n\
+                  Content-Length: 42\r\nConnection: close\r\n\r\n\
+                  {\"code\":503,\"message\":\"nothing published\"}"
             }
             Refusal::TokenNotHeld => {
-                b"HTTP/1.1 400 Bad Request\r\nContent-Type: application/json\r\nContent-Length: 39\r\nConnection: close\r\n\r\n{\"code\":400,\"message\":\"token not held\"}"
+                b"HTTP/1.1 400 Bad Request\r\nContent-Type: application/json\r\n\
+                  Content-Length: 39\r\nConnection: close\r\n\r\n\
+                  {\"code\":400,\"message\":\"token not held\"}"
             }
         }
     }

@@ -10,13 +10,11 @@ use crate::place::Place;
 use form_urlencoded::byte_serialize;
 use std::alloc::AllocError;
 
-/// Appends the request to a place for what came after a token, or for all. For want of memory nothing is appended.
-pub fn request_text(
-    place: &Place,
-    since: Option<&str>,
-    out: &mut Vec<u8>,
-) -> Result<(), AllocError>
-    ensures ok { OnOk result (out.new.items ≡ out.old.items ++ texts.request_text place.now (option_copied since.entry)) }
+/// Appends the request to a place for what came after a token, or for all. For want of memory
+/// nothing is appended.
+pub fn request_text(place: &Place, since: Option<&str>, out: &mut Vec<u8>) -> Result<(), AllocError>
+    ensures ok { OnOk result (out.new.items ≡ out.old.items ++ texts.request_text place.now
+        (option_copied since.entry)) }
     ensures err { OnErr result (out.new.items ≡ out.old.items) }
 {
     let start = out.len();
@@ -29,12 +27,9 @@ pub fn request_text(
 
 // Each of the functions below leaves a part of its text where memory runs out.
 
-fn append_request(
-    place: &Place,
-    since: Option<&str>,
-    out: &mut Vec<u8>,
-) -> Result<(), AllocError>
-    ensures ok { OnOk result (out.new.items ≡ out.old.items ++ texts.request_text place.now (option_copied since.entry)) }
+fn append_request(place: &Place, since: Option<&str>, out: &mut Vec<u8>) -> Result<(), AllocError>
+    ensures ok { OnOk result (out.new.items ≡ out.old.items ++ texts.request_text place.now
+        (option_copied since.entry)) }
     ensures kept { Begins out.old.items out.new.items }
 {
     append_request_line(place, since, out)?;
@@ -48,7 +43,8 @@ fn append_request_line(
     since: Option<&str>,
     out: &mut Vec<u8>,
 ) -> Result<(), AllocError>
-    ensures ok { OnOk result (out.new.items ≡ out.old.items ++ (texts.request_line place.now (option_copied since.entry) ++ crlf_bytes)) }
+    ensures ok { OnOk result (out.new.items ≡ out.old.items ++
+        (texts.request_line place.now (option_copied since.entry) ++ crlf_bytes)) }
     ensures kept { Begins out.old.items out.new.items }
 {
     out.extend_from_slice(b"GET ")?;
@@ -59,7 +55,8 @@ fn append_request_line(
 }
 
 fn append_path(place: &Place, out: &mut Vec<u8>) -> Result<(), AllocError>
-    ensures ok { OnOk result (out.new.items ≡ out.old.items ++ texts.feed_path place.now.base place.now.contest) }
+    ensures ok { OnOk result (out.new.items
+        ≡ out.old.items ++ texts.feed_path place.now.base place.now.contest) }
     ensures kept { Begins out.old.items out.new.items }
 {
     out.extend_from_slice(place.base().as_bytes())?;
@@ -70,7 +67,8 @@ fn append_path(place: &Place, out: &mut Vec<u8>) -> Result<(), AllocError>
 }
 
 fn append_since(since: Option<&str>, out: &mut Vec<u8>) -> Result<(), AllocError>
-    ensures ok { OnOk result (out.new.items ≡ out.old.items ++ texts.since_query (option_copied since.entry)) }
+    ensures ok { OnOk result (out.new.items ≡ out.old.items ++ texts.since_query
+        (option_copied since.entry)) }
     ensures kept { Begins out.old.items out.new.items }
 {
     let Some(token) = since else {
@@ -91,7 +89,8 @@ fn append_value(token: &str, out: &mut Vec<u8>) -> Result<(), AllocError>
 }
 
 fn append_host(place: &Place, out: &mut Vec<u8>) -> Result<(), AllocError>
-    ensures ok { OnOk result (out.new.items ≡ out.old.items ++ (codes "Host: " ++ place.now.host ++ crlf_bytes)) }
+    ensures ok { OnOk result (out.new.items ≡ out.old.items ++
+        (codes "Host: " ++ place.now.host ++ crlf_bytes)) }
     ensures kept { Begins out.old.items out.new.items }
 {
     out.extend_from_slice(b"Host: ")?;

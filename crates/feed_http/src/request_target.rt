@@ -8,7 +8,8 @@ use std::alloc::{AllocError, Global};
 
 /// What follows the front, where the text begins with it.
 fn behind<'a>(text: &'a [u8], front: &[u8]) -> Option<&'a [u8]>
-    ensures { MatchOption result ((rest : List ℕ) → text.now ≢ front.now ++ rest) (λ rest. text.now ≡ front.now ++ rest.now) }
+    ensures { MatchOption result ((rest : List ℕ) → text.now ≢ front.now ++ rest)
+        (λ rest. text.now ≡ front.now ++ rest.now) }
 {
     text.strip_prefix(front)
 }
@@ -28,7 +29,8 @@ pub(crate) fn is_path(path: &str, contest: &str) -> bool
 
 /// The token that the first parameter of that name has.
 fn first_since(alloc: Global, query: &str) -> Result<Option<String>, AllocError>
-    ensures { IfOk result (λ since. option_map string_bytes since ≡ parameter (codes "since_token") query.now) }
+    ensures { IfOk result (λ since. option_map string_bytes since ≡ parameter
+        (codes "since_token") query.now) }
 {
     for pair in form_urlencoded::parse(alloc, query.as_bytes()) {
         let (name, value) = pair?;
@@ -41,7 +43,8 @@ fn first_since(alloc: Global, query: &str) -> Result<Option<String>, AllocError>
 
 /// The token that a query asks with.
 pub(crate) fn asked_since(alloc: Global, query: Option<&str>) -> Result<Option<String>, AllocError>
-    ensures { IfOk result (λ since. option_map string_bytes since ≡ since_token (option_copied query.entry)) }
+    ensures { IfOk result (λ since. option_map string_bytes since ≡ since_token
+        (option_copied query.entry)) }
 {
     match query {
         Some(query) => first_since(alloc, query),

@@ -1,0 +1,61 @@
+use Rattle.std.proofs.Common.{◌≡◌, refl, sym, ap, ◌∙◌, ℕ, ◌+◌, List, [], ◌∷◌, ◌++◌, length, arith, subst, Some, length-append}
+use Rattle.std.specs.Io.KnownBytes.{Appends}
+use Rattle.std.proofs.KnownBytes.{Appends-nil, Appends-trans}
+use Rattle.feed_node.specs.declared.commit.Commit.{Commit}
+use Rattle.feed_http.specs.Framed.{frame}
+use Rattle.feed_http.specs.Device.{counted, AppendsFront}
+use Rattle.feed_http.specs.Serving.{Sends, up_to_date, lost, Sent, sent_none, sent_one, commit_text}
+use Rattle.feed_http.proofs.ServingLemmas.{sends_behind, next_moves, ahead_falls, pulls_more, pulls_up_to_date, pulls_gone, on_err, wrote_these, wrote_into, wrote_one, ahead}
+use Rattle.std.proofs.Common.{append-nil}
+use Rattle.feed_http.proofs.serving.send_commits.Goals as goal
+
+pub commits-init : goal.commits-init
+commits-init g c = record { run = ([], sent_none _, refl, Appends-nil _); quiet = refl }
+
+pub returns-in_err-pull-clause-front : goal.returns-in_err-pull-clause-front
+returns-in_err-pull-clause-front g c =
+    let (sent, run, count, wrote) = c.commits.invariant.run in
+    on_err c.from_residual.result _ (wrote_these c.args.node.now.shown c.args.session.now c.commits.session sent c.args.framing _ _ c.pull.ensures.consistent run wrote)
+
+pub returns-in_err-write_framed-in-More-clause-front : goal.returns-in_err-write_framed-in-More-clause-front
+returns-in_err-write_framed-in-More-clause-front g c =
+    let (sent, run, count, wrote) = c.commits.invariant.run in
+    let (commit, is_next, token_is, text_is) = pulls_more _ _ _ _ _ _ c.in_ok-pull.ensures.ok c.in-More.is in
+    let text : c.as_slice.result.now ≡ commit_text commit = c.as_slice.ensures.value ∙ text_is ∙ ap (λ t. t ++ commit_text commit) c.new-text.ensures.items in
+    on_err c.from_residual-in_err-write_framed-in-More.result _
+    (wrote_into c.args.node.now.shown c.args.session.now c.commits.session sent commit c.args.framing _ _ _ c.pull.ensures.consistent run is_next wrote
+    (subst (λ t. AppendsFront (g.W.FeedWrite.contents c.commits.writer) (g.W.FeedWrite.contents c.write_framed.new.writer) (frame c.args.framing t)) text c.in_err-write_framed-in-More.ensures.front))
+
+pub returns-in-UpToDate-clause-ok : goal.returns-in-UpToDate-clause-ok
+returns-in-UpToDate-clause-ok g c =
+    let (sent, run, count, wrote) = c.commits.invariant.run in
+    let none = pulls_up_to_date _ _ _ _ _ _ c.in_ok-pull.ensures.ok c.in-UpToDate.is in
+    (sent, subst (λ l. Sends c.args.node.now.shown c.args.session.now l _) (append-nil sent) (sends_behind c.args.node.now.shown c.args.session.now c.commits.session sent [] _ run (up_to_date c.commits.session none)), count, wrote)
+
+pub returns-in-Gone-clause-ok : goal.returns-in-Gone-clause-ok
+returns-in-Gone-clause-ok g c =
+    let (sent, run, count, wrote) = c.commits.invariant.run in
+    let none = pulls_gone _ _ _ _ _ _ c.in_ok-pull.ensures.ok c.in-Gone.is in
+    (sent, subst (λ l. Sends c.args.node.now.shown c.args.session.now l _) (append-nil sent) (sends_behind c.args.node.now.shown c.args.session.now c.commits.session sent [] _ run (lost c.commits.session none)), count, wrote)
+
+pub commits-smaller : goal.commits-smaller
+commits-smaller g c =
+    let (commit, is_next, token_is, text_is) = pulls_more _ _ _ _ _ _ c.in_ok-pull.ensures.ok c.in-More.is in
+    let falls = ahead_falls c.args.node.now.shown c.commits.session commit (next_moves c.args.node.now.shown c.commits.session commit c.pull.ensures.consistent is_next) in
+    let same : ahead c.args.node.now.shown c.pull.new.self ≡ ahead c.args.node.now.shown commit.token = ap (ahead c.args.node.now.shown) token_is in
+    omega arith
+
+pub commits-preserved : goal.commits-preserved
+commits-preserved g c =
+    let (sent, run, count, wrote) = c.commits.invariant.run in
+    let (commit, is_next, token_is, text_is) = pulls_more _ _ _ _ _ _ c.in_ok-pull.ensures.ok c.in-More.is in
+    let text : c.as_slice.result.now ≡ commit_text commit = c.as_slice.ensures.value ∙ text_is ∙ ap (λ t. t ++ commit_text commit) c.new-text.ensures.items in
+    record {
+      run = (
+        sent ++ commit ∷ [],
+        subst (λ t. Sent c.args.node.now.shown c.args.session.now (sent ++ commit ∷ []) t) (sym token_is) (sent_one c.args.session.now c.commits.session sent commit run is_next),
+        omega (arith, length-append sent (commit ∷ []), count, c.saturating_add-count.ensures),
+        wrote_one sent commit c.args.framing _ _ _ wrote (subst (λ t. Appends (g.W.FeedWrite.contents c.commits.writer) (g.W.FeedWrite.contents c.write_framed.new.writer) (frame c.args.framing t)) text c.in_ok-write_framed-in-More.ensures.ok),
+      );
+      quiet = c.in_ok-write_framed-in-More.ensures.quiet ∙ c.commits.invariant.quiet;
+    }

@@ -1,0 +1,90 @@
+-- What a server sends and writes on one connection.
+use Rattle.std.specs.Prelude.{◌≡◌, ◌⊎◌, ℕ, Bool, true, false, List, [], ◌∷◌, ◌++◌, length, map, Option, Some, None}
+use Rattle.std.specs.List.{flat_map}
+use Rattle.std.specs.Io.KnownBytes.{Appends, Consumes, IsAtEnd}
+use Rattle.feed_note.specs.Texts.{batch_text}
+use Rattle.feed_node.specs.declared.commit.Commit.{Commit}
+use Rattle.feed_node.specs.States.{NodeState}
+use Rattle.feed_node.specs.Serving.{Nothing_new, Lost, Commit_after, next}
+use Rattle.feed_http.specs.declared.fault.Served.{Served}
+use Rattle.feed_http.specs.declared.framing.Framing.{Framing}
+use Rattle.feed_http.specs.Answered.{AnswerParts, AnswersTo}
+use Rattle.feed_http.specs.Device.{counted, AppendsFront}
+use Rattle.feed_http.specs.Framed.{frame}
+use Rattle.feed_http.specs.HeadReading.{IsReadAsNeeded, IsEnough}
+use Rattle.feed_http.specs.Served.{behind_opening}
+
+-- the text of a commit's lines
+abbrev pub commit_text : Commit → List ℕ
+commit_text commit = batch_text commit.changes commit.token
+
+-- the commits that a session at this token is sent, and whether its token is then no longer held
+pub data Sends (node : NodeState) : List ℕ → List Commit → Bool → Type 0 where
+  up_to_date : (token : List ℕ) → next node token ≡ Nothing_new → Sends node token [] false
+  lost : (token : List ℕ) → next node token ≡ Lost → Sends node token [] true
+  sends : (token : List ℕ) (commit : Commit) (later : List Commit) (gone : Bool) → next node token ≡ Commit_after commit
+      → Sends node commit.token later gone → Sends node token (commit ∷ later) gone
+
+-- a session at one token was sent these commits, and is at another one
+pub data Sent (node : NodeState) : List ℕ → List Commit → List ℕ → Type 0 where
+  sent_none : (token : List ℕ) → Sent node token [] token
+  sent_one : (start token : List ℕ) (earlier : List Commit) (commit : Commit) → Sent node start earlier token → next node token ≡ Commit_after commit
+      → Sent node start (earlier ++ commit ∷ []) commit.token
+
+-- the texts of commits, framed
+abbrev pub commit_frames : Framing → List Commit → List ℕ
+commit_frames framing sent = flat_map (frame framing) (map commit_text sent)
+
+-- a front was written of what a session at this token is sent
+pub record WroteSome (node : NodeState) (token : List ℕ) (framing : Framing) (old new : Option (List ℕ)) : Type 0 where
+  pub sent : List Commit
+  pub gone : Bool
+  pub sends : Sends node token sent gone
+  pub front : AppendsFront old new (behind_opening framing (map commit_text sent) gone)
+
+-- ---- what is written
+
+-- what is written behind the answer: nothing where it opened no session, else what that was sent
+abbrev pub written_behind : Option (List ℕ) → Framing → List Commit → Bool → List ℕ
+written_behind None framing sent gone = []
+written_behind (Some _) framing sent gone = behind_opening framing (map commit_text sent) gone
+
+abbrev pub answered_text : AnswerParts → List Commit → Bool → List ℕ
+answered_text answer sent gone = answer.text ++ written_behind answer.session answer.framing sent gone
+
+-- what `Served` tells
+pub record Tells (answer : AnswerParts) (sent : List Commit) (gone : Bool) (served : Served) : Type 0 where
+  pub status : served.status ≡ answer.status
+  pub commits : served.commits ≡ counted 0 (length sent)
+  pub gone_is : served.gone ≡ gone
+
+-- what the session of an answer is sent by a node; nothing, where there is none
+abbrev pub SendsTo : NodeState → Option (List ℕ) → List Commit → Bool → Type 0
+SendsTo node None sent gone = (sent ≡ []) × (gone ≡ false)
+SendsTo node (Some token) sent gone = Sends node token sent gone
+
+-- all that a node writes with this answer
+pub record SendsAnswer (node : NodeState) (answer : AnswerParts) (text : List ℕ) (served : Served) : Type 0 where
+  pub sent : List Commit
+  pub gone : Bool
+  pub sends : SendsTo node answer.session sent gone
+  pub text_is : text ≡ answered_text answer sent gone
+  pub tells : Tells answer sent gone served
+
+-- a front of it was written
+abbrev pub WroteAnswer : NodeState → AnswerParts → Option (List ℕ) → Option (List ℕ) → Type 0
+WroteAnswer node answer old new = (text : List ℕ) × (served : Served) × SendsAnswer node answer text served × AppendsFront old new text
+
+-- all that a node writes to a client that sent these bytes
+pub record Serves (head contest : List ℕ) (node : NodeState) (framing : Framing) (text : List ℕ) (served : Served) : Type 0 where
+  pub answer : AnswerParts
+  pub answers : AnswersTo head contest node framing answer
+  pub sends : SendsAnswer node answer text served
+
+-- Nothing was written; or these bytes were read, as far as the head took, and a front of what a node writes to a client that
+-- sent them was written.
+abbrev pub WroteFront : List ℕ → NodeState → Framing → Option (List ℕ) → Option (List ℕ) → Option (List ℕ) → Option (List ℕ) → Type 0
+WroteFront contest node framing source left old new =
+    Appends old new []
+    ⊎ ((head : List ℕ) × (text : List ℕ) × (served : Served) × Consumes source left head × IsReadAsNeeded head × (IsEnough head ⊎ IsAtEnd left)
+    × Serves head contest node framing text served × AppendsFront old new text)

@@ -1,0 +1,42 @@
+//! The request for what a mirror lacks.
+ghost use Rattle.std.specs.Prelude.{◌≡◌, ◌⊎◌, OnOk, OnErr, IfOk, IfErr, IsErrOf};
+ghost use Rattle.std.specs.Io.KnownBytes.{Appends};
+ghost use Rattle.feed_http.specs.declared.fault.EngineFault.{EngineFault as Fault};
+ghost use Rattle.feed_http.specs.Device.{HasFailed, AppendsFront};
+ghost use Rattle.feed_http.specs.RequestText as texts;
+
+use crate::device::FeedWrite;
+use crate::fault::EngineFault;
+use crate::place::Place;
+use crate::request::request_text;
+use crate::serving::write_bytes;
+use feed_node::Mirror;
+use std::alloc::{AllocError, Global};
+
+/// Writes the request to a place for what a mirror lacks: what came after its token, or all. Where
+/// it fails, a front of the request was written.
+pub fn ask<W: FeedWrite>(
+    alloc: Global,
+    writer: &mut W,
+    place: &Place,
+    mirror: &Mirror,
+) -> Result<(), EngineFault>
+    ensures ok { OnOk result (Appends (W.contents writer.old) (W.contents writer.new)
+        (texts.request_text place.now mirror.now.since)) }
+    ensures front { OnErr result (AppendsFront (W.contents writer.old) (W.contents writer.new)
+        (texts.request_text place.now mirror.now.since)) }
+    ensures faults { IfErr result (λ fault. (fault ≡ Fault.Write) ⊎ (fault ≡ Fault.Memory)) }
+    ensures write { IsErrOf result Fault.Write → HasFailed (W.failures writer.old)
+        (W.failures writer.new) }
+{
+    let text = request_for(alloc, place, mirror)?;
+    write_bytes(writer, text.as_slice())
+}
+
+fn request_for(alloc: Global, place: &Place, mirror: &Mirror) -> Result<Vec<u8>, AllocError>
+    ensures { IfOk result (λ text. text.items ≡ texts.request_text place.now mirror.now.since) }
+{
+    let mut text = Vec::new(alloc);
+    request_text(place, mirror.since(), &mut text)?;
+    Ok(text)
+}

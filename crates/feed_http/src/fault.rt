@@ -1,0 +1,44 @@
+//! Why an engine stopped, and what it served.
+ghost use Rattle.std.specs.Prelude.{◌≡◌};
+ghost use Rattle.feed_http.specs.declared.fault.EngineFault.TheVariants as engine_fault;
+
+use feed_node::CommitFault;
+use std::alloc::AllocError;
+use thiserror::Error;
+
+/// Why an engine stopped.
+#[derive(Clone, Copy, Debug, PartialEq, Eq, Error)]
+pub enum EngineFault {
+    /// A read failed.
+    #[error("read failed")]
+    Read,
+    /// A write failed.
+    #[error("write failed")]
+    Write,
+    /// All reads that were allowed were made, and another was needed.
+    #[error("too many turns")]
+    Turns,
+    /// The primary refused a batch.
+    #[error(transparent)]
+    Commit(CommitFault),
+    /// Memory ran out.
+    #[error("out of memory")]
+    Memory,
+}
+
+impl From<AllocError> for EngineFault {
+    ghost from_gives = { λ _ fault. fault ≡ engine_fault.Memory };
+
+    fn from(_error: AllocError) -> EngineFault {
+        EngineFault::Memory
+    }
+}
+
+/// What an engine served: the status of its answer, how many commits it sent behind what the
+/// session opened with, and whether the node lost the session's token.
+#[derive(Clone, Copy, Debug, PartialEq, Eq)]
+pub struct Served {
+    pub status: u16,
+    pub commits: u64,
+    pub gone: bool,
+}

@@ -1,0 +1,96 @@
+//! Reads of a request's head.
+ghost use Rattle.std.specs.Prelude.{◌≡◌, ◌⊎◌, ◌<◌, ◌≤◌, ℕ, List, [], ◌++◌, length, IsTrue, IfOk, IfErr, OnOk, OnErr, IsErrOf};
+ghost use Rattle.std.specs.Io.KnownBytes.{Consumes, IsAtEnd};
+ghost use Rattle.feed_http.specs.declared.fault.EngineFault.{EngineFault as Fault};
+ghost use Rattle.feed_http.specs.Device.{counted, HasFailed, RoseBy, RoseAtMost};
+ghost use Rattle.feed_http.specs.HeadReading.{most_after, IsReadAsNeeded, IsStillNeeded, IsEnough};
+
+use crate::device::{Failed, FeedRead};
+use crate::fault::EngineFault;
+use crate::heads::{HeadRead, look_at_request};
+
+const PIECE: usize = 4096;
+
+const HEAD: usize = 8192;
+
+/// How many bytes the next read asks for.
+fn most_wanted(len: usize) -> usize
+    ensures most { result ≡ most_after len }
+    ensures some { 0 < result }
+    ensures fits { result ≤ 4096 }
+{
+    if len < HEAD { PIECE.min(HEAD - len) } else { 1 }
+}
+
+/// Makes one read, adds what it gave, and answers how much that was.
+fn read_piece<R: FeedRead>(reader: &mut R, bytes: &mut Vec<u8>) -> Result<usize, EngineFault>
+    ensures given { IfOk result (λ n. (given : List ℕ) ×
+        (bytes.new.items ≡ bytes.old.items ++ given)
+        × (length given ≡ n) × (n ≤ most_after (length bytes.old.items))
+        × Consumes (R.remaining reader.old) (R.remaining reader.new) given
+        × (n ≡ 0 → IsAtEnd (R.remaining reader.new))) }
+    ensures quiet { OnOk result (R.failures reader.new ≡ R.failures reader.old) }
+    ensures reads { R.reads reader.new ≡ counted (R.reads reader.old) 1 }
+    ensures kept { OnErr result (bytes.new.items ≡ bytes.old.items) }
+    ensures read { IsErrOf result Fault.Read → HasFailed (R.failures reader.old)
+        (R.failures reader.new) }
+    ensures faults { IfErr result (λ fault. (fault ≡ Fault.Read) ⊎ (fault ≡ Fault.Memory)) }
+{
+    let mut piece = [0u8; PIECE];
+    let most = most_wanted(bytes.len());
+    match reader.read_some(&mut piece[..most]) {
+        Ok(n) => match bytes.extend_from_slice(&piece[..n]) {
+            Ok(()) => Ok(n),
+            Err(_) => Err(EngineFault::Memory),
+        },
+        Err(Failed) => Err(EngineFault::Read),
+    }
+}
+
+/// Whether a head may still become whole within the limits.
+fn is_needed(bytes: &[u8]) -> bool
+    ensures needed { IsTrue result → IsStillNeeded bytes.now }
+    ensures enough { ¬ (IsTrue result) → IsEnough bytes.now }
+{
+    match look_at_request(bytes) {
+        HeadRead::More => true,
+        HeadRead::Whole(_) => false,
+        HeadRead::TooLarge => false,
+        HeadRead::Never => false,
+    }
+}
+
+/// Reads the head of a request: until it is whole, is too large or never becomes one, or the reader
+/// ends.
+pub(crate) fn read_head<R: FeedRead>(
+    reader: &mut R,
+    bytes: &mut Vec<u8>,
+    turns: u64,
+) -> Result<(), EngineFault>
+    requires { bytes.old.items ≡ [] }
+    ensures enough { OnOk result (IsEnough bytes.new.items ⊎ IsAtEnd (R.remaining reader.new)) }
+    ensures given { OnOk result (Consumes (R.remaining reader.old)
+        (R.remaining reader.new) bytes.new.items) }
+    ensures needed { IsReadAsNeeded bytes.new.items }
+    ensures reads { RoseAtMost (R.reads reader.old) (R.reads reader.new) turns }
+    ensures read { IsErrOf result Fault.Read → HasFailed (R.failures reader.old)
+        (R.failures reader.new) }
+    ensures turns { IsErrOf result Fault.Turns → RoseBy (R.reads reader.old)
+        (R.reads reader.new) turns
+        × Consumes (R.remaining reader.old) (R.remaining reader.new) bytes.new.items
+        × IsStillNeeded bytes.new.items }
+    ensures faults { IfErr result (λ fault. (fault ≡ Fault.Read) ⊎
+        ((fault ≡ Fault.Turns) ⊎ (fault ≡ Fault.Memory))) }
+{
+    let mut made: u64 = 0;
+    'pieces: while is_needed(bytes.as_slice()) {
+        if made == turns {
+            return Err(EngineFault::Turns);
+        }
+        made += 1;
+        if read_piece(reader, bytes)? == 0 {
+            return Ok(());
+        }
+    }
+    Ok(())
+}
