@@ -14,7 +14,8 @@ Commands:
   help    Print this message or the help of the given subcommand(s)
 
 Options:
-  -h, --help  Print help
+  -h, --help     Print help
+  -V, --version  Print version
 ";
 
 const NO_COMMAND: &str = "error: 'tunygarop' requires a subcommand but one was not provided
@@ -24,6 +25,41 @@ Usage: tunygarop <COMMAND>
 
 For more information, try '--help'.
 ";
+
+/// Words that ask for the version, and a command that has none.
+const VERSIONS: [Case; 3] = [
+    Case {
+        words: &["tunygarop", "--version"],
+        input: ONE_TEAM,
+        status: 0,
+        out: "tunygarop 0.1.0\n",
+        err: "",
+    },
+    Case {
+        words: &["tunygarop", "-V"],
+        input: ONE_TEAM,
+        status: 0,
+        out: "tunygarop 0.1.0\n",
+        err: "",
+    },
+    Case {
+        words: &["tunygarop", "play", "--version"],
+        input: ONE_TEAM,
+        status: 1,
+        out: "",
+        err: "error: unexpected argument '--version' found
+
+Usage: tunygarop play
+
+For more information, try '--help'.
+",
+    },
+];
+
+#[test]
+fn tells_its_version(rt: HostRuntime) -> Result<(), Fail> {
+    all_pass(&rt, &VERSIONS, &SMALL)
+}
 
 /// Words that ask for no command, with the texts of the Rust crate clap.
 const WORDS: [Case; 8] = [

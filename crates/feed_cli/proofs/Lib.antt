@@ -2,3 +2,4 @@ mod CheckLemmas
 mod DeviceLemmas
 mod PlayLemmas
 mod TablesLemmas
+mod WordsLemmas

@@ -1,10 +1,12 @@
 -- What the commands do, by what a command line asks for.
-use Rattle.std.specs.Prelude.{ℕ}
+use Rattle.std.specs.Prelude.{ℕ, List}
+use Rattle.clap.specs.Words.{Text}
 use Rattle.feed_cli.specs.Check.{CountsPrinted, CheckFails}
 use Rattle.feed_cli.specs.Fault.{IsToldStatus}
 use Rattle.feed_cli.specs.Play.{Played, PlayFails}
 use Rattle.feed_cli.specs.Streams.{Streams}
 use Rattle.feed_cli.specs.Tables.{PrintedSome, TablesFail}
+use Rattle.feed_cli.specs.Words.{Asks}
 use Rattle.feed_cli.specs.declared.fault.Fault.{Fault}
 use Rattle.feed_cli.specs.declared.words.Request.{Request}
 use Rattle.feed_cli.specs.declared.words.Request.TheVariants as request
@@ -21,14 +23,16 @@ Fails (request.Tables options) why s = TablesFail options.limits why s
 Fails request.Check why s = CheckFails why s
 Fails request.Play why s = PlayFails why s
 
--- a command was asked for and did it
-pub record HasSucceeded (s : Streams) : Type 0 where
+-- the words ask for a command, and it did what was asked for
+pub record HasSucceeded (words : List Text) (s : Streams) : Type 0 where
   pub asked : Request
+  pub asks : Asks words asked
   pub done : Succeeds asked s
 
--- a command was asked for and failed, and this is the status that tells it
-pub record HasFailed (status : ℕ) (s : Streams) : Type 0 where
+-- the words ask for a command, it failed, and this is the status that tells it
+pub record HasFailed (words : List Text) (status : ℕ) (s : Streams) : Type 0 where
   pub asked : Request
+  pub asks : Asks words asked
   pub why : Fault
   pub failed : Fails asked why s
   pub told : IsToldStatus why status

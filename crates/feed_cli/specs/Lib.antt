@@ -4,3 +4,4 @@ pub mod Fault
 pub mod Play
 pub mod Streams
 pub mod Tables
+pub mod Words

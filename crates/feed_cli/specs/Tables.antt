@@ -1,10 +1,9 @@
 -- What the command `tables` reads and prints.
-use Rattle.std.specs.Prelude.{◌≡◌, ℕ, ◌≤◌, Bool, true, false, List, length, Option, None, Result, Ok, Err, is_some}
+use Rattle.std.specs.Prelude.{◌≡◌, ℕ, ◌≤◌, Bool, true, false, List, [], ◌++◌, length, Option, Some, None, Result, Ok, Err, is_some}
 use Rattle.std.specs.Io.KnownBytes.{Appends, Consumes, IsAtEnd, Keeps}
 use Rattle.feed_note.specs.declared.line.Line.{Line}
 use Rattle.feed_note.specs.Publishing.{Published}
 use Rattle.feed_note.specs.Texts.{published_text}
-use Rattle.feed_node.specs.declared.fault.FeedFault.{FeedFault}
 use Rattle.feed_node.specs.Limits.{Limits}
 use Rattle.feed_node.specs.States.{nothing_published}
 use Rattle.feed_node.specs.Mirroring.{MirrorState, StandsAt}
@@ -12,6 +11,7 @@ use Rattle.feed_node.specs.Reading.{Opening, Reads, FaultsAt, reads}
 use Rattle.feed_http.specs.Device.{AppendsFront}
 use Rattle.feed_cli.specs.Streams.{Streams}
 use Rattle.feed_cli.specs.declared.fault.Fault.{Fault}
+use Rattle.feed_cli.specs.declared.fault.FeedStop.{FeedStop}
 use Rattle.feed_cli.specs.declared.fault.Fault.TheVariants as fault
 
 -- a first connection: nothing is published, and it asks for everything
@@ -22,14 +22,14 @@ first_opening = record { before = nothing_published; fresh = true }
 abbrev pub input_turns : ℕ
 input_turns = 1000000
 
--- these bytes, at least so many, were read and fed to a mirror on its first connection, and nothing
--- is wrong with them
-pub record Stands (limits : Limits) (least : ℕ) (old new : Option (List ℕ)) (mirror : MirrorState)
-    : Type 0 where
+-- At least so many bytes were read. But for those behind, they were fed to a mirror on its first
+-- connection, and nothing is wrong with them.
+pub record Stands (limits : Limits) (least : ℕ) (old new : Option (List ℕ)) (behind : List ℕ)
+    (mirror : MirrorState) : Type 0 where
   pub bytes : List ℕ
   pub notes : List Line
-  pub many : least ≤ length bytes
-  pub read : Consumes old new bytes
+  pub many : least ≤ length (bytes ++ behind)
+  pub read : Consumes old new (bytes ++ behind)
   pub stands : StandsAt first_opening bytes notes mirror
   pub limits_are : mirror.limits ≡ limits
 
@@ -48,14 +48,21 @@ pub record HasReadOn (limits : Limits) (old new : Option (List ℕ)) (shown : Op
   pub whole : HasRead limits old new shown
   pub many : input_turns ≤ length whole.bytes
 
--- these bytes were read, the fault is that of their first bad line, and this is what the lines before
--- it publish
-pub record HasFaulted (limits : Limits) (why : FeedFault) (old new : Option (List ℕ))
+-- all that was read was fed; or, where the fault's line is told, what was read up to that line
+abbrev pub IsLeft : Option ℕ → List ℕ → Type 0
+IsLeft None behind = behind ≡ []
+IsLeft (Some line) behind = Unit {0}
+
+-- these bytes and those behind were read, the fault is that of their first bad line, and this is
+-- what the lines before it publish
+pub record HasFaulted (limits : Limits) (why : FeedStop) (old new : Option (List ℕ))
     (shown : Option Published) : Type 0 where
   pub bytes : List ℕ
+  pub behind : List ℕ
   pub notes : List Line
-  pub read : Consumes old new bytes
-  pub first : FaultsAt limits first_opening bytes notes why
+  pub read : Consumes old new (bytes ++ behind)
+  pub left : IsLeft why.line behind
+  pub first : FaultsAt limits first_opening bytes notes why.fault
   pub shown_is : shown ≡ (reads first_opening notes).published
 
 -- what was read of the input, how that ended, and what is published then
@@ -64,7 +71,7 @@ abbrev pub IsFed : Limits → Result (Unit {0}) Fault → Option (List ℕ) → 
 IsFed limits (Ok all) old new shown = HasRead limits old new shown × IsAtEnd new
 IsFed limits (Err fault.Read) old new shown = HasRead limits old new shown
 IsFed limits (Err fault.Turns) old new shown = HasReadOn limits old new shown
-IsFed limits (Err (fault.Feed why)) old new shown = HasFaulted limits why.fault old new shown
+IsFed limits (Err (fault.Feed why)) old new shown = HasFaulted limits why old new shown
 IsFed limits (Err fault.Memory) old new shown = ⊥
 IsFed limits (Err fault.Write) old new shown = ⊥
 IsFed limits (Err fault.TooLong) old new shown = ⊥

@@ -1,5 +1,5 @@
 //! The commands, as the words of a command line ask for them.
-ghost use Rattle.std.specs.Prelude.{◌≡◌, ◌≤◌, ◌⊎◌, IfErr, OnOk, IsErrOf};
+ghost use Rattle.std.specs.Prelude.{◌≡◌, ◌≤◌, ◌⊎◌, map, IfErr, OnOk, IsErrOf};
 ghost use Rattle.feed_http.specs.Device.{HasFailed as HasDeviceFailed};
 ghost use Rattle.feed_cli.specs.Commands.{Succeeds, Fails, HasSucceeded, HasFailed};
 ghost use Rattle.feed_cli.specs.Fault.{IsToldStatus};
@@ -29,7 +29,8 @@ struct Printer<'a, W> {
 impl<W: FeedWrite> Write for Printer<'_, W> {
     ghost use Rattle.std.specs.Io.KnownBytes.{Appends};
 
-    ghost write_str_gives = { λ p text q. Appends (W.contents p.device.now) (W.contents q.device.now) text };
+    ghost write_str_gives = { λ p text q.
+        Appends (W.contents p.device.now) (W.contents q.device.now) text };
 
     fn write_str(&mut self, text: &str) -> fmt::Result {
         match write_all(self.device, text.as_bytes()) {
@@ -65,7 +66,8 @@ fn print_fault<E: FeedWrite>(name: &str, fault: Fault, err: &mut E) -> Result<()
     }
 }
 
-/// Tells a fault, and answers the status of the program. Where it can't be told, a device has failed too.
+/// Tells a fault, and answers the status of the program. Where it can't be told, a device has failed
+/// too.
 fn tell<E: FeedWrite>(name: &str, fault: Fault, err: &mut E) -> u8
     ensures { IsToldStatus fault result }
 {
@@ -107,8 +109,10 @@ pub fn perform<R: FeedRead, W: FeedWrite>(
         input.old input.new out.old out.new in
         IfErr result (λ why. Fails request why streams) }
 
-    ensures read { IsErrOf result Fault.Read → HasDeviceFailed (R.failures input.old) (R.failures input.new) }
-    ensures write { IsErrOf result Fault.Write → HasDeviceFailed (W.failures out.old) (W.failures out.new) }
+    ensures read { IsErrOf result Fault.Read
+        → HasDeviceFailed (R.failures input.old) (R.failures input.new) }
+    ensures write { IsErrOf result Fault.Write
+        → HasDeviceFailed (W.failures out.old) (W.failures out.new) }
 {
     match request {
         Request::Tables(options) => print_tables(alloc, options, input, out),
@@ -133,16 +137,18 @@ pub fn run<'a, R: FeedRead, W: FeedWrite, E: FeedWrite>(
     // Where the words ask for help, or for no command, nothing is read.
     ensures ok { let streams = streams_of R.remaining W.contents W.failures
         input.old input.new out.old out.new in
-        result ≡ 0 → (R.reads input.new ≡ R.reads input.old) ⊎ HasSucceeded streams }
+        result ≡ 0 → (R.reads input.new ≡ R.reads input.old)
+        ⊎ HasSucceeded (map (λ word. word.now) words.entry.now) streams }
     ensures refused { result ≡ 1 → (R.reads input.new ≡ R.reads input.old)
         × (W.contents out.new ≡ W.contents out.old) }
     ensures faulty { let streams = streams_of R.remaining W.contents W.failures
         input.old input.new out.old out.new in
-        (result ≡ 2) ⊎ (result ≡ 3) → HasFailed result streams }
+        (result ≡ 2) ⊎ (result ≡ 3)
+        → HasFailed (map (λ word. word.now) words.entry.now) result streams }
     ensures broken { let streams = streams_of R.remaining W.contents W.failures
         input.old input.new out.old out.new in
-        (result ≡ 4) ⊎ (result ≡ 5)
-        → (R.reads input.new ≡ R.reads input.old) ⊎ HasFailed result streams }
+        (result ≡ 4) ⊎ (result ≡ 5) → (R.reads input.new ≡ R.reads input.old)
+        ⊎ HasFailed (map (λ word. word.now) words.entry.now) result streams }
 {
     let request = match parse_words(alloc, words) {
         Ok(request) => request,

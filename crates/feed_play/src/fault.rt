@@ -10,8 +10,8 @@ use feed_world::{ShapeFault, WorldFault};
 use std::alloc::{AllocError, AllocFailed};
 use thiserror::Error;
 
-/// Why a script was not played to its end, and at which of its lines, counted from 1. That is the line of what was to
-/// happen, or the feed line that can't be read.
+/// Why a script was not played to its end, and at which of its lines, counted from 1. That is the line
+/// of what was to happen, or the feed line that can't be read.
 #[derive(Clone, Copy, Debug, PartialEq, Eq, Error)]
 #[error("line {line}: {cause}")]
 pub struct PlayFault {
@@ -31,7 +31,8 @@ impl PlayFault {
 /// Why a script was not played to its end.
 #[derive(Clone, Copy, Debug, PartialEq, Eq, Error)]
 pub enum PlayCause {
-    /// The line has none of the forms that a line may have there, or more feed lines were announced than follow.
+    /// The line has none of the forms that a line may have there, or more feed lines were announced
+    /// than follow.
     #[error("bad script")]
     Script,
     /// The first line's limits are out of range.
@@ -46,6 +47,7 @@ pub enum PlayCause {
     /// The world refused what was to happen. It is no want of memory.
     #[error(transparent)]
     World(WorldFault),
+    /// Memory ran out.
     #[error("out of memory")]
     Memory,
 }

@@ -45,7 +45,8 @@ impl<'a> Lines<'a> {
 
     /// The next line, without its line feed. An unfinished last line is none.
     pub fn next_line(&mut self) -> Option<&'a [u8]>
-        ensures some { IfSome result (λ line. (self.old.left ≡ line.now ∷ self.new.left) × (self.new.read ≡ self.old.read + 1)) }
+        ensures some { IfSome result (λ line. (self.old.left ≡ line.now ∷ self.new.left)
+            × (self.new.read ≡ self.old.read + 1)) }
         ensures whole { IfSome result (λ line. HasNoLineFeed line.now) }
         ensures none { IfNone result ((self.old.left ≡ []) × (self.new ≡ self.old)) }
     {

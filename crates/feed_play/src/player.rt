@@ -89,7 +89,8 @@ fn play_line(
     ensures all { all_lines lines.new ≡ all_lines lines.old }
     ensures later { lines.old.read ≤ lines.new.read }
     ensures fewer { length lines.new.left ≤ length lines.old.left }
-    ensures line { IfErr result (λ fault. IsLineFrom lines.old.read (all_lines lines.old) fault.line) }
+    ensures line { IfErr result (λ fault.
+        IsLineFrom lines.old.read (all_lines lines.old) fault.line) }
 {
     let number = lines.number();
     let Some(action) = read_action(line) else {
@@ -106,15 +107,16 @@ fn play_line(
     }
 }
 
-/// Plays a script: makes the world of its first line, does what each further line asks for, one after the other, and
-/// appends what is told of it. At the first fault it stops; what was told before stays.
+/// Plays a script: makes the world of its first line, does what each further line asks for, one after
+/// the other, and appends what is told of it. At the first fault it stops; what was told before stays.
 pub fn play(alloc: Global, script: &[u8], out: &mut Vec<u8>) -> Result<(), PlayFault>
     ensures ok { OnOk result (Prints out.old.items out.new.items (λ told. Plays script.now told)) }
     ensures err { IfErr result (λ fault.
         Prints out.old.items out.new.items (λ told. Stops script.now told fault)) }
 
     ensures grows { Grows out.old.items out.new.items }
-    ensures line { IfErr result (λ fault. IsLineFrom 1 (length (lines_of script.now) + 1) fault.line) }
+    ensures line { IfErr result (λ fault.
+        IsLineFrom 1 (length (lines_of script.now) + 1) fault.line) }
 {
     let mut lines = Lines::new(script);
     let first = lines.next_line().unwrap_or(&[]);

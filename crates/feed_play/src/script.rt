@@ -83,7 +83,8 @@ fn read_number(word: &[u8]) -> Option<usize>
 /// The numbers that the words of a text say.
 fn read_numbers(alloc: Global, text: &[u8]) -> Result<Vec<usize>, PlayCause>
     ensures ok { IfOk result (λ numbers. numbers_in (words text.now) ≡ Some numbers.items) }
-    ensures err { IfErr result (λ cause. cause ≢ Memory → (cause ≡ Script) × (numbers_in (words text.now) ≡ None)) }
+    ensures err { IfErr result (λ cause. cause ≢ Memory
+        → (cause ≡ Script) × (numbers_in (words text.now) ≡ None)) }
 {
     let mut numbers = Vec::new(alloc);
     let mut left = text;
@@ -110,7 +111,8 @@ fn is(word: &[u8], text: &str) -> bool
 /// The numbers behind the name of a script's first line.
 pub fn read_world(alloc: Global, line: &[u8]) -> Result<Vec<usize>, PlayCause>
     ensures ok { IfOk result (λ numbers. world_numbers (words line.now) ≡ Some numbers.items) }
-    ensures err { IfErr result (λ cause. cause ≢ Memory → (cause ≡ Script) × (shape_in line.now ≡ None)) }
+    ensures err { IfErr result (λ cause. cause ≢ Memory
+        → (cause ≡ Script) × (shape_in line.now ≡ None)) }
 {
     let (name, numbers) = split_word(line);
     match numbers {
