@@ -3,7 +3,6 @@
 use feed_tables::{Change, Changes, Name};
 use feed_text::ObjectText;
 use std::alloc::Global;
-use std::test::Fail;
 
 /// A change by its texts.
 #[derive(Clone, Copy)]
@@ -17,23 +16,16 @@ pub enum Step {
 
 use Step::{Clear, Empty, Remove, Set, Single};
 
-fn name(alloc: Global, text: &str) -> Result<Name, Fail> {
-    Ok(Name::new(alloc, text)?)
-}
-
-fn object(alloc: Global, text: &str) -> Result<ObjectText, Fail> {
-    Ok(ObjectText::parse(alloc, text.as_bytes())?)
-}
-
-pub fn change(alloc: Global, step: Step) -> Result<Change, Fail> {
-    Ok(match step {
-        Set(kind, id, text) => {
-            Change::Set(name(alloc, kind)?, name(alloc, id)?, object(alloc, text)?)
-        }
-        Remove(kind, id) => Change::Remove(name(alloc, kind)?, name(alloc, id)?),
-        Empty(kind) => Change::Empty(name(alloc, kind)?),
-        Single(kind, text) => Change::Single(name(alloc, kind)?, object(alloc, text)?),
-        Clear(kind) => Change::Clear(name(alloc, kind)?),
+/// The change; none where a text is too long or no object, or memory is refused.
+pub fn change(alloc: Global, step: Step) -> Option<Change> {
+    let name = |text: &str| Name::new(alloc, text).ok();
+    let object = |text: &str| ObjectText::parse(alloc, text.as_bytes()).ok();
+    Some(match step {
+        Set(kind, id, text) => Change::Set(name(kind)?, name(id)?, object(text)?),
+        Remove(kind, id) => Change::Remove(name(kind)?, name(id)?),
+        Empty(kind) => Change::Empty(name(kind)?),
+        Single(kind, text) => Change::Single(name(kind)?, object(text)?),
+        Clear(kind) => Change::Clear(name(kind)?),
     })
 }
 
@@ -55,14 +47,15 @@ fn is_step(change: &Change, step: Step) -> bool {
 }
 
 pub fn are_steps(changes: &[Change], steps: &[Step]) -> bool {
+    for (change, step) in changes.iter().zip(steps) {
+        if !is_step(change, *step) {
+            return false;
+        }
+    }
     changes.len() == steps.len()
-        && changes
-            .iter()
-            .zip(steps)
-            .all(|(change, step)| is_step(change, *step))
 }
 
-/// A change of each form, the first with spaces in its object.
+/// A change of each form, the first with spaces in its object; and their types.
 pub const EACH: [Step; 5] = [
     Set("teams", "7", r#"{"id":"7","n": 1.50}"#),
     Remove("teams", "\"\u{1}\u{e9}"),
@@ -71,43 +64,41 @@ pub const EACH: [Step; 5] = [
     Clear("state"),
 ];
 
-/// Whether a change and its copy are this.
-fn is_copied(alloc: Global, step: Step) -> Result<bool, Fail> {
+const TYPES: [&str; 5] = ["teams", "teams", "teams", "state", "state"];
+
+/// Whether a change and its copy are this, of this type.
+fn is_copied(alloc: Global, step: Step, kind: &str) -> Option<bool> {
     let change = change(alloc, step)?;
-    let copy = change.copy()?;
-    Ok(is_step(&change, step) && is_step(&copy, step) && change.kind().text() == copy.kind().text())
+    let copy = change.copy().ok()?;
+    let are_right = is_step(&change, step) && is_step(&copy, step);
+    Some(are_right && change.kind().text() == kind && copy.kind().text() == kind)
 }
 
 #[test]
-fn copies_changes(rt: HostRuntime) -> Result<(), Fail> {
-    for step in EACH {
-        assert!(rt; is_copied(rt.alloc(), step)?);
+fn copies_changes(rt: HostRuntime) {
+    for (step, kind) in EACH.iter().zip(TYPES) {
+        assert_eq!(rt; is_copied(rt.alloc(), *step, kind), Some(true), "of {kind}");
     }
-    Ok(())
-}
-
-#[test]
-fn tells_the_type_of_a_change(rt: HostRuntime) -> Result<(), Fail> {
-    for (step, want) in [(EACH[1], "teams"), (EACH[4], "state")] {
-        assert_eq!(rt; change(rt.alloc(), step)?.kind().text(), want);
-    }
-    Ok(())
 }
 
 /// A list of the steps.
-pub fn changes(alloc: Global, steps: &[Step]) -> Result<Vec<Change>, Fail> {
+pub fn changes(alloc: Global, steps: &[Step]) -> Option<Vec<Change>> {
     let mut list = Vec::new(alloc);
     for step in steps {
-        list.push(change(alloc, *step)?)?;
+        list.push(change(alloc, *step)?).ok()?;
     }
-    Ok(list)
+    Some(list)
+}
+
+/// Whether a list keeps these changes in order.
+fn is_listed(alloc: Global, steps: &[Step]) -> Option<bool> {
+    let list = Changes::of(changes(alloc, steps)?);
+    let is_kept = are_steps(list.as_slice(), steps);
+    Some(is_kept && are_steps(&list.into_vec(), steps))
 }
 
 #[test]
-fn keeps_a_list(rt: HostRuntime) -> Result<(), Fail> {
-    let list = Changes::of(changes(rt.alloc(), &EACH)?);
-    assert!(rt; are_steps(list.as_slice(), &EACH));
-    assert!(rt; are_steps(&list.into_vec(), &EACH));
+fn keeps_a_list(rt: HostRuntime) {
+    assert_eq!(rt; is_listed(rt.alloc(), &EACH), Some(true));
     assert!(rt; Changes::new(rt.alloc()).as_slice().is_empty());
-    Ok(())
 }

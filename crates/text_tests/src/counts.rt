@@ -2,11 +2,9 @@
 
 use feed_note::{Counts, LineStop, batches, survey};
 use feed_tables::{Change, Changes};
-use std::alloc::{AllocError, Global};
-use std::test::Fail;
+use std::alloc::Global;
 
-/// What a survey of the text says.
-fn surveyed(alloc: Global, text: &[u8]) -> Result<String, Fail> {
+fn tell(alloc: Global, counts: Counts) -> Option<String> {
     let Counts {
         lines,
         keepalives,
@@ -14,13 +12,18 @@ fn surveyed(alloc: Global, text: &[u8]) -> Result<String, Fail> {
         changes,
         tokens,
         rest,
-    } = match survey(alloc, text) {
-        Ok(counts) => counts,
-        Err(fault) => return Ok(format!(in alloc; "line {}: {fault}", fault.line)?),
+    } = counts;
+    let whole = format!(in alloc; "lines {lines} keepalives {keepalives} notes {notes}").ok()?;
+    format!(in alloc; "{whole} changes {changes} tokens {tokens} rest {rest}").ok()
+}
+
+/// Whether a survey of the text says this.
+fn is_surveyed(alloc: Global, text: &[u8], want: &str) -> Option<bool> {
+    let said = match survey(alloc, text) {
+        Ok(counts) => tell(alloc, counts)?,
+        Err(fault) => format!(in alloc; "line {}: {fault}", fault.line).ok()?,
     };
-    Ok(format!(in alloc;
-        "lines {lines} keepalives {keepalives} notes {notes} changes {changes} tokens {tokens} rest {rest}"
-    )?)
+    Some(said.as_str() == want)
 }
 
 /// Texts, with what is counted of them, or which line is told to be the first that can't be read.
@@ -55,12 +58,11 @@ const SURVEYS: [(&str, &str); 8] = [
 ];
 
 #[test]
-fn counts_lines(rt: HostRuntime) -> Result<(), Fail> {
+fn counts_lines(rt: HostRuntime) {
     for (text, want) in SURVEYS {
-        let said = surveyed(rt.alloc(), text.as_bytes())?;
-        assert_eq!(rt; said.as_str(), want);
+        let surveyed = is_surveyed(rt.alloc(), text.as_bytes(), want);
+        assert_eq!(rt; surveyed, Some(true), "{want}");
     }
-    Ok(())
 }
 
 /// The greatest number of bytes of a line.
@@ -86,33 +88,40 @@ const LONG: [(&str, usize, &str, &str); 5] = [
 ];
 
 /// A text of spaces between these.
-fn spaces(alloc: Global, front: &str, count: usize, end: &str) -> Result<Vec<u8>, AllocError> {
-    let mut text = front.as_bytes().to_vec(alloc)?;
-    text.extend_from_slice(&vec![in alloc; b' '; count]?)?;
-    text.extend_from_slice(end.as_bytes())?;
-    Ok(text)
+fn spaces(alloc: Global, front: &str, count: usize, end: &str) -> Option<Vec<u8>> {
+    let mut text = front.as_bytes().to_vec(alloc).ok()?;
+    text.extend_from_slice(&vec![in alloc; b' '; count].ok()?)
+        .ok()?;
+    text.extend_from_slice(end.as_bytes()).ok()?;
+    Some(text)
+}
+
+fn are_surveyed(alloc: Global, front: &str, count: usize, end: &str, want: &str) -> Option<bool> {
+    is_surveyed(alloc, &spaces(alloc, front, count, end)?, want)
 }
 
 #[test]
-fn limits_the_lines(rt: HostRuntime) -> Result<(), Fail> {
+fn limits_the_lines(rt: HostRuntime) {
     for (front, count, end, want) in LONG {
-        let text = spaces(rt.alloc(), front, count, end)?;
-        let said = surveyed(rt.alloc(), &text)?;
-        assert_eq!(rt; said.as_str(), want, "{count} spaces");
+        let surveyed = are_surveyed(rt.alloc(), front, count, end, want);
+        assert_eq!(rt; surveyed, Some(true), "{count} spaces");
     }
-    Ok(())
 }
 
-/// A line that is too long is the fault of a text as it is that of a survey; an unfinished one is none.
+/// How many batches are in a text with a line of spaces, or its fault.
+fn batched_spaces(alloc: Global, count: usize) -> Option<Result<usize, LineStop>> {
+    let text = spaces(alloc, "\n", count, "\n")?;
+    Some(batches(alloc, &text).map(|all| all.len()))
+}
+
+/// A line that is too long is the fault of a text as it is that of a survey.
 #[test]
-fn batches_have_no_longer_line(rt: HostRuntime) -> Result<(), Fail> {
-    let long = spaces(rt.alloc(), "\n", LIMIT + 1, "\n")?;
-    let fault = batches(rt.alloc(), &long).err();
-    assert_eq!(rt; fault, Some(LineStop::LongLine));
-    let longest = spaces(rt.alloc(), "\n", LIMIT, "\n")?;
-    let none = batches(rt.alloc(), &longest)?;
-    assert!(rt; none.is_empty());
-    Ok(())
+fn batches_have_no_longer_line(rt: HostRuntime) {
+    assert_eq!(rt; batched_spaces(rt.alloc(), LIMIT), Some(Ok(0)));
+    assert_eq!(rt;
+        batched_spaces(rt.alloc(), LIMIT + 1),
+        Some(Err(LineStop::LongLine))
+    );
 }
 
 fn sign(change: &Change) -> &'static str {
@@ -124,25 +133,27 @@ fn sign(change: &Change) -> &'static str {
 }
 
 /// A bar, and the types of the changes of a batch, each behind a sign.
-fn describe(batch: &Changes, text: &mut String) -> Result<(), Fail> {
-    text.push_str("|")?;
+fn describe(batch: &Changes, text: &mut String) -> Option<()> {
+    text.push_str("|").ok()?;
     for change in batch.as_slice() {
-        write!(text, "{}{}", sign(change), change.kind().text())?;
+        text.push_str(sign(change)).ok()?;
+        text.push_str(change.kind().text()).ok()?;
     }
-    Ok(())
+    Some(())
 }
 
-/// The batches of a text.
-fn batched(alloc: Global, text: &[u8]) -> Result<String, Fail> {
-    let all = match batches(alloc, text) {
-        Ok(all) => all,
-        Err(stop) => return Ok(format!(in alloc; "{stop}")?),
-    };
+/// Whether a text has these batches, or this fault.
+fn is_batched(alloc: Global, text: &[u8], want: &str) -> Option<bool> {
     let mut said = String::new(alloc);
-    for batch in &all {
-        describe(batch, &mut said)?;
+    match batches(alloc, text) {
+        Ok(all) => {
+            for batch in &all {
+                describe(batch, &mut said)?;
+            }
+        }
+        Err(stop) => said = format!(in alloc; "{stop}").ok()?,
     }
-    Ok(said)
+    Some(said.as_str() == want)
 }
 
 const BATCHES: [(&str, &str); 5] = [
@@ -177,10 +188,12 @@ const BATCHES: [(&str, &str); 5] = [
 ];
 
 #[test]
-fn batches_end_at_tokens(rt: HostRuntime) -> Result<(), Fail> {
+fn batches_end_at_tokens(rt: HostRuntime) {
     for (text, want) in BATCHES {
-        let said = batched(rt.alloc(), text.as_bytes())?;
-        assert_eq!(rt; said.as_str(), want);
+        assert_eq!(rt;
+            is_batched(rt.alloc(), text.as_bytes(), want),
+            Some(true),
+            "{want}"
+        );
     }
-    Ok(())
 }

@@ -1,8 +1,7 @@
 //! Good lines that are broken in two.
 
 use feed_note::{LineStop, survey};
-use std::alloc::{AllocError, Global};
-use std::test::Fail;
+use std::alloc::Global;
 
 /// Lines that say something as long as they are whole.
 const LINES: [&str; 4] = [
@@ -13,44 +12,47 @@ const LINES: [&str; 4] = [
 ];
 
 /// The text with a line feed put before the byte at a place, or at its end.
-fn broken(alloc: Global, line: &[u8], at: usize) -> Result<Vec<u8>, AllocError> {
+fn broken(alloc: Global, line: &[u8], at: usize) -> Option<Vec<u8>> {
     let (front, behind) = line.split_at(at.min(line.len()));
-    let mut text = front.to_vec(alloc)?;
-    text.extend_from_slice(b"\n")?;
-    text.extend_from_slice(behind)?;
-    Ok(text)
+    let mut text = front.to_vec(alloc).ok()?;
+    text.push(b'\n').ok()?;
+    text.extend_from_slice(behind).ok()?;
+    Some(text)
 }
 
-/// Whether the first line of a text has a fault of its own, or is a keep-alive that no note follows.
-fn says_nothing(alloc: Global, text: &[u8]) -> bool {
-    match survey(alloc, text) {
+/// Whether a line that is broken before a place has a fault there, or is a keep-alive that no note
+/// follows.
+fn says_nothing(alloc: Global, line: &[u8], at: usize) -> Option<bool> {
+    Some(match survey(alloc, &broken(alloc, line, at)?) {
         Ok(counts) => counts.keepalives == 1 && counts.lines == 1 && counts.notes == 0,
         Err(fault) => fault.line == 1 && matches!(fault.stop, LineStop::Line(_)),
-    }
-}
-
-/// Whether a text is one line that says something.
-fn says_something(alloc: Global, text: &[u8]) -> bool {
-    survey(alloc, text).is_ok_and(|counts| counts.lines == 1 && counts.notes == 1)
+    })
 }
 
 /// A line feed before any byte of it.
 #[test]
-fn broken_lines_say_nothing(rt: HostRuntime) -> Result<(), Fail> {
+fn broken_lines_say_nothing(rt: HostRuntime) {
     for line in LINES {
         for at in 0..line.len() {
-            let text = broken(rt.alloc(), line.as_bytes(), at)?;
-            assert!(rt; says_nothing(rt.alloc(), &text), "{line} before {at}");
+            let said = says_nothing(rt.alloc(), line.as_bytes(), at);
+            assert_eq!(rt; said, Some(true), "{line} before {at}");
         }
     }
-    Ok(())
+}
+
+/// How many lines there are, and how many of them say something, where the line feed is at the end.
+fn counted_whole(alloc: Global, line: &[u8]) -> Option<(u64, u64)> {
+    let counts = survey(alloc, &broken(alloc, line, line.len())?).ok()?;
+    Some((counts.lines, counts.notes))
 }
 
 #[test]
-fn whole_lines_say_something(rt: HostRuntime) -> Result<(), Fail> {
+fn whole_lines_say_something(rt: HostRuntime) {
     for line in LINES {
-        let text = broken(rt.alloc(), line.as_bytes(), line.len())?;
-        assert!(rt; says_something(rt.alloc(), &text), "{line}");
+        assert_eq!(rt;
+            counted_whole(rt.alloc(), line.as_bytes()),
+            Some((1, 1)),
+            "{line}"
+        );
     }
-    Ok(())
 }

@@ -16,7 +16,10 @@ const ITEMS: [(&str, Kind); 7] = [
 const ARRAY: &[u8] = b"[ 1 , {\"a\":[]},\"x\",true ,false,null\t,[[],2]]";
 
 fn is_item(item: Option<Item<'_>>, text: &str, kind: Kind) -> bool {
-    item.is_some_and(|item| item.text == text.as_bytes() && item.kind == kind)
+    match item {
+        Some(item) => item.text == text.as_bytes() && item.kind == kind,
+        None => false,
+    }
 }
 
 #[test]

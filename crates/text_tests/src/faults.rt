@@ -65,18 +65,10 @@ const STOPS: [(LineStop, &str); 3] = [
 ];
 
 #[test]
-fn tells_faults_of_texts(rt: HostRuntime) -> Result<(), Fail> {
+fn tells_faults(rt: HostRuntime) -> Result<(), Fail> {
     tells(&rt, &TEXTS)?;
-    tells(&rt, &OBJECTS)
-}
-
-#[test]
-fn tells_faults_of_names(rt: HostRuntime) -> Result<(), Fail> {
-    tells(&rt, &NAMES)
-}
-
-#[test]
-fn tells_faults_of_lines(rt: HostRuntime) -> Result<(), Fail> {
+    tells(&rt, &OBJECTS)?;
+    tells(&rt, &NAMES)?;
     tells(&rt, &LINES)?;
     tells(&rt, &SPLITS)?;
     tells(&rt, &STOPS)

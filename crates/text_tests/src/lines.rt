@@ -6,8 +6,7 @@ ghost use Rattle.std.specs.List.{list_all};
 use crate::parts::{Parts, joined};
 use feed_note::{Line, LineFault, read_line, split_line};
 use feed_tables::Change;
-use std::process::Abort;
-use std::test::Fail;
+use std::alloc::Global;
 
 fn is_inside_line(byte: u8) -> bool
     ensures { result ≡ not (byte == 10) }
@@ -22,46 +21,56 @@ fn is_line(text: &[u8]) -> bool
     text.iter().all(|b| is_inside_line(*b))
 }
 
-/// What a line is read as.
-fn read(rt: &(impl Abort + AllocGlobal), line: &[u8]) -> Result<Line, LineFault> {
-    assert!(rt; is_line(line));
-    read_line(rt.alloc(), line)
+/// What a line is read as; none for a text with a line feed.
+fn read(alloc: Global, line: &[u8]) -> Option<Result<Line, LineFault>> {
+    if !is_line(line) {
+        return None;
+    }
+    Some(read_line(alloc, line))
 }
 
 /// Appends a change, with a semicolon.
-fn describe(change: &Change, text: &mut String) -> Result<(), Fail> {
+fn describe(change: &Change, text: &mut String) -> Option<()> {
+    let (name, id, object) = match change {
+        Change::Set(_, id, object) => ("set", id.text(), object.bytes()),
+        Change::Remove(_, id) => ("remove", id.text(), &b""[..]),
+        Change::Empty(_) => ("empty", "", &b""[..]),
+        Change::Single(_, object) => ("single", "", object.bytes()),
+        Change::Clear(_) => ("clear", "", &b""[..]),
+    };
     let kind = change.kind().text();
-    match change {
-        Change::Set(_, id, object) => {
-            let object = str::from_utf8(object.bytes())?;
-            write!(text, "set {kind} {} {object};", id.text())?;
+    let object = str::from_utf8(object).ok()?;
+    write!(text, "{name} {kind}").ok()?;
+    for part in [id, object] {
+        if !part.is_empty() {
+            write!(text, " {part}").ok()?;
         }
-        Change::Remove(_, id) => write!(text, "remove {kind} {};", id.text())?,
-        Change::Empty(_) => write!(text, "empty {kind};")?,
-        Change::Single(_, object) => {
-            let object = str::from_utf8(object.bytes())?;
-            write!(text, "single {kind} {object};")?;
-        }
-        Change::Clear(_) => write!(text, "clear {kind};")?,
     }
-    Ok(())
+    text.push(';').ok()
 }
 
-/// The changes and the token of a line.
-fn told(rt: &(impl Abort + AllocGlobal), line: &[u8]) -> Result<String, Fail> {
-    let (changes, token) = match read(rt, line) {
-        Ok(Line::Note { changes, token }) => (changes, token),
-        Ok(Line::KeepAlive) => return Ok(String::from_str(rt.alloc(), "keep-alive")?),
-        Err(fault) => return Ok(format!(in rt.alloc(); "{fault}")?),
+/// Appends the changes and the token of a line.
+fn describe_line(line: &Line, text: &mut String) -> Option<()> {
+    let Line::Note { changes, token } = line else {
+        return text.push_str("keep-alive").ok();
     };
-    let mut text = String::new(rt.alloc());
     for change in changes.as_slice() {
-        describe(change, &mut text)?;
+        describe(change, text)?;
     }
-    if let Some(token) = token {
-        write!(text, "token {}", token.text())?;
+    match token {
+        Some(token) => write!(text, "token {}", token.text()).ok(),
+        None => Some(()),
     }
-    Ok(text)
+}
+
+/// Whether this is told of a line.
+fn is_told(alloc: Global, line: &[u8], want: &str) -> Option<bool> {
+    let mut text = String::new(alloc);
+    match read(alloc, line)? {
+        Ok(line) => describe_line(&line, &mut text)?,
+        Err(fault) => write!(text, "{fault}").ok()?,
+    }
+    Some(text.as_str() == want)
 }
 
 /// Lines, with their changes and their token, or with the fault that is told.
@@ -122,34 +131,26 @@ const LINES: [(&str, &str); 26] = [
 ];
 
 #[test]
-fn reads_lines(rt: HostRuntime) -> Result<(), Fail> {
+fn reads_lines(rt: HostRuntime) {
     for (line, want) in LINES {
-        let text = told(&rt, line.as_bytes())?;
-        assert_eq!(rt; text.as_str(), want, "{line}");
+        assert_eq!(rt;
+            is_told(rt.alloc(), line.as_bytes(), want),
+            Some(true),
+            "{line}"
+        );
     }
-    Ok(())
+    let told = is_told(rt.alloc(), b"{\"type\":\"\xff\"}", "not UTF-8");
+    assert_eq!(rt; told, Some(true));
 }
 
-#[test]
-fn refuses_bytes_that_are_no_text(rt: HostRuntime) {
-    let fault = read(&rt, b"{\"type\":\"\xff\"}").err();
-    assert_eq!(rt; fault, Some(LineFault::Utf8));
+/// Whether a line has this fault, or none.
+fn has_fault(alloc: Global, parts: Parts, want: Option<LineFault>) -> Option<bool> {
+    let line = joined(alloc, parts).ok()?;
+    Some(read(alloc, line.as_bytes())?.err() == want)
 }
 
-/// Whether each line has this fault, or none.
-fn have_faults(
-    rt: &(impl Abort + AllocGlobal),
-    rows: &[(Parts, Option<LineFault>)],
-) -> Result<(), Fail> {
-    for (row, (parts, want)) in rows.iter().enumerate() {
-        let line = joined(rt.alloc(), parts)?;
-        let fault = read(rt, line.as_bytes()).err();
-        assert_eq!(rt; fault, *want, "row {row}");
-    }
-    Ok(())
-}
-
-/// Names of at most 255 bytes, objects of at most 1,048,576, and levels of brackets in lines that are no JSON.
+/// Names of at most 255 bytes, objects of at most 1,048,576, and levels of brackets in lines that
+/// are no JSON.
 const LIMITS: [(Parts, Option<LineFault>); 19] = [
     (&[(r#"{"type":""#, 1), ("n", 255), (r#""}"#, 1)], None),
     (
@@ -240,8 +241,14 @@ const LIMITS: [(Parts, Option<LineFault>); 19] = [
 ];
 
 #[test]
-fn keeps_the_limits(rt: HostRuntime) -> Result<(), Fail> {
-    have_faults(&rt, &LIMITS)
+fn keeps_the_limits(rt: HostRuntime) {
+    for (row, (parts, want)) in LIMITS.iter().enumerate() {
+        assert_eq!(rt;
+            has_fault(rt.alloc(), parts, *want),
+            Some(true),
+            "row {row}"
+        );
+    }
 }
 
 /// Lines that nest at most 102 deep, and objects at most 100.
@@ -311,8 +318,14 @@ const DEPTHS: [(Parts, Option<LineFault>); 8] = [
 ];
 
 #[test]
-fn keeps_the_depths(rt: HostRuntime) -> Result<(), Fail> {
-    have_faults(&rt, &DEPTHS)
+fn keeps_the_depths(rt: HostRuntime) {
+    for (row, (parts, want)) in DEPTHS.iter().enumerate() {
+        assert_eq!(rt;
+            has_fault(rt.alloc(), parts, *want),
+            Some(true),
+            "row {row}"
+        );
+    }
 }
 
 /// Texts, with their first lines and what is behind them.

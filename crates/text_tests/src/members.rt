@@ -2,7 +2,6 @@
 
 use feed_text::{Kind, Member, ObjectText, last_member, plain_text, scan};
 use std::alloc::Global;
-use std::test::Fail;
 
 /// Lines, with their members in order: the key, a space, the value and a bar.
 const MEMBERS: [(&str, &str); 3] = [
@@ -17,104 +16,102 @@ const MEMBERS: [(&str, &str); 3] = [
     (" {\t}\n", ""),
 ];
 
-/// The members of a line in order.
-fn spelt(alloc: Global, line: &str) -> Result<String, Fail> {
-    let mut text = String::new(alloc);
-    for member in scan(alloc, line.as_bytes())?.list() {
-        let (key, value) = (str::from_utf8(member.key)?, str::from_utf8(member.value)?);
-        write!(text, "{key} {value}|")?;
+/// Whether these are the members of a line in order.
+fn are_spelt(alloc: Global, line: &str, want: &str) -> Option<bool> {
+    let mut text = Vec::new(alloc);
+    for member in scan(alloc, line.as_bytes()).ok()?.list() {
+        text.extend_from_slice(member.key).ok()?;
+        text.push(b' ').ok()?;
+        text.extend_from_slice(member.value).ok()?;
+        text.push(b'|').ok()?;
     }
-    Ok(text)
+    Some(text.as_slice() == want.as_bytes())
 }
 
 #[test]
-fn members_are_slices_in_order(rt: HostRuntime) -> Result<(), Fail> {
+fn members_are_slices_in_order(rt: HostRuntime) {
     for (line, want) in MEMBERS {
-        assert_eq!(rt; spelt(rt.alloc(), line)?.as_str(), want);
+        assert_eq!(rt; are_spelt(rt.alloc(), line, want), Some(true), "{line}");
     }
-    Ok(())
 }
 
-/// Whether the member has this value, of this kind.
-fn is_member(found: Option<&Member<'_>>, value: &str, kind: Kind) -> bool {
-    found.is_some_and(|member| member.value == value.as_bytes() && member.kind == kind)
-}
+/// The value of a member and its kind; none for no member.
+type Want = Option<(&'static str, Kind)>;
 
-/// Objects, a name, and the value and the kind of the last member of that name.
-const LAST: [(&str, &str, &str, Kind); 6] = [
+/// Objects, a name, and the last member of that name.
+const LAST: [(&str, &str, Want); 9] = [
     (
         r#"{"type":"a","type":"teams","data":5,"data":{"id":"1"},"token":null}"#,
         "data",
-        r#"{"id":"1"}"#,
-        Kind::Object,
+        Some((r#"{"id":"1"}"#, Kind::Object)),
     ),
-    (r#"{"id":"1","a":{"id":"2"}}"#, "id", r#""1""#, Kind::Str),
+    (
+        r#"{"id":"1","a":{"id":"2"}}"#,
+        "id",
+        Some((r#""1""#, Kind::Str)),
+    ),
     (
         "{ \"id\" : 1 , \"i\\u0064\" : [ 2,\t3 ] }",
         "id",
-        "[ 2,\t3 ]",
-        Kind::Array,
+        Some(("[ 2,\t3 ]", Kind::Array)),
     ),
-    (r#"{"\ud800":1,"":{},"id":null}"#, "", "{}", Kind::Object),
+    (
+        r#"{"\ud800":1,"":{},"id":null}"#,
+        "",
+        Some(("{}", Kind::Object)),
+    ),
     (
         r#"{"a":{"a":{"a":[]}}}"#,
         "a",
-        r#"{"a":{"a":[]}}"#,
-        Kind::Object,
+        Some((r#"{"a":{"a":[]}}"#, Kind::Object)),
     ),
-    (r#"{"a":null,"a":true}"#, "a", "true", Kind::True),
+    (r#"{"a":null,"a":true}"#, "a", Some(("true", Kind::True))),
+    ("{}", "id", None),
+    ("{ \t}", "id", None),
+    (r#"{"ID":1,"id ":2,"a":{"id":3}}"#, "id", None),
 ];
 
+fn is_wanted(found: Option<&Member<'_>>, want: Want) -> bool {
+    match (found, want) {
+        (Some(member), Some((value, kind))) => {
+            member.value == value.as_bytes() && member.kind == kind
+        }
+        (None, None) => true,
+        _ => false,
+    }
+}
+
 /// Whether a line's members and an object have this last member.
-fn has_last(alloc: Global, text: &str, key: &str, value: &str, kind: Kind) -> Result<bool, Fail> {
-    let members = scan(alloc, text.as_bytes())?;
-    let of_line = is_member(members.last(alloc, key)?, value, kind);
-    let object = ObjectText::parse(alloc, text.as_bytes())?;
-    let of_object = is_member(
-        last_member(alloc, object.bytes(), key)?.as_ref(),
-        value,
-        kind,
-    );
-    Ok(of_line && of_object)
+fn has_last(alloc: Global, text: &str, key: &str, want: Want) -> Option<bool> {
+    let members = scan(alloc, text.as_bytes()).ok()?;
+    let of_line = is_wanted(members.last(alloc, key).ok()?, want);
+    let object = ObjectText::parse(alloc, text.as_bytes()).ok()?;
+    let found = last_member(alloc, object.bytes(), key).ok()?;
+    Some(of_line && is_wanted(found.as_ref(), want))
 }
 
 #[test]
-fn finds_the_last_member(rt: HostRuntime) -> Result<(), Fail> {
-    for (text, key, value, kind) in LAST {
-        assert!(rt; has_last(rt.alloc(), text, key, value, kind)?, "{text}");
+fn finds_the_last_member(rt: HostRuntime) {
+    for (text, key, want) in LAST {
+        assert_eq!(rt; has_last(rt.alloc(), text, key, want), Some(true), "{text}");
     }
-    Ok(())
 }
 
-/// Objects without a member that says `id`.
-const WITHOUT: [&str; 3] = ["{}", "{ \t}", r#"{"ID":1,"id ":2,"a":{"id":3}}"#];
+/// Lines, and what their first key says where it is plain.
+const PLAIN: [(&str, Option<&str>); 2] = [
+    (r#"{"token":null}"#, Some("token")),
+    (r#"{"t\u006fken":null}"#, None),
+];
 
-/// Whether neither a line's members nor an object have it.
-fn lacks(alloc: Global, text: &str) -> Result<bool, Fail> {
-    let members = scan(alloc, text.as_bytes())?;
-    let of_line = members.last(alloc, "id")?.is_none();
-    let object = ObjectText::parse(alloc, text.as_bytes())?;
-    Ok(of_line && last_member(alloc, object.bytes(), "id")?.is_none())
+/// Whether the first key of a line says this, or is not plain.
+fn is_plain(alloc: Global, line: &str, want: Option<&str>) -> Option<bool> {
+    let members = scan(alloc, line.as_bytes()).ok()?;
+    Some(plain_text(members.list().first()?.key) == want)
 }
 
 #[test]
-fn finds_no_other_member(rt: HostRuntime) -> Result<(), Fail> {
-    for text in WITHOUT {
-        assert!(rt; lacks(rt.alloc(), text)?, "{text}");
+fn plain_keys_are_slices(rt: HostRuntime) {
+    for (line, want) in PLAIN {
+        assert_eq!(rt; is_plain(rt.alloc(), line, want), Some(true), "{line}");
     }
-    Ok(())
-}
-
-/// Whether the first key of a line is plain, and says this.
-fn is_plain(alloc: Global, line: &str, want: &str) -> Result<bool, Fail> {
-    let members = scan(alloc, line.as_bytes())?;
-    let first = members.list().first();
-    Ok(first.and_then(|member| plain_text(member.key)) == Some(want))
-}
-
-#[test]
-fn plain_keys_are_slices(rt: HostRuntime) -> Result<(), Fail> {
-    assert!(rt; is_plain(rt.alloc(), r#"{"token":null}"#, "token")?);
-    assert!(rt; !is_plain(rt.alloc(), r#"{"t\u006fken":null}"#, "token")?);
-    Ok(())
 }

@@ -2,35 +2,36 @@
 
 use feed_tables::{Name, NameFault};
 use std::alloc::Global;
-use std::test::Fail;
 
-/// A letter, and how many of it are a name. Short names lie in the value itself.
-const NAMES: [(&str, usize); 5] = [("a", 0), ("a", 16), ("a", 17), ("a", 255), ("\u{e9}", 127)];
+/// A letter, how many of it a name has, and its fault, if any. Short names lie in the value itself.
+const NAMES: [(&str, usize, Option<NameFault>); 7] = [
+    ("a", 0, None),
+    ("a", 16, None),
+    ("a", 17, None),
+    ("a", 255, None),
+    ("a", 256, Some(NameFault::LongName)),
+    ("\u{e9}", 127, None),
+    ("\u{e9}", 128, Some(NameFault::LongName)),
+];
 
-/// As many are too many.
-const TOO_LONG: [(&str, usize); 2] = [("a", 256), ("\u{e9}", 128)];
+/// Whether the text makes a name that says it, as does its copy; or has this fault.
+fn is_named(alloc: Global, text: &str, want: Option<NameFault>) -> Option<bool> {
+    Some(match Name::new(alloc, text) {
+        Ok(name) => name.text() == text && name.copy().ok()?.text() == text && want.is_none(),
+        Err(fault) => want == Some(fault),
+    })
+}
 
-/// Whether a name and its copy say their text.
-fn keeps(alloc: Global, text: &str) -> Result<bool, Fail> {
-    let name = Name::new(alloc, text)?;
-    Ok(name.text() == text && name.copy()?.text() == text)
+/// The same of a letter that is repeated.
+fn is_repeated(alloc: Global, letter: &str, count: usize, want: Option<NameFault>) -> Option<bool> {
+    let text = letter.repeat(alloc, count).ok()?;
+    is_named(alloc, text.as_str(), want)
 }
 
 #[test]
-fn keeps_names(rt: HostRuntime) -> Result<(), Fail> {
-    for (letter, count) in NAMES {
-        let text = letter.repeat(rt.alloc(), count)?;
-        assert!(rt; keeps(rt.alloc(), text.as_str())?, "{count} of {letter}");
+fn keeps_names(rt: HostRuntime) {
+    for (letter, count, want) in NAMES {
+        let named = is_repeated(rt.alloc(), letter, count, want);
+        assert_eq!(rt; named, Some(true), "{count} of {letter}");
     }
-    Ok(())
-}
-
-#[test]
-fn refuses_long_names(rt: HostRuntime) -> Result<(), Fail> {
-    for (letter, count) in TOO_LONG {
-        let text = letter.repeat(rt.alloc(), count)?;
-        let fault = Name::new(rt.alloc(), text.as_str()).err();
-        assert_eq!(rt; fault, Some(NameFault::LongName), "{count} of {letter}");
-    }
-    Ok(())
 }

@@ -5,14 +5,13 @@ use crate::changes::{Step, are_steps, change};
 use feed_tables::Tables;
 use feed_text::ObjectText;
 use std::alloc::Global;
-use std::test::Fail;
 
-fn tables(alloc: Global, steps: &[Step]) -> Result<Tables, Fail> {
+fn tables(alloc: Global, steps: &[Step]) -> Option<Tables> {
     let mut tables = Tables::new(alloc);
     for step in steps {
-        tables.apply(alloc, &change(alloc, *step)?)?;
+        tables.apply(alloc, &change(alloc, *step)?).ok()?;
     }
-    Ok(tables)
+    Some(tables)
 }
 
 /// Changes, the snapshot that they leave and its size.
@@ -101,7 +100,8 @@ const ROWS: [(&[Step], &[Step], usize); 14] = [
         &[Single("state", "{}")],
         1,
     ),
-    // Byte order: a beginning before the longer text, upper case before lower case, ASCII before the rest.
+    // Byte order: a beginning before the longer text, upper case before lower case, ASCII before
+    // the rest.
     (
         &[
             Set("teams", "9", "{}"),
@@ -132,63 +132,69 @@ const ROWS: [(&[Step], &[Step], usize); 14] = [
     ),
 ];
 
-/// Whether the steps leave this snapshot and this size, and the snapshot and a copy are the same tables.
-fn leave(alloc: Global, steps: &[Step], want: &[Step], size: usize) -> Result<bool, Fail> {
+/// Whether the steps leave this snapshot and this size, and the snapshot and a copy are the same
+/// tables.
+fn leave(alloc: Global, steps: &[Step], want: &[Step], size: usize) -> Option<bool> {
     let made = tables(alloc, steps)?;
-    let is_left = are_steps(&made.snapshot(alloc)?, want) && made.size() == size;
-    let is_copied = made.copy(alloc)?.same(&made);
-    Ok(is_left && is_copied && tables(alloc, want)?.same(&made))
+    let is_left = are_steps(&made.snapshot(alloc).ok()?, want) && made.size() == size;
+    let is_copied = made.copy(alloc).ok()?.same(&made);
+    Some(is_left && is_copied && tables(alloc, want)?.same(&made))
 }
 
 #[test]
-fn makes_changes(rt: HostRuntime) -> Result<(), Fail> {
+fn makes_changes(rt: HostRuntime) {
     for (row, (steps, want, size)) in ROWS.iter().enumerate() {
-        assert!(rt; leave(rt.alloc(), steps, want, *size)?, "row {row}");
+        assert_eq!(rt;
+            leave(rt.alloc(), steps, want, *size),
+            Some(true),
+            "row {row}"
+        );
     }
-    Ok(())
 }
 
-/// Types, ids and the objects that are read there; and types with their one object.
-const READ: [(&str, &str, Option<&str>); 4] = [
-    ("teams", "A", Some(r#"{"id":"B"}"#)),
-    ("teams", "B", None),
-    ("state", "A", None),
-    ("groups", "A", None),
-];
-
-const READ_SINGLE: [(&str, Option<&str>); 3] = [
-    ("state", Some(r#"{"ended":null}"#)),
-    ("teams", None),
-    ("groups", None),
-];
-
-const TO_READ: [Step; 2] = [
+/// A collection and a type of one object, and where which object is read: under a type and an id,
+/// or under a type alone.
+const READ_FROM: [Step; 2] = [
     Set("teams", "A", r#"{"id":"B"}"#),
     Single("state", r#"{"ended":null}"#),
 ];
 
-fn bytes_of(object: Option<&ObjectText>) -> Option<&[u8]> {
-    object.map(|object| object.bytes())
+const READ: [(&str, Option<&str>, Option<&str>); 7] = [
+    ("teams", Some("A"), Some(r#"{"id":"B"}"#)),
+    ("teams", Some("B"), None),
+    ("state", Some("A"), None),
+    ("groups", Some("A"), None),
+    ("state", None, Some(r#"{"ended":null}"#)),
+    ("teams", None, None),
+    ("groups", None, None),
+];
+
+fn is_object(object: Option<&ObjectText>, want: Option<&str>) -> bool {
+    match (object, want) {
+        (Some(object), Some(text)) => object.bytes() == text.as_bytes(),
+        (None, None) => true,
+        _ => false,
+    }
+}
+
+/// Whether this is read of the tables of the steps.
+fn reads(alloc: Global, kind: &str, id: Option<&str>, want: Option<&str>) -> Option<bool> {
+    let made = tables(alloc, &READ_FROM)?;
+    Some(match id {
+        Some(id) => is_object(made.get(kind, id), want),
+        None => is_object(made.single(kind), want),
+    })
 }
 
 #[test]
-fn reads_objects(rt: HostRuntime) -> Result<(), Fail> {
-    let made = tables(rt.alloc(), &TO_READ)?;
+fn reads_objects(rt: HostRuntime) {
     for (kind, id, want) in READ {
-        let found = bytes_of(made.get(kind, id));
-        assert_eq!(rt; found, want.map(|text| text.as_bytes()), "{kind} {id}");
+        assert_eq!(rt;
+            reads(rt.alloc(), kind, id, want),
+            Some(true),
+            "{kind} {id:?}"
+        );
     }
-    Ok(())
-}
-
-#[test]
-fn reads_single_objects(rt: HostRuntime) -> Result<(), Fail> {
-    let made = tables(rt.alloc(), &TO_READ)?;
-    for (kind, want) in READ_SINGLE {
-        let found = bytes_of(made.single(kind));
-        assert_eq!(rt; found, want.map(|text| text.as_bytes()), "{kind}");
-    }
-    Ok(())
 }
 
 /// Changes, others, and whether they leave the same.
@@ -223,27 +229,36 @@ const PAIRS: [(&[Step], &[Step], bool); 9] = [
 ];
 
 /// Whether `same` says this of what they leave, either way round.
-fn compares(alloc: Global, steps: &[Step], others: &[Step], want: bool) -> Result<bool, Fail> {
+fn compares(alloc: Global, steps: &[Step], others: &[Step], want: bool) -> Option<bool> {
     let (one, other) = (tables(alloc, steps)?, tables(alloc, others)?);
-    Ok(one.same(&other) == want && other.same(&one) == want)
+    Some(one.same(&other) == want && other.same(&one) == want)
 }
 
 #[test]
-fn compares_tables(rt: HostRuntime) -> Result<(), Fail> {
+fn compares_tables(rt: HostRuntime) {
     for (row, (steps, others, want)) in PAIRS.iter().enumerate() {
-        assert!(rt; compares(rt.alloc(), steps, others, *want)?, "row {row}");
+        assert_eq!(rt;
+            compares(rt.alloc(), steps, others, *want),
+            Some(true),
+            "row {row}"
+        );
     }
-    Ok(())
 }
 
-/// A removal from a copy leaves the tables that it was made of.
+const TWO: [Step; 2] = [Set("teams", "1", "{}"), Set("teams", "2", "{}")];
+
+const SECOND: [Step; 1] = [Set("teams", "2", "{}")];
+
+/// Whether a removal from a copy leaves the tables that it was made of.
+fn stands_alone(alloc: Global) -> Option<bool> {
+    let made = tables(alloc, &TWO)?;
+    let mut copy = made.copy(alloc).ok()?;
+    copy.apply(alloc, &change(alloc, Remove("teams", "1"))?)
+        .ok()?;
+    Some(made.same(&tables(alloc, &TWO)?) && copy.same(&tables(alloc, &SECOND)?))
+}
+
 #[test]
-fn a_copy_stands_alone(rt: HostRuntime) -> Result<(), Fail> {
-    let steps = [Set("teams", "1", "{}"), Set("teams", "2", "{}")];
-    let made = tables(rt.alloc(), &steps)?;
-    let mut copy = made.copy(rt.alloc())?;
-    copy.apply(rt.alloc(), &change(rt.alloc(), Remove("teams", "1"))?)?;
-    assert!(rt; made.same(&tables(rt.alloc(), &steps)?));
-    assert!(rt; copy.same(&tables(rt.alloc(), &steps[1..])?));
-    Ok(())
+fn a_copy_stands_alone(rt: HostRuntime) {
+    assert_eq!(rt; stands_alone(rt.alloc()), Some(true));
 }
