@@ -3,4 +3,5 @@ pub mod DeviceLemmas
 pub mod RefusalTexts
 pub mod RequestLemmas
 pub mod ServingLemmas
+pub mod SessionLemmas
 pub mod TextLemmas

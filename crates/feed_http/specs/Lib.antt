@@ -13,4 +13,5 @@ pub mod Place
 pub mod RequestText
 pub mod Served
 pub mod Serving
+pub mod Sessions
 pub mod Stream
