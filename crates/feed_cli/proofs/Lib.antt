@@ -1,5 +1,5 @@
 mod CheckLemmas
-mod DeviceLemmas
+mod CommandLemmas
 mod PlayLemmas
 mod TablesLemmas
 mod WordsLemmas

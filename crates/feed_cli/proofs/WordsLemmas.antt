@@ -1,5 +1,5 @@
 -- Lemmas on what the words of a command line ask for.
-use Rattle.std.proofs.Common.{◌≡◌, sym, ap, ap₂, ◌∙◌, refl, ℕ, List, Option, Some, None, Result, Ok, Err, option_map, true}
+use Rattle.std.proofs.Common.{◌≡◌, sym, ap, ap₂, ◌∙◌, refl, ℕ, List, Option, Some, None, Result, Ok, option_map, true}
 use Rattle.std.specs.Prelude.{unwrap_or}
 use Rattle.std.specs.Str.Parse.{ParsesUnsigned, digits_value, without_leading_plus}
 use Rattle.clap.specs.Matches.{ReadsOne}

@@ -1,6 +1,7 @@
 -- What the commands do, by what a command line asks for.
 use Rattle.std.specs.Prelude.{ℕ, List}
 use Rattle.clap.specs.Words.{Text}
+use Rattle.feed_http.specs.Device.{HasFailed as HasDeviceFailed}
 use Rattle.feed_cli.specs.Check.{CountsPrinted, CheckFails}
 use Rattle.feed_cli.specs.Fault.{IsToldStatus}
 use Rattle.feed_cli.specs.Play.{Played, PlayFails}
@@ -8,6 +9,7 @@ use Rattle.feed_cli.specs.Streams.{Streams}
 use Rattle.feed_cli.specs.Tables.{PrintedSome, TablesFail}
 use Rattle.feed_cli.specs.Words.{Asks}
 use Rattle.feed_cli.specs.declared.fault.Fault.{Fault}
+use Rattle.feed_cli.specs.declared.fault.Fault.TheVariants as fault
 use Rattle.feed_cli.specs.declared.words.Request.{Request}
 use Rattle.feed_cli.specs.declared.words.Request.TheVariants as request
 
@@ -23,6 +25,12 @@ Fails (request.Tables options) why s = TablesFail options.limits why s
 Fails request.Check why s = CheckFails why s
 Fails request.Play why s = PlayFails why s
 
+-- where the fault is a device's, that one failed
+abbrev pub IsDeviceFault : Fault → Streams → Type 0
+IsDeviceFault fault.Read s = HasDeviceFailed s.failed_reads_old s.failed_reads_new
+IsDeviceFault fault.Write s = HasDeviceFailed s.failed_writes_old s.failed_writes_new
+IsDeviceFault why s = Unit {0}
+
 -- the words ask for a command, and it did what was asked for
 pub record HasSucceeded (words : List Text) (s : Streams) : Type 0 where
   pub asked : Request
@@ -35,4 +43,5 @@ pub record HasFailed (words : List Text) (status : ℕ) (s : Streams) : Type 0 w
   pub asks : Asks words asked
   pub why : Fault
   pub failed : Fails asked why s
+  pub device : IsDeviceFault why s
   pub told : IsToldStatus why status

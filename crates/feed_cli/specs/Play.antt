@@ -36,7 +36,7 @@ pub record PlayedFront (s : Streams) : Type 0 where
 
 -- a write failed, and a front of the text was printed
 pub record IsCutShort (s : Streams) (told : List ℕ) : Type 0 where
-  pub failed : HasFailed s.failures_old s.failures_new
+  pub failed : HasFailed s.failed_writes_old s.failed_writes_new
   pub printed : AppendsFront s.out_old s.out_new told
 
 -- the text was printed; or, where memory ran out and a write failed too, a front of it

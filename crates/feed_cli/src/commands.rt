@@ -1,7 +1,6 @@
 //! The commands, as the words of a command line ask for them.
-ghost use Rattle.std.specs.Prelude.{◌≡◌, ◌≤◌, ◌⊎◌, map, IfErr, OnOk, IsErrOf};
-ghost use Rattle.feed_http.specs.Device.{HasFailed as HasDeviceFailed};
-ghost use Rattle.feed_cli.specs.Commands.{Succeeds, Fails, HasSucceeded, HasFailed};
+ghost use Rattle.std.specs.Prelude.{◌≡◌, ◌≤◌, ◌⊎◌, map, IfErr, OnOk};
+ghost use Rattle.feed_cli.specs.Commands.{Succeeds, Fails, IsDeviceFault, HasSucceeded, HasFailed};
 ghost use Rattle.feed_cli.specs.Fault.{IsToldStatus};
 ghost use Rattle.feed_cli.specs.Streams.{streams_of};
 
@@ -102,17 +101,16 @@ pub fn perform<R: FeedRead, W: FeedWrite>(
     input: &mut R,
     out: &mut W,
 ) -> Result<(), Fault>
-    ensures ok { let streams = streams_of R.remaining W.contents W.failures
+    ensures ok { let streams = streams_of R.remaining R.failures W.contents W.failures
         input.old input.new out.old out.new in
         OnOk result (Succeeds request streams) }
-    ensures err { let streams = streams_of R.remaining W.contents W.failures
+    ensures err { let streams = streams_of R.remaining R.failures W.contents W.failures
         input.old input.new out.old out.new in
         IfErr result (λ why. Fails request why streams) }
 
-    ensures read { IsErrOf result Fault.Read
-        → HasDeviceFailed (R.failures input.old) (R.failures input.new) }
-    ensures write { IsErrOf result Fault.Write
-        → HasDeviceFailed (W.failures out.old) (W.failures out.new) }
+    ensures device { let streams = streams_of R.remaining R.failures W.contents W.failures
+        input.old input.new out.old out.new in
+        IfErr result (λ why. IsDeviceFault why streams) }
 {
     match request {
         Request::Tables(options) => print_tables(alloc, options, input, out),
@@ -135,17 +133,17 @@ pub fn run<'a, R: FeedRead, W: FeedWrite, E: FeedWrite>(
     ensures statuses { result ≤ 5 }
 
     // Where the words ask for help, or for no command, nothing is read.
-    ensures ok { let streams = streams_of R.remaining W.contents W.failures
+    ensures ok { let streams = streams_of R.remaining R.failures W.contents W.failures
         input.old input.new out.old out.new in
         result ≡ 0 → (R.reads input.new ≡ R.reads input.old)
         ⊎ HasSucceeded (map (λ word. word.now) words.entry.now) streams }
     ensures refused { result ≡ 1 → (R.reads input.new ≡ R.reads input.old)
         × (W.contents out.new ≡ W.contents out.old) }
-    ensures faulty { let streams = streams_of R.remaining W.contents W.failures
+    ensures faulty { let streams = streams_of R.remaining R.failures W.contents W.failures
         input.old input.new out.old out.new in
         (result ≡ 2) ⊎ (result ≡ 3)
         → HasFailed (map (λ word. word.now) words.entry.now) result streams }
-    ensures broken { let streams = streams_of R.remaining W.contents W.failures
+    ensures broken { let streams = streams_of R.remaining R.failures W.contents W.failures
         input.old input.new out.old out.new in
         (result ≡ 4) ⊎ (result ≡ 5) → (R.reads input.new ≡ R.reads input.old)
         ⊎ HasFailed (map (λ word. word.now) words.entry.now) result streams }

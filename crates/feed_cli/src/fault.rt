@@ -20,10 +20,13 @@ pub struct FeedStop {
 /// Why a command fails.
 #[derive(Clone, Copy, Debug, PartialEq, Eq, Error)]
 pub enum Fault {
+    /// Memory ran out.
     #[error("out of memory")]
     Memory,
+    /// A read of the input failed.
     #[error("read failed")]
     Read,
+    /// A write of the output failed.
     #[error("write failed")]
     Write,
     /// The input did not end in the reads that were allowed.
@@ -41,6 +44,7 @@ pub enum Fault {
     /// The input, a script, was not played to its end.
     #[error("{0}")]
     Play(PlayFault),
+    /// The input has ended, and nothing was published.
     #[error("nothing published")]
     Unpublished,
 }

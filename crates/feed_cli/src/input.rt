@@ -12,6 +12,7 @@ pub enum InputFault {
     Read,
     /// The input has more bytes than were allowed.
     TooLong,
+    /// Memory ran out.
     Memory,
 }
 

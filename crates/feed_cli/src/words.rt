@@ -37,7 +37,7 @@ pub enum Request {
 
 impl Request {
     /// The name of the command.
-    pub fn name(&self) -> &'static str {
+    pub(crate) fn name(&self) -> &'static str {
         match self {
             Request::Tables(_) => "tables",
             Request::Check => "check",
@@ -46,6 +46,7 @@ impl Request {
     }
 }
 
+/// `--history N`.
 fn history_option<'a>(alloc: Global) -> Arg<'a>
     ensures rule { rule_of result ≡ history }
     ensures local { result.global ≡ false }
@@ -58,6 +59,7 @@ fn history_option<'a>(alloc: Global) -> Arg<'a>
         .default_value("1000")
 }
 
+/// `--staged N`.
 fn staged_option<'a>(alloc: Global) -> Arg<'a>
     ensures rule { rule_of result ≡ staged }
     ensures local { result.global ≡ false }
@@ -72,6 +74,7 @@ fn staged_option<'a>(alloc: Global) -> Arg<'a>
         .default_value("1000000")
 }
 
+/// `--verbose`.
 fn verbose_option<'a>(alloc: Global) -> Arg<'a>
     ensures rule { rule_of result ≡ verbose }
     ensures local { result.global ≡ false }

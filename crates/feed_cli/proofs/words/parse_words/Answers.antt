@@ -1,4 +1,4 @@
-use Rattle.std.proofs.Common.{sym, ap, subst, ◌≡◌, ◌∙◌, map}
+use Rattle.std.proofs.Common.{ap, subst, ◌≡◌, ◌∙◌, map}
 use Rattle.clap.specs.Words.{is_simple, subcommand_of, subcommand_rows_of}
 use Rattle.feed_cli.specs.Words.{AsksAt, command_line}
 use Rattle.feed_cli.proofs.WordsLemmas.{line_is_simple}

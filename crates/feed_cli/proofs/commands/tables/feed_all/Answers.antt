@@ -1,6 +1,6 @@
 use Rattle.std.proofs.Common.{◌+◌, ap, Err, arith}
 use Rattle.std.proofs.lemmas.Result.{err_from_is_err_and}
-use Rattle.feed_cli.proofs.DeviceLemmas.{rose_more}
+use Rattle.feed_http.proofs.DeviceLemmas.{rose_more}
 use Rattle.feed_cli.proofs.TablesLemmas.{read_by, read_on_by}
 use Rattle.feed_cli.proofs.commands.tables.feed_all.Goals as goal
 
