@@ -22,14 +22,20 @@ const COUNTED: [Case; 5] = [
     // An array of two elements makes three changes; five bytes follow the last line feed.
     Case {
         words: CHECK,
-        input: "{\"type\":\"teams\",\"data\":[{\"id\":\"1\"},{\"id\":\"2\"}]}\n\n{\"type\":\"state\",\"data\":{},\"token\":\"1\"}\n{\"typ",
+        input: r#"{"type":"teams","data":[{"id":"1"},{"id":"2"}]}
+
+{"type":"state","data":{},"token":"1"}
+{"typ"#,
         status: 0,
         out: "lines 3 keepalives 1 notes 2 changes 4 tokens 1 rest 5\n",
         err: "",
     },
     Case {
         words: CHECK,
-        input: "{\"type\":\"teams\",\"id\":\"7\",\"data\":{\"id\":\"7\"},\"token\":\"a\"}\n{\"type\":\"teams\",\"id\":\"7\",\"data\":[]}\n{\"type\":\"teams\",\"id\":\"7\",\"data\":null,\"token\":\"b\"}\n",
+        input: r#"{"type":"teams","id":"7","data":{"id":"7"},"token":"a"}
+{"type":"teams","id":"7","data":[]}
+{"type":"teams","id":"7","data":null,"token":"b"}
+"#,
         status: 2,
         out: "",
         err: "check: line 2: no meaning\n",

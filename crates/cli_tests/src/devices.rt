@@ -15,7 +15,8 @@ const TWO_COMMITS: &str = r#"{"type":"teams","id":"7","data":{"id":"7","n": 1.50
 {"type":"teams","id":"7","data":null,"token":"b"}
 "#;
 
-/// Reads that fail: the first, and the one behind the first line. An error is told in several writes.
+/// Reads that fail: the first, and the one behind the first line. An error is told in several
+/// writes.
 const READS: [(u64, Case); 4] = [
     (
         1,
@@ -69,6 +70,28 @@ fn tells_failed_reads(rt: HostRuntime) -> Result<(), Fail> {
         passes(&rt, &case, &Devices { input, ..SMALL })?;
     }
     Ok(())
+}
+
+/// What is published of two commits by a first read of 4,096 bytes, the last of which ends the first
+/// commit; the second read fails.
+const READ_ONCE: Case = Case {
+    words: TABLES,
+    input: TWO_COMMITS,
+    status: 4,
+    out: ONE_TEAM_PRINTED,
+    err: "tables: read failed\n",
+};
+
+#[test]
+fn reads_4096_bytes_at_once(rt: HostRuntime) -> Result<(), Fail> {
+    let mut bytes = vec![in rt.alloc(); b' '; 4095 - ONE_TEAM.len()]?;
+    bytes.push(b'\n')?;
+    bytes.extend_from_slice(TWO_COMMITS.as_bytes())?;
+    let input = Device {
+        most: 10_000,
+        fails: 2,
+    };
+    passes_on(&rt, &READ_ONCE, bytes, &Devices { input, ..SMALL })
 }
 
 /// Writes that fail, each of ten bytes at most. What was written before stays.
@@ -173,7 +196,8 @@ fn answers_what_is_not_told(rt: HostRuntime) -> Result<(), Fail> {
     Ok(())
 }
 
-/// Line feeds that come one by one: as many as there are reads, and so many that the last read finds the end.
+/// Line feeds that come one by one: as many as there are reads, and so many that the last read
+/// finds the end.
 const ENDLESS: [(usize, Case); 2] = [
     (
         1_000_000,

@@ -160,7 +160,8 @@ nothing
 "#,
         told: "",
     },
-    // A feed line's token says nothing here, a keep-alive adds no change, and an array adds several.
+    // A feed line's token says nothing here, a keep-alive adds no change, and an array adds
+    // several.
     Script {
         text: r#"world 1 100
 commit 3
@@ -191,7 +192,8 @@ fn plays_scripts(rt: HostRuntime) -> Result<(), Fail> {
     Ok(())
 }
 
-/// First lines that ask for no world, or for one that there can't be. The limits are looked at first.
+/// First lines that ask for no world, or for one that there can't be. The limits are looked at
+/// first.
 const FIRST_LINES: [(&str, &str); 18] = [
     ("", "play: line 1: bad script\n"),
     ("world 1 1", "play: line 1: bad script\n"),

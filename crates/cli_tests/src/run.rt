@@ -29,7 +29,8 @@ pub struct Case {
     pub err: &'static str,
 }
 
-/// How many bytes a call of a device moves at most, and which of its calls fails, counted from 1; none does at 0.
+/// How many bytes a call of a device moves at most, and which of its calls fails, counted from 1;
+/// none does at 0.
 #[derive(Clone, Copy)]
 pub struct Device {
     pub most: usize,

@@ -1,5 +1,5 @@
-//! Feeds, with what `tables` prints of each, written by hand from the notification format and the rules on lines and
-//! tokens.
+//! Feeds, with what `tables` prints of each, written by hand from the notification format and the
+//! rules on lines and tokens.
 
 use crate::run::{Case, LARGE, ONE_TEAM, ONE_TEAM_PRINTED, SMALL, TABLES, all_pass, passes_on};
 use std::test::Fail;
@@ -43,8 +43,10 @@ const PUBLISHED: [Case; 6] = [
     // Keep-alives, and a change behind the last token.
     Case {
         words: TABLES,
-        input: "\n{\"type\":\"teams\",\"id\":null,\"data\":[{\"id\":\"b\"},{\"id\":\"a\"}],\"token\":\"1\"}\n\
- \t\r\n{\"type\":\"teams\",\"id\":\"a\",\"data\":null}\n",
+        input: "\n\
+{\"type\":\"teams\",\"id\":null,\"data\":[{\"id\":\"b\"},{\"id\":\"a\"}],\"token\":\"1\"}\n\
+\x20\t\r\n\
+{\"type\":\"teams\",\"id\":\"a\",\"data\":null}\n",
         status: 0,
         out: r#"{"type":"teams","id":null,"data":[]}
 {"type":"teams","id":"a","data":{"id":"a"}}

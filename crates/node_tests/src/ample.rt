@@ -99,8 +99,8 @@ fn is_decimal(alloc: Global, text: &str, number: usize) -> Option<bool> {
     Some(format!(in alloc; "{number}").ok()?.as_str() == text)
 }
 
-/// The model's reply that is this one of the world, where a commit's token is that of this count; none for a reply that no
-/// world in ample memory gives.
+/// The model's reply that is this one of the world, where a commit's token is that of this count;
+/// none for a reply that no world in ample memory gives.
 fn answer(alloc: Global, given: &Result<Reply, WorldFault>, count: usize) -> Option<Answer> {
     Some(match given {
         Ok(Reply::Committed(token)) => {

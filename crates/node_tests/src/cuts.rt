@@ -65,21 +65,21 @@ fn publishes_byte_by_byte(rt: HostRuntime) {
 }
 
 /// Lines that mean something as long as they are whole, and how many batches they publish.
-const LINES: [(&[u8], usize); 4] = [
+const LINES: [(&str, usize); 4] = [
     (
-        b"{\"type\":\"teams\",\"id\":\"7\",\"data\":{\"id\":\"7\",\"n\": 1.50},\"token\":\"a\"}",
+        r#"{"type":"teams","id":"7","data":{"id":"7","n": 1.50},"token":"a"}"#,
         1,
     ),
     (
-        b"{\"type\":\"teams\",\"id\":null,\"data\":[{\"id\":\"1\"},{\"id\":\"2\"}],\"token\":\"a\"}",
+        r#"{"type":"teams","id":null,"data":[{"id":"1"},{"id":"2"}],"token":"a"}"#,
         1,
     ),
     (
-        b"{\"type\":\"state\",\"id\":null,\"data\":{\"ended\":null},\"token\":\"s\",\"time\":\"x\"}",
+        r#"{"type":"state","id":null,"data":{"ended":null},"token":"s","time":"x"}"#,
         1,
     ),
     (
-        b"{\"type\":\"a\",\"type\":\"teams\",\"id\":\"1\",\"data\":5,\"data\":{\"id\":\"1\"},\"token\":null}",
+        r#"{"type":"a","type":"teams","id":"1","data":5,"data":{"id":"1"},"token":null}"#,
         0,
     ),
 ];
@@ -98,8 +98,8 @@ fn fed_broken(
     Ok(count)
 }
 
-/// Whether a line feed before the byte at a place makes a fault of the line, or a keep-alive before it, and publishes
-/// nothing.
+/// Whether a line feed before the byte at a place makes a fault of the line, or a keep-alive before
+/// it, and publishes nothing.
 fn says_nothing(alloc: Global, line: &[u8], at: usize) -> Option<bool> {
     let mut mirror = opened(alloc)?;
     let is_right = match fed_broken(alloc, &mut mirror, line, at) {
@@ -113,11 +113,8 @@ fn says_nothing(alloc: Global, line: &[u8], at: usize) -> Option<bool> {
 fn broken_lines_publish_nothing(rt: HostRuntime) {
     for (line, _) in LINES {
         for at in 0..line.len() {
-            assert_eq!(rt;
-                says_nothing(rt.alloc(), line, at),
-                Some(true),
-                "before {at}"
-            );
+            let said = says_nothing(rt.alloc(), line.as_bytes(), at);
+            assert_eq!(rt; said, Some(true), "{line} before {at}");
         }
     }
 }
@@ -131,6 +128,10 @@ fn fed_whole(alloc: Global, line: &[u8]) -> Option<usize> {
 #[test]
 fn whole_lines_publish(rt: HostRuntime) {
     for (line, want) in LINES {
-        assert_eq!(rt; fed_whole(rt.alloc(), line), Some(want));
+        assert_eq!(rt;
+            fed_whole(rt.alloc(), line.as_bytes()),
+            Some(want),
+            "{line}"
+        );
     }
 }

@@ -101,8 +101,8 @@ const FED: [Script; 6] = [
             Feed("", Err(FeedFault::NotOpen)),
         ],
     },
-    // What waits, and an unfinished line, are dropped by a cut. After a refusal the next connection is fresh, and what
-    // was published stays until it publishes.
+    // What waits, and an unfinished line, are dropped by a cut. After a refusal the next connection
+    // is fresh, and what was published stays until it publishes.
     Script {
         history: 1000,
         staged: 1000,
@@ -186,7 +186,8 @@ const HELD: [Script; 6] = [
             Holds(Mirror, &["2", "3"]),
         ],
     },
-    // A held token comes again on a later connection: it is refused, and what came before it stands.
+    // A held token comes again on a later connection: it is refused, and what came before it
+    // stands.
     Script {
         history: 2,
         staged: 100,
@@ -232,7 +233,8 @@ const HELD: [Script; 6] = [
             Feed(TEAM_1, Err(FeedFault::TokenAgain)),
         ],
     },
-    // A held token is the first one of a fresh connection: it is published anew, and held from then on.
+    // A held token is the first one of a fresh connection: it is published anew, and held from then
+    // on.
     Script {
         history: 2,
         staged: 100,

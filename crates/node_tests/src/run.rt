@@ -6,9 +6,20 @@ use std::alloc::Global;
 use world_scripts::Act::{Commit, Connect, Cut, Deliver, Serve};
 use world_scripts::{ALL, Act, FOLLOWED, Script, TEAM_1, TEAM_2, Want, events};
 
-/// Whether a script's events, as one list, have its replies.
+/// Whether the nodes have published these tokens, the primary first.
+fn ends_at(world: &World, ends: &[&str]) -> Option<bool> {
+    for (number, end) in ends.iter().enumerate() {
+        if world.node(number)?.token()?.text() != *end {
+            return Some(false);
+        }
+    }
+    Some(true)
+}
+
+/// Whether a script's events, as one list, have its replies and its end.
 fn is_run(alloc: Global, script: &Script) -> Option<bool> {
-    let mut world = World::new(alloc, script.up, Limits::new(script.history, 100).ok()?).ok()?;
+    let limits = Limits::new(script.history, 100).ok()?;
+    let mut world = World::new(alloc, script.up, limits).ok()?;
     let replies = world.run(alloc, events(alloc, script.lines)?).ok()?;
     let count = replies.len();
     for (reply, (_, want)) in replies.into_iter().zip(script.lines) {
@@ -16,7 +27,7 @@ fn is_run(alloc: Global, script: &Script) -> Option<bool> {
             return Some(false);
         }
     }
-    Some(count == script.lines.len())
+    Some(count == script.lines.len() && ends_at(&world, script.ends)?)
 }
 
 #[test]

@@ -95,7 +95,8 @@ fn commits_batches(rt: HostRuntime) {
 
 /// What sessions begin with, and send then.
 const SERVED: [Script; 6] = [
-    // A primary that keeps two of four commits, at the oldest token that it holds, at its own, and at others.
+    // A primary that keeps two of four commits, at the oldest token that it holds, at its own, and
+    // at others.
     Script {
         history: 2,
         staged: 100,
@@ -165,7 +166,8 @@ const SERVED: [Script; 6] = [
             Finds(Mirror, "teams", "B", None),
         ],
     },
-    // A session that is open while its node is published anew without the session's token, and one at the new token.
+    // A session that is open while its node is published anew without the session's token, and one
+    // at the new token.
     Script {
         history: 2,
         staged: 100,

@@ -17,7 +17,8 @@ pub enum Step {
     ShowsNothing(usize),
     /// No node has this number.
     NoNode(usize),
-    /// The connection of a mirror was sent so many bytes, brought so many, and ends with this token.
+    /// The connection of a mirror was sent so many bytes, brought so many, and ends with this
+    /// token.
     Carries(usize, usize, usize, &'static str),
     CarriesNone(usize),
     /// A node has published this token.

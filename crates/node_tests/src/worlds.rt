@@ -79,7 +79,8 @@ const SCRIPTS: [Course; 5] = [
         staged: 100,
         steps: &[Part(&FOLLOWED, 0, 7), Shows(1, STATE_SHOWN)],
     },
-    // A connection behind a token goes on where the last one was cut, within the line of the second commit.
+    // A connection behind a token goes on where the last one was cut, within the line of the second
+    // commit.
     Course {
         up: &[0],
         history: 2,
@@ -164,8 +165,8 @@ const CARRIED: [Course; 4] = [
             CarriesNone(1),
         ],
     },
-    // Connections behind a token, the last of which ends since the token is no longer held; then a fresh one. The
-    // snapshots of no types and of two teams have 53 and 137 bytes.
+    // Connections behind a token, the last of which ends since the token is no longer held; then a
+    // fresh one. The snapshots of no types and of two teams have 53 and 137 bytes.
     Course {
         up: &[0],
         history: 1,
@@ -287,7 +288,8 @@ const SHOWN: [Course; 4] = [
             Finds(2, "teams", "B", None),
         ],
     },
-    // Two mirrors come to "2" in different ways, by a snapshot and by commits, and one stays at "1".
+    // Two mirrors come to "2" in different ways, by a snapshot and by commits, and one stays at
+    // "1".
     Course {
         up: &[0, 1, 0],
         history: 2,
@@ -331,7 +333,8 @@ const SHOWN: [Course; 4] = [
             Logs(LOG),
         ],
     },
-    // A node holds its own token and the one before the commits that it keeps; after a snapshot it keeps none.
+    // A node holds its own token and the one before the commits that it keeps; after a snapshot it
+    // keeps none.
     Course {
         up: &[0],
         history: 1,
@@ -390,8 +393,8 @@ const REFUSED: [Course; 4] = [
             CarriesNone(1),
         ],
     },
-    // A world without mirrors has the primary alone. The second team makes its tables too large, and then the first
-    // comes again.
+    // A world without mirrors has the primary alone. The second team makes its tables too large,
+    // and then the first comes again.
     Course {
         up: &[],
         history: 2,

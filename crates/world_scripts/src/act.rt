@@ -5,7 +5,8 @@ use feed_tables::Changes;
 use feed_world::Event;
 use std::alloc::Global;
 
-/// An event by its numbers, a commit by its lines, of which the last has a token. A commit of no lines has no change.
+/// An event by its numbers, a commit by its lines, of which the last has a token. A commit of no
+/// lines has no change.
 #[derive(Clone, Copy)]
 pub enum Act {
     Commit(&'static [u8]),

@@ -8,8 +8,8 @@ use feed_node::Pulled;
 /// More bytes than were sent.
 pub const ALL: usize = 9999;
 
-/// A script: the node that each mirror is behind, how many commits a node keeps, what happens, and the tokens that the
-/// nodes have published at its end, the primary's first.
+/// A script: the node that each mirror is behind, how many commits a node keeps, what happens, and
+/// the tokens that the nodes have published at its end, the primary's first.
 #[derive(Clone, Copy)]
 pub struct Script {
     pub up: &'static [usize],
