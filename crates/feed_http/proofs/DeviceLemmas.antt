@@ -1,9 +1,10 @@
 -- Lemmas on what reads give and writes take.
-use Rattle.std.proofs.Common.{◌≡◌, ℕ, ◌+◌, ◌^◌, inl, inr, arith, ◌-◌, ◌≤◌, List, ◌++◌, length, take, drop, sym, ap, ◌∙◌, append_assoc, take-append-drop, subst, Option}
+use Rattle.std.proofs.Common.{◌≡◌, ℕ, ◌+◌, ◌^◌, inl, inr, arith, ◌-◌, ◌≤◌, List, ◌++◌, length, take, drop, sym, ap, ◌∙◌, append_assoc, take-append-drop, subst, Option, []}
+use Rattle.std.specs.Prelude.{Some, None}
 use Rattle.std.proofs.lemmas.List.{length-take-le, take_rest}
 use Rattle.std.proofs.Math.Seq.{take-append_seam}
 use Rattle.std.proofs.lemmas.Bool.{cases_lt}
-use Rattle.std.specs.Io.KnownBytes.{Consumes}
+use Rattle.std.specs.Io.KnownBytes.{Consumes, Keeps}
 use Rattle.std.proofs.KnownBytes.{Consumes-trans}
 use Rattle.feed_http.specs.Device.{counted, RoseBy, Moved, MovedSome}
 
@@ -42,3 +43,16 @@ MovedSome-trans a b c x y z (first, grown, lost) (second, gone, more, lost_more)
   more ∙ ap (λ l. l ++ second) grown ∙ append_assoc x first second,
   subst (Consumes a c) (sym (append_assoc first second gone)) (Consumes-trans a b c first (second ++ gone) lost lost_more),
 )
+
+-- a read that failed took nothing
+pub unread_nothing : (old new : Option (List ℕ)) → Keeps old new → Consumes old new []
+unread_nothing None new h = tt
+unread_nothing (Some xs) None h = h
+unread_nothing (Some xs) (Some ys) h = sym h
+
+-- what was taken before is all
+pub taken_before : (a b c : Option (List ℕ)) (taken : List ℕ) → Consumes a b taken → Consumes b c [] → Consumes a c taken
+taken_before None b c taken h k = tt
+taken_before (Some xs) None c taken h k = absurd h
+taken_before (Some xs) (Some ys) None taken h k = absurd k
+taken_before (Some xs) (Some ys) (Some zs) taken h k = h ∙ ap (λ l. taken ++ l) k

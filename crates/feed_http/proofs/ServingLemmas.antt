@@ -25,7 +25,8 @@ use Rattle.feed_http.specs.Device.{AppendsFront, counted}
 use Rattle.feed_http.specs.Framed.{frame, frame_end}
 use Rattle.feed_http.specs.Served.{behind_opening, farewell}
 use Rattle.feed_http.specs.Answered.{parts_of}
-use Rattle.feed_http.specs.Serving.{Sends, up_to_date, lost, sends, Sent, sent_none, sent_one, commit_text, commit_frames, WroteSome, SendsAnswer, WroteAnswer, Tells}
+use Rattle.feed_http.specs.Serving.{Sends, up_to_date, lost, sends, commit_text, SendsAnswer, Tells}
+use Rattle.feed_http.specs.Sending.{Sent, sent_none, sent_one, commit_frames, WroteSome, WroteAnswer}
 use Rattle.feed_http.specs.declared.fault.Served.{Served}
 
 -- ---- a session moves on
@@ -37,7 +38,7 @@ pub record Moves (node : NodeState) (token : List ℕ) (commit : Commit) : Type 
   pub within : place < length node.kept
   pub behind : place_of node commit.token ≡ Some (place + 1)
 
-tokens-length : (kept : List Commit) → length (tokens kept) ≡ length kept
+pub tokens-length : (kept : List Commit) → length (tokens kept) ≡ length kept
 tokens-length [] = refl
 tokens-length (c ∷ kept) = ap suc (tokens-length kept)
 
@@ -46,7 +47,7 @@ token_at [] k c e = let same : ◌≡◌ {A = Option Commit} None (Some c) = e i
 token_at (d ∷ kept) zero c e = let same : ◌≡◌ {A = Option Commit} (Some d) (Some c) = e in (omega arith, let is : d ≡ c = cc in ap (λ x. x.token) is)
 token_at (d ∷ kept) (suc k) c e = let more = token_at kept k c e in (omega (arith, more.0), more.1)
 
-or_lost_some : (o : Option Commit) (c : Commit) → or_lost o ≡ Commit_after c → o ≡ Some c
+pub or_lost_some : (o : Option Commit) (c : Commit) → or_lost o ≡ Commit_after c → o ≡ Some c
 or_lost_some None c e = let same : Lost ≡ Commit_after c = e in absurd (cc)
 or_lost_some (Some d) c e = let same : Commit_after d ≡ Commit_after c = e in let is : d ≡ c = cc in ap Some is
 

@@ -23,7 +23,7 @@ pub record AnswerParts : Type 0 where
 abbrev pub refusing : Refusal → AnswerParts
 refusing refusal = record { status = refusal_code refusal; framing = Close; text = refusal_text refusal; session = None }
 
--- the answer with the feed, where the node opens a session; that it has no memory is no answer
+-- the answer with the feed, where the node opens a session; the last case never comes: `opens` gives no want of memory
 abbrev pub answer_opened : Framing → Result Started OpenFault → AnswerParts
 answer_opened framing (Ok started) = record { status = 200; framing = framing; text = opening_text framing started.text; session = Some started.token }
 answer_opened framing (Err NotYet) = refusing NothingPublished

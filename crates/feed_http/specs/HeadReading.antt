@@ -1,11 +1,15 @@
 -- How the head of a request is read: no further than it takes.
 use Rattle.std.specs.Prelude.{ℕ, ◌-◌, ◌≤◌, ◌⊎◌, min, nat_lt, if◌then◌else◌, List, [], ◌++◌, length}
 use Rattle.httparse.specs.Grammar.{RequestHead, NeverHasRequest}
-use Rattle.feed_http.specs.Heads.{BeginsWithRequest, HasNoWholeRequest, IsPastLimits, IsTooLargeRequest}
+use Rattle.feed_http.specs.Heads.{head_bytes, BeginsWithRequest, HasNoWholeRequest, IsPastLimits, IsTooLargeRequest}
 
--- how many bytes the next read asks for, after so many: at most 4,096, not past the 8,192nd, and then one
+-- how many bytes one read asks for at most
+abbrev pub read_bytes : ℕ
+read_bytes = 4096
+
+-- how many bytes the next read asks for, after so many: not past the most that a head may have, and then one
 abbrev pub most_after : ℕ → ℕ
-most_after len = if nat_lt len 8192 then min 4096 (8192 - len) else 1
+most_after len = if nat_lt len head_bytes then min read_bytes (head_bytes - len) else 1
 
 -- the bytes are no whole head, and one may still end within the limits
 abbrev pub IsStillNeeded : List ℕ → Type 0

@@ -11,6 +11,7 @@ pub mod Laws
 pub mod Memory
 pub mod Place
 pub mod RequestText
+pub mod Sending
 pub mod Served
 pub mod Serving
 pub mod Sessions

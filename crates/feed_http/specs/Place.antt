@@ -19,7 +19,7 @@ is_alphanumeric_or marks b = is_ascii_alphanumeric b || list_any (λ mark. mark 
 abbrev pub is_text_of : ℕ → List ℕ → List ℕ → Bool
 is_text_of most marks text = nat_le (length text) most && list_all (is_alphanumeric_or marks) text
 
--- a host, with a port where it has one
+-- 1 to 255 characters that a host and a port may have; that they make a host (RFC 3986, section 3.2.2) isn't looked at
 abbrev pub is_host : List ℕ → Bool
 is_host text = nat_lt 0 (length text) && is_text_of 255 (codes ".-:[]") text
 
@@ -28,11 +28,12 @@ abbrev pub is_rooted : List ℕ → Bool
 is_rooted [] = true
 is_rooted (b ∷ bytes) = b == 47 && not (slice_index (b ∷ bytes) (length (b ∷ bytes) - 1) == 47)
 
--- a base path
+-- a base path, of at most 255 bytes
 abbrev pub is_base : List ℕ → Bool
 is_base text = is_text_of 255 (codes "._-~/") text && is_rooted text
 
--- a contest's id, as the CLICS Contest API has ids
+-- a contest's id: 1 to 64 of the characters of ids in the CLICS Contest API (the length is this profile's limit; where `.` and
+-- `-` stand isn't looked at)
 abbrev pub is_contest : List ℕ → Bool
 is_contest text = nat_lt 0 (length text) && is_text_of 64 (codes "._-") text
 

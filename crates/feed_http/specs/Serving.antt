@@ -1,6 +1,5 @@
 -- What a server sends and writes on one connection.
 use Rattle.std.specs.Prelude.{◌≡◌, ◌⊎◌, ℕ, Bool, true, false, List, [], ◌∷◌, ◌++◌, length, map, Option, Some, None}
-use Rattle.std.specs.List.{flat_map}
 use Rattle.std.specs.Io.KnownBytes.{Appends, Consumes, IsAtEnd}
 use Rattle.feed_note.specs.Texts.{batch_text}
 use Rattle.feed_node.specs.declared.commit.Commit.{Commit}
@@ -10,8 +9,7 @@ use Rattle.feed_http.specs.declared.fault.Served.{Served}
 use Rattle.feed_http.specs.declared.framing.Framing.{Framing}
 use Rattle.feed_http.specs.Answered.{AnswerParts, AnswersTo}
 use Rattle.feed_http.specs.Device.{counted, AppendsFront}
-use Rattle.feed_http.specs.Framed.{frame}
-use Rattle.feed_http.specs.HeadReading.{IsReadAsNeeded, IsEnough}
+use Rattle.feed_http.specs.HeadReading.{IsReadAsNeeded, IsStillNeeded, IsEnough}
 use Rattle.feed_http.specs.Served.{behind_opening}
 
 -- the text of a commit's lines
@@ -24,23 +22,6 @@ pub data Sends (node : NodeState) : List ℕ → List Commit → Bool → Type 0
   lost : (token : List ℕ) → next node token ≡ Lost → Sends node token [] true
   sends : (token : List ℕ) (commit : Commit) (later : List Commit) (gone : Bool) → next node token ≡ Commit_after commit
       → Sends node commit.token later gone → Sends node token (commit ∷ later) gone
-
--- a session at one token was sent these commits, and is at another one
-pub data Sent (node : NodeState) : List ℕ → List Commit → List ℕ → Type 0 where
-  sent_none : (token : List ℕ) → Sent node token [] token
-  sent_one : (start token : List ℕ) (earlier : List Commit) (commit : Commit) → Sent node start earlier token → next node token ≡ Commit_after commit
-      → Sent node start (earlier ++ commit ∷ []) commit.token
-
--- the texts of commits, framed
-abbrev pub commit_frames : Framing → List Commit → List ℕ
-commit_frames framing sent = flat_map (frame framing) (map commit_text sent)
-
--- a front was written of what a session at this token is sent
-pub record WroteSome (node : NodeState) (token : List ℕ) (framing : Framing) (old new : Option (List ℕ)) : Type 0 where
-  pub sent : List Commit
-  pub gone : Bool
-  pub sends : Sends node token sent gone
-  pub front : AppendsFront old new (behind_opening framing (map commit_text sent) gone)
 
 -- ---- what is written
 
@@ -71,20 +52,19 @@ pub record SendsAnswer (node : NodeState) (answer : AnswerParts) (text : List �
   pub text_is : text ≡ answered_text answer sent gone
   pub tells : Tells answer sent gone served
 
--- a front of it was written
-abbrev pub WroteAnswer : NodeState → AnswerParts → Option (List ℕ) → Option (List ℕ) → Type 0
-WroteAnswer node answer old new = (text : List ℕ) × (served : Served) × SendsAnswer node answer text served × AppendsFront old new text
-
 -- all that a node writes to a client that sent these bytes
 pub record Serves (head contest : List ℕ) (node : NodeState) (framing : Framing) (text : List ℕ) (served : Served) : Type 0 where
   pub answer : AnswerParts
   pub answers : AnswersTo head contest node framing answer
   pub sends : SendsAnswer node answer text served
 
--- Nothing was written; or these bytes were read, as far as the head took, and a front of what a node writes to a client that
--- sent them was written.
-abbrev pub WroteFront : List ℕ → NodeState → Framing → Option (List ℕ) → Option (List ℕ) → Option (List ℕ) → Option (List ℕ) → Type 0
-WroteFront contest node framing source left old new =
-    Appends old new []
-    ⊎ ((head : List ℕ) × (text : List ℕ) × (served : Served) × Consumes source left head × IsReadAsNeeded head × (IsEnough head ⊎ IsAtEnd left)
-    × Serves head contest node framing text served × AppendsFront old new text)
+-- reading broke off where a head was still needed, and nothing was written
+abbrev pub BrokeInHead : Option (List ℕ) → Option (List ℕ) → Option (List ℕ) → Option (List ℕ) → Type 0
+BrokeInHead source left old new =
+    (head : List ℕ) × Consumes source left head × IsReadAsNeeded head × IsStillNeeded head × Appends old new []
+
+-- these bytes were read, as far as the head took, and a front of what a node writes to a client that sent them was written
+abbrev pub BrokeBehindHead : List ℕ → NodeState → Framing → Option (List ℕ) → Option (List ℕ) → Option (List ℕ) → Option (List ℕ) → Type 0
+BrokeBehindHead contest node framing source left old new =
+    (head : List ℕ) × (text : List ℕ) × (served : Served) × Consumes source left head × IsReadAsNeeded head × (IsEnough head ⊎ IsAtEnd left)
+    × Serves head contest node framing text served × AppendsFront old new text

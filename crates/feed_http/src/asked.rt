@@ -2,12 +2,12 @@
 ghost use Rattle.std.specs.Prelude.{◌≡◌, ◌≢◌, ℕ, List, [], ◌++◌, ◌≤◌, ◌↔◌, length, drop, IsTrue, IsSome, IfOk, IfSome, IfNone, option_map, option_copied, string_bytes, codes, slice_index};
 ghost use Rattle.httparse.specs.Grammar.{RequestHead, print_request};
 ghost use Rattle.httparse.specs.Spans.{IsRequestAt};
-ghost use Rattle.feed_http.specs.Heads.{IsHeadSize, BeginsWithRequest, HasNoWholeRequest};
+ghost use Rattle.feed_http.specs.Heads.{head_fields, IsHeadSize, BeginsWithRequest, HasNoWholeRequest};
 ghost use Rattle.feed_http.specs.RequestText.{feed_path};
 ghost use Rattle.feed_http.specs.Asked.{Asks, since_token};
 ghost use Rattle.feed_http.specs.AskedFor.{asked_of};
 
-use crate::heads::{is_head_size, is_past_limits};
+use crate::heads::{HEAD_FIELDS, is_head_size, is_past_limits};
 use crate::refusal::Refusal;
 use crate::request_target::{asked_since, is_path};
 use http_uri::{Uri, UriError};
@@ -25,7 +25,7 @@ pub(crate) enum AskedFor {
 
 /// The whole head at the front, if there is one.
 fn whole_request(bytes: &[u8], headers: &mut [HeaderSpan]) -> Option<RequestSpans>
-    requires { length headers.old ≡ 64 }
+    requires { length headers.old ≡ head_fields }
     ensures found { IfSome result (λ spans. (head : RequestHead)
         × IsRequestAt bytes.now headers.new spans head
         × IsHeadSize (print_request head) (length head.fields)) }
@@ -69,7 +69,7 @@ pub(crate) fn read_request(
 ) -> Result<AskedFor, AllocError>
     ensures { IfOk result (λ asked. Asks bytes.now contest.now (asked_of asked)) }
 {
-    let mut headers = [EMPTY_HEADER_SPAN; 64];
+    let mut headers = [EMPTY_HEADER_SPAN; HEAD_FIELDS];
     let Some(head) = whole_request(bytes, &mut headers) else {
         if is_past_limits(bytes) {
             return Ok(AskedFor::Refused(Refusal::LargeHead));

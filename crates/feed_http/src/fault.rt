@@ -38,7 +38,10 @@ impl From<AllocError> for EngineFault {
 /// session opened with, and whether the node lost the session's token.
 #[derive(Clone, Copy, Debug, PartialEq, Eq)]
 pub struct Served {
+    /// The status code of the answer.
     pub status: u16,
+    /// How many commits were sent; the count stays at `u64::MAX`.
     pub commits: u64,
+    /// Whether the node lost the session's token.
     pub gone: bool,
 }

@@ -1,6 +1,5 @@
 //! How the body of an answer is framed.
-ghost use Rattle.std.specs.Prelude.{◌≡◌, ◌++◌, IfOk, OnOk, OnErr, string_bytes, length, codes};
-ghost use Rattle.httparse.specs.Ascii.{crlf_bytes};
+ghost use Rattle.std.specs.Prelude.{◌≡◌, ◌++◌, [], IsOk, OnOk, OnErr};
 ghost use Rattle.feed_note.specs.Written.{Begins};
 ghost use Rattle.feed_http.specs.Framed as framed;
 
@@ -24,6 +23,8 @@ pub fn frame(
 ) -> Result<(), AllocError>
     ensures ok { OnOk result (out.new.items ≡ out.old.items ++ framed.frame framing bytes.now) }
     ensures err { OnErr result (out.new.items ≡ out.old.items) }
+    // No bytes take no memory.
+    ensures free { bytes.now ≡ [] → framing ≡ Framing.Chunked → IsOk result }
 {
     match framing {
         Framing::Close => out.extend_from_slice(bytes),
@@ -36,6 +37,7 @@ pub fn frame(
 pub fn frame_end(framing: Framing, out: &mut Vec<u8>) -> Result<(), AllocError>
     ensures ok { OnOk result (out.new.items ≡ out.old.items ++ framed.frame_end framing) }
     ensures err { OnErr result (out.new.items ≡ out.old.items) }
+    ensures free { framing ≡ Framing.Close → IsOk result }
 {
     match framing {
         Framing::Close => Ok(()),

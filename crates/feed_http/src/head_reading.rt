@@ -3,32 +3,38 @@ ghost use Rattle.std.specs.Prelude.{◌≡◌, ◌⊎◌, ◌<◌, ◌≤◌, �
 ghost use Rattle.std.specs.Io.KnownBytes.{Consumes, IsAtEnd};
 ghost use Rattle.feed_http.specs.declared.fault.EngineFault.{EngineFault as Fault};
 ghost use Rattle.feed_http.specs.Device.{counted, HasFailed, RoseBy, RoseAtMost};
-ghost use Rattle.feed_http.specs.HeadReading.{most_after, IsReadAsNeeded, IsStillNeeded, IsEnough};
+ghost use Rattle.feed_http.specs.HeadReading.{read_bytes, most_after, IsReadAsNeeded, IsStillNeeded, IsEnough};
 
 use crate::device::{Failed, FeedRead};
 use crate::fault::EngineFault;
-use crate::heads::{HeadRead, look_at_request};
+use crate::heads::{HEAD_BYTES, HeadRead, look_at_request};
 
-const PIECE: usize = 4096;
-
-const HEAD: usize = 8192;
+/// The most bytes of one read.
+const READ_BYTES: usize = 4096;
 
 /// How many bytes the next read asks for.
 fn most_wanted(len: usize) -> usize
     ensures most { result ≡ most_after len }
     ensures some { 0 < result }
-    ensures fits { result ≤ 4096 }
+    ensures fits { result ≤ read_bytes }
 {
-    if len < HEAD { PIECE.min(HEAD - len) } else { 1 }
+    if len < HEAD_BYTES {
+        READ_BYTES.min(HEAD_BYTES - len)
+    } else {
+        1
+    }
 }
 
 /// Makes one read, adds what it gave, and answers how much that was.
+#[tactic(auto, using(crate::proofs::DeviceLemmas::unread_nothing))]
 fn read_piece<R: FeedRead>(reader: &mut R, bytes: &mut Vec<u8>) -> Result<usize, EngineFault>
     ensures given { IfOk result (λ n. (given : List ℕ) ×
         (bytes.new.items ≡ bytes.old.items ++ given)
         × (length given ≡ n) × (n ≤ most_after (length bytes.old.items))
         × Consumes (R.remaining reader.old) (R.remaining reader.new) given
         × (n ≡ 0 → IsAtEnd (R.remaining reader.new))) }
+    ensures unread { IsErrOf result Fault.Read →
+        Consumes (R.remaining reader.old) (R.remaining reader.new) [] }
     ensures quiet { OnOk result (R.failures reader.new ≡ R.failures reader.old) }
     ensures reads { R.reads reader.new ≡ counted (R.reads reader.old) 1 }
     ensures kept { OnErr result (bytes.new.items ≡ bytes.old.items) }
@@ -36,7 +42,7 @@ fn read_piece<R: FeedRead>(reader: &mut R, bytes: &mut Vec<u8>) -> Result<usize,
         (R.failures reader.new) }
     ensures faults { IfErr result (λ fault. (fault ≡ Fault.Read) ⊎ (fault ≡ Fault.Memory)) }
 {
-    let mut piece = [0u8; PIECE];
+    let mut piece = [0u8; READ_BYTES];
     let most = most_wanted(bytes.len());
     match reader.read_some(&mut piece[..most]) {
         Ok(n) => match bytes.extend_from_slice(&piece[..n]) {
@@ -62,6 +68,7 @@ fn is_needed(bytes: &[u8]) -> bool
 
 /// Reads the head of a request: until it is whole, is too large or never becomes one, or the reader
 /// ends.
+#[tactic(auto, using(crate::proofs::DeviceLemmas::taken_before))]
 pub(crate) fn read_head<R: FeedRead>(
     reader: &mut R,
     bytes: &mut Vec<u8>,
@@ -75,6 +82,9 @@ pub(crate) fn read_head<R: FeedRead>(
     ensures reads { RoseAtMost (R.reads reader.old) (R.reads reader.new) turns }
     ensures read { IsErrOf result Fault.Read → HasFailed (R.failures reader.old)
         (R.failures reader.new) }
+    ensures broken { IsErrOf result Fault.Read →
+        Consumes (R.remaining reader.old) (R.remaining reader.new) bytes.new.items
+        × IsStillNeeded bytes.new.items }
     ensures turns { IsErrOf result Fault.Turns → RoseBy (R.reads reader.old)
         (R.reads reader.new) turns
         × Consumes (R.remaining reader.old) (R.remaining reader.new) bytes.new.items

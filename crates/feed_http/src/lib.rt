@@ -24,6 +24,7 @@ pub use asking::ask;
 pub use device::{FeedRead, FeedWrite};
 pub use fault::{EngineFault, Served};
 pub use framing::{Framing, frame, frame_end};
+pub use heads::{HEAD_BYTES, HEAD_FIELDS, HEAD_LINES};
 pub use laws::http_laws;
 pub use memory::{MemReader, MemWriter};
 pub use place::{Place, PlaceFault};

@@ -9,7 +9,8 @@ ghost use Rattle.feed_http.specs.Framed as framed;
 ghost use Rattle.feed_http.specs.Served.{behind_opening, farewell};
 ghost use Rattle.feed_http.specs.Answered.{parts_of};
 ghost use Rattle.feed_http.specs.HeadReading.{IsReadAsNeeded, IsEnough, IsStillNeeded};
-ghost use Rattle.feed_http.specs.Serving.{Sends, commit_text, commit_frames, WroteSome, SendsAnswer, WroteAnswer, Serves, WroteFront};
+ghost use Rattle.feed_http.specs.Serving.{Sends, commit_text, SendsAnswer, Serves, BrokeInHead, BrokeBehindHead};
+ghost use Rattle.feed_http.specs.Sending.{commit_frames, WroteSome, WroteAnswer};
 
 use crate::answering::{Answered, answer};
 use crate::device::{Failed, FeedRead, FeedWrite, write_all};
@@ -195,8 +196,11 @@ fn send_answer<W: FeedWrite>(
     })
 }
 
-/// Reads a request, answers it from a node, and sends what the node has. Where it fails, a front of
-/// that was written.
+/// Reads a request in at most so many reads (`turns`), answers it from a node, and sends what the
+/// node has: at status 200 a frame for each commit after the session's token, a line feed in a
+/// frame unless the node lost the token, and the end of the body. It reads no further than the
+/// head takes. Where a read fails or is one too many, the head was still needed and nothing was
+/// written; where a write fails, a front of the text was.
 pub fn serve_node<R: FeedRead, W: FeedWrite>(
     alloc: Global,
     reader: &mut R,
@@ -211,19 +215,26 @@ pub fn serve_node<R: FeedRead, W: FeedWrite>(
         × IsReadAsNeeded head × (IsEnough head ⊎ IsAtEnd (R.remaining reader.new))
         × Serves head contest.now node.now.shown framing text served × Appends
         (W.contents writer.old) (W.contents writer.new) text) }
-    ensures front { OnErr result (WroteFront contest.now node.now.shown framing
-        (R.remaining reader.old) (R.remaining reader.new) (W.contents writer.old)
-        (W.contents writer.new)) }
     ensures faults { IfErr result (λ fault. (fault ≡ Fault.Read) ⊎
         ((fault ≡ Fault.Write) ⊎ ((fault ≡ Fault.Turns) ⊎ (fault ≡ Fault.Memory)))) }
     ensures read { IsErrOf result Fault.Read → HasFailed (R.failures reader.old)
         (R.failures reader.new) }
+    ensures read_in { IsErrOf result Fault.Read → BrokeInHead (R.remaining reader.old)
+        (R.remaining reader.new) (W.contents writer.old) (W.contents writer.new) }
+    ensures turns { IsErrOf result Fault.Turns → RoseBy (R.reads reader.old)
+        (R.reads reader.new) turns }
+    ensures turns_in { IsErrOf result Fault.Turns → BrokeInHead (R.remaining reader.old)
+        (R.remaining reader.new) (W.contents writer.old) (W.contents writer.new) }
     ensures write { IsErrOf result Fault.Write → HasFailed (W.failures writer.old)
         (W.failures writer.new) }
-    ensures turns { IsErrOf result Fault.Turns → RoseBy (R.reads reader.old)
-        (R.reads reader.new) turns
-        × ((head : List ℕ) × Consumes (R.remaining reader.old) (R.remaining reader.new) head
-        × IsReadAsNeeded head × IsStillNeeded head) }
+    ensures write_in { IsErrOf result Fault.Write → BrokeBehindHead contest.now node.now.shown
+        framing (R.remaining reader.old) (R.remaining reader.new) (W.contents writer.old)
+        (W.contents writer.new) }
+    ensures memory { IsErrOf result Fault.Memory →
+        Appends (W.contents writer.old) (W.contents writer.new) []
+        ⊎ BrokeBehindHead contest.now node.now.shown
+        framing (R.remaining reader.old) (R.remaining reader.new) (W.contents writer.old)
+        (W.contents writer.new) }
     ensures reads { RoseAtMost (R.reads reader.old) (R.reads reader.new) turns }
 {
     let mut head = Vec::new(alloc);

@@ -135,6 +135,19 @@ fn tells_its_parts(rt: HostRuntime) -> Result<(), Fail> {
     assert_eq!(rt; opened.bytes.as_slice(), CLOSE_HEAD);
     let session = opened.session.ok_or("no session")?;
     assert_eq!(rt; session.token().text(), "0");
+    for (head, framing) in [
+        (
+            b"GET /contests/finals/event-feed HTTP/1.1\r\n\r\n",
+            Framing::Chunked,
+        ),
+        (
+            b"GET /contests/finals/event-feed HTTP/1.0\r\n\r\n",
+            Framing::Close,
+        ),
+    ] {
+        let opened = answer(rt.alloc(), head, primary.node(), "finals", Framing::Chunked)?;
+        assert_eq!(rt; opened.framing, framing);
+    }
     let refused = answer(rt.alloc(), b"", primary.node(), "finals", Framing::Chunked)?;
     assert_eq!(rt; refused.status, 400);
     assert_eq!(rt; refused.framing, Framing::Close);

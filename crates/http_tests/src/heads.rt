@@ -6,8 +6,8 @@ use std::test::Fail;
 
 const LINE: &[u8] = b"GET /contests/finals/event-feed?since_token=0 HTTP/1.1\r\n";
 
-/// A head: so many empty lines, the request line, so many fields, a field whose value has so many bytes, what ends it, and
-/// so many bytes behind that.
+/// A head: so many empty lines, the request line, so many fields, a field whose value has so many
+/// bytes, what ends it, and so many line feeds behind that.
 struct Head {
     blank: usize,
     fields: usize,

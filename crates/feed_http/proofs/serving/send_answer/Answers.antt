@@ -3,7 +3,8 @@ use Rattle.std.specs.Prelude.{Option, Some}
 use Rattle.std.specs.Io.KnownBytes.{Appends}
 use Rattle.feed_http.specs.Device.{AppendsFront}
 use Rattle.feed_http.specs.Answered.{parts_of}
-use Rattle.feed_http.specs.Serving.{WroteAnswer, SendsAnswer}
+use Rattle.feed_http.specs.Serving.{SendsAnswer}
+use Rattle.feed_http.specs.Sending.{WroteAnswer}
 use Rattle.feed_http.proofs.ServingLemmas.{on_err, wrote_answer, wrote_session, sends_session}
 use Rattle.feed_http.proofs.serving.send_answer.Goals as goal
 
