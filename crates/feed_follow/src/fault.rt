@@ -57,3 +57,11 @@ impl From<AllocError> for FollowFault {
         FollowFault::Memory
     }
 }
+
+impl From<FeedFault> for FollowFault {
+    ghost from_gives = { λ fault given. given ≡ follow_fault.Feed fault };
+
+    fn from(fault: FeedFault) -> FollowFault {
+        FollowFault::Feed(fault)
+    }
+}
