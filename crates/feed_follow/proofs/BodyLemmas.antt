@@ -1,5 +1,5 @@
 -- What pieces of a body bring to the mirror that they are fed to.
-use Rattle.std.proofs.Common.{◌≡◌, ◌≢◌, ◌⊎◌, inl, inr, ℕ, ◌+◌, ◌-◌, ◌<◌, ◌≤◌, List, [], ◌∷◌, ◌++◌, length, take, drop, refl, sym, ap, ◌∙◌, subst, arith, append-nil, append_assoc, length-append, length-drop, None, Some}
+use Rattle.std.proofs.Common.{◌≡◌, ◌≢◌, inl, inr, ℕ, ◌+◌, ◌-◌, ◌<◌, ◌≤◌, List, [], ◌∷◌, ◌++◌, length, take, drop, refl, sym, ap, ◌∙◌, subst, arith, append-nil, append_assoc, length-append, length-drop, Some}
 use Rattle.std.proofs.lemmas.List.{take_all}
 use Rattle.std.proofs.lemmas.Bool.{cases_lt}
 use Rattle.feed_node.specs.declared.fault.FeedFault.{FeedFault}
@@ -17,7 +17,7 @@ use Rattle.feed_follow.specs.ChunkReading.{Reads, stays, goes, next}
 use Rattle.feed_follow.specs.Bodies.{IsBody, IsBodyFront}
 use Rattle.feed_follow.specs.Following.{HasReached, IsCutAfter, IsCutAtFault}
 use Rattle.feed_follow.specs.Follower.{ReadsBody}
-use Rattle.feed_follow.specs.Feeding.{HasFed, StopsAt, StopsBehind, StopsFeeding, FeedsChunks, FeedsToEnd, MeetsBadByte, StopsInChunk, StopsInChunks, BodyGoesOn, BringsBody, BodyLoses, BodyIsBad, BodyBreaks, BodyFails, BodyStops}
+use Rattle.feed_follow.specs.Feeding.{HasFed, StopsAt, StopsBehind, StopsFeeding, FeedsChunks, FeedsToEnd, StopsInChunks, BodyGoesOn, BringsBody, BodyFails, BodyStops}
 use Rattle.feed_follow.proofs.ChunkedRuns.{reads_both, refused_byte, run_is_whole, run_breaks_off, data_run, brings_nothing}
 
 -- a slice to the end

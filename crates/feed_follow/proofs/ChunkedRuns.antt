@@ -1,5 +1,5 @@
 -- What stands behind bytes that were read one by one, and that a chunked body is read to its end.
-use Rattle.std.proofs.Common.{◌≡◌, ◌≢◌, ℕ, zero, suc, ◌+◌, ◌-◌, ◌*◌, ◌^◌, ◌<◌, ◌≤◌, ◌⊎◌, Bool, true, false, List, [], ◌∷◌, ◌++◌, length, refl, sym, ap, ◌∙◌, arith, zero-add, add-one, inl, inr, subst, append-nil, append_assoc, length-append, lit<, lit≤}
+use Rattle.std.proofs.Common.{◌≡◌, ◌≢◌, ℕ, ◌+◌, ◌-◌, ◌*◌, ◌^◌, ◌<◌, ◌≤◌, ◌⊎◌, Bool, true, false, List, [], ◌∷◌, ◌++◌, length, refl, sym, ap, ◌∙◌, arith, zero-add, add-one, inl, inr, subst, append-nil, append_assoc, length-append, lit≤}
 use Rattle.std.specs.Prelude.{◌==◌, nat_lt, Option, Some, None, if◌then◌else◌, option_map, unwrap_or}
 use Rattle.std.specs.List.{flat_map, AllByRecursion}
 use Rattle.std.specs.Char.{is_ascii_hexdigit, digit_value}
@@ -12,12 +12,12 @@ use Rattle.std.specs.Option.{option_and_then}
 use Rattle.std.proofs.lemmas.List.Elements.{recursion_from_All, All-from_recursion, All-push}
 use Rattle.std.proofs.lemmas.Grind.{flat_map-append}
 use Rattle.httparse.specs.Ascii.{carriage_return, line_feed, semicolon, crlf_bytes}
-use Rattle.httparse.specs.Grammar.{AllPass, is_ows, is_extension_byte, ChunkLine, chunk_size, print_extension, IsExtension}
+use Rattle.httparse.specs.Grammar.{is_ows, is_extension_byte, ChunkLine, chunk_size, print_extension, IsExtension}
 use Rattle.feed_follow.specs.declared.chunk.Chunking.{Chunking}
 use Rattle.feed_follow.specs.declared.chunk.Chunking.TheVariants.{LineStart, InDigits, InPad, InExtension, LineCr, InBytes, BytesEnd, BytesCr, TrailerStart, InTrailer, TrailerCr, EndCr, Whole}
-use Rattle.feed_follow.specs.ChunkedBody.{Chunk, IsChunk, IsSizeLine, size_line, print_chunk, carried, IsLastLine, IsTrailer, AreTrailers, IsChunkedBody, IsChunkedFront, BreaksOff, IsBreak, IsInLine, IsInChunk, IsInTrailers, print_trailers}
-use Rattle.feed_follow.specs.ChunkReading.{next, after_size, more_digits, in_trailer, after_line, brought_by, Reads, stays, goes, after_bytes, brought, IsPlace}
-use Rattle.feed_follow.proofs.ChunkReading.{At, StandsIn, step, IsBringing, IsTrailing, AreDigits, IsPadded, IsExtended, IsLined, if_either, none_some, some_some, brought_chunk, brought_is, brought_spelled, onto, as_lf, padded, are_push, line_of_padded, line_of_extended, below, equal, unequal, positive, digit_small, length_push_trailer}
+use Rattle.feed_follow.specs.ChunkedBody.{Chunk, IsChunk, IsSizeLine, size_line, print_chunk, carried, IsLastLine, IsTrailer, AreTrailers, IsChunkedBody, IsChunkedFront, BreaksOff, IsBreak, IsInChunk, IsInTrailers, print_trailers}
+use Rattle.feed_follow.specs.ChunkReading.{next, after_size, in_trailer, after_line, brought_by, Reads, stays, goes, after_bytes, brought, IsPlace}
+use Rattle.feed_follow.proofs.ChunkReading.{StandsIn, step, IsBringing, IsTrailing, if_either, none_some, some_some, brought_chunk, brought_is, brought_spelled, onto, as_lf, padded, are_push, line_of_padded, line_of_extended, below, unequal, positive, digit_small, length_push_trailer}
 
 -- ---- sound: what was read is the front of a body
 

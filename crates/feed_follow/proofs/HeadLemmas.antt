@@ -1,18 +1,18 @@
 -- Heads at the front of bytes, and of longer ones.
-use Rattle.std.proofs.Common.{◌≡◌, ◌≢◌, ◌⊎◌, inl, inr, ℕ, ◌+◌, ◌-◌, ◌<◌, ◌≤◌, Bool, List, [], ◌∷◌, ◌++◌, length, take, drop, map, refl, sym, ap, ◌∙◌, subst, arith, append-nil, append_assoc, length-append, length-take, length-drop, take-append-drop}
-use Rattle.std.specs.Prelude.{Ok, Err, Result, ◌==◌, cond, min, true}
-use Rattle.std.proofs.Math.Seq.{take-append_seam, drop-append_seam}
+use Rattle.std.proofs.Common.{◌≡◌, ◌⊎◌, inl, inr, ℕ, ◌+◌, ◌-◌, ◌<◌, ◌≤◌, Bool, List, [], ◌++◌, length, take, drop, map, refl, sym, ap, ◌∙◌, subst, arith, append-nil, append_assoc, length-append, length-take, length-drop, take-append-drop}
+use Rattle.std.specs.Prelude.{Ok, ◌==◌, cond, min}
+use Rattle.std.proofs.Math.Seq.{take-append_seam}
 use Rattle.std.proofs.lemmas.List.{length-map, take-append-le, take-take, drop_all}
 use Rattle.std.proofs.lemmas.List.Sums.{sum_by-append}
 use Rattle.std.proofs.lemmas.Bool.{cases_lt}
 use Rattle.httparse.specs.Ascii.{line_feed}
-use Rattle.httparse.specs.Grammar.{ResponseHead, status_code, print_response, ReadsResponse, HasNoResponse, NeverHasResponse, IsResponseHead}
+use Rattle.httparse.specs.Grammar.{ResponseHead, status_code, print_response, ReadsResponse, HasNoResponse, NeverHasResponse}
 use Rattle.httparse.specs.declared.borrowed.Header.{Header}
 use Rattle.httparse.specs.Borrowed.{header_parts}
 use Rattle.httparse.specs.Spans.{name_and_value}
 use Rattle.httparse.proofs.GrammarLemmas.{response_unique, ReadsResponse-append}
 use Rattle.feed_follow.specs.declared.fault.FollowFault.{FollowFault}
-use Rattle.feed_follow.specs.declared.fault.FollowFault.TheVariants.{LongHead, BadHead, Status, BadCoding, BadLength, BadChunk, Closed, Feed, Memory}
+use Rattle.feed_follow.specs.declared.fault.FollowFault.TheVariants.{LongHead, BadHead}
 use Rattle.feed_follow.specs.declared.heads.WholeHead.{WholeHead}
 use Rattle.feed_follow.specs.Heads.{line_count, IsHeadSize, IsPastLimits, BeginsWithResponse, HasNoWholeResponse, HasBadHead}
 use Rattle.feed_follow.specs.Standing.{failed, verdict, verdict_of, StandsInHead}

@@ -1,33 +1,32 @@
 -- Where a follower stands after a piece.
-use Rattle.std.proofs.Common.{◌≡◌, ◌≢◌, ◌⊎◌, inl, inr, ℕ, ◌+◌, ◌-◌, ◌<◌, ◌≤◌, Bool, List, [], ◌∷◌, ◌++◌, length, refl, sym, ap, ◌∙◌, subst, arith, append-nil, append_assoc, length-append, zero-add, take, drop, take-append-drop, Bor}
-use Rattle.std.specs.Prelude.{true, false, Ok, Err, Result, IfOk, IfErr, is_some, ◌==◌, if◌then◌else◌, Option, Some, None}
+use Rattle.std.proofs.Common.{◌≡◌, ◌≢◌, inl, inr, ℕ, ◌-◌, ◌<◌, Bool, List, [], ◌++◌, length, refl, sym, ap, ◌∙◌, subst, arith, append-nil, append_assoc, length-append, zero-add, take, drop, take-append-drop, Bor}
+use Rattle.std.specs.Prelude.{true, false, Ok, Err, Result, IfOk, IfErr, is_some, ◌==◌, Option, Some, None}
 use Rattle.std.specs.Option.{option_copied}
 use Rattle.std.proofs.lemmas.Bool.{cases_Bool}
 use Rattle.std.proofs.lemmas.Result.{IfOk-weaker, MatchResult-weaker}
 use Rattle.std.proofs.lemmas.Bool.Decides.{nat_tests}
-use Rattle.httparse.specs.Grammar.{ResponseHead, print_response, ReadsResponse}
+use Rattle.httparse.specs.Grammar.{ResponseHead, print_response}
 use Rattle.feed_node.specs.declared.fault.FeedFault.{FeedFault}
 use Rattle.feed_node.specs.declared.fault.FeedFault.TheVariants.{Memory as FeedMemory}
 use Rattle.feed_node.specs.Reading.{Reads as ReadsLines}
-use Rattle.feed_node.specs.Mirroring.{MirrorState, cut_off, refused_off, mirror_after, present_opening, StandsAt}
-use Rattle.feed_follow.specs.declared.chunk.Chunking.TheVariants.{LineStart, Whole}
+use Rattle.feed_node.specs.Mirroring.{MirrorState, cut_off, refused_off, mirror_after, present_opening}
+use Rattle.feed_follow.specs.declared.chunk.Chunking.TheVariants.{LineStart}
 use Rattle.feed_follow.specs.declared.coding.BodyFraming.{BodyFraming}
 use Rattle.feed_follow.specs.declared.coding.BodyFraming.TheVariants as framed
 use Rattle.feed_follow.specs.declared.fault.FollowFault.{FollowFault}
 use Rattle.feed_follow.specs.declared.fault.FollowFault.TheVariants.{LongHead, BadHead, Status, BadCoding, BadLength, BadChunk, Closed as WasClosed, Feed, Memory}
-use Rattle.feed_follow.specs.declared.fault.Progress.{Progress}
 use Rattle.feed_follow.specs.declared.heads.Verdict.{Verdict}
 use Rattle.feed_follow.specs.declared.heads.Verdict.TheVariants.{Body, Refusal}
 use Rattle.feed_follow.specs.declared.follower.Part.{Part}
 use Rattle.feed_follow.specs.declared.follower.Part.TheVariants.{Head, ToEnd, Sized, InChunks, Done, Closed}
 use Rattle.feed_follow.specs.ChunkReading.{stays}
-use Rattle.feed_follow.specs.Heads.{line_count, IsPastLimits, BeginsWithResponse, HasNoWholeResponse}
-use Rattle.feed_follow.specs.HeadRead.{IsUnfinished, IsNoHead, IsHeadFault}
+use Rattle.feed_follow.specs.Heads.{BeginsWithResponse, HasNoWholeResponse}
+use Rattle.feed_follow.specs.HeadRead.{IsUnfinished, IsNoHead}
 use Rattle.feed_follow.specs.Standing.{Standing, in_head, token_refused, in_body, done, failed, verdict, Stands, StandsInBody, StandsBehind}
-use Rattle.feed_follow.specs.Following.{HasReached, IsCutAfter, IsCutAtFault, Leaves, Answers, Brings, Fails}
-use Rattle.feed_follow.specs.Follower.{FollowerState, ReadsBody, standing_with, IsInBody, Keeps, FollowsAt, first_part, progress, GoesOn}
+use Rattle.feed_follow.specs.Following.{HasReached, IsCutAfter, IsCutAtFault, Leaves, Brings, Fails}
+use Rattle.feed_follow.specs.Follower.{FollowerState, ReadsBody, standing_with, IsInBody, FollowsAt, first_part, progress, GoesOn}
 use Rattle.feed_follow.specs.Feeding.{BringsBody, BodyGoesOn, BodyFails, BodyStops}
-use Rattle.feed_follow.specs.Keeping.{HeadBrings, HeadRefuses, HeadGoesOn, StopsBehindHead, HeadStops}
+use Rattle.feed_follow.specs.Keeping.{HeadBrings, HeadRefuses, HeadGoesOn, HeadStops}
 use Rattle.feed_follow.proofs.ChunkedRuns.{run_breaks_off}
 use Rattle.feed_follow.specs.declared.heads.WholeHead.{WholeHead}
 use Rattle.feed_follow.specs.HeadRead.{IsHeadRead}

@@ -1,8 +1,7 @@
 -- What a follower keeps of a response, and where it stands with the mirror that it feeds.
-use Rattle.std.specs.Prelude.{◌≡◌, ◌≢◌, ◌<◌, ◌≤◌, ◌+◌, ℕ, Bool, List, [], ◌++◌, length, is_some, Ok, ◌==◌, if◌then◌else◌}
+use Rattle.std.specs.Prelude.{◌≡◌, ◌≢◌, ◌<◌, ◌+◌, ℕ, Bool, List, ◌++◌, length, is_some, Ok, ◌==◌, if◌then◌else◌}
 use Rattle.httparse.specs.Grammar.{ResponseHead}
 use Rattle.feed_node.specs.Mirroring.{MirrorState}
-use Rattle.feed_follow.specs.declared.chunk.Chunking.{Chunking}
 use Rattle.feed_follow.specs.declared.chunk.Chunking.TheVariants.{LineStart, Whole}
 use Rattle.feed_follow.specs.declared.coding.BodyFraming.{BodyFraming}
 use Rattle.feed_follow.specs.declared.coding.BodyFraming.TheVariants as framed

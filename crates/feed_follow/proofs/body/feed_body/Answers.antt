@@ -2,7 +2,7 @@ use Rattle.std.proofs.Common.{◌≡◌, ◌<◌, ◌≤◌, ◌-◌, length, ta
 use Rattle.std.proofs.lemmas.Bool.{cases_lt}
 use Rattle.std.proofs.lemmas.List.{take_all}
 use Rattle.std.proofs.lemmas.Result.{err_from_is_err_and}
-use Rattle.feed_follow.specs.declared.follower.Part.TheVariants.{ToEnd, Sized, InChunks, Done}
+use Rattle.feed_follow.specs.declared.follower.Part.TheVariants.{Sized, InChunks, Done}
 use Rattle.feed_follow.specs.declared.chunk.Chunking.TheVariants.{Whole}
 use Rattle.feed_follow.specs.Feeding.{BodyGoesOn, BodyStops, FeedsToEnd, HasFed}
 use Rattle.feed_follow.proofs.BodyLemmas.{sized_stops, sized_ends, sized_goes_on, open_goes_on, open_stops, chunks_end, chunks_go_on, chunks_stop, rest_stays}

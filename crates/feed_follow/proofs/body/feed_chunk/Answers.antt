@@ -1,8 +1,8 @@
-use Rattle.std.proofs.Common.{◌≡◌, ◌<◌, ◌≤◌, ◌+◌, ◌-◌, [], ◌∷◌, ◌++◌, suc, get_or, length, take, drop, refl, sym, ◌∙◌, subst, arith, take-append-drop, length-take}
+use Rattle.std.proofs.Common.{◌≡◌, ◌<◌, ◌≤◌, ◌-◌, [], get_or, length, take, drop, sym, ◌∙◌, subst, arith, take-append-drop, length-take}
 use Rattle.std.proofs.lemmas.List.{take_more}
 use Rattle.std.proofs.lemmas.Result.{err_from_is_err_and}
 use Rattle.std.proofs.Math.Seq.{split_at}
-use Rattle.std.specs.Prelude.{Some, min}
+use Rattle.std.specs.Prelude.{Some}
 use Rattle.feed_follow.specs.declared.chunk.Chunking.TheVariants.{InBytes, BytesEnd}
 use Rattle.feed_follow.specs.ChunkReading.{next, IsPlace}
 use Rattle.feed_follow.specs.Feeding.{FeedsChunks, StopsInChunks}

@@ -1,4 +1,4 @@
-use Rattle.std.proofs.Common.{◌≡◌, ◌≤◌, ◌+◌, ap, [], ◌++◌, length, take, drop, refl, sym, subst, arith, inl, inr, take-append-drop, append-nil, rules, length-drop}
+use Rattle.std.proofs.Common.{ap, [], length, take, drop, refl, sym, subst, arith, inl, inr, take-append-drop, append-nil, rules, length-drop}
 use Rattle.std.proofs.lemmas.List.{take_all}
 use Rattle.std.proofs.Math.Seq.{take-add}
 use Rattle.std.proofs.lemmas.Result.{err_from_is_err_and}

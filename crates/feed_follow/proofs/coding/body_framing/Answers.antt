@@ -1,5 +1,5 @@
-use Rattle.std.proofs.Common.{◌≡◌, ◌∙◌, ◌+◌, refl, sym, ap, true, false, Bool, []}
-use Rattle.std.specs.Prelude.{Result, Ok, Err, map}
+use Rattle.std.proofs.Common.{◌∙◌, ◌+◌, refl, sym, ap, Bool, []}
+use Rattle.std.specs.Prelude.{Result, map}
 use Rattle.std.proofs.lemmas.Result.{err_from_is_err_and}
 use Rattle.httparse.specs.Borrowed.{header_parts}
 use Rattle.feed_follow.specs.declared.fault.FollowFault.{FollowFault}

@@ -1,10 +1,10 @@
-use Rattle.std.proofs.Common.{◌≡◌, ◌∙◌, refl, sym, ap, ◌+◌, true, false}
-use Rattle.std.specs.Prelude.{Result, Ok, Err, map, codes}
+use Rattle.std.proofs.Common.{◌∙◌, refl, sym, ap, ◌+◌}
+use Rattle.std.specs.Prelude.{Result, map, codes}
 use Rattle.std.proofs.lemmas.Result.{err_from_is_err_and}
 use Rattle.httparse.specs.Borrowed.{header_parts}
 use Rattle.feed_follow.specs.declared.fault.FollowFault.{FollowFault}
 use Rattle.feed_follow.specs.declared.coding.BodyFraming.{BodyFraming}
-use Rattle.feed_follow.specs.Coding.{is_word, values_of}
+use Rattle.feed_follow.specs.Coding.{values_of}
 use Rattle.feed_follow.proofs.CodingLemmas.{and_then, lengths_of, rest_of, no_rest, more_length, other_field, by_all}
 use Rattle.feed_follow.proofs.coding.framing_by_length.Goals as goal
 use Rattle.feed_follow.proofs.coding.framing_by_length.Goals.{then-is_word+in_ok-framing, else-is_word}

@@ -1,10 +1,10 @@
-use Rattle.std.proofs.Common.{◌≡◌, ◌<◌, ◌≤◌, ◌-◌, ◌+◌, ◌*◌, ◌^◌, get_or, true, refl, sym, ◌∙◌, ap, subst, arith, lit<, rules, take, length}
-use Rattle.std.specs.Prelude.{Some, None, if◌then◌else◌}
+use Rattle.std.proofs.Common.{◌≡◌, get_or, true, refl, sym, ◌∙◌, ap, subst, arith, lit<, rules, take}
+use Rattle.std.specs.Prelude.{Some}
 use Rattle.std.specs.List.{list_all}
 use Rattle.std.proofs.lemmas.List.{take_all}
-use Rattle.std.specs.Char.{is_ascii_digit, digit_value}
+use Rattle.std.specs.Char.{is_ascii_digit}
 use Rattle.std.specs.Str.Parse.{digits_value}
-use Rattle.feed_follow.proofs.CodingLemmas.{decimal_room, more_digits, digit_is, other_byte, is_whole_length}
+use Rattle.feed_follow.proofs.CodingLemmas.{decimal_room, more_digits, digit_is, is_whole_length}
 use Rattle.feed_follow.proofs.coding.length_in.Goals as goal
 
 pub overflow_mul-length : goal.overflow_mul-length

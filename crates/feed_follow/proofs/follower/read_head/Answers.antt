@@ -1,9 +1,9 @@
-use Rattle.std.proofs.Common.{◌≡◌, ◌≤◌, ◌-◌, [], ◌++◌, ◌∙◌, refl, sym, ap, subst, length, take, drop, arith}
+use Rattle.std.proofs.Common.{◌≡◌, ◌-◌, [], ◌++◌, ◌∙◌, refl, ap, subst, length, take, drop}
 use Rattle.std.specs.Prelude.{min}
 use Rattle.std.proofs.lemmas.Result.{err_from_is_err_and, IfOk-weaker, MatchResult-weaker}
 use Rattle.feed_follow.specs.HeadRead.{IsHeadRead, IsNoHead, IsUnfinished}
-use Rattle.feed_follow.specs.Keeping.{kept_bytes, HeadGoesOn, HeadStops}
-use Rattle.feed_follow.specs.Feeding.{BodyGoesOn, BodyStops}
+use Rattle.feed_follow.specs.Keeping.{kept_bytes, HeadGoesOn}
+use Rattle.feed_follow.specs.Feeding.{BodyGoesOn}
 use Rattle.feed_follow.proofs.HeadLemmas.{looked_end, in_piece, too_long}
 use Rattle.feed_follow.proofs.PushLemmas.{stops_in_head, refuses, whole_goes_on, whole_stops}
 use Rattle.feed_follow.proofs.follower.read_head.Goals as goal

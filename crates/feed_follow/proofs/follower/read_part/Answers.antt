@@ -1,8 +1,7 @@
-use Rattle.std.proofs.Common.{◌≡◌, ◌≢◌, ℕ, sym, ◌∙◌, subst}
+use Rattle.std.proofs.Common.{◌≡◌, ◌≢◌, sym, ◌∙◌, subst}
 use Rattle.std.specs.Prelude.{Ok}
-use Rattle.feed_follow.specs.declared.chunk.Chunking.{Chunking}
 use Rattle.feed_follow.specs.declared.follower.Part.{Part}
-use Rattle.feed_follow.specs.declared.follower.Part.TheVariants.{Head, ToEnd, Sized, InChunks, Done, Closed}
+use Rattle.feed_follow.specs.declared.follower.Part.TheVariants.{Head, Done}
 use Rattle.feed_follow.specs.Feeding.{BodyGoesOn}
 use Rattle.feed_follow.specs.Keeping.{kept_bytes}
 use Rattle.feed_follow.proofs.BodyLemmas.{rest_stays}

@@ -1,11 +1,8 @@
-use Rattle.std.proofs.Common.{◌≡◌, ◌≤◌, ◌∙◌, refl, sym, ap, subst, length, take, drop, arith, rules, inr, length-append}
-use Rattle.std.specs.Prelude.{unwrap_or, map, Err, Ok}
+use Rattle.std.proofs.Common.{◌≡◌, ◌∙◌, sym, ap, length, take, drop, rules, inr}
+use Rattle.std.specs.Prelude.{unwrap_or}
 use Rattle.std.proofs.lemmas.Result.{err_from_is_err_and}
-use Rattle.httparse.specs.Grammar.{print_response, status_code}
-use Rattle.httparse.specs.Borrowed.{header_parts}
-use Rattle.httparse.specs.Spans.{name_and_value}
+use Rattle.httparse.specs.Grammar.{status_code}
 use Rattle.feed_follow.specs.Heads.{IsHeadSize}
-use Rattle.feed_follow.specs.Standing.{verdict_of}
 use Rattle.feed_follow.proofs.HeadLemmas.{other_size, sized_to, sized_from, verdict_is, len_fits}
 use Rattle.feed_follow.proofs.heads.look_at_head.Goals as goal
 

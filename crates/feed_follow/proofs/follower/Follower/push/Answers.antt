@@ -1,6 +1,5 @@
-use Rattle.std.proofs.Common.{◌≡◌, ◌++◌, sym, ap, subst}
-use Rattle.feed_node.specs.Mirroring.{MirrorState, cut_off}
-use Rattle.feed_follow.specs.declared.fault.Progress.{Progress}
+use Rattle.std.proofs.Common.{◌++◌, sym, ap, subst}
+use Rattle.feed_node.specs.Mirroring.{cut_off}
 use Rattle.feed_follow.specs.Following.{Fails}
 use Rattle.feed_follow.specs.Follower.{FollowerState, FollowsAt, GoesOn}
 use Rattle.feed_follow.specs.Keeping.{follower_of}
