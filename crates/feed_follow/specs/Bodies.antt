@@ -4,7 +4,8 @@ use Rattle.feed_follow.specs.declared.coding.BodyFraming.{BodyFraming}
 use Rattle.feed_follow.specs.declared.coding.BodyFraming.TheVariants.{ToEnd, Sized, InChunks}
 use Rattle.feed_follow.specs.ChunkedBody.{IsChunkedBody, BreaksOff}
 
--- the bytes are a whole body so framed, with this payload; one to the end of the connection has no end of its own
+-- the bytes are a whole body so framed, with this payload; one to the end of the connection has no
+-- end of its own
 abbrev pub IsBody : BodyFraming → List ℕ → List ℕ → Type 0
 IsBody ToEnd text payload = ⊥
 IsBody (Sized n) text payload = (length text ≡ n) × (payload ≡ text)

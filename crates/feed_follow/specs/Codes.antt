@@ -9,4 +9,5 @@ use Rattle.feed_follow.specs.Follower.{FollowerState}
 abbrev pub follower_code : Coded FollowerState
 follower_code =
     code_by (Bool × (List ℕ × Part)) (coded× coded_bool (coded× text_code part.the_row.coded))
-    (λ f. (f.had_token, (f.kept, f.part))) (λ p. record { had_token = p.0; kept = p.1.0; part = p.1.1 }) (λ _. refl)
+    (λ f. (f.had_token, (f.kept, f.part)))
+    (λ p. record { had_token = p.0; kept = p.1.0; part = p.1.1 }) (λ _. refl)

@@ -19,31 +19,36 @@ use Rattle.feed_follow.specs.Follower.{ReadsBody}
 -- the mirror was fed these bytes: wherever it had come, they came behind
 abbrev pub HasFed : MirrorState → List ℕ → MirrorState → Type 0
 HasFed old payload new =
-    (start : MirrorState) (before : List ℕ) → HasReached start before old → HasReached start (before ++ payload) new
+    (start : MirrorState) (before : List ℕ) → HasReached start before old → HasReached start
+    (before ++ payload) new
 
 -- the mirror that had come to a payload stopped within these bytes
 abbrev pub StopsAt : MirrorState → List ℕ → List ℕ → MirrorState → FeedFault → Type 0
 StopsAt start before bytes mirror FeedMemory =
-    (counted : List ℕ) × (uncounted : List ℕ) × (bytes ≡ counted ++ uncounted) × IsCutAfter start (before ++ counted) mirror
+    (counted : List ℕ) × (uncounted : List ℕ) × (bytes ≡ counted ++ uncounted)
+    × IsCutAfter start (before ++ counted) mirror
 StopsAt start before bytes mirror fault = IsCutAtFault start (before ++ bytes) fault mirror
 
 -- behind this payload the mirror stopped within these bytes
 abbrev pub StopsBehind : MirrorState → List ℕ → List ℕ → MirrorState → FeedFault → Type 0
 StopsBehind old payload bytes new fault =
-    (start : MirrorState) (before : List ℕ) → HasReached start before old → StopsAt start (before ++ payload) bytes new fault
+    (start : MirrorState) (before : List ℕ) → HasReached start before old → StopsAt start
+    (before ++ payload) bytes new fault
 
 abbrev pub StopsFeeding : MirrorState → List ℕ → MirrorState → FollowFault → Type 0
 StopsFeeding old bytes new (Feed fault) = StopsBehind old [] bytes new fault
 StopsFeeding old bytes new fault = ⊥
 
 -- these bytes of a chunked body were read, and what they carry was fed
-pub record FeedsChunks (at : Chunking) (piece : List ℕ) (old : MirrorState) (to : Chunking) (new : MirrorState) : Type 0 where
+pub record FeedsChunks (at : Chunking) (piece : List ℕ) (old : MirrorState) (to : Chunking)
+    (new : MirrorState) : Type 0 where
   pub payload : List ℕ
   pub reads : Reads at piece payload to
   pub fed : HasFed old payload new
 
 -- the piece was, up to the end of the body
-pub record FeedsToEnd (at : Chunking) (piece : List ℕ) (old : MirrorState) (to : Chunking) (new : MirrorState) : Type 0 where
+pub record FeedsToEnd (at : Chunking) (piece : List ℕ) (old : MirrorState) (to : Chunking)
+    (new : MirrorState) : Type 0 where
   pub front : List ℕ
   pub ignored : List ℕ
   pub split : piece ≡ front ++ ignored
@@ -62,7 +67,8 @@ pub record MeetsBadByte (at : Chunking) (piece : List ℕ) (old new : MirrorStat
   pub refused : next place byte ≡ None
 
 -- the first bytes were, and the mirror stopped within further ones of one chunk
-pub record StopsInChunk (at : Chunking) (piece : List ℕ) (old new : MirrorState) (fault : FeedFault) : Type 0 where
+pub record StopsInChunk (at : Chunking) (piece : List ℕ) (old new : MirrorState)
+    (fault : FeedFault) : Type 0 where
   pub front : List ℕ
   pub bytes : List ℕ
   pub later : List ℕ
@@ -86,10 +92,12 @@ BodyGoesOn part piece old new to =
 
 -- the bytes of a body brought this payload
 abbrev pub BringsBody : BodyFraming → List ℕ → List ℕ → Type 0
-BringsBody framing text payload = StandsInBody framing text (in_body payload) ⊎ StandsInBody framing text (done payload)
+BringsBody framing text payload =
+    StandsInBody framing text (in_body payload) ⊎ StandsInBody framing text (done payload)
 
 -- want of memory: what some of the piece brought counts
-pub record BodyLoses (start : MirrorState) (framing : BodyFraming) (text piece : List ℕ) (mirror : MirrorState) : Type 0 where
+pub record BodyLoses (start : MirrorState) (framing : BodyFraming) (text piece : List ℕ)
+    (mirror : MirrorState) : Type 0 where
   pub counted : List ℕ
   pub uncounted : List ℕ
   pub whole : piece ≡ counted ++ uncounted
@@ -98,7 +106,8 @@ pub record BodyLoses (start : MirrorState) (framing : BodyFraming) (text piece :
   pub cut : IsCutAfter start payload mirror
 
 -- a line of the payload is bad
-pub record BodyIsBad (start : MirrorState) (framing : BodyFraming) (text : List ℕ) (fault : FeedFault) (mirror : MirrorState) : Type 0 where
+pub record BodyIsBad (start : MirrorState) (framing : BodyFraming) (text : List ℕ)
+    (fault : FeedFault) (mirror : MirrorState) : Type 0 where
   pub front : List ℕ
   pub later : List ℕ
   pub whole : text ≡ front ++ later
@@ -107,19 +116,24 @@ pub record BodyIsBad (start : MirrorState) (framing : BodyFraming) (text : List 
   pub cut : IsCutAtFault start payload fault mirror
 
 -- a byte of the body can't stand there
-pub record BodyBreaks (start : MirrorState) (framing : BodyFraming) (text : List ℕ) (mirror : MirrorState) : Type 0 where
+pub record BodyBreaks (start : MirrorState) (framing : BodyFraming) (text : List ℕ)
+    (mirror : MirrorState) : Type 0 where
   pub payload : List ℕ
   pub framed : framing ≡ framed.InChunks
   pub bad : HasBadChunk text payload
   pub reached : HasReached start payload mirror
 
-abbrev pub BodyFails : MirrorState → BodyFraming → List ℕ → List ℕ → MirrorState → FollowFault → Type 0
+abbrev pub BodyFails : MirrorState → BodyFraming → List ℕ → List ℕ → MirrorState → FollowFault
+    → Type 0
 BodyFails start framing text piece mirror BadChunk = BodyBreaks start framing (text ++ piece) mirror
-BodyFails start framing text piece mirror (Feed FeedMemory) = BodyLoses start framing text piece mirror
-BodyFails start framing text piece mirror (Feed fault) = BodyIsBad start framing (text ++ piece) fault mirror
+BodyFails start framing text piece mirror (Feed FeedMemory) =
+    BodyLoses start framing text piece mirror
+BodyFails start framing text piece mirror (Feed fault) =
+    BodyIsBad start framing (text ++ piece) fault mirror
 BodyFails start framing text piece mirror fault = ⊥
 
 abbrev pub BodyStops : Part → List ℕ → MirrorState → MirrorState → FollowFault → Type 0
 BodyStops part piece old new fault =
-    (start : MirrorState) (framing : BodyFraming) (text payload : List ℕ) → ReadsBody framing text payload part
+    (start : MirrorState) (framing : BodyFraming) (text payload : List ℕ)
+    → ReadsBody framing text payload part
     → HasReached start payload old → BodyFails start framing text piece new fault

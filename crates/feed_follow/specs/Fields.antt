@@ -16,6 +16,7 @@ by_length InChunks text = Err BadLength
 -- one more field behind those that said whether the body is chunked
 abbrev pub by_coding : Bool → List ℕ × List ℕ → Result Bool FollowFault
 by_coding is_chunked f =
-    if is_word (codes "content-encoding") f.0 && not (is_word (codes "identity") f.1) then Err BadCoding
+    if is_word (codes "content-encoding") f.0 && not (is_word (codes "identity") f.1)
+    then Err BadCoding
     else (if not (is_word (codes "transfer-encoding") f.0) then Ok is_chunked
     else (if is_chunked || not (is_word (codes "chunked") f.1) then Err BadCoding else Ok true))

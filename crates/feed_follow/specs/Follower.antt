@@ -16,7 +16,8 @@ use Rattle.feed_follow.specs.Heads.{BeginsWithResponse}
 use Rattle.feed_follow.specs.Standing.{Standing, in_head, token_refused, in_body, done, Stands, verdict}
 use Rattle.feed_follow.specs.Following.{Leaves, Answers}
 
--- a follower: whether the request had a token, the bytes of an unfinished head, and the part of the response that it reads
+-- a follower: whether the request had a token, the bytes of an unfinished head, and the part of the
+-- response that it reads
 pub record FollowerState : Type 0 where
   pub had_token : Bool
   pub kept : List ℕ
@@ -56,8 +57,10 @@ Keeps Head follower bytes standing = (follower.kept ≡ bytes) × (standing ≡ 
 Keeps Closed follower bytes standing = standing ≡ token_refused
 Keeps part follower bytes standing = IsInBody follower bytes standing
 
--- A follower that was pushed these bytes; they stand so, and its mirror began as this one and is this one now.
-pub record FollowsAt (start : MirrorState) (bytes : List ℕ) (standing : Standing) (follower : FollowerState) (mirror : MirrorState) : Type 0 where
+-- A follower that was pushed these bytes; they stand so, and its mirror began as this one and is
+-- this one now.
+pub record FollowsAt (start : MirrorState) (bytes : List ℕ) (standing : Standing)
+    (follower : FollowerState) (mirror : MirrorState) : Type 0 where
   pub asked : follower.had_token ≡ is_some start.since
   pub stands : Stands follower.had_token bytes standing
   pub keeps : Keeps follower.part follower bytes standing
@@ -83,4 +86,5 @@ progress part = reached.Body
 
 -- a push that goes on: wherever the follower stands now, this is answered
 abbrev pub GoesOn : MirrorState → List ℕ → FollowerState → MirrorState → Progress → Type 0
-GoesOn start bytes follower mirror answer = (now : Standing) × Answers now answer × FollowsAt start bytes now follower mirror
+GoesOn start bytes follower mirror answer =
+    (now : Standing) × Answers now answer × FollowsAt start bytes now follower mirror

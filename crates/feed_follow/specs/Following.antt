@@ -24,7 +24,8 @@ pub record IsCutAfter (start : MirrorState) (payload : List ℕ) (mirror : Mirro
   pub state : mirror ≡ cut_off (mirror_after start.limits (present_opening start) notes [])
 
 -- a line of the payload has this fault, the first one; what the lines before it published stands
-pub record IsCutAtFault (start : MirrorState) (payload : List ℕ) (fault : FeedFault) (mirror : MirrorState) : Type 0 where
+pub record IsCutAtFault (start : MirrorState) (payload : List ℕ) (fault : FeedFault)
+    (mirror : MirrorState) : Type 0 where
   pub notes : List Line
   pub first : FaultsAt start.limits (present_opening start) payload notes fault
   pub state : mirror ≡ cut_off (mirror_after start.limits (present_opening start) notes [])
@@ -48,10 +49,12 @@ Answers (failed fault payload) answer = ⊥
 
 -- the bytes brought this payload, all of the body or not
 abbrev pub Brings : Bool → List ℕ → List ℕ → Type 0
-Brings had_token bytes payload = Stands had_token bytes (in_body payload) ⊎ Stands had_token bytes (done payload)
+Brings had_token bytes payload =
+    Stands had_token bytes (in_body payload) ⊎ Stands had_token bytes (done payload)
 
 -- some front of the bytes brought a payload in which a line is bad
-pub record HasBadLine (start : MirrorState) (had_token : Bool) (bytes : List ℕ) (fault : FeedFault) (mirror : MirrorState) : Type 0 where
+pub record HasBadLine (start : MirrorState) (had_token : Bool) (bytes : List ℕ)
+    (fault : FeedFault) (mirror : MirrorState) : Type 0 where
   pub front : List ℕ
   pub later : List ℕ
   pub whole : bytes ≡ front ++ later
@@ -59,19 +62,26 @@ pub record HasBadLine (start : MirrorState) (had_token : Bool) (bytes : List ℕ
   pub brings : Brings had_token front payload
   pub cut : IsCutAtFault start payload fault mirror
 
--- a want of memory: the mirror is cut, with what some of the bytes brought, not fewer than came before
-pub record HasLostSome (start : MirrorState) (had_token : Bool) (before piece : List ℕ) (mirror : MirrorState) : Type 0 where
+-- a want of memory: the mirror is cut, with what some of the bytes brought, not fewer than came
+-- before
+pub record HasLostSome (start : MirrorState) (had_token : Bool) (before piece : List ℕ)
+    (mirror : MirrorState) : Type 0 where
   pub counted : List ℕ
   pub uncounted : List ℕ
   pub whole : piece ≡ counted ++ uncounted
   pub left : (Stands had_token (before ++ counted) in_head × (mirror ≡ cut_off start))
-      ⊎ ((payload : List ℕ) × Brings had_token (before ++ counted) payload × IsCutAfter start payload mirror)
+      ⊎ ((payload : List ℕ) × Brings had_token (before ++ counted) payload
+      × IsCutAfter start payload mirror)
 
 -- why a push of this piece fails, and what it leaves
 abbrev pub Fails : MirrorState → Bool → List ℕ → List ℕ → MirrorState → FollowFault → Type 0
 Fails start had_token before piece mirror Memory = HasLostSome start had_token before piece mirror
-Fails start had_token before piece mirror (Feed FeedMemory) = HasLostSome start had_token before piece mirror
-Fails start had_token before piece mirror (Feed fault) = HasBadLine start had_token (before ++ piece) fault mirror
-Fails start had_token before piece mirror Closed = Stands had_token before token_refused × (mirror ≡ refused_off start)
+Fails start had_token before piece mirror (Feed FeedMemory) =
+    HasLostSome start had_token before piece mirror
+Fails start had_token before piece mirror (Feed fault) =
+    HasBadLine start had_token (before ++ piece) fault mirror
+Fails start had_token before piece mirror Closed =
+    Stands had_token before token_refused × (mirror ≡ refused_off start)
 Fails start had_token before piece mirror fault =
-    (payload : List ℕ) × Stands had_token (before ++ piece) (failed fault payload) × Leaves start (failed fault payload) mirror
+    (payload : List ℕ) × Stands had_token (before ++ piece) (failed fault payload)
+    × Leaves start (failed fault payload) mirror

@@ -32,4 +32,5 @@ IsHeadFault fault = ⊥
 pub record IsNoHead (had_token : Bool) (bytes : List ℕ) (fault : FollowFault) : Type 0 where
   pub of_head : IsHeadFault fault
   pub stands : (HasNoWholeResponse bytes × StandsInHead bytes (failed fault []))
-      ⊎ ((head : ResponseHead) × (rest : List ℕ) × BeginsWithResponse bytes head rest × (verdict had_token head ≡ Err fault))
+      ⊎ ((head : ResponseHead) × (rest : List ℕ) × BeginsWithResponse bytes head rest ×
+      (verdict had_token head ≡ Err fault))

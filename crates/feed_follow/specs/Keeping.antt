@@ -21,14 +21,16 @@ kept_bytes None = []
 kept_bytes (Some head) = head.items
 
 abbrev pub follower_of : {A : Type 0} → Bool → Option (Vec ℕ A) → Part → FollowerState
-follower_of had_token kept part = record { had_token = had_token; kept = kept_bytes kept; part = part }
+follower_of had_token kept part =
+    record { had_token = had_token; kept = kept_bytes kept; part = part }
 
 pub record KeepsLittle {A : Type 0} (kept : Option (Vec ℕ A)) (part : Part) : Type 0 where
   pub bounded : length (kept_bytes kept) ≤ 8192
   pub is_part : IsPart part
 
 -- a head that says how the body is framed is whole, and what came of the body was fed
-pub record HeadBrings (had_token : Bool) (bytes : List ℕ) (old new : MirrorState) (part : Part) : Type 0 where
+pub record HeadBrings (had_token : Bool) (bytes : List ℕ) (old new : MirrorState)
+    (part : Part) : Type 0 where
   pub head : ResponseHead
   pub text : List ℕ
   pub begins : BeginsWithResponse bytes head text
@@ -53,7 +55,8 @@ HeadGoesOn had_token bytes old kept new Closed = HeadRefuses had_token bytes old
 HeadGoesOn had_token bytes old kept new part = HeadBrings had_token bytes old new part
 
 -- a head is whole within the piece, and the body behind it has a fault
-pub record StopsBehindHead (had_token : Bool) (before piece : List ℕ) (old new : MirrorState) (fault : FollowFault) : Type 0 where
+pub record StopsBehindHead (had_token : Bool) (before piece : List ℕ) (old new : MirrorState)
+    (fault : FollowFault) : Type 0 where
   pub front : List ℕ
   pub text : List ℕ
   pub split : piece ≡ front ++ text
@@ -66,7 +69,10 @@ pub record StopsBehindHead (had_token : Bool) (before piece : List ℕ) (old new
 -- why the piece behind these bytes of a head can't be followed
 abbrev pub HeadStops : Bool → List ℕ → List ℕ → MirrorState → MirrorState → FollowFault → Type 0
 HeadStops had_token before piece old new Memory = new ≡ old
-HeadStops had_token before piece old new BadChunk = StopsBehindHead had_token before piece old new BadChunk
-HeadStops had_token before piece old new (Feed fault) = StopsBehindHead had_token before piece old new (Feed fault)
+HeadStops had_token before piece old new BadChunk =
+    StopsBehindHead had_token before piece old new BadChunk
+HeadStops had_token before piece old new (Feed fault) =
+    StopsBehindHead had_token before piece old new (Feed fault)
 HeadStops had_token before piece old new IsClosed = ⊥
-HeadStops had_token before piece old new fault = IsNoHead had_token (before ++ piece) fault × (new ≡ old)
+HeadStops had_token before piece old new fault =
+    IsNoHead had_token (before ++ piece) fault × (new ≡ old)

@@ -18,7 +18,8 @@ abbrev pub with_body : Result BodyFraming FollowFault → Result Verdict FollowF
 with_body (Ok framing) = Ok (Body framing)
 with_body (Err fault) = Err fault
 
--- what a head says of its response: how the body is framed, that the token is refused, or why it can't be followed
+-- what a head says of its response: how the body is framed, that the token is refused, or why it
+-- can't be followed
 abbrev pub verdict_of : Bool → ℕ → List (List ℕ × List ℕ) → Result Verdict FollowFault
 verdict_of had_token status fields =
     if status == 200 then with_body (body_framing fields)
@@ -27,8 +28,8 @@ verdict_of had_token status fields =
 abbrev pub verdict : Bool → ResponseHead → Result Verdict FollowFault
 verdict had_token head = verdict_of had_token (status_code head) (map name_and_value head.fields)
 
--- how far a response may have come: in its head, refused for its token, in its body or done with this payload, or faulty
--- with the payload before the fault
+-- how far a response may have come: in its head, refused for its token, in its body or done with
+-- this payload, or faulty with the payload before the fault
 pub data Standing : Type 0 where
   in_head : Standing
   token_refused : Standing
@@ -48,7 +49,8 @@ abbrev pub StandsInBody : BodyFraming → List ℕ → Standing → Type 0
 StandsInBody framing text (in_body payload) = IsBodyFront framing text payload
 StandsInBody framing text (done payload) =
     (body : List ℕ) × (ignored : List ℕ) × (text ≡ body ++ ignored) × IsBody framing body payload
-StandsInBody framing text (failed BadChunk payload) = (framing ≡ InChunks) × HasBadChunk text payload
+StandsInBody framing text (failed BadChunk payload) =
+    (framing ≡ InChunks) × HasBadChunk text payload
 StandsInBody framing text standing = ⊥
 
 -- bytes behind a head that says this stand so
@@ -60,9 +62,11 @@ StandsBehind (Err fault) rest standing = standing ≡ failed fault []
 -- the bytes begin with a whole head, and what comes behind it stands so
 abbrev pub StandsWithHead : Bool → List ℕ → Standing → Type 0
 StandsWithHead had_token bytes standing =
-    (head : ResponseHead) × (rest : List ℕ) × BeginsWithResponse bytes head rest × StandsBehind (verdict had_token head) rest standing
+    (head : ResponseHead) × (rest : List ℕ) × BeginsWithResponse bytes head rest × StandsBehind
+    (verdict had_token head) rest standing
 
 -- the bytes of a response stand so, where the request had a token or had none
 abbrev pub Stands : Bool → List ℕ → Standing → Type 0
 Stands had_token bytes standing =
-    (HasNoWholeResponse bytes × StandsInHead bytes standing) ⊎ StandsWithHead had_token bytes standing
+    (HasNoWholeResponse bytes × StandsInHead bytes standing)
+    ⊎ StandsWithHead had_token bytes standing

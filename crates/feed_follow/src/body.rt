@@ -35,7 +35,8 @@ fn len_within(left: u64, bytes: &[u8]) -> usize
     }
 }
 
-/// Reads a byte of a chunked body, or as many as there are of a chunk's, and answers how many these are.
+/// Reads a byte of a chunked body, or as many as there are of a chunk's, and answers how many these
+/// are.
 fn feed_chunk(
     alloc: Global,
     mirror: &mut Mirror,

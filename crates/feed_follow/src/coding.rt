@@ -27,7 +27,8 @@ fn is_word(word: &[u8], text: &[u8]) -> bool
 
 /// The number that 1 to 18 decimal digits give.
 fn length_in(text: &[u8]) -> Option<u64>
-    ensures { result ≡ (if coding.is_length text.now then Some (digits_value 10 text.now) else None) }
+    ensures { result
+        ≡ (if coding.is_length text.now then Some (digits_value 10 text.now) else None) }
 {
     if text.is_empty() || text.len() > LONGEST_LENGTH {
         return None;

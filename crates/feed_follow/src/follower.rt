@@ -7,19 +7,20 @@ ghost use Rattle.feed_follow.specs.Standing.{Standing, in_head};
 ghost use Rattle.feed_follow.specs.Following.{Fails};
 ghost use Rattle.feed_follow.specs.Follower.{FollowsAt, GoesOn, IsPart, first_part as part_for, progress as reached};
 ghost use Rattle.feed_follow.specs.HeadRead.{IsUnfinished};
+ghost use Rattle.feed_follow.specs.Heads.{head_bytes};
 ghost use Rattle.feed_follow.specs.Keeping.{kept_bytes, follower_of, KeepsLittle, HeadGoesOn, HeadStops};
 
 use crate::body::feed_body;
 use crate::chunk::Chunking;
 use crate::coding::BodyFraming;
-use crate::heads::{MOST_BYTES, Verdict, look_at_head};
+use crate::heads::{HEAD_BYTES, Verdict, look_at_head};
 use crate::{FollowFault, Progress};
 use feed_node::Mirror;
 use std::alloc::{AllocError, Global};
 use std::marker::Model;
 
-/// What is read next: the head; a body to the end of the connection, one of which so many bytes are still to come, or a
-/// chunked one; nothing, since the body is whole; or nothing more.
+/// What is read next: the head; a body to the end of the connection, one of which so many bytes are
+/// still to come, or a chunked one; nothing, since the body is whole; or nothing more.
 #[derive(Clone, Copy, Debug, PartialEq, Eq)]
 pub(crate) enum Part {
     Head,
@@ -55,8 +56,8 @@ impl Model for Follower {
 }
 
 impl Follower {
-    /// A reader of the response to a request with the mirror's `since`, which is to stay the same until the head has been
-    /// read.
+    /// A reader of the response to a request with the mirror's `since`, which is to stay the same
+    /// until the head has been read.
     pub fn new(mirror: &Mirror) -> Follower
         ensures { FollowsAt mirror.now [] in_head result mirror.now }
     {
@@ -67,9 +68,10 @@ impl Follower {
         }
     }
 
-    /// Reads the next bytes of the response, in any pieces. At a head with status 200 the mirror begins, and is then fed
-    /// what the body carries; at status 400 after a request with a token, its token is refused, and the follower is
-    /// closed. After a fault the mirror is cut, and the follower closed. Bytes behind a whole body are ignored.
+    /// Reads the next bytes of the response, in any pieces. At a head with status 200 the mirror
+    /// begins, and is then fed what the body carries; at status 400 after a request with a token,
+    /// its token is refused, and the follower is closed. After a fault the mirror is cut, and the
+    /// follower closed. Bytes behind a whole body are ignored.
     pub fn push(
         &mut self,
         alloc: Global,
@@ -94,7 +96,7 @@ impl Follower {
             → (result ≡ Ok Reached.Done) × (mirror.new ≡ mirror.old) }
         ensures asked { self.new.had_token ≡ self.old.had_token }
         ensures limits { mirror.new.limits ≡ mirror.old.limits }
-        ensures bounded { length self.new.kept ≤ 8192 }
+        ensures bounded { length self.new.kept ≤ head_bytes }
     {
         if self.part == Part::Closed {
             return Err(FollowFault::Closed);
@@ -202,7 +204,7 @@ fn read_head(
     ensures limits { mirror.new.limits ≡ mirror.old.limits }
 {
     let before = kept_len(kept);
-    let len = piece.len().min(MOST_BYTES - before);
+    let len = piece.len().min(HEAD_BYTES - before);
     let head = with_more(alloc, kept.take(), &piece[..len])?;
     let Some(whole) = look_at_head(had_token, &head)? else {
         if len < piece.len() {

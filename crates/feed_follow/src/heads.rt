@@ -10,12 +10,14 @@ use crate::FollowFault;
 use crate::coding::{BodyFraming, body_framing};
 use httparse::{EMPTY_HEADER, Error, Header, Response, Status};
 
-/// The most bytes of a head.
-pub(crate) const MOST_BYTES: usize = 8192;
+/// The most bytes of a head, with the empty lines in front.
+pub const HEAD_BYTES: usize = 8192;
 
-const MOST_LINES: usize = 66;
+/// The most lines of a head: a start line, the fields, and the empty line.
+pub const HEAD_LINES: usize = 66;
 
-const MOST_FIELDS: usize = 64;
+/// The most fields of a head.
+pub const HEAD_FIELDS: usize = 64;
 
 /// What a whole head says of its response, where it can be followed.
 #[derive(Clone, Copy, Debug, PartialEq, Eq)]
@@ -37,18 +39,20 @@ fn count_lines(bytes: &[u8]) -> usize
     bytes.iter().filter(|b| **b == b'\n').count()
 }
 
-fn is_past_limits(bytes: &[u8]) -> bool
+/// Whether no head that is not whole yet can end within the limits.
+pub fn is_past_limits(bytes: &[u8]) -> bool
     ensures past { IsTrue result → IsPastLimits bytes.now }
     ensures within { ¬ (IsTrue result) → ¬ (IsPastLimits bytes.now) }
 {
-    bytes.len() > MOST_BYTES || count_lines(bytes) >= MOST_LINES
+    bytes.len() > HEAD_BYTES || count_lines(bytes) >= HEAD_LINES
 }
 
-fn is_head_size(text: &[u8], fields: usize) -> bool
+/// Whether a head of this text and so many fields is short enough.
+pub fn is_head_size(text: &[u8], fields: usize) -> bool
     ensures size { IsTrue result → IsHeadSize text.now fields }
     ensures other { ¬ (IsTrue result) → ¬ (IsHeadSize text.now fields) }
 {
-    text.len() <= MOST_BYTES && count_lines(text) <= MOST_LINES && fields <= MOST_FIELDS
+    text.len() <= HEAD_BYTES && count_lines(text) <= HEAD_LINES && fields <= HEAD_FIELDS
 }
 
 /// What a head of this status and with these fields says.
@@ -69,7 +73,7 @@ pub(crate) fn look_at_head(had_token: bool, bytes: &[u8]) -> Result<Option<Whole
     ensures unfinished { IfOk result (λ found. IfNone found (IsUnfinished bytes.now)) }
     ensures err { IfErr result (IsNoHead had_token bytes.now) }
 {
-    let mut headers = [EMPTY_HEADER; MOST_FIELDS];
+    let mut headers = [EMPTY_HEADER; HEAD_FIELDS];
     let mut response = Response::new(&mut headers);
     match response.parse(bytes) {
         Ok(Status::Complete(len)) => {

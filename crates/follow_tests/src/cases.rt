@@ -51,7 +51,8 @@ pub const BY_LENGTH: &[Case] = &[
     Case(
         Fresh,
         "HTTP/1.1 200 OK\r\nContent-Length: 49\r\n\r\n",
-        "{\"type\":\"state\",\"id\":null,\"data\":{},\"token\":\"1\"}\n{\"type\":\"state\",\"id\":null,\"data\":{},\"token\":\"2\"}\n",
+        "{\"type\":\"state\",\"id\":null,\"data\":{},\"token\":\"1\"}\n\
+         {\"type\":\"state\",\"id\":null,\"data\":{},\"token\":\"2\"}\n",
         DONE,
         "1",
     ),
@@ -284,21 +285,24 @@ pub const CODINGS: &[Case] = &[
 pub const STATUSES: &[Case] = &[
     Case(
         Fresh,
-        "HTTP/1.1 503 Service Unavailable\r\nContent-Type: application/json\r\nContent-Length: 42\r\nConnection: close\r\n\r\n",
+        "HTTP/1.1 503 Service Unavailable\r\nContent-Type: application/json\r\n\
+         Content-Length: 42\r\nConnection: close\r\n\r\n",
         "{\"code\":503,\"message\":\"nothing published\"}",
         Err(FollowFault::Status(503)),
         "",
     ),
     Case(
         Fresh,
-        "HTTP/1.1 400 Bad Request\r\nContent-Type: application/json\r\nContent-Length: 39\r\nConnection: close\r\n\r\n",
+        "HTTP/1.1 400 Bad Request\r\nContent-Type: application/json\r\nContent-Length: 39\r\n\
+         Connection: close\r\n\r\n",
         "{\"code\":400,\"message\":\"token not held\"}",
         Err(FollowFault::Status(400)),
         "",
     ),
     Case(
         Since,
-        "HTTP/1.1 400 Bad Request\r\nContent-Type: application/json\r\nContent-Length: 39\r\nConnection: close\r\n\r\n",
+        "HTTP/1.1 400 Bad Request\r\nContent-Type: application/json\r\nContent-Length: 39\r\n\
+         Connection: close\r\n\r\n",
         "{\"code\":400,\"message\":\"token not held\"}",
         Ok(Progress::TokenRefused),
         "0",
@@ -397,13 +401,15 @@ pub const HEADS: &[Case] = &[
 ];
 
 const CHUNKED: &str =
-    "HTTP/1.1 200 OK\r\nContent-Type: application/x-ndjson\r\nTransfer-Encoding: chunked\r\nConnection: close\r\n\r\n";
+    "HTTP/1.1 200 OK\r\nContent-Type: application/x-ndjson\r\nTransfer-Encoding: chunked\r\n\
+     Connection: close\r\n\r\n";
 
 pub const CHUNKS: &[Case] = &[
     Case(
         Fresh,
         CHUNKED,
-        "31;x=1\r\n{\"type\":\"state\",\"id\":null,\"data\":{},\"token\":\"1\"}\n\r\n31\r\n{\"type\":\"state\",\"id\"",
+        "31;x=1\r\n{\"type\":\"state\",\"id\":null,\"data\":{},\"token\":\"1\"}\n\r\n31\r\n\
+         {\"type\":\"state\",\"id\"",
         BODY,
         "1",
     ),
@@ -418,7 +424,9 @@ pub const CHUNKS: &[Case] = &[
     Case(
         Fresh,
         CHUNKED,
-        "00000000000000A \t; a=\"b\"\r\n{\"type\":\"s\r\n0000000000000020;\r\ntate\",\"id\":null,\"data\":{},\"token\r\n8 \r\n\":\"1\"}\n\n\r\n00;last\r\nA: b\r\nx\r\n\r\n",
+        "00000000000000A \t; a=\"b\"\r\n{\"type\":\"s\r\n0000000000000020;\r\n\
+         tate\",\"id\":null,\"data\":{},\"token\r\n8 \r\n\":\"1\"}\n\n\r\n00;last\r\nA: b\r\n\
+         x\r\n\r\n",
         DONE,
         "1",
     ),

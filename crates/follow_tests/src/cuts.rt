@@ -83,7 +83,8 @@ fn closes(answer: Result<Progress, FollowFault>) -> bool {
     answer.is_err() || answer == Ok(Progress::TokenRefused)
 }
 
-/// Whether the response is followed as it should be in one piece, byte by byte, and cut in two at each byte.
+/// Whether the response is followed as it should be in one piece, byte by byte, and cut in two at
+/// each byte.
 pub fn is_followed(alloc: Global, case: &Case) -> Option<bool> {
     let end = End {
         request: case.0,

@@ -93,7 +93,8 @@ pub const LINES: Long = Long(
     Err(FollowFault::Feed(FeedFault::LongLine)),
 );
 
-/// Whether the response is followed as it should be: in one piece, byte by byte, and cut in two at some bytes.
+/// Whether the response is followed as it should be: in one piece, byte by byte, and cut in two at
+/// some bytes.
 pub fn is_followed(alloc: Global, long: &Long) -> Option<bool> {
     let end = End {
         request: Request::Fresh,
