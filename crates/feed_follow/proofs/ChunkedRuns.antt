@@ -1,5 +1,5 @@
 -- What stands behind bytes that were read one by one, and that a chunked body is read to its end.
-use Rattle.std.proofs.Common.{◌≡◌, ◌≢◌, ℕ, zero, suc, ◌+◌, ◌-◌, ◌*◌, ◌^◌, ◌<◌, ◌≤◌, ◌⊎◌, Bool, true, false, List, [], ◌∷◌, ◌++◌, length, refl, sym, ap, ◌∙◌, arith, zero-add, add-one, inl, inr, subst, append-nil, append_assoc, length-append, lit<, lit≤}
+use Rattle.std.proofs.Common.{◌≡◌, ◌≢◌, ℕ, ◌+◌, ◌-◌, ◌*◌, ◌^◌, ◌<◌, ◌≤◌, ◌⊎◌, Bool, true, false, List, [], ◌∷◌, ◌++◌, length, refl, sym, ap, ◌∙◌, arith, zero-add, add-one, inl, inr, subst, append-nil, append_assoc, length-append, lit≤}
 use Rattle.std.specs.Prelude.{◌==◌, nat_lt, Option, Some, None, if◌then◌else◌, option_map, unwrap_or}
 use Rattle.std.specs.List.{flat_map, AllByRecursion}
 use Rattle.std.specs.Char.{is_ascii_hexdigit, digit_value}
@@ -12,12 +12,12 @@ use Rattle.std.specs.Option.{option_and_then}
 use Rattle.std.proofs.lemmas.List.Elements.{recursion_from_All, All-from_recursion, All-push}
 use Rattle.std.proofs.lemmas.Grind.{flat_map-append}
 use Rattle.httparse.specs.Ascii.{carriage_return, line_feed, semicolon, crlf_bytes}
-use Rattle.httparse.specs.Grammar.{AllPass, is_ows, is_extension_byte, ChunkLine, chunk_size, print_extension, IsExtension}
+use Rattle.httparse.specs.Grammar.{is_ows, is_extension_byte, ChunkLine, chunk_size, print_extension, IsExtension}
 use Rattle.feed_follow.specs.declared.chunk.Chunking.{Chunking}
 use Rattle.feed_follow.specs.declared.chunk.Chunking.TheVariants.{LineStart, InDigits, InPad, InExtension, LineCr, InBytes, BytesEnd, BytesCr, TrailerStart, InTrailer, TrailerCr, EndCr, Whole}
-use Rattle.feed_follow.specs.ChunkedBody.{Chunk, IsChunk, IsSizeLine, size_line, print_chunk, carried, IsLastLine, IsTrailer, AreTrailers, IsChunkedBody, IsChunkedFront, BreaksOff, IsBreak, IsInLine, IsInChunk, IsInTrailers, print_trailers}
-use Rattle.feed_follow.specs.ChunkReading.{next, after_size, more_digits, in_trailer, after_line, brought_by, Reads, stays, goes, after_bytes, brought, IsPlace}
-use Rattle.feed_follow.proofs.ChunkReading.{At, StandsIn, step, IsBringing, IsTrailing, AreDigits, IsPadded, IsExtended, IsLined, if_either, none_some, some_some, brought_chunk, brought_is, brought_spelled, onto, as_lf, padded, are_push, line_of_padded, line_of_extended, below, equal, unequal, positive, digit_small, length_push_trailer}
+use Rattle.feed_follow.specs.ChunkedBody.{Chunk, IsChunk, IsSizeLine, size_line, print_chunk, carried, IsLastLine, IsTrailer, AreTrailers, IsChunkedBody, IsChunkedFront, BreaksOff, IsBreak, IsInChunk, IsInTrailers, print_trailers}
+use Rattle.feed_follow.specs.ChunkReading.{next, after_size, in_trailer, after_line, brought_by, Reads, stays, goes, after_bytes, brought, IsPlace}
+use Rattle.feed_follow.proofs.ChunkReading.{StandsIn, step, IsBringing, IsTrailing, if_either, none_some, some_some, brought_chunk, brought_is, brought_spelled, onto, as_lf, padded, are_push, line_of_padded, line_of_extended, below, unequal, positive, digit_small, length_push_trailer}
 
 -- ---- sound: what was read is the front of a body
 
@@ -112,6 +112,21 @@ in_trailers text part end n h is_part ends = record {
   spelled = h.spelled ∙ simp append_assoc;
 }
 
+-- a whole body
+pub is_whole : (text payload : List ℕ) → StandsIn Whole text payload → IsChunkedBody text payload
+is_whole text payload s =
+    let (n, h) = s.is_at.0 in
+    record {
+      chunks = s.chunks;
+      last = h.last;
+      trailers = h.trailers;
+      are_chunks = s.are_chunks;
+      is_last = h.is_last;
+      are_trailers = h.are_trailers;
+      spelled = s.spelled ∙ ap (λ t. flat_map print_chunk s.chunks ++ t) h.spelled ∙ simp append_assoc;
+      payload_is = s.payload_is ∙ ap (λ y. carried s.chunks ++ y) s.is_at.1 ∙ append-nil _;
+    }
+
 pub is_front : (at : Chunking) (text payload : List ℕ) → StandsIn at text payload → IsChunkedFront text payload
 is_front LineStart text payload s = breaks LineStart text payload s (inl (inl s.is_at.0, s.is_at.1))
 is_front (InDigits n size) text payload s =
@@ -140,20 +155,6 @@ is_front EndCr text payload s =
     let (n, h) = s.is_at.0 in
     breaks EndCr text payload s (inr (inr (in_trailers s.rest [] (carriage_return ∷ []) n h (inl refl) (inr refl), s.is_at.1)))
 is_front Whole text payload s = inl (is_whole text payload s)
-  where
-    is_whole : (text payload : List ℕ) → StandsIn Whole text payload → IsChunkedBody text payload
-    is_whole text payload s =
-        let (n, h) = s.is_at.0 in
-        record {
-          chunks = s.chunks;
-          last = h.last;
-          trailers = h.trailers;
-          are_chunks = s.are_chunks;
-          is_last = h.is_last;
-          are_trailers = h.are_trailers;
-          spelled = s.spelled ∙ ap (λ t. flat_map print_chunk s.chunks ++ t) h.spelled ∙ simp append_assoc;
-          payload_is = s.payload_is ∙ ap (λ y. carried s.chunks ++ y) s.is_at.1 ∙ append-nil _;
-        }
 
 -- ---- complete: the front of a body is read
 
@@ -165,7 +166,7 @@ reads_both at middle to x p y q (goes _ behind _ b more later e first) second =
     (goes at behind to b (more ++ y) (later ++ q) e (reads_both behind middle to more later y q first second))
 
 -- a run with these texts, written otherwise
-reads_as : (at to : Chunking) (x y p q : List ℕ) → x ≡ y → p ≡ q → Reads at x p to → Reads at y q to
+pub reads_as : (at to : Chunking) (x y p q : List ℕ) → x ≡ y → p ≡ q → Reads at x p to → Reads at y q to
 reads_as at to x y p q e f r = subst (λ t. Reads at t q to) e (subst (λ t. Reads at x t to) f r)
 
 one : (at to : Chunking) (b : ℕ) → next at b ≡ Some to → Reads at (b ∷ []) (brought_by at b ++ []) to
@@ -292,14 +293,14 @@ not_last : (k : ℕ) → 0 < k → ((1 + k) == 1) ≡ false
 not_last k h = grind (arith, nat_tests)
 
 -- some of them
-some_run : (bytes : List ℕ) (left to : ℕ) → left ≡ length bytes + to → 0 < to → Reads (InBytes left) bytes bytes (InBytes to)
+pub some_run : (bytes : List ℕ) (left to : ℕ) → left ≡ length bytes + to → 0 < to → Reads (InBytes left) bytes bytes (InBytes to)
 some_run [] left to e some = let same : left ≡ to = omega arith in subst (λ k. Reads (InBytes left) [] [] (InBytes k)) same (stays (InBytes left))
 some_run (b ∷ bytes) left to e some =
     let more : (left == 1) ≡ false = grind (arith, nat_tests) in
     goes (InBytes left) (InBytes (left - 1)) (InBytes to) b bytes bytes (rw more refl) (some_run bytes (left - 1) to (omega arith) some)
 
 -- all of them
-all_run : (bytes : List ℕ) (left : ℕ) → left ≡ length bytes → 0 < left → Reads (InBytes left) bytes bytes BytesEnd
+pub all_run : (bytes : List ℕ) (left : ℕ) → left ≡ length bytes → 0 < left → Reads (InBytes left) bytes bytes BytesEnd
 all_run [] left e some = absurd (omega arith)
 all_run (b ∷ []) left e some =
     let last : (left == 1) ≡ true = grind (arith, nat_tests) in
@@ -595,3 +596,26 @@ place_stays Whole t b h e = none_some t e
 pub brings_nothing : (at : Chunking) (b : ℕ) → ((left : ℕ) → at ≢ InBytes left) → brought_by at b ≡ []
 brings_nothing (InBytes left) b h = absurd (h left refl)
 brings_nothing _ b h = refl
+
+-- ---- runs from the start of a body
+
+pub run_is_whole : (text payload : List ℕ) → Reads LineStart text payload Whole → IsChunkedBody text payload
+run_is_whole text payload reads = is_whole text payload (stands_on LineStart Whole text payload [] [] reads starts)
+
+pub run_breaks_off : (at : Chunking) (text payload : List ℕ) → at ≢ Whole → Reads LineStart text payload at → BreaksOff text payload
+run_breaks_off at text payload going reads =
+    elim (is_front at text payload (stands_on LineStart at text payload [] [] reads starts)) [
+      | inl body ↦
+          let ends : ◌≡◌ {A = Option Chunking} (Some at) (Some Whole) = sym (runs_to LineStart at text payload reads) ∙ runs_to LineStart Whole text payload (body_run text payload body) in
+          absurd (going (some_some at Whole ends))
+      | inr breaks ↦ breaks
+    ]
+
+-- some bytes of a chunk
+pub data_run : (bytes : List ℕ) (left : ℕ) → length bytes ≤ left → (to : Chunking) × (to ≢ Whole) × Reads (InBytes left) bytes bytes to
+data_run [] left few = (InBytes left, λ same. cc, stays (InBytes left))
+data_run (b ∷ bytes) left few =
+    elim (cases_lt (length (b ∷ bytes)) left) [
+      | inl less ↦ (InBytes (left - length (b ∷ bytes)), λ same. cc, some_run (b ∷ bytes) left (left - length (b ∷ bytes)) (omega arith) (omega arith))
+      | inr full ↦ (BytesEnd, λ same. cc, all_run (b ∷ bytes) left (omega arith) (omega arith))
+    ]

@@ -1,5 +1,5 @@
 -- How a chunked body is read byte by byte (RFC 9112, section 7.1, within this profile's limits).
-use Rattle.std.specs.Prelude.{◌≡◌, ℕ, ◌+◌, ◌-◌, ◌*◌, ◌<◌, ◌≤◌, ◌^◌, ◌==◌, Bool, nat_lt, List, [], ◌∷◌, ◌++◌, length, Option, Some, None, if◌then◌else◌, option_map, unwrap_or}
+use Rattle.std.specs.Prelude.{◌≡◌, ℕ, ◌+◌, ◌-◌, ◌*◌, ◌<◌, ◌≤◌, ◌^◌, ◌==◌, nat_lt, List, [], ◌∷◌, ◌++◌, Option, Some, None, if◌then◌else◌, option_map, unwrap_or}
 use Rattle.std.specs.Option.{option_and_then}
 use Rattle.std.specs.Char.{is_ascii_hexdigit, digit_value}
 use Rattle.httparse.specs.Ascii.{carriage_return, line_feed, semicolon}
@@ -16,16 +16,19 @@ abbrev pub after_size : ℕ → ℕ → ℕ → Option Chunking
 after_size n size b =
     if b == carriage_return then Some (LineCr size)
     else (if nat_lt n 1024
-    then (if is_ows b then Some (InPad (n + 1) size) else (if b == semicolon then Some (InExtension (n + 1) size) else None))
+    then (if is_ows b then Some (InPad (n + 1) size) else (if b == semicolon then Some
+    (InExtension (n + 1) size) else None))
     else None)
 
 -- a further digit, of at most sixteen
 abbrev pub more_digits : ℕ → ℕ → ℕ → Option Chunking
-more_digits n size b = if nat_lt n 16 then Some (InDigits (n + 1) (size * 16 + digit_value b)) else None
+more_digits n size b =
+    if nat_lt n 16 then Some (InDigits (n + 1) (size * 16 + digit_value b)) else None
 
 -- a trailer line goes on; with the CR LF that ends it, it is counted
 abbrev pub in_trailer : ℕ → ℕ → Option Chunking
-in_trailer n b = if b == line_feed then None else (if nat_lt n 8190 then Some (InTrailer (n + 1)) else None)
+in_trailer n b =
+    if b == line_feed then None else (if nat_lt n 8190 then Some (InTrailer (n + 1)) else None)
 
 -- what follows a size line: the bytes of its chunk, or the trailer lines behind the last one
 abbrev pub after_line : ℕ → Chunking
@@ -38,7 +41,8 @@ next (InDigits n size) b = if is_ascii_hexdigit b then more_digits n size b else
 next (InPad n size) b = after_size n size b
 next (InExtension n size) b =
     if b == carriage_return then Some (LineCr size)
-    else (if b == line_feed then None else (if nat_lt n 1024 then Some (InExtension (n + 1) size) else None))
+    else (if b == line_feed then None else (if nat_lt n 1024 then Some (InExtension
+    (n + 1) size) else None))
 next (LineCr size) b = if b == line_feed then Some (after_line size) else None
 next (InBytes left) b = if left == 1 then Some BytesEnd else Some (InBytes (left - 1))
 next BytesEnd b = if b == carriage_return then Some BytesCr else None
@@ -84,7 +88,8 @@ IsPlace Whole = Unit {0}
 -- the bytes bring a body from one place to another, and these are the bytes of chunks among them
 pub data Reads : Chunking → List ℕ → List ℕ → Chunking → Type 0 where
   stays : (at : Chunking) → Reads at [] [] at
-  goes : (at behind to : Chunking) (b : ℕ) (bytes payload : List ℕ) → next at b ≡ Some behind → Reads behind bytes payload to → Reads at (b ∷ bytes) (brought_by at b ++ payload) to
+  goes : (at behind to : Chunking) (b : ℕ) (bytes payload : List ℕ) → next at b ≡ Some behind
+      → Reads behind bytes payload to → Reads at (b ∷ bytes) (brought_by at b ++ payload) to
 
 -- where the bytes bring a body, if they can stand there
 abbrev pub after_bytes : Chunking → List ℕ → Option Chunking
@@ -94,4 +99,5 @@ after_bytes at (b ∷ bytes) = option_and_then (λ behind. after_bytes behind by
 -- the bytes of chunks among these bytes, where each of them can stand
 abbrev pub brought : Chunking → List ℕ → List ℕ
 brought at [] = []
-brought at (b ∷ bytes) = brought_by at b ++ unwrap_or (option_map (λ behind. brought behind bytes) (next at b)) []
+brought at (b ∷ bytes) =
+    brought_by at b ++ unwrap_or (option_map (λ behind. brought behind bytes) (next at b)) []

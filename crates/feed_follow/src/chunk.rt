@@ -2,8 +2,8 @@
 ghost use Rattle.std.specs.Prelude.{◌≡◌, ◌<◌, ◌≤◌, ◌+◌, ◌^◌};
 ghost use Rattle.feed_follow.specs.ChunkReading as reading;
 
-/// Where a chunked body stands: how many bytes of a line came, the number that it says, how many bytes of a chunk are
-/// still to come, or how many bytes the trailer lines have.
+/// Where a chunked body stands: how many bytes of a line came, the number that it says, how many
+/// bytes of a chunk are still to come, or how many bytes the trailer lines have.
 #[derive(Clone, Copy, Debug, PartialEq, Eq)]
 pub enum Chunking {
     LineStart,

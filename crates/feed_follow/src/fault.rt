@@ -19,7 +19,8 @@ pub enum Progress {
     TokenRefused,
 }
 
-/// Why a response can't be followed any further: the one whose byte comes first, and at one byte the first of these.
+/// Why a response can't be followed any further: the one whose byte comes first, and at one byte
+/// the first of these.
 #[derive(Clone, Copy, Debug, PartialEq, Eq, Error)]
 pub enum FollowFault {
     /// A fault or a refused token was answered before.
@@ -55,5 +56,13 @@ impl From<AllocError> for FollowFault {
 
     fn from(_error: AllocError) -> FollowFault {
         FollowFault::Memory
+    }
+}
+
+impl From<FeedFault> for FollowFault {
+    ghost from_gives = { λ fault given. given ≡ follow_fault.Feed fault };
+
+    fn from(fault: FeedFault) -> FollowFault {
+        FollowFault::Feed(fault)
     }
 }

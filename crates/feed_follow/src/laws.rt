@@ -1,4 +1,5 @@
 //! Laws of the definitions.
+ghost use Rattle.feed_follow.specs.Laws.{StandsOnce};
 ghost use Rattle.feed_follow.specs.ChunkLaws.{ReadsAreFronts, FrontsAreRead, BodiesAreRead, OthersAreRefused, ReadsOnce};
 
 /// Chunked bodies are read byte by byte exactly.
@@ -8,4 +9,9 @@ pub fn chunk_laws()
     ensures whole { BodiesAreRead }
     ensures refused { OthersAreRefused }
     ensures once { ReadsOnce }
+{}
+
+/// How far a response has come is one thing.
+pub fn follow_laws()
+    ensures { StandsOnce }
 {}

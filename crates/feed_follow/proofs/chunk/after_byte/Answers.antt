@@ -1,5 +1,4 @@
-use Rattle.std.proofs.Common.{◌≡◌, ◌<◌, ◌≤◌, ◌+◌, ◌^◌, ℕ, ◌*◌, arith, rules, subst, lit<, sym, ◌∙◌}
-use Rattle.std.specs.Prelude.{Some}
+use Rattle.std.proofs.Common.{arith, subst, sym, ◌∙◌}
 use Rattle.feed_follow.specs.ChunkReading.{IsPlace}
 use Rattle.feed_follow.proofs.ChunkReading.{digit_room, hex_value_small}
 use Rattle.feed_follow.proofs.chunk.after_byte.Goals as goal
