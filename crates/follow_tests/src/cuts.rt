@@ -65,14 +65,16 @@ impl End {
         Some(self.is_met(alloc, follower, mirror, answer))
     }
 
-    /// Whether it ends so in two pieces.
+    /// Whether it ends so in two pieces, with an empty one between them.
     pub fn cut_at(&self, alloc: Global, response: &[u8], at: usize) -> Option<bool> {
         let (first, second) = response.split_at_checked(at)?;
         let mut mirror = mirror(alloc, self.request)?;
         let mut follower = Follower::new(&mirror);
         let mut answer = follower.push(alloc, &mut mirror, first);
-        if !closes(answer) {
-            answer = follower.push(alloc, &mut mirror, second);
+        for piece in [b"".as_slice(), second] {
+            if !closes(answer) {
+                answer = follower.push(alloc, &mut mirror, piece);
+            }
         }
         Some(self.is_met(alloc, follower, mirror, answer))
     }
