@@ -1,4 +1,4 @@
-use Rattle.std.proofs.Common.{◌≡◌, false, ◌+◌, sym, ap, ◌∙◌, subst, arith, inl, refl, []}
+use Rattle.std.proofs.Common.{◌+◌, sym, ◌∙◌, subst, arith, inl, refl}
 use Rattle.std.specs.Io.KnownBytes.{Consumes}
 use Rattle.std.proofs.KnownBytes.{Consumes-nil, Consumes-trans}
 use Rattle.feed_http.specs.HeadReading.{IsReadAsNeeded, IsStillNeeded, none_read, more_read}

@@ -1,4 +1,4 @@
-use Rattle.std.proofs.Common.{◌≡◌, sym, ap, ◌∙◌}
+use Rattle.std.proofs.Common.{sym, ap, ◌∙◌}
 use Rattle.feed_http.specs.Answer.{refusal_text}
 use Rattle.feed_http.proofs.RefusalTexts.{large_head, unreadable, not_get, other_path, nothing_published, token_not_held}
 use Rattle.feed_http.proofs.refusal.Refusal.text.Goals as goal
