@@ -1,8 +1,5 @@
-mod CountingLemmas
-mod DeviceLemmas
-mod FeedLemmas
-mod FeedingLemmas
-mod LineLemmas
-mod NumberLemmas
-mod RunningLemmas
-mod WordLemmas
+mod CheckLemmas
+mod CommandLemmas
+mod PlayLemmas
+mod TablesLemmas
+mod WordsLemmas

@@ -1,33 +1,47 @@
 -- What the commands do, by what a command line asks for.
-use Rattle.std.specs.Prelude.{ℕ, List, Option}
-use Rattle.feed_cli.specs.Counting.{CountsPrinted, CheckFails}
-use Rattle.feed_cli.specs.Plays.{Played, PlayFails}
-use Rattle.feed_cli.specs.Printing.{PrintedSome, TablesFail}
-use Rattle.feed_cli.specs.Status.{IsToldStatus}
+use Rattle.std.specs.Prelude.{ℕ, List}
+use Rattle.clap.specs.Words.{Text}
+use Rattle.feed_http.specs.Device.{HasFailed as HasDeviceFailed}
+use Rattle.feed_cli.specs.Check.{CountsPrinted, CheckFails}
+use Rattle.feed_cli.specs.Fault.{IsToldStatus}
+use Rattle.feed_cli.specs.Play.{Played, PlayFails}
+use Rattle.feed_cli.specs.Streams.{Streams}
+use Rattle.feed_cli.specs.Tables.{PrintedSome, TablesFail}
+use Rattle.feed_cli.specs.Words.{Asks}
 use Rattle.feed_cli.specs.declared.fault.Fault.{Fault}
+use Rattle.feed_cli.specs.declared.fault.Fault.TheVariants as fault
 use Rattle.feed_cli.specs.declared.words.Request.{Request}
 use Rattle.feed_cli.specs.declared.words.Request.TheVariants as request
 
 -- the command did what was asked for
-abbrev pub Succeeds : Request → Option (List ℕ) → Option (List ℕ) → Option (List ℕ) → Option (List ℕ) → Type 0
-Succeeds (request.Tables limits) input_old input_new out_old out_new = PrintedSome limits input_old input_new out_old out_new
-Succeeds request.Check input_old input_new out_old out_new = CountsPrinted input_old input_new out_old out_new
-Succeeds request.Play input_old input_new out_old out_new = Played input_old input_new out_old out_new
+abbrev pub Succeeds : Request → Streams → Type 0
+Succeeds (request.Tables options) s = PrintedSome options.limits s
+Succeeds request.Check s = CountsPrinted s
+Succeeds request.Play s = Played s
 
 -- the command failed like this
-abbrev pub Fails : Request → Fault → Option (List ℕ) → Option (List ℕ) → Option (List ℕ) → Option (List ℕ) → Type 0
-Fails (request.Tables limits) why input_old input_new out_old out_new = TablesFail limits why input_old input_new out_old out_new
-Fails request.Check why input_old input_new out_old out_new = CheckFails why input_old input_new out_old out_new
-Fails request.Play why input_old input_new out_old out_new = PlayFails why input_old input_new out_old out_new
+abbrev pub Fails : Request → Fault → Streams → Type 0
+Fails (request.Tables options) why s = TablesFail options.limits why s
+Fails request.Check why s = CheckFails why s
+Fails request.Play why s = PlayFails why s
 
--- a command was asked for and did it
-pub record HasSucceeded (input_old input_new out_old out_new : Option (List ℕ)) : Type 0 where
-  pub asked : Request
-  pub done : Succeeds asked input_old input_new out_old out_new
+-- where the fault is a device's, that one failed
+abbrev pub IsDeviceFault : Fault → Streams → Type 0
+IsDeviceFault fault.Read s = HasDeviceFailed s.failed_reads_old s.failed_reads_new
+IsDeviceFault fault.Write s = HasDeviceFailed s.failed_writes_old s.failed_writes_new
+IsDeviceFault why s = Unit {0}
 
--- a command was asked for and failed, and this is the status that tells it
-pub record HasFailed (status : ℕ) (input_old input_new out_old out_new : Option (List ℕ)) : Type 0 where
+-- the words ask for a command, and it did what was asked for
+pub record HasSucceeded (words : List Text) (s : Streams) : Type 0 where
   pub asked : Request
+  pub asks : Asks words asked
+  pub done : Succeeds asked s
+
+-- the words ask for a command, it failed, and this is the status that tells it
+pub record HasFailed (words : List Text) (status : ℕ) (s : Streams) : Type 0 where
+  pub asked : Request
+  pub asks : Asks words asked
   pub why : Fault
-  pub failed : Fails asked why input_old input_new out_old out_new
+  pub failed : Fails asked why s
+  pub device : IsDeviceFault why s
   pub told : IsToldStatus why status

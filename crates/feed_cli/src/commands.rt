@@ -1,18 +1,23 @@
 //! The commands, as the words of a command line ask for them.
-ghost use Rattle.std.specs.Prelude.{◌≡◌, ◌≤◌, ◌⊎◌, IfErr, OnOk};
-ghost use Rattle.feed_cli.specs.Commands.{Succeeds, Fails, HasSucceeded, HasFailed};
-ghost use Rattle.feed_cli.specs.Status.{IsToldStatus};
+ghost use Rattle.std.specs.Prelude.{◌≡◌, ◌≤◌, ◌⊎◌, map, IfErr, OnOk};
+ghost use Rattle.feed_cli.specs.Commands.{Succeeds, Fails, IsDeviceFault, HasSucceeded, HasFailed};
+ghost use Rattle.feed_cli.specs.Fault.{IsToldStatus};
+ghost use Rattle.feed_cli.specs.Streams.{streams_of};
 
-use crate::check::print_counts;
-use crate::device::{FeedRead, FeedWrite, write_all};
-use crate::fault::Fault;
-use crate::playing::print_played;
-use crate::tables::print_tables;
-use crate::words::{Request, parse_words};
+mod check;
+mod play;
+mod tables;
+
+use crate::fault::{Fault, FeedStop};
+use crate::words::{PROGRAM, Request, parse_words};
+use check::print_counts;
 use clap::error::ErrorKind;
+use feed_http::device::{FeedRead, FeedWrite, write_all};
+use play::print_played;
 use std::alloc::Global;
 use std::fmt;
 use std::fmt::Write;
+use tables::print_tables;
 
 /// A device that text is printed to.
 #[derive(Drop)]
@@ -23,7 +28,8 @@ struct Printer<'a, W> {
 impl<W: FeedWrite> Write for Printer<'_, W> {
     ghost use Rattle.std.specs.Io.KnownBytes.{Appends};
 
-    ghost write_str_gives = { λ p text q. Appends (W.contents p.device.now) (W.contents q.device.now) text };
+    ghost write_str_gives = { λ p text q.
+        Appends (W.contents p.device.now) (W.contents q.device.now) text };
 
     fn write_str(&mut self, text: &str) -> fmt::Result {
         match write_all(self.device, text.as_bytes()) {
@@ -43,11 +49,28 @@ fn print<W: FeedWrite, T: fmt::Display + Drop>(device: &mut W, text: T) -> Resul
     }
 }
 
-/// Tells a fault, and answers the status of the program. Where it can't be told, a device has failed too.
+/// Prints a fault, and on a second line where in the feed it is, where that was asked for.
+fn print_fault<E: FeedWrite>(name: &str, fault: Fault, err: &mut E) -> Result<(), Fault>
+    ensures { IfErr result (λ failed. failed ≡ Fault.Write) }
+{
+    print(err, format_args!("{name}: {fault}\n"))?;
+    match fault {
+        Fault::Feed(
+            FeedStop {
+                line: Some(line),
+                ..
+            },
+        ) => print(err, format_args!("{name}: line {line}\n")),
+        _ => Ok(()),
+    }
+}
+
+/// Tells a fault, and answers the status of the program. Where it can't be told, a device has failed
+/// too.
 fn tell<E: FeedWrite>(name: &str, fault: Fault, err: &mut E) -> u8
     ensures { IsToldStatus fault result }
 {
-    match print(err, format_args!("{name}: {fault}\n")) {
+    match print_fault(name, fault, err) {
         Ok(()) => fault.status(),
         Err(failed) => fault.status().max(failed.status()),
     }
@@ -71,28 +94,35 @@ fn answer_words<W: FeedWrite, E: FeedWrite>(error: clap::Error, out: &mut W, err
     }
 }
 
-const PROGRAM: &str = "tunygarop";
-
-/// Does what was asked for.
-fn perform<R: FeedRead, W: FeedWrite>(
+/// Does what was asked for. Where a device failed, its count of failures tells so.
+pub fn perform<R: FeedRead, W: FeedWrite>(
     alloc: Global,
     request: Request,
     input: &mut R,
     out: &mut W,
 ) -> Result<(), Fault>
-    ensures ok { OnOk result (Succeeds request (R.remaining input.old) (R.remaining input.new) (W.contents out.old) (W.contents out.new)) }
-    ensures err { IfErr result (λ why. Fails request why (R.remaining input.old) (R.remaining input.new) (W.contents out.old) (W.contents out.new)) }
+    ensures ok { let streams = streams_of R.remaining R.failures W.contents W.failures
+        input.old input.new out.old out.new in
+        OnOk result (Succeeds request streams) }
+    ensures err { let streams = streams_of R.remaining R.failures W.contents W.failures
+        input.old input.new out.old out.new in
+        IfErr result (λ why. Fails request why streams) }
+
+    ensures device { let streams = streams_of R.remaining R.failures W.contents W.failures
+        input.old input.new out.old out.new in
+        IfErr result (λ why. IsDeviceFault why streams) }
 {
     match request {
-        Request::Tables(limits) => print_tables(alloc, limits, input, out),
+        Request::Tables(options) => print_tables(alloc, options, input, out),
         Request::Check => print_counts(alloc, input, out),
         Request::Play => print_played(alloc, input, out),
     }
 }
 
-/// Runs the command that the words ask for, and answers the status that the program ends with: 0, or the first of these
-/// that applies: 1 for words that ask for no command, 5 for want of memory, 4 for a device that failed or an input that
-/// did not end, 2 for a faulty input, 3 where nothing was published.
+/// Runs the command that the words ask for, and answers the status that the program ends with: 0, or
+/// the first of these that applies: 1 for words that ask for no command, 5 for want of memory, 4 for a
+/// device that failed or an input that did not end, 2 for a faulty input, 3 where nothing was
+/// published.
 pub fn run<'a, R: FeedRead, W: FeedWrite, E: FeedWrite>(
     alloc: Global,
     words: &'a [&'a str],
@@ -103,12 +133,20 @@ pub fn run<'a, R: FeedRead, W: FeedWrite, E: FeedWrite>(
     ensures statuses { result ≤ 5 }
 
     // Where the words ask for help, or for no command, nothing is read.
-    ensures ok { result ≡ 0 → (R.reads input.new ≡ R.reads input.old)
-        ⊎ HasSucceeded (R.remaining input.old) (R.remaining input.new) (W.contents out.old) (W.contents out.new) }
-    ensures refused { result ≡ 1 → (R.reads input.new ≡ R.reads input.old) × (W.contents out.new ≡ W.contents out.old) }
-    ensures faulty { (result ≡ 2) ⊎ (result ≡ 3) → HasFailed result (R.remaining input.old) (R.remaining input.new) (W.contents out.old) (W.contents out.new) }
-    ensures broken { (result ≡ 4) ⊎ (result ≡ 5) → (R.reads input.new ≡ R.reads input.old)
-        ⊎ HasFailed result (R.remaining input.old) (R.remaining input.new) (W.contents out.old) (W.contents out.new) }
+    ensures ok { let streams = streams_of R.remaining R.failures W.contents W.failures
+        input.old input.new out.old out.new in
+        result ≡ 0 → (R.reads input.new ≡ R.reads input.old)
+        ⊎ HasSucceeded (map (λ word. word.now) words.entry.now) streams }
+    ensures refused { result ≡ 1 → (R.reads input.new ≡ R.reads input.old)
+        × (W.contents out.new ≡ W.contents out.old) }
+    ensures faulty { let streams = streams_of R.remaining R.failures W.contents W.failures
+        input.old input.new out.old out.new in
+        (result ≡ 2) ⊎ (result ≡ 3)
+        → HasFailed (map (λ word. word.now) words.entry.now) result streams }
+    ensures broken { let streams = streams_of R.remaining R.failures W.contents W.failures
+        input.old input.new out.old out.new in
+        (result ≡ 4) ⊎ (result ≡ 5) → (R.reads input.new ≡ R.reads input.old)
+        ⊎ HasFailed (map (λ word. word.now) words.entry.now) result streams }
 {
     let request = match parse_words(alloc, words) {
         Ok(request) => request,

@@ -2,19 +2,31 @@
 ghost use Rattle.std.specs.Prelude.{◌≡◌};
 
 use crate::input::InputFault;
-use crate::play_fault::PlayFault;
 use feed_node::FeedFault;
 use feed_note::{LineStop, SurveyFault};
+use feed_play::PlayFault;
 use std::alloc::AllocError;
 use thiserror::Error;
+
+/// Why a feed can't be fed on to a mirror, and at which of its lines, where that was asked for. Lines
+/// are counted from 1.
+#[derive(Clone, Copy, Debug, PartialEq, Eq, Error)]
+#[error("{fault}")]
+pub struct FeedStop {
+    pub fault: FeedFault,
+    pub line: Option<u64>,
+}
 
 /// Why a command fails.
 #[derive(Clone, Copy, Debug, PartialEq, Eq, Error)]
 pub enum Fault {
+    /// Memory ran out.
     #[error("out of memory")]
     Memory,
+    /// A read of the input failed.
     #[error("read failed")]
     Read,
+    /// A write of the output failed.
     #[error("write failed")]
     Write,
     /// The input did not end in the reads that were allowed.
@@ -25,20 +37,20 @@ pub enum Fault {
     TooLong,
     /// A line of the input can't be fed to a mirror. It is no want of memory.
     #[error("{0}")]
-    Feed(FeedFault),
+    Feed(FeedStop),
     /// A line of the input can't be read. It is no want of memory.
     #[error("line {}: {}", .0.line, .0.stop)]
     Survey(SurveyFault),
     /// The input, a script, was not played to its end.
     #[error("{0}")]
     Play(PlayFault),
+    /// The input has ended, and nothing was published.
     #[error("nothing published")]
     Unpublished,
 }
 
 impl Fault {
-    ghost use Rattle.feed_cli.specs.Status.{status_of};
-    ghost use Rattle.feed_cli.specs.Faults.{fault_of_input, fault_of_feed, fault_of_survey};
+    ghost use Rattle.feed_cli.specs.Fault.{status_of, fault_of_input, fault_of_feed, fault_of_survey};
 
     /// The status that a program with this fault ends with.
     pub fn status(self) -> u8
@@ -64,13 +76,13 @@ impl Fault {
         }
     }
 
-    /// The fault of a command whose mirror stopped feeding.
-    pub fn of_feed(fault: FeedFault) -> Fault
-        ensures { result ≡ fault_of_feed fault }
+    /// The fault of a command whose mirror stopped feeding, at this line where it is to be told.
+    pub fn of_feed(fault: FeedFault, line: Option<u64>) -> Fault
+        ensures { result ≡ fault_of_feed fault line }
     {
         match fault {
             FeedFault::Memory => Fault::Memory,
-            fault => Fault::Feed(fault),
+            fault => Fault::Feed(FeedStop { fault, line }),
         }
     }
 

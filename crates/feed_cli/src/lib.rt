@@ -1,25 +1,13 @@
 //! The commands, over devices.
 #![tactic(auto)]
 
-mod check;
 mod commands;
-pub mod device;
 mod fault;
 mod input;
-mod lines;
-pub mod memory;
-mod play_fault;
-mod player;
-mod playing;
-mod script;
-pub mod stream;
-mod tables;
-mod told;
 mod words;
 
-pub use commands::run;
-pub use play_fault::{PlayCause, PlayFault};
-pub use player::play;
-
-#[cfg(test)]
-mod tests;
+pub use commands::{perform, run};
+pub use fault::{Fault, FeedStop};
+pub use feed_http::{device, memory, stream};
+pub use feed_play::{PlayCause, PlayFault, play};
+pub use words::{Request, TablesOptions, parse_words};

@@ -4,4 +4,5 @@ pub mod RefusalTexts
 pub mod RequestLemmas
 pub mod RestLemmas
 pub mod ServingLemmas
+pub mod SessionLemmas
 pub mod TextLemmas

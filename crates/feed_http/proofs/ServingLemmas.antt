@@ -14,7 +14,8 @@ use Rattle.std.proofs.lemmas.List.{map-append}
 use Rattle.feed_note.specs.Publishing.{Published}
 use Rattle.feed_node.specs.declared.commit.Commit.{Commit}
 use Rattle.feed_node.specs.States.{NodeState, nothing_published, published_token, place_of, HoldsItsTokens, IsConsistent, tokens}
-use Rattle.feed_node.specs.Serving.{Next, Nothing_new, Lost, Commit_after, next, or_lost, is_published, commit_after, Pulls}
+use Rattle.feed_node.specs.Serving.{is_published, commit_after}
+use Rattle.feed_http.specs.Sessions.{Next, Nothing_new, Lost, Commit_after, next, or_lost, Pulls}
 use Rattle.feed_node.specs.declared.session.Pulled.{Pulled}
 use Rattle.feed_node.specs.declared.session.Pulled.TheVariants.{More, UpToDate, Gone}
 use Rattle.feed_http.specs.declared.framing.Framing.{Framing}

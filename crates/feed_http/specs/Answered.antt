@@ -3,7 +3,7 @@ use Rattle.std.specs.Prelude.{◌≡◌, ℕ, List, Option, Some, None, Result, 
 use Rattle.feed_node.specs.declared.session.OpenFault.{OpenFault}
 use Rattle.feed_node.specs.declared.session.OpenFault.TheVariants.{NotYet, NotHeld, Memory}
 use Rattle.feed_node.specs.States.{NodeState}
-use Rattle.feed_node.specs.Serving.{Started, opens}
+use Rattle.feed_http.specs.Sessions.{Started, opens}
 use Rattle.feed_http.specs.declared.framing.Framing.{Framing}
 use Rattle.feed_http.specs.declared.framing.Framing.TheVariants.{Close}
 use Rattle.feed_http.specs.declared.refusal.Refusal.{Refusal}

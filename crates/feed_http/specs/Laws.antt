@@ -2,7 +2,7 @@
 use Rattle.std.specs.Prelude.{◌≡◌, ℕ, ◌≤◌, Bool, false, List, [], length, drop, Option, Some, IfSome, IsUtf8}
 use Rattle.feed_node.specs.declared.commit.Commit.{Commit}
 use Rattle.feed_node.specs.States.{NodeState, IsConsistent, place_of}
-use Rattle.feed_node.specs.Serving.{opens}
+use Rattle.feed_http.specs.Sessions.{opens}
 use Rattle.feed_http.specs.declared.framing.Framing.{Framing}
 use Rattle.feed_http.specs.Serving.{Sends}
 use Rattle.feed_http.specs.Place.{Place, IsPlace}

@@ -14,4 +14,5 @@ pub mod RequestText
 pub mod Sending
 pub mod Served
 pub mod Serving
+pub mod Sessions
 pub mod Stream

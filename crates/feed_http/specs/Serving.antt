@@ -4,7 +4,7 @@ use Rattle.std.specs.Io.KnownBytes.{Appends, Consumes, IsAtEnd}
 use Rattle.feed_note.specs.Texts.{batch_text}
 use Rattle.feed_node.specs.declared.commit.Commit.{Commit}
 use Rattle.feed_node.specs.States.{NodeState}
-use Rattle.feed_node.specs.Serving.{Nothing_new, Lost, Commit_after, next}
+use Rattle.feed_http.specs.Sessions.{Nothing_new, Lost, Commit_after, next}
 use Rattle.feed_http.specs.declared.fault.Served.{Served}
 use Rattle.feed_http.specs.declared.framing.Framing.{Framing}
 use Rattle.feed_http.specs.Answered.{AnswerParts, AnswersTo}

@@ -16,6 +16,7 @@ mod refusal;
 mod request;
 mod request_target;
 mod serving;
+mod sessions;
 pub mod stream;
 
 pub use answering::{Answered, answer};

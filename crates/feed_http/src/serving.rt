@@ -17,6 +17,7 @@ use crate::device::{Failed, FeedRead, FeedWrite, write_all};
 use crate::fault::{EngineFault, Served};
 use crate::framing::{Framing, frame, frame_end};
 use crate::head_reading::read_head;
+use crate::sessions::pull_next;
 use feed_node::{Node, Pulled, Session};
 use std::alloc::{AllocError, Global};
 
@@ -79,7 +80,7 @@ fn send_commits<W: FeedWrite>(
     let mut count: u64 = 0;
     'commits: loop {
         let mut text = Vec::new(alloc);
-        match session.pull(alloc, node, &mut text)? {
+        match pull_next(alloc, session, node, &mut text)? {
             Pulled::More => {
                 write_framed(alloc, writer, framing, text.as_slice())?;
                 count = count.saturating_add(1);

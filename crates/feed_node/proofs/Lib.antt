@@ -6,4 +6,5 @@ pub mod Marked
 pub mod Mirrored
 pub mod Numbering
 pub mod Onward
+pub mod Restored
 pub mod Sending

@@ -24,7 +24,8 @@ pub enum FeedFault {
     /// A token that is held comes again, and is not the first one of a fresh connection.
     #[error("token again")]
     TokenAgain,
-    /// More changes wait for a token than the limits allow, or the tables that a line would publish are too large.
+    /// More changes wait for a token than the limits allow, or the tables that a line would publish
+    /// are too large.
     #[error("stage full")]
     StageFull,
     /// Memory ran out; this says nothing of the lines.

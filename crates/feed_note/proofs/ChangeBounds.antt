@@ -1,8 +1,8 @@
 -- A line tells no more changes than it has bytes.
-use Rattle.std.proofs.Common.{◌≡◌, sym, ap, subst, ℕ, ◌+◌, ◌-◌, ◌≤◌, Bool, true, false, List, [], ◌∷◌, ◌++◌, length, cond, Option, Some, None, arith, length-append}
-use Rattle.std.specs.Prelude.{IfSome, option_map, find, reverse, codes, unwrap_or}
+use Rattle.std.proofs.Common.{◌≡◌, ap, ℕ, ◌+◌, ◌-◌, ◌≤◌, List, [], ◌∷◌, ◌++◌, length, Option, Some, None, arith, length-append}
+use Rattle.std.specs.Prelude.{IfSome, option_map, reverse, codes, unwrap_or}
 use Rattle.std.specs.List.{AllByRecursion}
-use Rattle.std.proofs.lemmas.List.{length-map, reverse-append}
+use Rattle.std.proofs.lemmas.List.{length-map}
 use Rattle.feed_text.specs.Json.{Value, Elements, Members, Member, kind_of, print, print_elements, print_members, elements_list, members_list, items_of, members_of, HoldsObject, null_literal, true_literal, false_literal, number, string, empty_array, array, empty_object, object, last_element, element, last_member, member}
 use Rattle.feed_text.specs.declared.Kind.TheVariants.{Object}
 use Rattle.feed_text.specs.Strings.{says, last_member_named}
@@ -11,6 +11,7 @@ use Rattle.feed_note.specs.Meaning.{Content, one_object, all_objects, nothing, c
 use Rattle.feed_note.specs.Notes.{changes_in}
 use Rattle.feed_note.specs.declared.line.Line.{Line}
 use Rattle.feed_note.specs.declared.line.Line.TheVariants.{KeepAlive, Note}
+use Rattle.feed_text.proofs.Lists.{all-reverse, find_all}
 
 -- ---- the items of an array
 
@@ -79,23 +80,6 @@ members_of_short (object ms) n h = weaker (length (print_members ms)) n (members
 
 -- ---- the member that counts
 
-module _ {A : Type 0} (P : A → Type 0) where
-  all_append : (xs ys : List A) → AllByRecursion P xs → AllByRecursion P ys → AllByRecursion P (xs ++ ys)
-  all_append [] ys h k = k
-  all_append (x ∷ xs) ys h k = (h.0, all_append xs ys h.1 k)
-
-  all_reverse : (xs : List A) → AllByRecursion P xs → AllByRecursion P (reverse xs)
-  all_reverse [] h = tt
-  all_reverse (x ∷ xs) h = subst (AllByRecursion P) (sym (reverse-append (x ∷ []) xs)) (all_append (reverse xs) (x ∷ []) (all_reverse xs h.1) (h.0, tt))
-
-  find_all : (test : A → Bool) (xs : List A) → AllByRecursion P xs → IfSome (find test xs) P
-  find_all test [] h = tt
-  find_all test (x ∷ xs) h = by (test x) h.0 (find_all test xs h.1)
-    where
-      by : (t : Bool) → P x → IfSome (find test xs) P → IfSome (cond t (Some x) (find test xs)) P
-      by true here others = here
-      by false here others = others
-
 -- the items of a value that may be absent
 abbrev items_in : Option Value → List Value
 items_in None = []
@@ -108,7 +92,7 @@ named_items n (Some m) h = h
 content_short : (v : Value) (n : ℕ) → length (print v) ≤ n + 1 → length (items_in ((notification v).content)) ≤ n
 content_short v n h =
     named_items n (last_member_named (codes "data") (members_of v))
-    (find_all (HasItems n) (λ m. says m.name (codes "data")) (reverse (members_of v)) (all_reverse (HasItems n) (members_of v) (members_of_short v n h)))
+    (find_all (HasItems n) (λ m. says m.name (codes "data")) (reverse (members_of v)) (all-reverse (HasItems n) (members_of v) (members_of_short v n h)))
 
 -- ---- the changes
 

@@ -9,7 +9,7 @@ use Rattle.feed_text.specs.declared.Kind.TheVariants.{Object, Array, Null}
 use Rattle.feed_note.specs.Meaning.{Notification, conditions, first_fault, has_no_type, has_bad_member, has_bad_data, has_no_meaning, has_bad_element, has_long_name, has_big_object, is_object, is_array, is_null, is_string, is_text, is_text_or_null, member_kind, member_text, element_id, elements_of}
 use Rattle.feed_note.specs.Naming.{naming_of}
 use Rattle.feed_note.specs.Reading.{naming_or_null, IsNamed, IsContentOf, IsFirstFault, HoldsElements, Collects, element_of, gathered, kept, identified_by}
-use Rattle.feed_note.specs.Unreadable.{is_unreadable, is_unreadable_or_null}
+use Rattle.feed_note.specs.Naming.{is_unreadable, is_unreadable_or_null}
 use Rattle.feed_note.specs.declared.content.Content.{Content}
 use Rattle.feed_note.specs.declared.content.Content.TheVariants as content
 use Rattle.feed_note.specs.declared.content.Element.{Element}

@@ -12,7 +12,7 @@ use Rattle.feed_note.specs.declared.line.Line.{Line}
 use Rattle.feed_note.specs.declared.line.Line.TheVariants.{KeepAlive, Note}
 use Rattle.feed_note.specs.declared.line.LineFault.{LineFault}
 use Rattle.feed_note.specs.declared.line.LineFault.TheVariants.{Utf8, Deep, Syntax, NoType, BadMember, BadData, NoMeaning, BadElement, LongName, BigObject}
-use Rattle.feed_note.specs.Meaning.{IsKeepAlive, IsDeep, IsScanned, Means, Reason, MeaningOrReason, is_blank, fault_of, changes_of, token_of, first_fault, notification, has_no_type, has_bad_member, has_bad_data, has_no_meaning, has_bad_element, has_long_name, has_big_object}
+use Rattle.feed_note.specs.Meaning.{IsKeepAlive, NestsTooDeep, IsScanned, Means, Reason, MeaningOrReason, is_blank, fault_of, changes_of, token_of, first_fault, notification, has_no_type, has_bad_member, has_bad_data, has_no_meaning, has_bad_element, has_long_name, has_big_object}
 
 -- ---- a text nests to a level or doesn't
 
@@ -57,7 +57,7 @@ module _ (n : ℕ) where
     ]
   ]
 
-deep_or_not : (x : List ℕ) → IsDeep x ⊎ ¬ (IsDeep x)
+deep_or_not : (x : List ℕ) → NestsTooDeep x ⊎ ¬ (NestsTooDeep x)
 deep_or_not x = nests_behind (line_depth + 1) [] x
 
 -- ---- an object's conditions

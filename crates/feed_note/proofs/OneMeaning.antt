@@ -5,7 +5,7 @@ use Rattle.feed_note.specs.declared.line.Line.{Line}
 use Rattle.feed_note.specs.declared.line.Line.TheVariants.{KeepAlive, Note}
 use Rattle.feed_note.specs.declared.line.LineFault.{LineFault}
 use Rattle.feed_note.specs.declared.line.LineFault.TheVariants.{Utf8, Deep, Syntax, NoType, BadMember, BadData, NoMeaning, BadElement, LongName, BigObject, Memory}
-use Rattle.feed_note.specs.Meaning.{IsKeepAlive, IsDeep, IsScanned, Means, Reason, OnlyOne, fault_of, changes_of, token_of}
+use Rattle.feed_note.specs.Meaning.{IsKeepAlive, NestsTooDeep, IsScanned, Means, Reason, OnlyOne, fault_of, changes_of, token_of}
 
 abbrev FirstOf : List ℕ → Option LineFault → Type 0
 FirstOf x o = (v : Value) × IsScanned x v × (fault_of v ≡ o)
@@ -22,8 +22,8 @@ data Stage : Type 0 where
 abbrev Ends : List ℕ → Stage → Type 0
 Ends x at_keep_alive = IsKeepAlive x
 Ends x at_utf8 = ¬ (IsKeepAlive x) × ¬ (IsUtf8 x)
-Ends x at_deep = ¬ (IsKeepAlive x) × IsUtf8 x × IsDeep x
-Ends x at_syntax = ¬ (IsKeepAlive x) × IsUtf8 x × ¬ (IsDeep x) × ((v : Value) → ¬ (HoldsObject x v))
+Ends x at_deep = ¬ (IsKeepAlive x) × IsUtf8 x × NestsTooDeep x
+Ends x at_syntax = ¬ (IsKeepAlive x) × IsUtf8 x × ¬ (NestsTooDeep x) × ((v : Value) → ¬ (HoldsObject x v))
 Ends x (at_members o) = FirstOf x o
 
 same_stage : TextDeterminesObject → (x : List ℕ) (s t : Stage) → Ends x s → Ends x t → s ≡ t

@@ -1,14 +1,14 @@
 -- The parts of a value that stands in a line stand in it too.
-use Rattle.std.proofs.Common.{◌≡◌, refl, sym, ap, ◌∙◌, subst, ℕ, suc, ◌≤◌, Bool, true, false, ◌&&◌, true≢false, cond, List, [], ◌∷◌, ◌++◌, Option, Some, None, reverse, arith}
-use Rattle.std.specs.Prelude.{IsUtf8, IfSome, option_map, find}
+use Rattle.std.proofs.Common.{◌≡◌, refl, sym, ap, ◌∙◌, subst, ℕ, suc, ◌≤◌, Bool, true, false, ◌&&◌, true≢false, List, [], ◌∷◌, ◌++◌, Option, Some, None, reverse, arith}
+use Rattle.std.specs.Prelude.{IsUtf8, IfSome, option_map}
 use Rattle.std.specs.List.{AllByRecursion}
-use Rattle.std.proofs.lemmas.List.{reverse-append}
 use Rattle.std.proofs.lemmas.List.Folds.{list_all-append}
 use Rattle.feed_text.specs.Json.{Value, AreElements, AreMembers, Elements, Members, Member, print, print_elements, print_members, depth_of_elements, depth_of_members, items_of, members_of, elements_list, members_list, null_literal, true_literal, false_literal, number, string, empty_array, array, empty_object, object, last_element, element, last_member, member, TextDeterminesValue}
 use Rattle.feed_text.specs.Members.{Spelling, spelling_of, IsSpelling, member_spelling, member_spellings, LastSpeltIsLastNamed}
 use Rattle.feed_text.specs.Strings.{says, last_named, last_member_named}
 use Rattle.feed_note.specs.Lines.{HasNoLineFeed}
 use Rattle.feed_note.specs.Reading.{IsPart, IsReadable, last_value_spelt}
+use Rattle.feed_text.proofs.Lists.{all-reverse, find_all}
 
 both_left : (a b : Bool) → (a && b) ≡ true → a ≡ true
 both_left true b e = refl
@@ -82,23 +82,6 @@ members_of_parts n (object ms) h = members_parts n ms h.valid (behind_byte 123 (
 
 -- ---- what holds of each element holds of the one that is found
 
-module _ {A : Type 0} (P : A → Type 0) where
-  all_append : (xs ys : List A) → AllByRecursion P xs → AllByRecursion P ys → AllByRecursion P (xs ++ ys)
-  all_append [] ys h k = k
-  all_append (x ∷ xs) ys h k = (h.0, all_append xs ys h.1 k)
-
-  all_reverse : (xs : List A) → AllByRecursion P xs → AllByRecursion P (reverse xs)
-  all_reverse [] h = tt
-  all_reverse (x ∷ xs) h = subst (AllByRecursion P) (sym (reverse-append (x ∷ []) xs)) (all_append (reverse xs) (x ∷ []) (all_reverse xs h.1) (h.0, tt))
-
-  find_all : (test : A → Bool) (xs : List A) → AllByRecursion P xs → IfSome (find test xs) P
-  find_all test [] h = tt
-  find_all test (x ∷ xs) h = by (test x) h.0 (find_all test xs h.1)
-    where
-      by : (t : Bool) → P x → IfSome (find test xs) P → IfSome (cond t (Some x) (find test xs)) P
-      by true here others = here
-      by false here others = others
-
 map_holds : {A B : Type 0} (f : A → B) (P : B → Type 0) (found : Option A) → IfSome found (λ a. P (f a)) → IfSome (option_map f found) P
 map_holds f P None h = tt
 map_holds f P (Some a) h = h
@@ -107,7 +90,7 @@ map_holds f P (Some a) h = h
 pub last_named_part : (n : ℕ) (v : Value) (w : List ℕ) → IsPart (suc n) v → IfSome (last_named w (members_of v)) (IsPart n)
 last_named_part n v w h =
     map_holds (λ m. m.value) (IsPart n) (last_member_named w (members_of v))
-    (find_all (λ m. IsPart n m.value) (λ m. says m.name w) (reverse (members_of v)) (all_reverse (λ m. IsPart n m.value) (members_of v) (members_of_parts n v h)))
+    (find_all (λ m. IsPart n m.value) (λ m. says m.name w) (reverse (members_of v)) (all-reverse (λ m. IsPart n m.value) (members_of v) (members_of_parts n v h)))
 
 -- ---- spellings
 

@@ -11,10 +11,7 @@ use Rattle.feed_note.specs.Splitting.{Gives, IsLongNext}
 use Rattle.feed_note.proofs.LinesCut.{lines_cut, lines_are_the_only_cut, no_lines, no_rest}
 use Rattle.feed_note.proofs.LinesInRow.{ended-append}
 use Rattle.feed_note.proofs.LongLines.{long_next_stays}
-
-all_append : {A : Type 0} (P : A → Type 0) (xs ys : List A) → AllByRecursion P xs → AllByRecursion P ys → AllByRecursion P (xs ++ ys)
-all_append P [] ys h k = k
-all_append P (x ∷ xs) ys h k = (h.0, all_append P xs ys h.1 k)
+use Rattle.feed_text.proofs.Lists.{all-append}
 
 pub starts : (text : List ℕ) → IsCutOff text [] text
 starts text = record { whole = tt; short = tt; is = refl }
@@ -22,8 +19,8 @@ starts text = record { whole = tt; short = tt; is = refl }
 -- lines that are cut off what is left are cut off the text
 pub cut_on : (text left behind : List ℕ) (front taken : List (List ℕ)) → IsCutOff text front left → IsCutOff left taken behind → IsCutOff text (front ++ taken) behind
 cut_on text left behind front taken h k = record {
-  whole = all_append HasNoLineFeed front taken h.whole k.whole;
-  short = all_append IsShort front taken h.short k.short;
+  whole = all-append HasNoLineFeed front taken h.whole k.whole;
+  short = all-append IsShort front taken h.short k.short;
   is = h.is ∙ ap (λ t. ended front ++ t) k.is ∙ sym (append_assoc (ended front) (ended taken) behind) ∙ ap (λ t. t ++ behind) (sym (ended-append front taken));
 }
 
@@ -44,7 +41,7 @@ pub long_behind : (text left more : List ℕ) (front : List (List ℕ)) → IsCu
 long_behind text left more front h long = record {
   front = front ++ long.front;
   behind = long.behind ++ more;
-  whole = all_append HasNoLineFeed front long.front h.whole long.whole;
+  whole = all-append HasNoLineFeed front long.front h.whole long.whole;
   is = ap (λ t. t ++ more) (h.is ∙ ap (λ t. ended front ++ t) long.is ∙ sym (append_assoc (ended front) (ended long.front) long.behind) ∙ ap (λ t. t ++ long.behind) (sym (ended-append front long.front)))
       ∙ append_assoc (ended (front ++ long.front)) long.behind more;
   long = long_next_stays long.behind more long.long;

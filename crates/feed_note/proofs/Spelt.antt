@@ -11,7 +11,7 @@ use Rattle.feed_note.specs.Meaning.{text_of, member_text, member_kind, is_null, 
 use Rattle.feed_note.specs.Naming.{spelled_text, spelled_or_null, naming_of}
 use Rattle.feed_note.specs.Reading.{IsReadable, last_value_spelt, naming_or_null, is_too_large}
 use Rattle.feed_note.specs.declared.naming.Naming.TheVariants.{Is, Long}
-use Rattle.feed_note.specs.Unreadable.{is_unreadable, is_unreadable_or_null}
+use Rattle.feed_note.specs.Naming.{is_unreadable, is_unreadable_or_null}
 use Rattle.feed_note.proofs.Parts.{last_value_is_last_named}
 use Rattle.feed_note.proofs.Sizes.{two_for_each}
 

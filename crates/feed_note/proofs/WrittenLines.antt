@@ -14,7 +14,7 @@ use Rattle.feed_tables.specs.declared.change.Change.{Change}
 use Rattle.feed_tables.specs.declared.change.Change.TheVariants.{Set, Remove, Empty, Single, Clear}
 use Rattle.feed_note.specs.declared.line.Line.TheVariants.{Note}
 use Rattle.feed_note.specs.declared.line.LineFault.TheVariants.{NoType, BadMember, BadData, NoMeaning, BadElement, LongName, BigObject}
-use Rattle.feed_note.specs.Meaning.{IsKeepAlive, IsDeep, Notification, notification, member_text, element_id, is_string, is_object, is_array, is_text_or_null, is_big_object, fault_of, first_fault, conditions, content_of, one_object, told, changes_of, token_of}
+use Rattle.feed_note.specs.Meaning.{IsKeepAlive, NestsTooDeep, Notification, notification, member_text, element_id, is_string, is_object, is_array, is_text_or_null, is_big_object, fault_of, first_fault, conditions, content_of, one_object, told, changes_of, token_of}
 use Rattle.feed_note.specs.Written.{IsToken, IsLineOf, WrittenLineMeans}
 use Rattle.feed_note.proofs.WrittenTrees.{name_value, line_tree, line_text, IsContent, null_content, array_content, object_content, line_depth, line_holds, line_unbroken, line_length}
 
@@ -111,7 +111,7 @@ module _ (says : WrittenStringSays) where
     not_alive : ¬ (IsKeepAlive (line_text kind id text token))
     not_alive h = false≢true h
 
-    not_deep : ObjectNestsToItsDepth → ¬ (IsDeep (line_text kind id text token))
+    not_deep : ObjectNestsToItsDepth → ¬ (NestsTooDeep (line_text kind id text token))
     not_deep nests d =
         let deep : most_depth + 1 ≤ depth (line_tree kind id content token) = (nests _ (line_tree kind id content token) (most_depth + 1) (line_holds kind id text content token fits hk hi ht)).0 d in
         absurd (omega (arith, deep, line_depth kind id content token, fits.nesting))

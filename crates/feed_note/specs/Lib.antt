@@ -6,7 +6,6 @@ pub mod Publishing
 pub mod Reading
 pub mod Texts
 pub mod Written
-pub mod Unreadable
 pub mod Splitting
 pub mod Counts
 pub mod Steps

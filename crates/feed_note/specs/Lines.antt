@@ -40,4 +40,5 @@ abbrev pub LinesCut : Type 0
 LinesCut = (x : List ℕ) → IsCutInto x (lines x) (rest x)
 
 abbrev pub LinesAreTheOnlyCut : Type 0
-LinesAreTheOnlyCut = (x : List ℕ) (ls : List (List ℕ)) (unfinished : List ℕ) → IsCutInto x ls unfinished → (ls ≡ lines x) × (unfinished ≡ rest x)
+LinesAreTheOnlyCut = (x : List ℕ) (ls : List (List ℕ)) (unfinished : List ℕ)
+    → IsCutInto x ls unfinished → (ls ≡ lines x) × (unfinished ≡ rest x)

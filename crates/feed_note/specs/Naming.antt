@@ -1,5 +1,5 @@
 -- What the reader of a line keeps of its strings.
-use Rattle.std.specs.Prelude.{ℕ, List, Option, None, Some, length, nat_lt, if◌then◌else◌, IfSome}
+use Rattle.std.specs.Prelude.{ℕ, Bool, true, false, List, Option, None, Some, length, nat_lt, if◌then◌else◌, IfSome}
 use Rattle.feed_text.specs.Limits.{name_bytes}
 use Rattle.feed_text.specs.Members.{Spelling, IsSpelling, item_view}
 use Rattle.feed_text.specs.Strings.{decoded}
@@ -32,3 +32,13 @@ spelled_or_null (Some x) = if is_null x.1 then None else Some (naming_of (spelle
 -- the slice is one value of its kind, where there is one
 abbrev pub IsSpeltValue : Option items.Item → Type 0
 IsSpeltValue found = IfSome found (λ item. IsSpelling (item_view item))
+
+-- whether a member names nothing though it is there
+abbrev pub is_unreadable : Naming → Bool
+is_unreadable (Is w) = false
+is_unreadable Long = false
+is_unreadable Unreadable = true
+
+abbrev pub is_unreadable_or_null : Option Naming → Bool
+is_unreadable_or_null None = false
+is_unreadable_or_null (Some naming) = is_unreadable naming

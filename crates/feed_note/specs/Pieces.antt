@@ -38,7 +38,8 @@ pub record IsCutOff (text : List ℕ) (given : List (List ℕ)) (left : List ℕ
   pub is : text ≡ ended given ++ left
 
 -- of what is left these lines are taken, up to an unfinished one within the limit
-pub record TakesLines (old : List ℕ) (lines_before lines_after : List (List ℕ)) (left : List ℕ) : Type 0 where
+pub record TakesLines (old : List ℕ) (lines_before lines_after : List (List ℕ)) (left : List ℕ)
+    : Type 0 where
   pub taken : List (List ℕ)
   pub cut : IsCutOff old taken left
   pub gained : lines_after ≡ lines_before ++ taken

@@ -31,7 +31,8 @@ next_of bytes = first_or (rest bytes) (lines bytes)
 abbrev pub IsLongNext : List ℕ → Type 0
 IsLongNext bytes = line_bytes < length (next_of bytes)
 
--- why no line is given: the next one is too long; or there is one to give, for which memory runs out
+-- why no line is given: the next one is too long; or there is one to give, for which memory runs
+-- out
 abbrev pub FailsOnLine : List ℕ → SplitFault → Type 0
 FailsOnLine bytes fault.LongLine = IsLongNext bytes
 FailsOnLine bytes fault.Memory = (line : List ℕ) × (behind : List ℕ) × Gives bytes line behind

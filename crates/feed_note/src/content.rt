@@ -1,21 +1,25 @@
 //! What a notification's `data` holds, as far as it is kept.
 
 ghost use Rattle.std.specs.Prelude.{◌≡◌, ◌≢◌, ◌||◌, List, IfOk, IfSome, MatchResult, IsTrue, option_map, is_some, Some, true, false, IsUtf8, length, count_by};
-ghost use Rattle.feed_text.specs.Json.{Value, print, kind_of, items_of};
+ghost use Rattle.feed_text.specs.Json.{Value, items_of};
+ghost use Rattle.feed_text.specs.Limits.{value_depth};
 ghost use Rattle.feed_text.specs.Members.{item_view, spelling_of};
 ghost use Rattle.feed_text.specs.Nesting.{is_opening as opening_test};
 ghost use Rattle.feed_text.specs.declared.Kind.TheVariants.{Object, Array};
 ghost use Rattle.feed_note.specs.Meaning.{Notification, element_id};
 ghost use Rattle.feed_note.specs.Naming.{naming_of};
-ghost use Rattle.feed_note.specs.Reading.{HoldsReadable, IsReadable, Spell, IsContentOf, IsFirstFault, IsNamed, Collects, is_too_large as too_large, kept, element_of, gathered};
+ghost use Rattle.feed_note.specs.Reading.{HoldsReadable, IsReadable, OfEach, Spell, IsContentOf, IsFirstFault, IsNamed, Collects, is_too_large as too_large, kept, element_of, gathered};
 
 use crate::fields::Fields;
 use crate::line::LineFault;
 use crate::naming::{Naming, read_naming};
-use feed_text::{Item, Kind, ObjectText, elements, last_member, nests_to, text_laws};
+use feed_text::{
+    Item, Kind, OBJECT_BYTES, OBJECT_LEVELS, ObjectText, elements, last_member, nests_to, text_laws,
+};
 use std::alloc::{AllocError, Global};
 
-/// An element of a collection: what its id names, and its object, or nothing where that is too large.
+/// An element of a collection: what its id names, and its object, or nothing where that is too
+/// large.
 #[derive(Drop)]
 pub struct Element {
     pub id: Naming,
@@ -33,16 +37,13 @@ pub enum Content {
     Array(Vec<Element>),
 }
 
-/// The greatest number of bytes of an object's text.
-const OBJECT_BYTES: usize = 1_048_576;
-
 /// The first nesting that is too deep in an object's text.
-const TOO_DEEP: usize = 101;
+const TOO_DEEP: usize = OBJECT_LEVELS + 1;
 
 /// The text of an object, unless it is too large.
 fn kept_object(alloc: Global, text: &[u8]) -> Result<Option<ObjectText>, AllocError>
-    requires { HoldsReadable 101 (text.now, Object) }
-    ensures { (v : Value) → IsReadable 101 v → kind_of v ≡ Object → text.now ≡ print v → IfOk result (λ object. object ≡ kept v) }
+    requires { HoldsReadable value_depth (text.now, Object) }
+    ensures { OfEach Object text.now (λ v. IfOk result (λ object. object ≡ kept v)) }
 {
     text_laws();
     if is_too_large(text) {
@@ -61,11 +62,11 @@ fn openings(text: &[u8]) -> usize
         .count()
 }
 
-/// Whether an object's text is too long or nests too deep. A text of fewer than two bytes or one opening bracket for each
-/// level doesn't.
+/// Whether an object's text is too long or nests too deep. A text of fewer than two bytes or one
+/// opening bracket for each level doesn't.
 fn is_too_large(text: &[u8]) -> bool
-    requires { HoldsReadable 101 (text.now, Object) }
-    ensures { (v : Value) → IsReadable 101 v → kind_of v ≡ Object → text.now ≡ print v → result ≡ too_large v }
+    requires { HoldsReadable value_depth (text.now, Object) }
+    ensures { OfEach Object text.now (λ v. result ≡ too_large v) }
 {
     text_laws();
     if text.len() > OBJECT_BYTES {
@@ -82,26 +83,22 @@ fn is_too_large(text: &[u8]) -> bool
 
 /// What the id of an element names.
 fn element_naming(alloc: Global, object: &[u8]) -> Result<Naming, AllocError>
-    requires { HoldsReadable 101 (object.now, Object) }
-    ensures { (v : Value) → IsReadable 101 v → kind_of v ≡ Object → object.now ≡ print v → IfOk result (λ naming. naming ≡ naming_of (element_id v)) }
+    requires { HoldsReadable value_depth (object.now, Object) }
+    ensures { OfEach Object object.now (λ v.
+        IfOk result (λ naming. naming ≡ naming_of (element_id v))) }
 {
     text_laws();
     match last_member(alloc, object, "id")? {
-        Some(id) => {
-            let id = Item {
-                text: id.value,
-                kind: id.kind,
-            };
-            read_naming(alloc, &id)
-        }
+        Some(id) => read_naming(alloc, &id.item()),
         None => Ok(Naming::Unreadable),
     }
 }
 
 /// What is kept of an element; nothing where it is no object or its id no text.
 fn read_element(alloc: Global, item: &Item<'_>) -> Result<Option<Element>, AllocError>
-    requires { HoldsReadable 101 (item_view item.now) }
-    ensures { (v : Value) → IsReadable 101 v → item_view item.now ≡ spelling_of v → IfOk result (λ found. found ≡ element_of v) }
+    requires { HoldsReadable value_depth (item_view item.now) }
+    ensures { (v : Value) → IsReadable value_depth v → item_view item.now ≡ spelling_of v →
+        IfOk result (λ found. found ≡ element_of v) }
 {
     if !matches!(item.kind, Kind::Object) {
         return Ok(None);
@@ -116,8 +113,9 @@ fn read_element(alloc: Global, item: &Item<'_>) -> Result<Option<Element>, Alloc
 
 /// The elements of an array; nothing where one of them is no object or its id no text.
 fn gather(alloc: Global, array: &[u8]) -> Result<Option<Vec<Element>>, AllocError>
-    requires { HoldsReadable 101 (array.now, Array) }
-    ensures { (v : Value) → IsReadable 101 v → kind_of v ≡ Array → array.now ≡ print v → IfOk result (λ found. option_map (λ es. es.items) found ≡ gathered (items_of v)) }
+    requires { HoldsReadable value_depth (array.now, Array) }
+    ensures { OfEach Array array.now (λ v.
+        IfOk result (λ found. option_map (λ es. es.items) found ≡ gathered (items_of v))) }
 {
     text_laws();
     let mut gathered = Vec::new(alloc);
@@ -133,8 +131,10 @@ fn gather(alloc: Global, array: &[u8]) -> Result<Option<Vec<Element>>, AllocErro
 
 /// What `data` holds. A fault is that of a scalar, of an array beside an id, or of an element.
 pub fn read_content(alloc: Global, fields: &Fields<'_>, has_id: bool) -> Result<Content, LineFault>
-    requires { IfSome fields.now.content (λ item. HoldsReadable 101 (item_view item)) }
-    ensures { (n : Notification) → Spell fields.now n → IsNamed n has_id → IfSome n.content (IsReadable 101) → MatchResult result (λ found. IsContentOf found n) (IsFirstFault n) }
+    requires { IfSome fields.now.content (λ item. HoldsReadable value_depth (item_view item)) }
+    ensures { (n : Notification) → Spell fields.now n → IsNamed n has_id →
+        IfSome n.content (IsReadable value_depth) →
+        MatchResult result (λ found. IsContentOf found n) (IsFirstFault n) }
 {
     let Some(item) = fields.content else {
         return Ok(Content::Nothing);
@@ -152,8 +152,8 @@ pub fn read_content(alloc: Global, fields: &Fields<'_>, has_id: bool) -> Result<
 
 /// The elements of a collection, which has no id beside it.
 fn collection(alloc: Global, array: &[u8], has_id: bool) -> Result<Content, LineFault>
-    requires { HoldsReadable 101 (array.now, Array) }
-    ensures { (v : Value) → IsReadable 101 v → kind_of v ≡ Array → array.now ≡ print v → Collects has_id (gathered (items_of v)) result }
+    requires { HoldsReadable value_depth (array.now, Array) }
+    ensures { OfEach Array array.now (λ v. Collects has_id (gathered (items_of v)) result) }
 {
     if has_id {
         return Err(LineFault::NoMeaning);

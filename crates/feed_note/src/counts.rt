@@ -31,8 +31,8 @@ pub struct Counts {
 #[derive(Clone, Copy, Debug, PartialEq, Eq, Error)]
 #[error("{stop}")]
 pub struct SurveyFault {
-    /// The number of the line. A rest that is too long is the line after the last; for want of memory the number says
-    /// nothing.
+    /// The number of the line. A rest that is too long is the line after the last; for want of
+    /// memory the number says nothing.
     pub line: u64,
     pub stop: LineStop,
 }
@@ -72,7 +72,8 @@ impl Counts {
 /// Counts what the lines of a feed are, or names the first that can't be read.
 pub fn survey(alloc: Global, bytes: &[u8]) -> Result<Counts, SurveyFault>
     ensures ok { IfOk result (λ counts. Counted bytes.now counts) }
-    ensures err { IfErr result (λ fault. fault.stop ≢ LineStop.Memory → StopsAt bytes.now fault.line fault.stop) }
+    ensures err { IfErr result (λ fault.
+        fault.stop ≢ LineStop.Memory → StopsAt bytes.now fault.line fault.stop) }
 {
     let mut counts = Counts::none();
     let mut rest = bytes;
@@ -93,6 +94,3 @@ pub fn survey(alloc: Global, bytes: &[u8]) -> Result<Counts, SurveyFault>
         }
     }
 }
-
-#[cfg(test)]
-mod tests;

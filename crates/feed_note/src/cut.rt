@@ -29,7 +29,8 @@ pub fn line_end(text: &[u8], searched: usize) -> Option<usize>
 
 /// The first line and the text behind its line feed; none where there is no line feed.
 pub fn split_line(text: &[u8]) -> Option<(&[u8], &[u8])>
-    ensures some { IfSome result (λ parts. HasNoLineFeed parts.0.now × (text.now ≡ parts.0.now ++ line_feed ∷ parts.1.now)) }
+    ensures some { IfSome result (λ parts. HasNoLineFeed parts.0.now
+        × (text.now ≡ parts.0.now ++ line_feed ∷ parts.1.now)) }
     ensures none { IfNone result (HasNoLineFeed text.now) }
 {
     let end = line_end(text, 0)?;

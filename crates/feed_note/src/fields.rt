@@ -6,7 +6,7 @@ ghost use Rattle.feed_text.specs.Strings.{Says};
 ghost use Rattle.feed_note.specs.Meaning.{Notification};
 ghost use Rattle.feed_note.specs.Naming.{IsSpeltValue};
 ghost use Rattle.feed_note.specs.Reading.{last_value_spelt, HasFields, AreSpelt, AreUsual, Spell, AreNamesOf, IsFirstFault};
-ghost use Rattle.feed_note.specs.Unreadable.{is_unreadable as unreadable_test, is_unreadable_or_null};
+ghost use Rattle.feed_note.specs.Naming.{is_unreadable as unreadable_test, is_unreadable_or_null};
 
 use crate::line::LineFault;
 use crate::naming::{Naming, read_member_naming, read_naming};
@@ -36,14 +36,12 @@ fn last_value<'a>(
     members: &Members<'a>,
     key: &str,
 ) -> Result<Option<Item<'a>>, AllocError>
-    ensures value { IfOk result (λ found. option_map item_view found ≡ last_value_spelt key.now members.now) }
+    ensures value { IfOk result (λ found.
+        option_map item_view found ≡ last_value_spelt key.now members.now) }
     ensures spelt { IfOk result (λ found. IsSpeltValue found) }
 {
     match members.last(alloc, key)? {
-        Some(member) => Ok(Some(Item {
-            text: member.value,
-            kind: member.kind,
-        })),
+        Some(member) => Ok(Some(member.item())),
         None => Ok(None),
     }
 }
@@ -56,16 +54,6 @@ fn is_plainly(member: &Member<'_>, text: &str) -> bool
     match plain_text(member.key) {
         Some(found) => found == text,
         None => false,
-    }
-}
-
-/// The value of a member.
-fn value_of<'a>(member: &Member<'a>) -> Item<'a>
-    ensures { item_view result ≡ (member_view member.now).1 }
-{
-    Item {
-        text: member.value,
-        kind: member.kind,
     }
 }
 
@@ -90,7 +78,7 @@ fn usual_fields<'a>(members: &[Member<'a>]) -> Option<Fields<'a>>
         return fields_of(&members[0], &members[1], &members[2], None);
     }
     if members.len() == 4 && is_plainly(&members[3], "token") {
-        let token = value_of(&members[3]);
+        let token = members[3].item();
         return fields_of(&members[0], &members[1], &members[2], Some(token));
     }
     None
@@ -106,15 +94,16 @@ fn fields_of<'a>(
     requires kind { IsMemberSpelling (member_view kind.now) }
     requires id { IsMemberSpelling (member_view id.now) }
     requires content { IsMemberSpelling (member_view content.now) }
-    ensures { IfSome result (AreUsual (member_view kind.now) (member_view id.now) (member_view content.now) token.entry) }
+    ensures { IfSome result (AreUsual
+        (member_view kind.now) (member_view id.now) (member_view content.now) token.entry) }
 {
     if !is_plainly(kind, "type") || !is_plainly(id, "id") || !is_plainly(content, "data") {
         return None;
     }
     Some(Fields {
-        kind: Some(value_of(kind)),
-        id: Some(value_of(id)),
-        content: Some(value_of(content)),
+        kind: Some(kind.item()),
+        id: Some(id.item()),
+        content: Some(content.item()),
         token,
     })
 }
@@ -136,10 +125,12 @@ fn find_fields<'a>(alloc: Global, members: &Members<'a>) -> Result<Fields<'a>, A
     })
 }
 
-/// What the members name. A fault is that of an absent type, or of a type, an id or a token that is no text.
+/// What the members name. A fault is that of an absent type, or of a type, an id or a token that is
+/// no text.
 pub fn read_names(alloc: Global, fields: &Fields<'_>) -> Result<Names, LineFault>
     requires { AreSpelt fields.now }
-    ensures { (n : Notification) → Spell fields.now n → MatchResult result (λ names. AreNamesOf names n) (IsFirstFault n) }
+    ensures { (n : Notification) → Spell fields.now n →
+        MatchResult result (λ names. AreNamesOf names n) (IsFirstFault n) }
 {
     let Some(kind) = fields.kind else {
         return Err(LineFault::NoType);
@@ -154,7 +145,8 @@ pub fn read_names(alloc: Global, fields: &Fields<'_>) -> Result<Names, LineFault
 }
 
 fn is_any_unreadable(kind: &Naming, id: &Option<Naming>, token: &Option<Naming>) -> bool
-    ensures { result ≡ (unreadable_test kind.now || is_unreadable_or_null id.now || is_unreadable_or_null token.now) }
+    ensures { result ≡ (unreadable_test kind.now
+        || is_unreadable_or_null id.now || is_unreadable_or_null token.now) }
 {
     is_unreadable(kind) || is_unreadable_member(id) || is_unreadable_member(token)
 }

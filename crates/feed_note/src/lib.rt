@@ -26,6 +26,3 @@ pub use read::read_line;
 pub use splitter::{SplitFault, Splitter};
 pub use stop::LineStop;
 pub use write::{write_batch, write_line};
-
-#[cfg(test)]
-mod tests;

@@ -34,7 +34,8 @@ pub enum LineFault {
     /// It has no member `type`.
     #[error("no type")]
     NoType,
-    /// `type` is no string, or `id` or `token` neither a string nor null, or one of them has a lone surrogate.
+    /// `type` is no string, or `id` or `token` neither a string nor null, or one of them has a lone
+    /// surrogate.
     #[error("bad type, id or token")]
     BadMember,
     /// `data` is a string, a number, true or false.
@@ -43,7 +44,8 @@ pub enum LineFault {
     /// `id` is a string and `data` an array.
     #[error("no meaning")]
     NoMeaning,
-    /// An element of `data` is no object, or its `id` is absent, no string, or has a lone surrogate.
+    /// An element of `data` is no object, or its `id` is absent, no string, or has a lone
+    /// surrogate.
     #[error("bad element")]
     BadElement,
     /// A type, id, token or element's id is over 255 bytes long.

@@ -8,8 +8,9 @@ ghost use Rattle.feed_note.specs.Splitting.{IsLongNext};
 use crate::splitter::{SplitFault, Splitter};
 use std::alloc::Global;
 
-/// The lines of the text that the pieces are one after the other, however it was cut into them. The fault is that of a
-/// line, ended or not, that is too long; where no line is, it can only be want of memory.
+/// The lines of the text that the pieces are one after the other, however it was cut into them. The
+/// fault is that of a line, ended or not, that is too long; where no line is, it can only be want
+/// of memory.
 pub fn lines_of_pieces(alloc: Global, pieces: &[Vec<u8>]) -> Result<Vec<Vec<u8>>, SplitFault>
     ensures lines { IfOk result (λ all. texts_of all.items ≡ lines (joined pieces.now)) }
     ensures short { OnOk result (HasShortLines (joined pieces.now)) }
@@ -32,7 +33,8 @@ fn take_lines(
     splitter: &mut Splitter,
     all: &mut Vec<Vec<u8>>,
 ) -> Result<(), SplitFault>
-    ensures ok { OnOk result (TakesLines splitter.old (texts_of all.old.items) (texts_of all.new.items) splitter.new) }
+    ensures ok { OnOk result (TakesLines
+        splitter.old (texts_of all.old.items) (texts_of all.new.items) splitter.new) }
     ensures long { IsErrOf result SplitFault.LongLine → HasLongLine splitter.old }
 {
     'lines: loop {

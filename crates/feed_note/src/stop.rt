@@ -44,9 +44,11 @@ impl LineStop {
     }
 }
 
-/// What the first line of a text means, and the text behind its line feed; none where no line is left.
+/// What the first line of a text means, and the text behind its line feed; none where no line is
+/// left.
 pub fn read_first<'a>(alloc: Global, text: &'a [u8]) -> Result<Option<(Line, &'a [u8])>, LineStop>
-    ensures some { IfOk result (λ first. IfSome first (λ parts. TakesNote text.now parts.0 parts.1.now)) }
+    ensures some { IfOk result (λ first.
+        IfSome first (λ parts. TakesNote text.now parts.0 parts.1.now)) }
     ensures none { IfOk result (λ first. IfNone first (IsUnfinished text.now)) }
     ensures err { IfErr result (λ stop. stop ≢ Memory → StopsNext text.now stop) }
 {

@@ -1,6 +1,6 @@
 -- What a listing has: one change for each type and object, within the limits where its tables were made so.
-use Rattle.std.proofs.Common.{◌≡◌, refl, sym, ap, ◌∙◌, subst, ℕ, ◌+◌, true, false, cond, arith, List, [], ◌∷◌, length, Option, Some, None, inl, inr, length-append, flat_map, sum_by}
-use Rattle.std.specs.Prelude.{IfSome, ◌⊎◌}
+use Rattle.std.proofs.Common.{◌≡◌, refl, sym, ap, ◌∙◌, subst, ℕ, ◌+◌, true, false, cond, arith, max, List, [], ◌∷◌, length, Option, Some, None, length-append, flat_map, sum_by}
+use Rattle.std.specs.Prelude.{IfSome}
 use Rattle.std.specs.List.{AllByRecursion}
 use Rattle.std.specs.Ordering.{eq_by_cmp}
 use Rattle.std.specs.FinMap.{FinMap, get, insert, remove, entries, entries_sorted, find, empty, from_sorted, entries-from_sorted, entries-insert, get-entries, same_entries_map, len-entries, len-empty, values}
@@ -8,6 +8,7 @@ use Rattle.std.proofs.lemmas.List.Elements.{recursion_from_All}
 use Rattle.feed_text.specs.Objects.{IsObjectText}
 use Rattle.feed_tables.specs.Bytes.{byte_order, without}
 use Rattle.feed_tables.specs.Changes.{IsChange, sets}
+use Rattle.feed_tables.specs.Listings.{ListingHasSize}
 use Rattle.feed_tables.specs.Names.{IsName}
 use Rattle.feed_tables.specs.Objects.{AreObjects}
 use Rattle.feed_tables.specs.Tables.{Contents, no_objects, no_tables, objects_or_none, without_id, after, after_all, listed, or_clear, listing, size, object_count, IsTable, AreTypes}
@@ -36,20 +37,17 @@ length-listings (e ∷ es) =
     length-append (listed e) (flat_map listed es)
     ∙ (let a = length-listed e in let b = length-listings es in omega arith)
 
-at_least_one : (changes : List Change) → (length (or_clear changes) ≡ length changes) ⊎ (length (or_clear changes) ≡ 1)
-at_least_one [] = inr refl
-at_least_one (c ∷ cs) = inl refl
+at_least_one : (changes : List Change) → length (or_clear changes) ≡ max 1 (length changes)
+at_least_one [] = refl
+at_least_one (c ∷ cs) = omega arith
 
 size_is : (contents : Contents) → size contents ≡ sized (entries contents)
 size_is contents =
     ap (λ n. n + sum_by object_count (values contents)) (len-entries contents) ∙ sym (sized_is (entries contents))
 
-pub listing_has_size : (contents : Contents) → (length (listing contents) ≡ size contents) ⊎ (length (listing contents) ≡ 1)
+pub listing_has_size : ListingHasSize
 listing_has_size contents =
-    elim (at_least_one (flat_map listed (entries contents))) [
-      | inl e ↦ inl (e ∙ length-listings (entries contents) ∙ sym (size_is contents))
-      | inr e ↦ inr e
-    ]
+    at_least_one (flat_map listed (entries contents)) ∙ ap (max 1) (length-listings (entries contents) ∙ sym (size_is contents))
 
 -- ---- what they hold
 

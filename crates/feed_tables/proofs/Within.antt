@@ -13,12 +13,9 @@ use Rattle.feed_tables.specs.Tables.{Contents, listed, or_clear, listing, IsTabl
 use Rattle.feed_tables.specs.declared.change.Change.{Change}
 use Rattle.feed_tables.specs.declared.tables.Table.{Table}
 use Rattle.feed_tables.specs.declared.tables.Table.TheVariants.{One, Many}
+use Rattle.feed_text.proofs.Lists.{all-append}
 
 module _ {X : Type 0} (P : X → Type 0) where
-  pub all-append : (xs ys : List X) → AllByRecursion P xs → AllByRecursion P ys → AllByRecursion P (xs ++ ys)
-  all-append [] ys p q = q
-  all-append (x ∷ xs) ys p q = (p.0, all-append xs ys p.1 q)
-
   pub all-filter : (keep : X → Bool) (xs : List X) → AllByRecursion P xs → AllByRecursion P (filter keep xs)
   all-filter keep [] p = tt
   all-filter keep (x ∷ xs) p =

@@ -17,15 +17,19 @@ pub record IsBetween (low high : Option (List ℕ)) (key : List ℕ) : Type 0 wh
   pub below : IsBelow high key
 
 -- all keys are between the two
-abbrev pub AllBetween : {X : Type 0} → Option (List ℕ) → Option (List ℕ) → List (List ℕ × X) → Type 0
+abbrev pub AllBetween : {X : Type 0} → Option (List ℕ) → Option (List ℕ) → List (List ℕ × X)
+    → Type 0
 AllBetween low high es = (key : List ℕ) → IsSome (find byte_order key es) → IsBetween low high key
 
 -- between the two the one has what the other has
-abbrev pub AgreeBetween : {X : Type 0} → Option (List ℕ) → Option (List ℕ) → List (List ℕ × X) → List (List ℕ × X) → Type 0
-AgreeBetween low high es fs = (key : List ℕ) → IsBetween low high key → find byte_order key es ≡ find byte_order key fs
+abbrev pub AgreeBetween : {X : Type 0} → Option (List ℕ) → Option (List ℕ)
+    → List (List ℕ × X) → List (List ℕ × X) → Type 0
+AgreeBetween low high es fs =
+    (key : List ℕ) → IsBetween low high key → find byte_order key es ≡ find byte_order key fs
 
 -- some of the entries: all of those between the two, and none at all where there are none of these
-pub record IsPartBetween {X : Type 0} (low high : Option (List ℕ)) (es part : List (List ℕ × X)) : Type 0 where
+pub record IsPartBetween {X : Type 0} (low high : Option (List ℕ)) (es part : List (List ℕ × X))
+    : Type 0 where
   pub in_order : IsInOrder part
   pub agrees : AgreeBetween low high part es
   pub filled : AgreeBetween low high part [] → part ≡ []

@@ -17,4 +17,6 @@ abbrev pub contents_code : Coded Contents
 contents_code = map_code text_code table.the_row.coded
 
 abbrev pub tables_code : Coded Tables
-tables_code = code_by (Contents × ℕ) (coded× contents_code coded_ℕ) (λ t. (t.contents, t.room)) (λ p. record { contents = p.0; room = p.1 }) (λ _. refl)
+tables_code =
+    code_by (Contents × ℕ) (coded× contents_code coded_ℕ)
+    (λ t. (t.contents, t.room)) (λ p. record { contents = p.0; room = p.1 }) (λ _. refl)

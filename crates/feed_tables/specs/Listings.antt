@@ -1,5 +1,5 @@
 -- Laws of listings: what the changes of a snapshot are to the tables that it lists.
-use Rattle.std.specs.Prelude.{◌≡◌, ◌⊎◌, List, length}
+use Rattle.std.specs.Prelude.{◌≡◌, max, List, length}
 use Rattle.std.specs.List.{AllByRecursion}
 use Rattle.feed_tables.specs.declared.change.Change.{Change}
 use Rattle.feed_tables.specs.Changes.{IsChange}
@@ -11,8 +11,9 @@ ListingRestores = (contents : Contents) → after_all no_tables (listing content
 
 -- it has one change for each type and each object of a collection, and one where there is no type
 abbrev pub ListingHasSize : Type 0
-ListingHasSize = (contents : Contents) → (length (listing contents) ≡ size contents) ⊎ (length (listing contents) ≡ 1)
+ListingHasSize = (contents : Contents) → length (listing contents) ≡ max 1 (size contents)
 
 -- where the changes that made the tables are within the limits, so are those of the listing
 abbrev pub ListingIsWithin : Type 0
-ListingIsWithin = (changes : List Change) → AllByRecursion IsChange changes → AllByRecursion IsChange (listing (after_all no_tables changes))
+ListingIsWithin = (changes : List Change) → AllByRecursion IsChange changes
+    → AllByRecursion IsChange (listing (after_all no_tables changes))

@@ -11,8 +11,5 @@ mod tables;
 
 pub use change::{Change, Changes};
 pub use laws::table_laws;
-pub use name::{Name, NameFault};
+pub use name::{NAME_BYTES, Name, NameFault};
 pub use tables::Tables;
-
-#[cfg(test)]
-mod tests;

@@ -8,7 +8,7 @@ use Rattle.std.specs.Option.{option_eq}
 use Rattle.std.proofs.lemmas.Bool.{false≢true, leb-true, ne_eqb, le-ltb}
 use Rattle.std.proofs.lemmas.Option.{cond_some, none-some}
 use Rattle.feed_text.specs.Ascii.{quotation_mark, backslash}
-use Rattle.feed_text.specs.Reading.{is_unescaped, first, front_while, rest_while, unescaped_content}
+use Rattle.feed_text.specs.Reading.{is_unescaped, first, front_while, rest_while, plain_content}
 use Rattle.feed_text.specs.declared.Kind.TheVariants as kind
 use Rattle.feed_text.specs.Json.{Character, unescaped, escaped, unicode, is_character, print_character, IsString, Value, null_literal, true_literal, false_literal, number, string, empty_array, array, empty_object, object, print, kind_of, IsValue, TextOfStringIsString}
 use Rattle.feed_text.proofs.Fronts.{while_parts, while_passes, while_front, while_rest}
@@ -19,7 +19,7 @@ use Rattle.feed_text.specs.Strings.{Says, says, written_byte, written_string, Is
 use Rattle.feed_text.proofs.Strings.{both_true, unescaped_is}
 use Rattle.feed_text.proofs.TreeScalars.{both, unescaped_test, all_bytes, bytes_all}
 use Rattle.feed_text.proofs.Utf8.{utf8_behind, utf8_before}
-use Rattle.feed_text.proofs.WrittenStrings.{written_string_says}
+use Rattle.feed_text.proofs.WrittenStrings.{written_string_says, written_is_quoted, written_says}
 
 below_space : (b c : ℕ) → is_unescaped b ≡ true → c < 32 → (b == c) ≡ false
 below_space b c h lt = ne_eqb b c (λ e. absurd (omega (arith, leb-true 32 b (both_true (leb 32 b) _ h).0)))
@@ -43,8 +43,8 @@ pub record Quotes (s content : List ℕ) : Type 0 where
   pub text : s ≡ quotation_mark ∷ (content ++ quotation_mark ∷ [])
   pub unescaped_bytes : list_all is_unescaped content ≡ true
 
-pub content_quotes : (s content : List ℕ) → unescaped_content s ≡ Some content → Quotes s content
-unfolding unescaped_content
+pub content_quotes : (s content : List ℕ) → plain_content s ≡ Some content → Quotes s content
+unfolding plain_content
 content_quotes s content e =
     let inside = drop 1 s in
     let here = cond_some (first s == quotation_mark && pointwise nat_eq (rest_while is_unescaped inside) (quotation_mark ∷ [])) (front_while is_unescaped inside) content e in
@@ -55,11 +55,11 @@ content_quotes s content e =
     let found : Quotes s (front_while is_unescaped inside) = record { text = opened ∙ ap (λ (t : List ℕ). quotation_mark ∷ t) whole; unescaped_bytes = bytes_all is_unescaped (front_while is_unescaped inside) (while_passes is_unescaped inside) } in
     subst (Quotes s) here.1 found
 
-quotes_content : (s content : List ℕ) → Quotes s content → unescaped_content s ≡ Some content
-unfolding unescaped_content
+quotes_content : (s content : List ℕ) → Quotes s content → plain_content s ≡ Some content
+unfolding plain_content
 quotes_content s content h =
     let passes = all_bytes is_unescaped content h.unescaped_bytes in
-    ap unescaped_content h.text ∙ rw (while_rest is_unescaped content (quotation_mark ∷ []) passes refl, while_front is_unescaped content (quotation_mark ∷ []) passes refl) refl
+    ap plain_content h.text ∙ rw (while_rest is_unescaped content (quotation_mark ∷ []) passes refl, while_front is_unescaped content (quotation_mark ∷ []) passes refl) refl
 
 -- such a string is the written string of its content
 quotes_says : (s content : List ℕ) → Quotes s content → Says s content
@@ -76,10 +76,10 @@ written_unescaped text e =
     let passes : list_all is_unescaped text ≡ true = subst (λ (t : List ℕ). list_all is_unescaped t ≡ true) whole (bytes_all is_unescaped (front_while is_unescaped text) (while_passes is_unescaped text)) in
     ap (λ (t : List ℕ). 34 ∷ (t ++ 34 ∷ [])) (written_bytes text passes)
 
-pub content_says : (s content : List ℕ) → unescaped_content s ≡ Some content → Says s content
+pub content_says : (s content : List ℕ) → plain_content s ≡ Some content → Says s content
 content_says s content e = quotes_says s content (content_quotes s content e)
 
-pub says_content : (s content w : List ℕ) → unescaped_content s ≡ Some content → says s w ≡ bytes_eq content w
+pub says_content : (s content w : List ℕ) → plain_content s ≡ Some content → says s w ≡ bytes_eq content w
 says_content s content w e = ap (λ (o : Option (List ℕ)). option_eq bytes_eq o (Some w)) (content_says s content e)
 
 plain_tail : (bytes : List ℕ) → list_all is_unescaped bytes ≡ true → IsPlain (bytes ++ 34 ∷ [])
@@ -88,10 +88,10 @@ plain_tail (b ∷ bytes) h =
     let i = both_true (is_unescaped b) (list_all is_unescaped bytes) h in
     both (not (b == backslash)) _ (ap not (unescaped_is b i.0).1) (plain_tail bytes i.1)
 
-pub content_text : (s content : List ℕ) → unescaped_content s ≡ Some content → s ≡ quotation_mark ∷ (content ++ quotation_mark ∷ [])
+pub content_text : (s content : List ℕ) → plain_content s ≡ Some content → s ≡ quotation_mark ∷ (content ++ quotation_mark ∷ [])
 content_text s content e = (content_quotes s content e).text
 
-pub content_plain : (s content : List ℕ) → unescaped_content s ≡ Some content → IsPlain s
+pub content_plain : (s content : List ℕ) → plain_content s ≡ Some content → IsPlain s
 content_plain s content e =
     let h = content_quotes s content e in
     subst IsPlain (sym h.text) (plain_tail content h.unescaped_bytes)
@@ -106,7 +106,7 @@ characters_plain (unescaped b ∷ cs) h plain =
 characters_plain (escaped b ∷ cs) h plain = absurd (false≢true plain)
 characters_plain (unicode a b c d ∷ cs) h plain = absurd (false≢true plain)
 
-pub not_plain : (s : List ℕ) → IsString s → unescaped_content s ≡ None → ¬ IsPlain s
+pub not_plain : (s : List ℕ) → IsString s → plain_content s ≡ None → ¬ IsPlain s
 not_plain s (cs, h, e) none plain =
     let tail : IsPlain (flat_map print_character cs ++ 34 ∷ []) = subst IsPlain e plain in
     let quotes : Quotes s (flat_map print_character cs) = record { text = e; unescaped_bytes = characters_plain cs h tail } in
@@ -145,3 +145,9 @@ string_value (object ms) ok e = absurd cc
 
 pub string_text_is_string : TextOfStringIsString
 string_text_is_string x v s e = subst IsString (sym s.text) (string_value v s.valid e)
+
+pub ruleset plain_texts = (content_text, content_says, content_plain, not_plain)
+
+pub ruleset texts = (content_utf8, content_is_front)
+
+pub ruleset written = (written_is_quoted, written_says, written_unescaped)

@@ -71,3 +71,5 @@ run_within_block text found mask some =
     let block = take 16 text in
     let whole : block ++ drop 16 text ≡ text = take-append-drop 16 text in
     sym (ap (rest_while is_unescaped) (sym whole) ∙ up_to block (drop 16 text) (omega arith) ∙ ap (drop (prefix_len (λ x. not (is_stop x)) block)) whole ∙ ap (λ (n : ℕ). drop n text) (sym (lowest_stop text found mask some)))
+
+pub ruleset runs = (run_through_block, run_within_block, run_bound)

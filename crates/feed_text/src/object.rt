@@ -38,13 +38,13 @@ pub enum ObjectFault {
 }
 
 /// The greatest number of bytes of an object's text.
-const OBJECT_BYTES: usize = 1_048_576;
+pub const OBJECT_BYTES: usize = 1_048_576;
 
 /// How deep an object's text may nest.
-const OBJECT_LEVELS: usize = 100;
+pub const OBJECT_LEVELS: usize = 100;
 
 /// The first level that is too deep in an object's text.
-const TOO_DEEP: usize = 101;
+const TOO_DEEP: usize = OBJECT_LEVELS + 1;
 
 /// One JSON object with nothing around it, as its text. A copy shares the bytes.
 #[derive(Drop)]
@@ -65,8 +65,8 @@ impl Model for ObjectText {
 }
 
 impl ObjectText {
-    /// A copy of the text, where it is one JSON object with nothing around it and no line feed in it, of at most
-    /// 1,048,576 bytes and 100 levels. The fault is the first of those that hold.
+    /// A copy of the text, where it is one JSON object with nothing around it and no line feed in
+    /// it, of at most 1,048,576 bytes and 100 levels. The fault is the first of those that hold.
     #[tactic(auto, using(crate::proofs::Kept::object_text))]
     pub fn parse(alloc: Global, bytes: &[u8]) -> Result<ObjectText, ObjectFault>
         ensures text { IfOk result (λ object. object ≡ bytes.now) }
@@ -91,8 +91,8 @@ impl ObjectText {
         }
     }
 
-    /// A copy of a text that is known to be such an object: it is not read again. Fails only where memory for the bytes
-    /// is refused.
+    /// A copy of a text that is known to be such an object: it is not read again. Fails only where
+    /// memory for the bytes is refused.
     pub fn from_object(alloc: Global, bytes: &[u8]) -> Result<ObjectText, AllocError>
         requires { IsObjectText bytes.now }
         ensures { IfOk result (λ object. object ≡ bytes.now) }
@@ -109,8 +109,8 @@ impl ObjectText {
         self.text.as_slice()
     }
 
-    /// The same text again; the bytes are shared. Takes no memory, and fails only where the copies are too many to be
-    /// counted.
+    /// The same text again; the bytes are shared. Takes no memory, and fails only where the copies
+    /// are too many to be counted.
     pub fn copy(&self) -> Result<ObjectText, AllocError>
         ensures { IfOk result (λ object. object ≡ self.now) }
     {
@@ -119,7 +119,7 @@ impl ObjectText {
     }
 }
 
-#[tactic(auto, using(crate::proofs::Kept::unbroken_from_none, crate::proofs::Kept::broken_from_some))]
+#[tactic(auto, using(crate::proofs::Kept::line_feeds))]
 fn has_line_feed(bytes: &[u8]) -> bool
     ensures { MatchBool result (¬ IsUnbroken bytes.now) (IsUnbroken bytes.now) }
 {

@@ -29,7 +29,7 @@ fn behind(text: &[u8], count: usize) -> &[u8]
 
 /// What is behind the bytes that stand for themselves in a string.
 #[inline(always)]
-#[tactic(auto, using(crate::proofs::Runs::run_through_block, crate::proofs::Runs::run_within_block, crate::proofs::Runs::run_bound))]
+#[tactic(auto, using(crate::proofs::Runs::runs))]
 pub fn skip_unescaped(text: &[u8]) -> &[u8]
     ensures { result.now ≡ rest_while is_unescaped text.now }
 {

@@ -214,7 +214,7 @@ module _ (cut : LinesCut) (only_cut : LinesAreTheOnlyCut) (written : WrittenLine
       let some = listing_is_some (state_after log k) in
       let small = state_is_small k within in
       let one = is_log.range.staged_from in
-      let few : length cs ≤ limits.staged = elim (sized (state_after log k)) [ inl e ↦ omega (arith, e, small) | inr e ↦ omega (arith, e, one) ] in
+      let few : length cs ≤ limits.staged = omega (arith, sized (state_after log k), small, one) in
       let z : 0 ≡ k - k = omega arith in
       let shown : reset_to (after_all no_tables cs) token ≡ node_at log (record { at = k; low = k }) =
       (λ i. record { published = Some (record { tables = restores (state_after log k) i; token = token }); held = tokens_from k (suc (z i)); kept = commits_after log k (z i) }) in

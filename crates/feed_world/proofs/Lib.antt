@@ -1,4 +1,4 @@
-pub mod Agreement
+pub mod Answered
 pub mod Batches
 pub mod Brought
 pub mod Commits
@@ -13,7 +13,6 @@ pub mod Listings
 pub mod Moved
 pub mod OneReading
 pub mod Reached
-pub mod Schedules
 pub mod Scripts
 pub mod Served
 pub mod Stepped

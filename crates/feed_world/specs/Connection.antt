@@ -55,7 +55,8 @@ blocks_within log (part ∷ parts) n =
 
 -- the blocks that end after the first d bytes that were sent and within the first e
 abbrev pub blocks_between : Log → Connection → ℕ → ℕ → List Part
-blocks_between log connection d e = drop (length (blocks_within log connection.parts d)) (blocks_within log connection.parts e)
+blocks_between log connection d e =
+    drop (length (blocks_within log connection.parts d)) (blocks_within log connection.parts e)
 
 -- where a mirror is after a block came whole
 abbrev pub moved : ℕ → Option Position → Part → Option Position

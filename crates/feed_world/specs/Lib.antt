@@ -1,4 +1,3 @@
-pub mod Agreement
 pub mod Codes
 pub mod Connection
 pub mod Laws

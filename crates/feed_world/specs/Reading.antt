@@ -15,7 +15,8 @@ abbrev pub opening_at : Log → Option Position → Bool → Opening
 opening_at log place fresh = record { before = node_where log place; fresh = fresh }
 
 -- a connection that is fresh, or starts at the mirror's number; it sent, in order, what stands in the log
-pub record IsOpened (limits : Limits) (log : Log) (place : Option Position) (c : Connection) : Type 0 where
+pub record IsOpened (limits : Limits) (log : Log) (place : Option Position)
+    (c : Connection) : Type 0 where
   pub mirror : IsPlace limits log place
   pub start : c.fresh ≡ false → (own : Position) × (place ≡ Some own) × (own.at ≡ c.start)
   pub order : IsInOrder c
@@ -23,24 +24,33 @@ pub record IsOpened (limits : Limits) (log : Log) (place : Option Position) (c :
 
 -- A front of what was sent has nothing bad, and the mirror that reads it is where its whole blocks bring it: it publishes
 -- at each of them, and nothing else.
-pub record IsRead (limits : Limits) (log : Log) (place : Option Position) (c : Connection) (front : List ℕ) : Type 0 where
+pub record IsRead (limits : Limits) (log : Log) (place : Option Position) (c : Connection)
+    (front : List ℕ) : Type 0 where
   pub notes : List Line
   pub nothing_bad : Reads limits (opening_at log place c.fresh) front notes
-  pub shows : keep_latest limits.history (reads (opening_at log place c.fresh) notes) ≡ node_where log (moved_by limits.history place (blocks_within log c.parts (length front)))
-  pub awaits : awaits_reset (opening_at log place c.fresh) notes ≡ (c.fresh && (length (blocks_within log c.parts (length front)) == 0))
+  pub shows : keep_latest limits.history (reads (opening_at log place c.fresh) notes)
+      ≡ node_where log (moved_by limits.history place (blocks_within log c.parts (length front)))
+  pub awaits : awaits_reset (opening_at log place c.fresh) notes ≡ (c.fresh
+      && (length (blocks_within log c.parts (length front)) == 0))
   pub published : token_count notes ≡ length (blocks_within log c.parts (length front))
 
 -- whatever front of what was sent came
 abbrev pub FrontsAreRead : Type 0
-FrontsAreRead = (limits : Limits) (log : Log) (place : Option Position) (c : Connection) (front behind : List ℕ)
-    → IsLog limits log → IsOpened limits log place c → front ++ behind ≡ sent_text log c → IsRead limits log place c front
+FrontsAreRead =
+    (limits : Limits) (log : Log) (place : Option Position) (c : Connection) (front behind : List ℕ)
+    → IsLog limits log → IsOpened limits log place c → front ++ behind ≡ sent_text log c
+    → IsRead limits log place c front
 
 -- where nothing is bad, the lines say one thing, and no fault stands
 pub record ReadingIsOne : Type 0 where
-  pub notes : (limits : Limits) (opening : Opening) (bytes : List ℕ) (notes others : List Line) → Reads limits opening bytes notes → Reads limits opening bytes others → notes ≡ others
-  pub faultless : (limits : Limits) (opening : Opening) (bytes : List ℕ) (notes others : List Line) (fault : FeedFault)
+  pub notes : (limits : Limits) (opening : Opening) (bytes : List ℕ) (notes others : List Line)
+      → Reads limits opening bytes notes → Reads limits opening bytes others → notes ≡ others
+  pub faultless : (limits : Limits) (opening : Opening) (bytes : List ℕ) (notes others : List Line)
+      (fault : FeedFault)
       → Reads limits opening bytes notes → ¬ (FaultsAt limits opening bytes others fault)
 
 -- numbers of a log have one token each, so nodes at one token have equal tables
 abbrev pub TokensTellStates : Type 0
-TokensTellStates = (log : Log) (m n : ℕ) → length log < 2 ^ 64 → m ≤ length log → n ≤ length log → token_after m ≡ token_after n → (m ≡ n) × (state_after log m ≡ state_after log n)
+TokensTellStates =
+    (log : Log) (m n : ℕ) → length log < 2 ^ 64 → m ≤ length log → n ≤ length log
+    → token_after m ≡ token_after n → (m ≡ n) × (state_after log m ≡ state_after log n)

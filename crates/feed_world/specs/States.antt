@@ -1,5 +1,5 @@
 -- What a world in memory has, and of which world of numbers it is the state.
-use Rattle.std.specs.Prelude.{◌≡◌, ◌<◌, ℕ, zero, suc, option_map, ◌≤◌, Bool, false, true, List, [], ◌∷◌, length, map, take, flat_map, slice_get, Option, Some, None, IfSome, Result, Ok, Err, if◌then◌else◌}
+use Rattle.std.specs.Prelude.{◌≡◌, ◌<◌, ℕ, zero, suc, ◌+◌, min, option_map, ◌≤◌, Bool, false, true, List, [], ◌∷◌, length, map, take, flat_map, slice_get, Option, Some, None, IfSome, Result, Ok, Err, if◌then◌else◌}
 use Rattle.std.specs.Option.{option_and_then}
 use Rattle.feed_tables.specs.Tables.{no_tables, after_all}
 use Rattle.feed_node.specs.declared.fault.FeedFault.TheVariants.{Memory as FeedMemory}
@@ -38,6 +38,18 @@ pub record FollowerState : Type 0 where
   pub upstream : ℕ
   pub connection : Option ConnectionState
 
+abbrev pub sending : List ℕ → List ℕ → ℕ → Bool → ConnectionState
+sending token text delivered over =
+    record { token = token; text = text; delivered = delivered; over = over }
+
+-- how many bytes are delivered after the next ones, this many or all that remain
+abbrev pub delivered_after : ConnectionState → ℕ → ℕ
+delivered_after c bytes = min (c.delivered + bytes) (length c.text)
+
+abbrev pub follower_state : MirrorState → ℕ → Option ConnectionState → FollowerState
+follower_state mirror upstream connection =
+    record { mirror = mirror; upstream = upstream; connection = connection }
+
 -- a world: the primary, what it has committed, and the mirrors
 pub record WorldState : Type 0 where
   pub primary : PrimaryState
@@ -49,7 +61,7 @@ world_state primary log followers = record { primary = primary; log = log; follo
 
 -- a mirror without a connection
 abbrev pub new_follower : Limits → ℕ → FollowerState
-new_follower limits upstream = record { mirror = new_mirror limits; upstream = upstream; connection = None }
+new_follower limits upstream = follower_state (new_mirror limits) upstream None
 
 -- why there is no world
 abbrev pub RefusesShape : List ℕ → ShapeFault → Type 0
@@ -66,17 +78,21 @@ pub record IsConnection (log : Log) (c : Connection) (s : ConnectionState) : Typ
 
 -- The mirror has read what was delivered on this connection, and is where the blocks of that bring it from where it was.
 -- One whose token was refused is on a fresh connection, and none came yet.
-pub record IsReading (limits : Limits) (log : Log) (m : Mirror) (c : Connection) (mirror : MirrorState) : Type 0 where
+pub record IsReading (limits : Limits) (log : Log) (m : Mirror) (c : Connection)
+    (mirror : MirrorState) : Type 0 where
   pub before : Option Position
   pub opened : IsOpened limits log before c
   pub place : m.place ≡ moved_by limits.history before (blocks_within log c.parts c.delivered)
   pub notes : List Line
-  pub stands : StandsAt (opening_at log before c.fresh) (take c.delivered (sent_text log c)) notes mirror
+  pub stands : StandsAt (opening_at log before c.fresh) (take c.delivered
+      (sent_text log c)) notes mirror
   pub afresh : m.afresh ≡ true → (c.fresh ≡ true) × (blocks_within log c.parts c.delivered ≡ [])
 
 -- both have a connection, this one; or neither has one, and the mirror is not open
-abbrev pub AreLinked : Limits → Log → Mirror → Option Connection → FollowerState → Option ConnectionState → Type 0
-AreLinked limits log m (Some c) f (Some s) = IsConnection log c s × IsReading limits log m c f.mirror
+abbrev pub AreLinked : Limits → Log → Mirror → Option Connection → FollowerState
+    → Option ConnectionState → Type 0
+AreLinked limits log m (Some c) f (Some s) =
+    IsConnection log c s × IsReading limits log m c f.mirror
 AreLinked limits log m None f None = f.mirror.connection ≡ None
 AreLinked limits log m (Some c) f None = ⊥
 AreLinked limits log m None f (Some s) = ⊥
@@ -105,7 +121,8 @@ RefusesMove (Ok move) fault = (fault ≡ Memory) × (is_free_reply move.0 ≡ fa
 RefusesMove (Err reason) fault = fault ≡ reason
 
 -- the connection had bytes to deliver, and broke for want of memory after some of them
-pub record BreaksMirror (limits : Limits) (log : Log) (m : Mirror) (bytes : ℕ) (f : FollowerState) : Type 0 where
+pub record BreaksMirror (limits : Limits) (log : Log) (m : Mirror) (bytes : ℕ)
+    (f : FollowerState) : Type 0 where
   pub connection : Connection
   pub is_linked : m.connection ≡ Some connection
   pub some : connection.delivered < reached log connection bytes
@@ -116,8 +133,10 @@ pub record BreaksMirror (limits : Limits) (log : Log) (m : Mirror) (bytes : ℕ)
 
 -- the mirror of this number was brought these bytes; it meets no fault but a want of memory
 abbrev pub IsBrought : Limits → Log → Mirror → ℕ → ℕ → Reply → FollowerState → Type 0
-IsBrought limits log m number bytes (Broke i fault) f = (i ≡ number) × (fault ≡ FeedMemory) × BreaksMirror limits log m bytes f
-IsBrought limits log m number bytes reply f = Moves limits log (mirror_delivers limits.history log bytes m) reply f
+IsBrought limits log m number bytes (Broke i fault) f =
+    (i ≡ number) × (fault ≡ FeedMemory) × BreaksMirror limits log m bytes f
+IsBrought limits log m number bytes reply f =
+    Moves limits log (mirror_delivers limits.history log bytes m) reply f
 
 -- each mirror is the one at its place
 abbrev pub AreMirrors : Limits → Log → List Mirror → List FollowerState → Type 0
@@ -152,7 +171,8 @@ pub record MovesTo (w : World) (event : Event) (reply : Reply) (after : World) :
 
 -- the event led to a world whose mirrors these are
 abbrev pub NodesMove : World → PrimaryState → Event → Reply → List FollowerState → Type 0
-NodesMove w primary event reply fs = (after : World) × MovesTo w event reply after × AreNodes after primary fs
+NodesMove w primary event reply fs =
+    (after : World) × MovesTo w event reply after × AreNodes after primary fs
 
 -- the event led to a world of which this is the state
 abbrev pub WorldMoves : World → Event → Reply → WorldState → Type 0
@@ -183,12 +203,17 @@ shown_at s i = slice_get (all_shown s.primary s.followers) i
 
 -- what is published is the primary's tables after exactly the commits up to the token that is published with it
 abbrev pub FollowsLog : List Commit → Published → Type 0
-FollowsLog log p = (k : ℕ) × (k ≤ length log) × (p.tables ≡ after_all no_tables (flat_map (λ c. c.changes) (take k log))) × (p.token ≡ token_after k)
+FollowsLog log p =
+    (k : ℕ) × (k ≤ length log)
+    × (p.tables ≡ after_all no_tables (flat_map (λ c. c.changes) (take k log)))
+    × (p.token ≡ token_after k)
 
 -- each node shows what the primary has committed up to its token, and nodes that have published one token have equal tables
 pub record NoFalseState (s : WorldState) : Type 0 where
-  pub follow : (i : ℕ) (node : NodeState) → shown_at s i ≡ Some node → IfSome node.published (FollowsLog s.log)
-  pub agree : (i j : ℕ) (one other : NodeState) (p q : Published) → shown_at s i ≡ Some one → shown_at s j ≡ Some other
+  pub follow : (i : ℕ) (node : NodeState) → shown_at s i ≡ Some node
+      → IfSome node.published (FollowsLog s.log)
+  pub agree : (i j : ℕ) (one other : NodeState) (p q : Published) → shown_at s i ≡ Some one
+      → shown_at s j ≡ Some other
       → one.published ≡ Some p → other.published ≡ Some q → p.token ≡ q.token → p.tables ≡ q.tables
 
 -- ---- what a connection has carried
@@ -199,17 +224,21 @@ pub record Carried : Type 0 where
   pub delivered : ℕ
   pub last : List ℕ
 
+abbrev pub carrying : ℕ → ℕ → List ℕ → Carried
+carrying sent delivered last = record { sent = sent; delivered = delivered; last = last }
+
 abbrev pub carried : ConnectionState → Carried
-carried c = record { sent = length c.text; delivered = c.delivered; last = c.token }
+carried c = carrying (length c.text) c.delivered c.token
 
 -- what the connection of this mirror has carried, where it has one
 abbrev pub link_at : WorldState → ℕ → Option Carried
 link_at s zero = None
-link_at s (suc i) = option_map carried (option_and_then (λ f. f.connection) (slice_get s.followers i))
+link_at s (suc i) =
+    option_map carried (option_and_then (λ f. f.connection) (slice_get s.followers i))
 
 -- the same of a connection of numbers
 abbrev pub carried_on : Log → Connection → Carried
-carried_on log c = record { sent = bytes_sent log c; delivered = c.delivered; last = token_after c.last }
+carried_on log c = carrying (bytes_sent log c) c.delivered (token_after c.last)
 
 -- what the connection of this mirror of the world has carried, where it has one
 abbrev pub carried_at : World → ℕ → Option Carried

@@ -1,12 +1,12 @@
 -- What each event does to a world, and the reply. An event has one reply, but where memory ran out.
-use Rattle.std.specs.Prelude.{◌≡◌, ◌≢◌, ◌⊎◌, ℕ, ◌+◌, ◌<◌, ◌≤◌, Bool, true, false, ◌&&◌, List, [], ◌∷◌, ◌++◌, length, Option, Some, None, Result, Ok, Err, min, if◌then◌else◌, nat_lt, nat_le, ◌==◌, IsTrue}
+use Rattle.std.specs.Prelude.{◌≡◌, ◌≢◌, ◌⊎◌, ℕ, ◌+◌, ◌<◌, ◌≤◌, Bool, true, false, ◌&&◌, List, [], ◌∷◌, ◌++◌, length, Option, Some, None, Result, Ok, Err, min, if◌then◌else◌, nat_lt, nat_le, ◌==◌, IsSome, IsTrue}
 use Rattle.feed_tables.specs.declared.change.Change.{Change}
 use Rattle.feed_node.specs.declared.primary.CommitFault.{CommitFault}
-use Rattle.feed_node.specs.declared.primary.CommitFault.TheVariants.{EmptyBatch, LastToken, Memory as CommitMemory}
+use Rattle.feed_node.specs.declared.primary.CommitFault.TheVariants.{Memory as CommitMemory}
 use Rattle.feed_node.specs.declared.fault.FeedFault.TheVariants.{Memory as FeedMemory}
 use Rattle.feed_node.specs.declared.session.Pulled.{Pulled}
 use Rattle.feed_node.specs.declared.session.Pulled.TheVariants.{More, UpToDate, Gone}
-use Rattle.feed_node.specs.Log.{PrimaryState, token_after, commit_fault}
+use Rattle.feed_node.specs.Log.{PrimaryState, token_after, early_fault, commit_fault}
 use Rattle.feed_world.specs.declared.event.Event.{Event}
 use Rattle.feed_world.specs.declared.event.Event.TheVariants.{Commit as DoCommit, Connect, Serve, Idle, Deliver, Cut as DoCut}
 use Rattle.feed_world.specs.declared.event.Reply.{Reply}
@@ -29,7 +29,12 @@ Move = Reply × Mirror
 -- ---- Commit: the log gains the changes, unless the primary refuses them
 
 abbrev pub primary_of : World → PrimaryState
-primary_of world = record { limits = world.limits; count = world.primary.at; node = node_at world.log world.primary }
+primary_of world =
+    record {
+      limits = world.limits;
+      count = world.primary.at;
+      node = node_at world.log world.primary;
+    }
 
 abbrev pub committed : World → List Change → World
 committed world changes =
@@ -42,7 +47,8 @@ committed world changes =
 
 abbrev pub commits_unless : World → List Change → Option CommitFault → Outcome
 commits_unless world changes (Some fault) = Err (CommitRefused fault)
-commits_unless world changes None = Ok (Committed (token_after (world.primary.at + 1)), committed world changes)
+commits_unless world changes None =
+    Ok (Committed (token_after (world.primary.at + 1)), committed world changes)
 
 abbrev pub commits : World → List Change → Outcome
 commits world changes = commits_unless world changes (commit_fault (primary_of world) changes)
@@ -52,15 +58,30 @@ commits world changes = commits_unless world changes (commit_fault (primary_of w
 
 -- the mirror with this connection, or none
 abbrev pub linked : Mirror → Option Connection → Mirror
-linked mirror connection = record { place = mirror.place; upstream = mirror.upstream; afresh = mirror.afresh; connection = connection }
+linked mirror connection =
+    record {
+      place = mirror.place;
+      upstream = mirror.upstream;
+      afresh = mirror.afresh;
+      connection = connection;
+    }
 
 -- the mirror whose token was refused
 abbrev pub refused : Mirror → Mirror
-refused mirror = record { place = mirror.place; upstream = mirror.upstream; afresh = true; connection = None }
+refused mirror =
+    record { place = mirror.place; upstream = mirror.upstream; afresh = true; connection = None }
 
 -- a connection on which nothing was delivered
 abbrev pub new_connection : Bool → ℕ → Connection
-new_connection fresh start = record { fresh = fresh; start = start; parts = first_parts fresh start; delivered = 0; last = start; over = false }
+new_connection fresh start =
+    record {
+      fresh = fresh;
+      start = start;
+      parts = first_parts fresh start;
+      delivered = 0;
+      last = start;
+      over = false;
+    }
 
 abbrev pub opens : Mirror → Bool → ℕ → Move
 opens mirror fresh start = (Opened, linked mirror (Some (new_connection fresh start)))
@@ -69,11 +90,13 @@ abbrev pub holds_number : Position → ℕ → Bool
 holds_number server k = nat_le server.low k && nat_le k server.at
 
 abbrev pub connects_behind : Mirror → Position → ℕ → Move
-connects_behind mirror server own = if holds_number server own then opens mirror false own else (Refused, refused mirror)
+connects_behind mirror server own =
+    if holds_number server own then opens mirror false own else (Refused, refused mirror)
 
 abbrev pub connects_to : Mirror → Position → Option Position → Move
 connects_to mirror server None = opens mirror true server.at
-connects_to mirror server (Some own) = if mirror.afresh then opens mirror true server.at else connects_behind mirror server own.at
+connects_to mirror server (Some own) =
+    if mirror.afresh then opens mirror true server.at else connects_behind mirror server own.at
 
 -- to a server that is at this place
 abbrev pub connects : Mirror → Option Position → Move
@@ -83,10 +106,26 @@ connects mirror (Some server) = connects_to mirror server mirror.place
 -- ---- Serve: the commit after the last one, where the server holds its token; else nothing more comes
 
 abbrev pub with_more : Connection → Connection
-with_more c = record { fresh = c.fresh; start = c.start; parts = c.parts ++ Commit (c.last + 1) ∷ []; delivered = c.delivered; last = c.last + 1; over = c.over }
+with_more c =
+    record {
+      fresh = c.fresh;
+      start = c.start;
+      parts = c.parts ++ Commit (c.last + 1) ∷ [];
+      delivered = c.delivered;
+      last = c.last + 1;
+      over = c.over;
+    }
 
 abbrev pub ended : Connection → Connection
-ended c = record { fresh = c.fresh; start = c.start; parts = c.parts; delivered = c.delivered; last = c.last; over = true }
+ended c =
+    record {
+      fresh = c.fresh;
+      start = c.start;
+      parts = c.parts;
+      delivered = c.delivered;
+      last = c.last;
+      over = true;
+    }
 
 abbrev pub serves_behind : Connection → Position → Pulled × Connection
 serves_behind c server =
@@ -105,7 +144,15 @@ serves c server = if c.over then (Gone, c) else serves_from c server
 -- ---- Idle: a line feed
 
 abbrev pub with_line_feed : Connection → Connection
-with_line_feed c = record { fresh = c.fresh; start = c.start; parts = c.parts ++ Line_feed ∷ []; delivered = c.delivered; last = c.last; over = c.over }
+with_line_feed c =
+    record {
+      fresh = c.fresh;
+      start = c.start;
+      parts = c.parts ++ Line_feed ∷ [];
+      delivered = c.delivered;
+      last = c.last;
+      over = c.over;
+    }
 
 abbrev pub idles : Connection → Reply × Connection
 idles c = if c.over then (Sent Gone, c) else (Idled, with_line_feed c)
@@ -117,20 +164,37 @@ abbrev pub reached : Log → Connection → ℕ → ℕ
 reached log c n = min (c.delivered + n) (bytes_sent log c)
 
 abbrev pub delivered_to : Connection → ℕ → Connection
-delivered_to c e = record { fresh = c.fresh; start = c.start; parts = c.parts; delivered = e; last = c.last; over = c.over }
+delivered_to c e =
+    record {
+      fresh = c.fresh;
+      start = c.start;
+      parts = c.parts;
+      delivered = e;
+      last = c.last;
+      over = c.over;
+    }
 
 -- the mirror to which its connection brought these blocks
 abbrev pub brought : ℕ → Mirror → List Part → Option Connection → Mirror
 brought history mirror blocks connection =
-    record { place = moved_by history mirror.place blocks; upstream = mirror.upstream; afresh = mirror.afresh && (length blocks == 0); connection = connection }
+    record {
+      place = moved_by history mirror.place blocks;
+      upstream = mirror.upstream;
+      afresh = mirror.afresh && (length blocks == 0);
+      connection = connection;
+    }
 
 -- the mirror after e of the bytes sent were delivered
 abbrev pub brought_to : ℕ → Log → Mirror → Connection → ℕ → Option Connection → Mirror
-brought_to history log mirror c e connection = brought history mirror (blocks_between log c c.delivered e) connection
+brought_to history log mirror c e connection =
+    brought history mirror (blocks_between log c c.delivered e) connection
 
 abbrev pub delivers_up_to : ℕ → Log → Mirror → Connection → ℕ → Move
-delivers_up_to history log mirror c e =
-    (Delivered (length (blocks_between log c c.delivered e)), brought_to history log mirror c e (Some (delivered_to c e)))
+delivers_up_to history log mirror c e = (
+  Delivered (length (blocks_between log c c.delivered e)),
+  brought_to history log mirror c e
+      (Some (delivered_to c e)),
+)
 
 abbrev pub delivers : ℕ → Log → Mirror → Connection → ℕ → Move
 delivers history log mirror c n = delivers_up_to history log mirror c (reached log c n)
@@ -146,13 +210,21 @@ abbrev pub mirror_connects : Mirror → Option Position → Result Move WorldFau
 mirror_connects mirror server = Ok (connects mirror server)
 
 abbrev pub mirror_serves : Mirror → Option Position → Result Move WorldFault
-mirror_serves mirror server = with_connection mirror.connection (λ c. let served = serves c server in (Sent served.0, linked mirror (Some served.1)))
+mirror_serves mirror server =
+    with_connection mirror.connection (λ c. let served = serves c server in
+    (Sent served.0, linked mirror (Some served.1)))
 
 abbrev pub mirror_idles : Mirror → Result Move WorldFault
-mirror_idles mirror = with_connection mirror.connection (λ c. let idled = idles c in (idled.0, linked mirror (Some idled.1)))
+mirror_idles mirror =
+    with_connection mirror.connection (λ c. let idled = idles c in (
+      idled.0,
+      linked mirror
+          (Some idled.1),
+    ))
 
 abbrev pub mirror_delivers : ℕ → Log → ℕ → Mirror → Result Move WorldFault
-mirror_delivers history log n mirror = with_connection mirror.connection (λ c. delivers history log mirror c n)
+mirror_delivers history log n mirror =
+    with_connection mirror.connection (λ c. delivers history log mirror c n)
 
 abbrev pub mirror_cuts : Mirror → Result Move WorldFault
 mirror_cuts mirror = with_connection mirror.connection (λ c. (Cut, linked mirror None))
@@ -173,8 +245,10 @@ at_node world i act = with_node world i (mirror_at world i) act
 -- the reply to an event and the world after it, where memory suffices
 abbrev pub outcome : World → Event → Outcome
 outcome world (DoCommit changes) = commits world changes
-outcome world (Connect i) = at_node world i (λ mirror. mirror_connects mirror (place_at world mirror.upstream))
-outcome world (Serve i) = at_node world i (λ mirror. mirror_serves mirror (place_at world mirror.upstream))
+outcome world (Connect i) =
+    at_node world i (λ mirror. mirror_connects mirror (place_at world mirror.upstream))
+outcome world (Serve i) =
+    at_node world i (λ mirror. mirror_serves mirror (place_at world mirror.upstream))
 outcome world (Idle i) = at_node world i mirror_idles
 outcome world (Deliver i n) = at_node world i (mirror_delivers world.limits.history world.log n)
 outcome world (DoCut i) = at_node world i mirror_cuts
@@ -189,7 +263,8 @@ pub record Breaks (old : World) (i n : ℕ) (new : World) : Type 0 where
   pub e : ℕ
   pub from : connection.delivered ≤ e
   pub to : e ≤ reached old.log connection n
-  pub after : new ≡ with_mirror old i (brought_to old.limits.history old.log mirror connection e None)
+  pub after : new ≡ with_mirror old i
+      (brought_to old.limits.history old.log mirror connection e None)
 
 -- From the old world the event may have this reply and lead to the new one.
 abbrev pub Step : World → Event → Reply → World → Type 0
@@ -199,7 +274,8 @@ Step old event reply new = outcome old event ≡ Ok (reply, new)
 -- From the old world these events may have these replies, one after another, and lead to the new one.
 abbrev pub Run : World → List Event → List Reply → World → Type 0
 Run old [] [] new = new ≡ old
-Run old (event ∷ events) (reply ∷ replies) new = (mid : World) × Step old event reply mid × Run mid events replies new
+Run old (event ∷ events) (reply ∷ replies) new =
+    (mid : World) × Step old event reply mid × Run mid events replies new
 Run old [] (reply ∷ replies) new = ⊥
 Run old (event ∷ events) [] new = ⊥
 
@@ -211,17 +287,17 @@ is_free_reply NotYet = true
 is_free_reply Cut = true
 is_free_reply reply = false
 
--- what takes no memory: an event at no node or no connection, a commit without changes or where no token is left, a
--- connect that opens nothing, a pull with nothing to send, and a cut
+-- an event at no node or no connection takes no memory, nor do a connect that opens nothing, a pull with nothing to send,
+-- and a cut
 abbrev pub is_free : Outcome → Bool
 is_free (Err NoNode) = true
 is_free (Err NoConnection) = true
-is_free (Err (CommitRefused EmptyBatch)) = true
-is_free (Err (CommitRefused LastToken)) = true
 is_free (Err fault) = false
 is_free (Ok p) = is_free_reply p.0
 
+-- nor does a commit that is refused before its tables are made
 abbrev pub TakesNone : World → Event → Type 0
+TakesNone world (DoCommit changes) = IsSome (early_fault (primary_of world) changes)
 TakesNone world event = IsTrue (is_free (outcome world event))
 
 -- The event is refused in this world, for this fault. A want of memory refuses an event only where memory is taken; within
@@ -229,7 +305,8 @@ TakesNone world event = IsTrue (is_free (outcome world event))
 abbrev pub IsRefused : World → Event → WorldFault → Type 0
 IsRefused world (Deliver i n) Memory = ⊥
 IsRefused world event Memory = ¬ (TakesNone world event)
-IsRefused world (DoCommit changes) (CommitRefused CommitMemory) = ¬ (TakesNone world (DoCommit changes))
+IsRefused world (DoCommit changes) (CommitRefused CommitMemory) =
+    ¬ (TakesNone world (DoCommit changes))
 IsRefused world event fault = outcome world event ≡ Err fault
 
 -- The first refused event ends the run, and those before it stand. The room for the replies may be refused before the

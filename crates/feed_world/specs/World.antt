@@ -1,5 +1,5 @@
 -- A world of nodes: a primary, and mirrors each behind another node.
-use Rattle.std.specs.Prelude.{◌≡◌, ℕ, zero, suc, ◌≤◌, Bool, false, List, [], length, map, Option, Some, None, slice_get, slice_set}
+use Rattle.std.specs.Prelude.{◌≡◌, ℕ, zero, suc, ◌≤◌, ◌+◌, Bool, false, List, [], length, map, Option, Some, None, slice_get, slice_set}
 use Rattle.std.specs.Option.{option_and_then}
 use Rattle.feed_node.specs.Limits.{Limits}
 use Rattle.feed_node.specs.States.{NodeState}
@@ -22,17 +22,28 @@ pub record World : Type 0 where
   pub primary : Position
   pub mirrors : List Mirror
 
--- there are at most 255 mirrors, and each is behind an earlier node
+-- how many nodes a world has at most
+abbrev pub most_nodes : ℕ
+most_nodes = 256
+
+-- the primary and the mirrors are no more nodes than a world has at most, and each mirror is behind an earlier node
 pub record HasShape (upstreams : List ℕ) : Type 0 where
-  pub few : length upstreams ≤ 255
+  pub few : 1 + length upstreams ≤ most_nodes
   pub earlier : (i upstream : ℕ) → slice_get upstreams i ≡ Some upstream → upstream ≤ i
 
 abbrev pub new_mirror : ℕ → Mirror
-new_mirror upstream = record { place = None; upstream = upstream; afresh = false; connection = None }
+new_mirror upstream =
+    record { place = None; upstream = upstream; afresh = false; connection = None }
 
 -- the world at the start; the mirror of number i + 1 is behind the node that stands at place i of the list
 abbrev pub new_world : Limits → List ℕ → World
-new_world limits upstreams = record { limits = limits; log = []; primary = record { at = 0; low = 0 }; mirrors = map new_mirror upstreams }
+new_world limits upstreams =
+    record {
+      limits = limits;
+      log = [];
+      primary = record { at = 0; low = 0 };
+      mirrors = map new_mirror upstreams;
+    }
 
 -- the mirror of this number, where there is one
 abbrev pub mirror_at : World → ℕ → Option Mirror
@@ -42,7 +53,13 @@ mirror_at world (suc i) = slice_get world.mirrors i
 -- the world with another mirror of this number
 abbrev pub with_mirror : World → ℕ → Mirror → World
 with_mirror world zero mirror = world
-with_mirror world (suc i) mirror = record { limits = world.limits; log = world.log; primary = world.primary; mirrors = slice_set world.mirrors i mirror }
+with_mirror world (suc i) mirror =
+    record {
+      limits = world.limits;
+      log = world.log;
+      primary = world.primary;
+      mirrors = slice_set world.mirrors i mirror;
+    }
 
 -- where the node of this number is; nowhere, if it has published nothing or is not there
 abbrev pub place_at : World → ℕ → Option Position

@@ -6,7 +6,7 @@ ghost use Rattle.feed_node.specs.declared.session.Pulled.TheVariants.{More};
 ghost use Rattle.feed_world.specs.Connection.{Connection as Sending};
 ghost use Rattle.feed_world.specs.Log.{Log, IsLog};
 ghost use Rattle.feed_world.specs.Position.{Position, IsPlace, node_where};
-ghost use Rattle.feed_world.specs.States.{IsConnection};
+ghost use Rattle.feed_world.specs.States.{IsConnection, sending, delivered_after};
 ghost use Rattle.feed_world.specs.Step.{serves, idles};
 
 use crate::event::Reply;
@@ -26,7 +26,7 @@ pub(crate) struct Connection {
 }
 
 impl Model for Connection {
-    ghost use Rattle.feed_world.specs.States.{ConnectionState};
+    ghost use Rattle.feed_world.specs.States.{ConnectionState, sending};
     ghost use Rattle.feed_world.specs.Codes.{connection_code};
 
     ghost Value = { ConnectionState };
@@ -35,7 +35,7 @@ impl Model for Connection {
 
     ghost use Rattle.std.specs.Prelude.{◌≤◌, length};
 
-    ghost view = { λ a. record { token = a.session; text = a.text.items; delivered = a.delivered; over = a.is_over } };
+    ghost view = { λ a. sending a.session a.text.items a.delivered a.is_over };
 
     ghost invariant = { λ a. a.delivered ≤ length a.text.items };
 }
@@ -43,7 +43,7 @@ impl Model for Connection {
 impl Connection {
     /// A connection on which this was sent when the session was opened.
     pub fn new(session: Session, text: Vec<u8>) -> Connection
-        ensures { result ≡ record { token = session; text = text.items; delivered = 0; over = false } }
+        ensures { result ≡ sending session text.items 0 false }
     {
         Connection {
             session,
@@ -53,13 +53,19 @@ impl Connection {
         }
     }
 
-    /// The server sends its next commit. Where it no longer holds the session's token, it sends no more.
+    /// The server sends its next commit. Where it no longer holds the session's token, it sends no
+    /// more.
     pub fn serve(&mut self, alloc: Global, server: &Node) -> Result<Pulled, AllocError>
         ensures ok { (limits : Bounds) (log : Log) (c : Sending) (place : Option Position)
-            → IsLog limits log → IsPlace limits log place → server.now.shown ≡ node_where log place → c.last ≤ length log → IsConnection log c self.old
-            → IfOk result (λ pulled. (pulled ≡ (serves c place).0) × IsConnection log (serves c place).1 self.new) }
+            → IsLog limits log → IsPlace limits log place
+            → server.now.shown ≡ node_where log place → c.last ≤ length log
+            → IsConnection log c self.old
+            → IfOk result (λ pulled. (pulled ≡ (serves c place).0)
+            × IsConnection log (serves c place).1 self.new) }
         ensures err { (limits : Bounds) (log : Log) (c : Sending) (place : Option Position)
-            → IsLog limits log → IsPlace limits log place → server.now.shown ≡ node_where log place → c.last ≤ length log → IsConnection log c self.old
+            → IsLog limits log → IsPlace limits log place
+            → server.now.shown ≡ node_where log place → c.last ≤ length log
+            → IsConnection log c self.old
             → OnErr result ((serves c place).0 ≡ More) }
         ensures unchanged { OnErr result (self.new ≡ self.old) }
     {
@@ -75,7 +81,8 @@ impl Connection {
 
     /// The server has no more to send for now.
     pub fn idle(&mut self) -> Result<Reply, AllocError>
-        ensures ok { (log : Log) (c : Sending) → IsConnection log c self.old → IfOk result (λ reply. (reply ≡ (idles c).0) × IsConnection log (idles c).1 self.new) }
+        ensures ok { (log : Log) (c : Sending) → IsConnection log c self.old
+            → IfOk result (λ reply. (reply ≡ (idles c).0) × IsConnection log (idles c).1 self.new) }
         ensures err { OnErr result (self.old.over ≡ false) }
         ensures unchanged { OnErr result (self.new ≡ self.old) }
     {
@@ -88,21 +95,23 @@ impl Connection {
 
     /// How many bytes are delivered after the next ones, this many or all that remain.
     fn end(&self, bytes: usize) -> usize
-        ensures { result ≡ min (self.now.delivered + bytes) (length self.now.text) }
+        ensures { result ≡ delivered_after self.now bytes }
     {
         self.delivered.saturating_add(bytes).min(self.text.len())
     }
 
     /// The next bytes, this many or all that remain.
     pub fn next(&self, bytes: usize) -> &[u8]
-        ensures { result.now ≡ drop self.now.delivered (take (min (self.now.delivered + bytes) (length self.now.text)) self.now.text) }
+        ensures { result.now
+            ≡ drop self.now.delivered (take (delivered_after self.now bytes) self.now.text) }
     {
         &self.text[self.delivered..self.end(bytes)]
     }
 
     /// The next bytes were delivered.
     pub fn advance(&mut self, bytes: usize)
-        ensures { self.new ≡ record { token = self.old.token; text = self.old.text; delivered = min (self.old.delivered + bytes) (length self.old.text); over = self.old.over } }
+        ensures { self.new
+            ≡ sending self.old.token self.old.text (delivered_after self.old bytes) self.old.over }
     {
         self.delivered = self.end(bytes);
     }

@@ -1,7 +1,7 @@
 //! What may happen in a world, and its replies.
 
 ghost use Rattle.std.specs.Prelude.{◌≡◌};
-ghost use Rattle.feed_world.specs.declared.event.WorldFault.TheVariants.{Memory as WorldMemory};
+ghost use Rattle.feed_world.specs.declared.event.WorldFault.TheVariants.{Commit as CommitRefused, Memory as WorldMemory};
 ghost use Rattle.feed_world.specs.declared.event.ShapeFault.TheVariants.{Memory as ShapeMemory};
 
 use feed_node::{CommitFault, FeedFault, Pulled};
@@ -69,12 +69,20 @@ pub enum WorldFault {
 /// Why no world was made: the first of these that holds.
 #[derive(Clone, Copy, Debug, PartialEq, Eq, Error)]
 pub enum ShapeFault {
-    /// There are over 255 mirrors, or one is not behind an earlier node.
+    /// There are more nodes than a world has at most, or a mirror is not behind an earlier one.
     #[error("bad shape")]
     BadShape,
     /// Memory ran out.
     #[error("out of memory")]
     Memory,
+}
+
+impl From<CommitFault> for WorldFault {
+    ghost from_gives = { λ fault given. given ≡ CommitRefused fault };
+
+    fn from(fault: CommitFault) -> WorldFault {
+        WorldFault::Commit(fault)
+    }
 }
 
 impl From<AllocError> for WorldFault {

@@ -11,7 +11,4 @@ mod world;
 pub use event::{Event, Reply, ShapeFault, WorldFault};
 pub use laws::world_laws;
 
-#[cfg(test)]
-mod tests;
-
-pub use world::{Link, World};
+pub use world::{Link, MOST_NODES, World};

@@ -17,7 +17,8 @@ use std::alloc::Global;
 /// The place of the mirror of this number.
 fn place_of(followers: &[Follower], number: usize) -> Result<usize, WorldFault>
     ensures ok { IfOk result (λ place. (number ≡ suc place) × (place < length followers.now)) }
-    ensures err { IfErr result (λ fault. (fault ≡ NoNode) × ((place : ℕ) → number ≡ suc place → length followers.now ≤ place)) }
+    ensures err { IfErr result (λ fault. (fault ≡ NoNode) × ((place : ℕ) → number ≡ suc place
+        → length followers.now ≤ place)) }
 {
     match number.checked_sub(1) {
         Some(place) if place < followers.len() => Ok(place),
@@ -31,7 +32,8 @@ pub(crate) fn node_among<'a>(
     followers: &'a [Follower],
     number: usize,
 ) -> Option<&'a Node>
-    ensures { option_map (λ node. node.shown) (option_copied result) ≡ slice_get (all_shown primary.now followers.now) number }
+    ensures { option_map (λ node. node.shown) (option_copied result)
+        ≡ slice_get (all_shown primary.now followers.now) number }
 {
     match number.checked_sub(1) {
         Some(place) => Some(followers.get(place)?.node()),
@@ -46,8 +48,10 @@ pub(crate) fn connect(
     followers: &mut [Follower],
     number: usize,
 ) -> Result<Reply, WorldFault>
-    ensures ok { (w : Numbers) → AreNodes w primary.now followers.old → IfOk result (λ reply. NodesMove w primary.now (Connect number) reply followers.new) }
-    ensures err { (w : Numbers) → AreNodes w primary.now followers.old → IfErr result (λ fault. IsRefused w (Connect number) fault) }
+    ensures ok { (w : Numbers) → AreNodes w primary.now followers.old
+        → IfOk result (λ reply. NodesMove w primary.now (Connect number) reply followers.new) }
+    ensures err { (w : Numbers) → AreNodes w primary.now followers.old
+        → IfErr result (λ fault. IsRefused w (Connect number) fault) }
     ensures unchanged { OnErr result (followers.new ≡ followers.old) }
 {
     let place = place_of(followers, number)?;
@@ -66,8 +70,10 @@ pub(crate) fn serve(
     followers: &mut [Follower],
     number: usize,
 ) -> Result<Reply, WorldFault>
-    ensures ok { (w : Numbers) → AreNodes w primary.now followers.old → IfOk result (λ reply. NodesMove w primary.now (Serve number) reply followers.new) }
-    ensures err { (w : Numbers) → AreNodes w primary.now followers.old → IfErr result (λ fault. IsRefused w (Serve number) fault) }
+    ensures ok { (w : Numbers) → AreNodes w primary.now followers.old
+        → IfOk result (λ reply. NodesMove w primary.now (Serve number) reply followers.new) }
+    ensures err { (w : Numbers) → AreNodes w primary.now followers.old
+        → IfErr result (λ fault. IsRefused w (Serve number) fault) }
     ensures unchanged { OnErr result (followers.new ≡ followers.old) }
 {
     let place = place_of(followers, number)?;
@@ -81,8 +87,10 @@ pub(crate) fn serve(
 
 /// That node has no more to send for now.
 pub(crate) fn idle(followers: &mut [Follower], number: usize) -> Result<Reply, WorldFault>
-    ensures ok { (w : Numbers) (primary : PrimaryState) → AreNodes w primary followers.old → IfOk result (λ reply. NodesMove w primary (Idle number) reply followers.new) }
-    ensures err { (w : Numbers) (primary : PrimaryState) → AreNodes w primary followers.old → IfErr result (λ fault. IsRefused w (Idle number) fault) }
+    ensures ok { (w : Numbers) (primary : PrimaryState) → AreNodes w primary followers.old
+        → IfOk result (λ reply. NodesMove w primary (Idle number) reply followers.new) }
+    ensures err { (w : Numbers) (primary : PrimaryState) → AreNodes w primary followers.old
+        → IfErr result (λ fault. IsRefused w (Idle number) fault) }
     ensures unchanged { OnErr result (followers.new ≡ followers.old) }
 {
     let place = place_of(followers, number)?;
@@ -96,8 +104,10 @@ pub(crate) fn deliver(
     number: usize,
     bytes: usize,
 ) -> Result<Reply, WorldFault>
-    ensures ok { (w : Numbers) (primary : PrimaryState) → AreNodes w primary followers.old → IfOk result (λ reply. NodesMove w primary (Deliver number bytes) reply followers.new) }
-    ensures err { (w : Numbers) (primary : PrimaryState) → AreNodes w primary followers.old → IfErr result (λ fault. IsRefused w (Deliver number bytes) fault) }
+    ensures ok { (w : Numbers) (primary : PrimaryState) → AreNodes w primary followers.old
+        → IfOk result (λ reply. NodesMove w primary (Deliver number bytes) reply followers.new) }
+    ensures err { (w : Numbers) (primary : PrimaryState) → AreNodes w primary followers.old
+        → IfErr result (λ fault. IsRefused w (Deliver number bytes) fault) }
     ensures unchanged { OnErr result (followers.new ≡ followers.old) }
 {
     let place = place_of(followers, number)?;
@@ -106,8 +116,10 @@ pub(crate) fn deliver(
 
 /// The mirror's connection is cut.
 pub(crate) fn cut(followers: &mut [Follower], number: usize) -> Result<Reply, WorldFault>
-    ensures ok { (w : Numbers) (primary : PrimaryState) → AreNodes w primary followers.old → IfOk result (λ reply. NodesMove w primary (DoCut number) reply followers.new) }
-    ensures err { (w : Numbers) (primary : PrimaryState) → AreNodes w primary followers.old → IfErr result (λ fault. IsRefused w (DoCut number) fault) }
+    ensures ok { (w : Numbers) (primary : PrimaryState) → AreNodes w primary followers.old
+        → IfOk result (λ reply. NodesMove w primary (DoCut number) reply followers.new) }
+    ensures err { (w : Numbers) (primary : PrimaryState) → AreNodes w primary followers.old
+        → IfErr result (λ fault. IsRefused w (DoCut number) fault) }
     ensures unchanged { OnErr result (followers.new ≡ followers.old) }
 {
     let place = place_of(followers, number)?;

@@ -1,9 +1,11 @@
-//! Runs a scenario, calls that take memory, in which one allocation may be refused, and tells how it went.
+//! Runs a scenario, calls that take memory, in which one allocation may be refused, and tells how
+//! it went.
 //!
-//! Standard input has the scenario's name and how many blocks of memory are made and given back before its calls. So,
-//! where the allocation of some number of the process is refused, it can be any of the calls'. A line is printed: the
-//! name, `right`, `memory` or `wrong`, how many blocks were made before the calls, and how many could be made after them
-//! until one was refused. The name `all` runs each scenario.
+//! Standard input has the scenario's name and how many blocks of memory are made and given back
+//! before its calls. So, where the allocation of some number of the process is refused, it can be
+//! any of the calls'. A line is printed: the name, `right`, `memory` or `wrong`, how many blocks
+//! were made before the calls, and how many could be made after them until one was refused. The
+//! name `all` runs each scenario.
 #![tactic(auto)]
 
 mod outcome;

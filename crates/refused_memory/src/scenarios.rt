@@ -1,5 +1,5 @@
-//! The scenarios: calls that take memory, and what they have to answer and to leave. A further one is a function, its
-//! name here, and its line in the crate's file `stdout`.
+//! The scenarios: calls that take memory, and what they have to answer and to leave. A further one
+//! is a function, its name here, and its line in the crate's file `stdout`.
 
 mod feeds;
 mod lines;
@@ -15,6 +15,8 @@ pub const NAMES: &[&str] = &[
     "feed",
     "feed_pieces",
     "feed_on",
+    "feed_array",
+    "feed_array_pieces",
     "save",
     "commit",
     "open",
@@ -22,6 +24,7 @@ pub const NAMES: &[&str] = &[
     "splitter",
     "survey",
     "batches",
+    "batches_array",
     "write",
     "tables_apply",
     "world_new",
@@ -36,6 +39,8 @@ pub fn run(name: &str, trial: &mut Trial) -> Option<Outcome> {
         "feed" => feeds::feed(trial),
         "feed_pieces" => feeds::feed_pieces(trial),
         "feed_on" => feeds::feed_on(trial),
+        "feed_array" => feeds::feed_array(trial),
+        "feed_array_pieces" => feeds::feed_array_pieces(trial),
         "save" => feeds::save(trial),
         "commit" => nodes::commit(trial),
         "open" => nodes::open(trial),
@@ -43,6 +48,7 @@ pub fn run(name: &str, trial: &mut Trial) -> Option<Outcome> {
         "splitter" => lines::splitter(trial),
         "survey" => lines::survey(trial),
         "batches" => lines::batches(trial),
+        "batches_array" => lines::batches_array(trial),
         "write" => lines::write(trial),
         "tables_apply" => stores::tables_apply(trial),
         "world_new" => worlds::world_new(trial),

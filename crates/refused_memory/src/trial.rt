@@ -50,7 +50,8 @@ impl Trial {
     }
 }
 
-/// Makes blocks and gives them back, until one is refused or there were `most`, and answers how many there were.
+/// Makes blocks and gives them back, until one is refused or there were `most`, and answers how
+/// many there were.
 fn blocks(alloc: Global, most: u32) -> u32
     ensures { result ≤ most }
 {

@@ -35,7 +35,8 @@ impl Tree {
         }
     }
 
-    // Whether the right side is the greater one, so that it would be too great next to what a turn puts beside it.
+    // Whether the right side is the greater one, so that it would be too great next to what a turn
+    // puts beside it.
     fn leans_right(&self) -> bool {
         match &self.node {
             Node::Leaf => false,

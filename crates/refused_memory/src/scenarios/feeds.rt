@@ -19,6 +19,52 @@ const SAVED: &[u8] = b"{\"type\":\"teams\",\"id\":null,\"data\":[]}\n\
 {\"type\":\"teams\",\"id\":\"1\",\"data\":{\"id\":\"1\"}}\n\
 {\"type\":\"teams\",\"id\":\"2\",\"data\":{\"id\":\"2\"},\"token\":\"b\"}\n";
 
+/// An array, with escapes in names, keys and the token, of which one is cut in two by pieces of
+/// seven bytes; and an object under an escaped id.
+pub const ARRAY: &[u8] = b"{\"type\":\"te\\u0061ms\",\"id\":null,\"d\\u0061ta\":[\
+{\"id\":\"\\u00e9\"},{\"i\\u0064\":\"2\"}]}\n\
+{\"type\":\"groups\",\"id\":\"\\t\\\"\",\"data\":{\"n\": 1.50},\"token\":\"\\ud83d\\ude00\"}\n";
+
+/// What they publish.
+const ARRAY_SAVED: &[u8] = b"{\"type\":\"groups\",\"id\":null,\"data\":[]}\n\
+{\"type\":\"groups\",\"id\":\"\\t\\\"\",\"data\":{\"n\": 1.50}}\n\
+{\"type\":\"teams\",\"id\":null,\"data\":[]}\n\
+{\"type\":\"teams\",\"id\":\"2\",\"data\":{\"i\\u0064\":\"2\"}}\n\
+{\"type\":\"teams\",\"id\":\"\xc3\xa9\",\"data\":{\"id\":\"\\u00e9\"},\
+\"token\":\"\xf0\x9f\x98\x80\"}\n";
+
+/// The array and the object in one piece, and in pieces of seven bytes.
+pub fn feed_array(trial: &mut Trial) -> Option<Outcome> {
+    judged_array(trial, ARRAY.len())
+}
+
+pub fn feed_array_pieces(trial: &mut Trial) -> Option<Outcome> {
+    judged_array(trial, 7)
+}
+
+/// A mirror publishes them, or for want of memory nothing, and then on another connection.
+fn judged_array(trial: &mut Trial, length: usize) -> Option<Outcome>
+    requires { 0 < length }
+{
+    let (answer, mut mirror) = fed(trial, ARRAY, length)?;
+    let alloc = trial.alloc();
+    Some(match answer {
+        Ok(count) => given(count == 1 && saves_array(alloc, &mirror), Outcome::Right),
+        Err(FeedFault::Memory) => {
+            let stands = shows_nothing(alloc, &mirror);
+            mirror.begin();
+            let recovers = mirror.feed(alloc, ARRAY) == Ok(1) && saves_array(alloc, &mirror);
+            given(stands && recovers, Outcome::Memory)
+        }
+        Err(_) => Outcome::Wrong,
+    })
+}
+
+fn saves_array(alloc: Global, mirror: &Mirror) -> bool {
+    let saved = mirror.save(alloc);
+    saved.is_ok_and(|text| text.as_slice() == ARRAY_SAVED)
+}
+
 /// The two lines in one piece.
 pub fn feed(trial: &mut Trial) -> Option<Outcome> {
     let (answer, mut mirror) = fed(trial, LINES, LINES.len())?;
@@ -101,7 +147,8 @@ fn feed_in_pieces(
     Ok(count)
 }
 
-/// The publication stands at the end of the text and takes no memory, so after a want of memory nothing is shown.
+/// The publication stands at the end of the text and takes no memory, so after a want of memory
+/// nothing is shown.
 fn judged_publication(
     alloc: Global,
     answer: Result<usize, FeedFault>,

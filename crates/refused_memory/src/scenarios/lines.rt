@@ -1,13 +1,14 @@
 //! Lines that are split, read and written.
 
 use crate::outcome::{Outcome, given};
-use crate::scenarios::feeds::LINES;
+use crate::scenarios::feeds::{ARRAY, LINES};
 use crate::trial::Trial;
 use feed_note::{Counts, LineStop, SplitFault, Splitter, write_batch};
 use feed_tables::{Changes, Name};
 use std::alloc::{AllocError, Global};
 
-/// The two lines in pieces of seven bytes. A call that was refused memory is made again, and nothing is lost.
+/// The two lines in pieces of seven bytes. A call that was refused memory is made again, and
+/// nothing is lost.
 pub fn splitter(trial: &mut Trial) -> Option<Outcome> {
     let alloc = trial.alloc();
     let mut patient = Patient {
@@ -51,7 +52,25 @@ pub fn batches(trial: &mut Trial) -> Option<Outcome> {
     let answer = feed_note::batches(alloc, LINES);
     trial.end();
     match answer {
-        Ok(all) => Some(given(is_written(alloc, &all)?, Outcome::Right)),
+        Ok(all) => Some(given(is_written(alloc, &all, LINES)?, Outcome::Right)),
+        Err(stop) => Some(given(stop == LineStop::Memory, Outcome::Memory)),
+    }
+}
+
+/// The array and the object as a batch, with its escapes read.
+const ARRAY_WRITTEN: &[u8] = b"{\"type\":\"teams\",\"id\":null,\"data\":[]}\n\
+{\"type\":\"teams\",\"id\":\"\xc3\xa9\",\"data\":{\"id\":\"\\u00e9\"}}\n\
+{\"type\":\"teams\",\"id\":\"2\",\"data\":{\"i\\u0064\":\"2\"}}\n\
+{\"type\":\"groups\",\"id\":\"\\t\\\"\",\"data\":{\"n\": 1.50},\"token\":\"b\"}\n";
+
+/// The batch of an array and an object, whose lines have escapes.
+pub fn batches_array(trial: &mut Trial) -> Option<Outcome> {
+    let alloc = trial.alloc();
+    trial.begin();
+    let answer = feed_note::batches(alloc, ARRAY);
+    trial.end();
+    match answer {
+        Ok(all) => Some(given(is_written(alloc, &all, ARRAY_WRITTEN)?, Outcome::Right)),
         Err(stop) => Some(given(stop == LineStop::Memory, Outcome::Memory)),
     }
 }
@@ -123,10 +142,10 @@ fn behind<'a>(text: &'a [u8], line: &[u8]) -> Option<&'a [u8]> {
     text.strip_prefix(line)?.strip_prefix(b"\n")
 }
 
-/// Whether these are one batch, that of the two lines.
-fn is_written(alloc: Global, all: &[Changes]) -> Option<bool> {
+/// Whether these are one batch, written like this with the token `b`.
+fn is_written(alloc: Global, all: &[Changes], want: &[u8]) -> Option<bool> {
     let token = Name::new(alloc, "b").ok()?;
     let mut text = Vec::new(alloc);
     write_batch(alloc, all.first()?.as_slice(), &token, &mut text).ok()?;
-    Some(all.len() == 1 && text.as_slice() == LINES)
+    Some(all.len() == 1 && text.as_slice() == want)
 }

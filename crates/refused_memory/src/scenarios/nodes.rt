@@ -52,7 +52,8 @@ pub fn commit(trial: &mut Trial) -> Option<Outcome> {
     })
 }
 
-/// A session pulls the commit after its token. For want of memory it stays where it is, and pulls it later.
+/// A session pulls the commit after its token. For want of memory it stays where it is, and pulls
+/// it later.
 pub fn pull(trial: &mut Trial) -> Option<Outcome> {
     let alloc = trial.alloc();
     let primary = primary(alloc)?;

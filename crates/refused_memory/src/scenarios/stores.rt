@@ -18,7 +18,8 @@ const CHANGES: &[u8] =
 {\"type\":\"state\",\"id\":null,\"data\":{\"ended\":null}}\n\
 {\"type\":\"groups\",\"id\":null,\"data\":null,\"token\":\"c\"}\n";
 
-/// The changes, one after the other. For want of memory the tables are as before it, and the change can be made again.
+/// The changes, one after the other. For want of memory the tables are as before it, and the change
+/// can be made again.
 pub fn tables_apply(trial: &mut Trial) -> Option<Outcome> {
     let alloc = trial.alloc();
     let all = batches(alloc, CHANGES).ok()?;

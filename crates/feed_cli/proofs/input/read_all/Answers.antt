@@ -1,6 +1,6 @@
 use Rattle.std.proofs.Common.{◌∙◌}
 use Rattle.std.proofs.lemmas.Result.{err_from_is_err_and}
-use Rattle.feed_cli.proofs.DeviceLemmas.{Moved-trans, MovedSome-trans}
+use Rattle.feed_http.proofs.DeviceLemmas.{Moved-trans, MovedSome-trans}
 use Rattle.feed_cli.proofs.input.read_all.Goals as goal
 
 pub returns-in_err-read_piece-clause-lost : goal.returns-in_err-read_piece-clause-lost

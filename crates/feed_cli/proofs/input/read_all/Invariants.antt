@@ -1,6 +1,6 @@
 -- What was read so far was appended, and none of the reads found the end.
 use Rattle.std.proofs.Common.{◌≡◌, ◌+◌, ◌-◌, vec_len}
-use Rattle.feed_cli.specs.Device.{Moved}
+use Rattle.feed_http.specs.Device.{Moved}
 use Rattle.feed_cli.proofs.input.read_all.Given as goal
 
 abbrev pub invariant-pieces : goal.invariant-pieces

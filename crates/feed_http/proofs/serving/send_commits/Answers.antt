@@ -12,43 +12,43 @@ use Rattle.feed_http.proofs.serving.send_commits.Goals as goal
 pub commits-init : goal.commits-init
 commits-init g c = record { run = ([], sent_none _, refl, Appends-nil _); quiet = refl }
 
-pub returns-in_err-pull-clause-front : goal.returns-in_err-pull-clause-front
-returns-in_err-pull-clause-front g c =
+pub returns-in_err-pull_next-clause-front : goal.returns-in_err-pull_next-clause-front
+returns-in_err-pull_next-clause-front g c =
     let (sent, run, count, wrote) = c.commits.invariant.run in
-    on_err c.from_residual.result _ (wrote_these c.args.node.now.shown c.args.session.now c.commits.session sent c.args.framing _ _ c.pull.ensures.consistent run wrote)
+    on_err c.from_residual.result _ (wrote_these c.args.node.now.shown c.args.session.now c.commits.session sent c.args.framing _ _ c.pull_next.ensures.consistent run wrote)
 
 pub returns-in_err-write_framed-in-More-clause-front : goal.returns-in_err-write_framed-in-More-clause-front
 returns-in_err-write_framed-in-More-clause-front g c =
     let (sent, run, count, wrote) = c.commits.invariant.run in
-    let (commit, is_next, token_is, text_is) = pulls_more _ _ _ _ _ _ c.in_ok-pull.ensures.ok c.in-More.is in
+    let (commit, is_next, token_is, text_is) = pulls_more _ _ _ _ _ _ c.in_ok-pull_next.ensures.ok c.in-More.is in
     let text : c.as_slice.result.now ≡ commit_text commit = c.as_slice.ensures.value ∙ text_is ∙ ap (λ t. t ++ commit_text commit) c.new-text.ensures.items in
     on_err c.from_residual-in_err-write_framed-in-More.result _
-    (wrote_into c.args.node.now.shown c.args.session.now c.commits.session sent commit c.args.framing _ _ _ c.pull.ensures.consistent run is_next wrote
+    (wrote_into c.args.node.now.shown c.args.session.now c.commits.session sent commit c.args.framing _ _ _ c.pull_next.ensures.consistent run is_next wrote
     (subst (λ t. AppendsFront (g.W.FeedWrite.contents c.commits.writer) (g.W.FeedWrite.contents c.write_framed.new.writer) (frame c.args.framing t)) text c.in_err-write_framed-in-More.ensures.front))
 
 pub returns-in-UpToDate-clause-ok : goal.returns-in-UpToDate-clause-ok
 returns-in-UpToDate-clause-ok g c =
     let (sent, run, count, wrote) = c.commits.invariant.run in
-    let none = pulls_up_to_date _ _ _ _ _ _ c.in_ok-pull.ensures.ok c.in-UpToDate.is in
+    let none = pulls_up_to_date _ _ _ _ _ _ c.in_ok-pull_next.ensures.ok c.in-UpToDate.is in
     (sent, subst (λ l. Sends c.args.node.now.shown c.args.session.now l _) (append-nil sent) (sends_behind c.args.node.now.shown c.args.session.now c.commits.session sent [] _ run (up_to_date c.commits.session none)), count, wrote)
 
 pub returns-in-Gone-clause-ok : goal.returns-in-Gone-clause-ok
 returns-in-Gone-clause-ok g c =
     let (sent, run, count, wrote) = c.commits.invariant.run in
-    let none = pulls_gone _ _ _ _ _ _ c.in_ok-pull.ensures.ok c.in-Gone.is in
+    let none = pulls_gone _ _ _ _ _ _ c.in_ok-pull_next.ensures.ok c.in-Gone.is in
     (sent, subst (λ l. Sends c.args.node.now.shown c.args.session.now l _) (append-nil sent) (sends_behind c.args.node.now.shown c.args.session.now c.commits.session sent [] _ run (lost c.commits.session none)), count, wrote)
 
 pub commits-smaller : goal.commits-smaller
 commits-smaller g c =
-    let (commit, is_next, token_is, text_is) = pulls_more _ _ _ _ _ _ c.in_ok-pull.ensures.ok c.in-More.is in
-    let falls = ahead_falls c.args.node.now.shown c.commits.session commit (next_moves c.args.node.now.shown c.commits.session commit c.pull.ensures.consistent is_next) in
-    let same : ahead c.args.node.now.shown c.pull.new.self ≡ ahead c.args.node.now.shown commit.token = ap (ahead c.args.node.now.shown) token_is in
+    let (commit, is_next, token_is, text_is) = pulls_more _ _ _ _ _ _ c.in_ok-pull_next.ensures.ok c.in-More.is in
+    let falls = ahead_falls c.args.node.now.shown c.commits.session commit (next_moves c.args.node.now.shown c.commits.session commit c.pull_next.ensures.consistent is_next) in
+    let same : ahead c.args.node.now.shown c.pull_next.new.session ≡ ahead c.args.node.now.shown commit.token = ap (ahead c.args.node.now.shown) token_is in
     omega arith
 
 pub commits-preserved : goal.commits-preserved
 commits-preserved g c =
     let (sent, run, count, wrote) = c.commits.invariant.run in
-    let (commit, is_next, token_is, text_is) = pulls_more _ _ _ _ _ _ c.in_ok-pull.ensures.ok c.in-More.is in
+    let (commit, is_next, token_is, text_is) = pulls_more _ _ _ _ _ _ c.in_ok-pull_next.ensures.ok c.in-More.is in
     let text : c.as_slice.result.now ≡ commit_text commit = c.as_slice.ensures.value ∙ text_is ∙ ap (λ t. t ++ commit_text commit) c.new-text.ensures.items in
     record {
       run = (

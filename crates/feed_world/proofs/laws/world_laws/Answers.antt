@@ -1,8 +1,6 @@
-use Rattle.feed_world.proofs.Agreement.{nodes_agree}
 use Rattle.feed_world.proofs.Fronts.{fronts_are_read}
 use Rattle.feed_world.proofs.Growth.{growth_keeps, sending_keeps_order, deliveries_compose}
 use Rattle.feed_world.proofs.OneReading.{reading_is_one}
-use Rattle.feed_world.proofs.Schedules.{every_run_agrees}
 use Rattle.feed_world.proofs.Tokens.{tokens_tell}
 use Rattle.feed_world.proofs.laws.world_laws.Goals as goal
 
@@ -18,9 +16,6 @@ returns-clause-one c = reading_is_one c.line_laws.ensures.one_meaning
 pub returns-clause-tokens : goal.returns-clause-tokens
 returns-clause-tokens c = tokens_tell
 
-pub returns-clause-agree : goal.returns-clause-agree
-returns-clause-agree c = nodes_agree
-
 pub returns-clause-growth : goal.returns-clause-growth
 returns-clause-growth c = growth_keeps
 
@@ -29,6 +24,3 @@ returns-clause-order c = sending_keeps_order
 
 pub returns-clause-deliveries : goal.returns-clause-deliveries
 returns-clause-deliveries c = deliveries_compose
-
-pub returns-clause-schedules : goal.returns-clause-schedules
-returns-clause-schedules c = every_run_agrees

@@ -1,7 +1,8 @@
 use Rattle.std.proofs.Common.{◌≡◌, ◌∙◌, sym, ap, subst, List, ℕ, Some, None}
 use Rattle.std.specs.FinMap.{get, get-from_sorted}
+use Rattle.std.specs.Option.{option_and_then}
 use Rattle.feed_tables.specs.Bytes.{byte_order, IsInOrder}
-use Rattle.feed_tables.specs.Tables.{Tables, AreTypes, without_id}
+use Rattle.feed_tables.specs.Tables.{Tables, AreTypes, without_id, object_of}
 use Rattle.feed_tables.specs.declared.tables.Table.{Table}
 use Rattle.feed_tables.proofs.Maps.{in_order_put, made_there}
 use Rattle.feed_tables.proofs.Places.{set_found, read_found, absent}
@@ -36,3 +37,12 @@ returns-in-Err-clause-ok c =
     absent c.deref.ensures.value c.text.ensures.text c.self.invariant.0 c.in-Err.ensures.absent
     ∙ sym (get-from_sorted byte_order c.self.inside.types.items kind c.self.invariant.0) ∙ ap (λ (t : Tables). get t.contents kind) c.self.view_is in
     ap (without_id c.args.self.now.contents kind c.args.id.now) none
+
+pub returns-in-Ok-clause-absent : goal.returns-in-Ok-clause-absent
+returns-in-Ok-clause-absent c = λ none.
+    let kind = c.args.kind.now in
+    let held = c.args.self.now.contents in
+    let here : Some c.index_mut.result.now.1 ≡ get held kind =
+    read_found c.deref.ensures.value c.text.ensures.text c.self.invariant.0 c.in-Ok.ensures.found c.index_mut.result.now c.index_mut.ensures.value
+    ∙ sym (get-from_sorted byte_order c.self.inside.types.items kind c.self.invariant.0) ∙ ap (λ (t : Tables). get t.contents kind) c.self.view_is in
+    c.take-done.ensures.absent (ap (option_and_then (object_of c.args.id.now)) here ∙ none)

@@ -1,0 +1,15 @@
+//! Tests of the commands: what each prints, tells and answers, over devices in memory.
+#![tactic(auto)]
+
+#[cfg(test)]
+mod check;
+#[cfg(test)]
+mod devices;
+#[cfg(test)]
+mod play;
+#[cfg(test)]
+mod run;
+#[cfg(test)]
+mod tables;
+#[cfg(test)]
+mod words;

@@ -1,0 +1,30 @@
+-- Lemmas on what the words of a command line ask for.
+use Rattle.std.proofs.Common.{◌≡◌, sym, ap, ap₂, ◌∙◌, refl, ℕ, List, Option, Some, None, Result, Ok, option_map, true}
+use Rattle.std.specs.Prelude.{unwrap_or}
+use Rattle.std.specs.Str.Parse.{ParsesUnsigned, digits_value, without_leading_plus}
+use Rattle.clap.specs.Matches.{ReadsOne}
+use Rattle.clap.specs.Words.{Row, Text, is_simple}
+use Rattle.clap.proofs.OnLiterals.{clap_on_literals}
+use Rattle.feed_cli.specs.Words.{command_line}
+
+-- clap's definitions say what is found on this command line
+pub line_is_simple : is_simple command_line ≡ true
+unfolding clap_on_literals
+line_is_simple = refl
+
+-- the number that was read of an option is the one that its value says
+pub number_read : (E : Type 0) (G : List ℕ → Result ℕ E → Type 0) (text : Option (List ℕ)) (r : Option ℕ) (n : ℕ)
+    → ((u : List ℕ) (x : Result ℕ E) → G u x → ParsesUnsigned 64 10 u x) → (text ≡ None → r ≡ None) → ((t : List ℕ) → text ≡ Some t → ReadsOne G t r) → r ≡ Some n
+    → option_map (λ t. digits_value 10 (without_leading_plus t)) text ≡ Some n
+number_read E G None r n only none value is = let nothing : r ≡ None = none refl in absurd (cc)
+number_read E G (Some t) (Some v) n only none value is = ap Some (sym (only t (Ok v) (value t refl)).1) ∙ is
+number_read E G (Some t) None n only none value is = absurd (cc)
+
+-- a pair, by its parts
+pub pair_of : (o : Option (Text × List Row)) (name : Text) (rows : List Row) → option_map (λ p. p.0) o ≡ Some name → option_map (λ p. p.1) o ≡ Some rows → o ≡ Some (name, rows)
+pair_of None name rows e h = absurd (cc)
+pair_of (Some p) name rows e h = ap₂ (λ x y. Some (x, y)) (ap (λ o. unwrap_or o name) e) (ap (λ o. unwrap_or o rows) h)
+
+pub mapped : {A B C : Type 0} (f : B → C) (g : A → B) (o : Option A) → option_map f (option_map g o) ≡ option_map (λ x. f (g x)) o
+mapped f g None = refl
+mapped f g (Some x) = refl

@@ -1,6 +1,0 @@
-use Rattle.std.proofs.Common.{◌∙◌}
-use Rattle.feed_cli.proofs.NumberLemmas.{one_number}
-use Rattle.feed_cli.proofs.script.read_one.Goals as goal
-
-pub returns : goal.returns
-returns c = c.read_number.ensures ∙ one_number c.args.text.now

@@ -1,0 +1,79 @@
+-- What the command `check` reads and prints.
+use Rattle.std.specs.Prelude.{ℕ, ◌<◌, ◌≤◌, List, [], ◌∷◌, ◌++◌, length, codes, decimal, Option}
+use Rattle.std.specs.Io.KnownBytes.{Appends, Consumes, IsAtEnd, Keeps}
+use Rattle.feed_text.specs.Ascii.{line_feed}
+use Rattle.feed_note.specs.Counts.{Counted, StopsAt}
+use Rattle.feed_note.specs.declared.counts.Counts.{Counts}
+use Rattle.feed_note.specs.declared.counts.SurveyFault.{SurveyFault}
+use Rattle.feed_http.specs.Device.{AppendsFront}
+use Rattle.feed_cli.specs.Streams.{Streams}
+use Rattle.feed_cli.specs.declared.fault.Fault.{Fault}
+use Rattle.feed_cli.specs.declared.fault.Fault.TheVariants as fault
+
+-- the greatest number of bytes of an input that is read whole
+abbrev pub input_bytes : ℕ
+input_bytes = 67108864
+
+-- the line that tells the counts
+abbrev pub counts_text : Counts → List ℕ
+counts_text counts =
+    codes "lines " ++ decimal counts.lines
+    ++ codes " keepalives " ++ decimal counts.keepalives
+    ++ codes " notes " ++ decimal counts.notes
+    ++ codes " changes " ++ decimal counts.changes
+    ++ codes " tokens " ++ decimal counts.tokens
+    ++ codes " rest " ++ decimal counts.rest ++ line_feed ∷ []
+
+-- the whole input was read, and is within the limit
+pub record IsWhole (old new : Option (List ℕ)) (bytes : List ℕ) : Type 0 where
+  pub read : Consumes old new bytes
+  pub end : IsAtEnd new
+  pub short : length bytes ≤ input_bytes
+
+-- the whole input was read, and comes to this
+pub record InputCounted (old new : Option (List ℕ)) (counts : Counts) : Type 0 where
+  pub bytes : List ℕ
+  pub whole : IsWhole old new bytes
+  pub counted : Counted bytes counts
+
+-- the whole input was read, and stops at this line
+pub record InputStops (old new : Option (List ℕ)) (why : SurveyFault) : Type 0 where
+  pub bytes : List ℕ
+  pub whole : IsWhole old new bytes
+  pub stops : StopsAt bytes why.line why.stop
+
+-- the input has more bytes than the limit
+pub record InputTooLong (old new : Option (List ℕ)) : Type 0 where
+  pub bytes : List ℕ
+  pub read : Consumes old new bytes
+  pub long : input_bytes < length bytes
+
+-- what was read where the input can't be counted
+abbrev pub CountFails : Fault → Option (List ℕ) → Option (List ℕ) → Type 0
+CountFails fault.Memory old new = Unit {0}
+CountFails fault.Read old new = Unit {0}
+CountFails fault.TooLong old new = InputTooLong old new
+CountFails (fault.Survey why) old new = InputStops old new why
+CountFails fault.Write old new = ⊥
+CountFails fault.Turns old new = ⊥
+CountFails (fault.Feed why) old new = ⊥
+CountFails (fault.Play why) old new = ⊥
+CountFails fault.Unpublished old new = ⊥
+
+-- the input was counted, and the counts were printed
+pub record CountsPrinted (s : Streams) : Type 0 where
+  pub counts : Counts
+  pub counted : InputCounted s.input_old s.input_new counts
+  pub printed : Appends s.out_old s.out_new (counts_text counts)
+
+-- the input was counted, and a front of the counts was printed
+pub record CountsPrintedFront (s : Streams) : Type 0 where
+  pub counts : Counts
+  pub counted : InputCounted s.input_old s.input_new counts
+  pub printed : AppendsFront s.out_old s.out_new (counts_text counts)
+
+-- a front of the counts was printed where a write failed, and nothing where the input can't be
+-- counted
+abbrev pub CheckFails : Fault → Streams → Type 0
+CheckFails fault.Write s = CountsPrintedFront s
+CheckFails why s = CountFails why s.input_old s.input_new × Keeps s.out_old s.out_new

@@ -1,0 +1,22 @@
+-- The body of a response, whole and in part (RFC 9112, section 6.3).
+use Rattle.std.specs.Prelude.{◌≡◌, ℕ, ◌<◌, ◌⊎◌, List, length}
+use Rattle.feed_follow.specs.declared.coding.BodyFraming.{BodyFraming}
+use Rattle.feed_follow.specs.declared.coding.BodyFraming.TheVariants.{ToEnd, Sized, InChunks}
+use Rattle.feed_follow.specs.ChunkedBody.{IsChunkedBody, BreaksOff}
+
+-- the bytes are a whole body so framed, with this payload; one to the end of the connection has no
+-- end of its own
+abbrev pub IsBody : BodyFraming → List ℕ → List ℕ → Type 0
+IsBody ToEnd text payload = ⊥
+IsBody (Sized n) text payload = (length text ≡ n) × (payload ≡ text)
+IsBody InChunks text payload = IsChunkedBody text payload
+
+-- the bytes are the front of a body so framed that isn't whole yet, with this payload
+abbrev pub IsBodyFront : BodyFraming → List ℕ → List ℕ → Type 0
+IsBodyFront ToEnd text payload = payload ≡ text
+IsBodyFront (Sized n) text payload = (length text < n) × (payload ≡ text)
+IsBodyFront InChunks text payload = BreaksOff text payload
+
+-- the bytes are a body so framed, whole or not, and this is its payload
+abbrev pub Carries : BodyFraming → List ℕ → List ℕ → Type 0
+Carries framing text payload = IsBodyFront framing text payload ⊎ IsBody framing text payload

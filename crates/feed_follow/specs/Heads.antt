@@ -1,0 +1,47 @@
+-- The head at the front of bytes that came over a connection (RFC 9112, section 2), within this
+-- profile's limits.
+use Rattle.std.specs.Prelude.{◌≡◌, ℕ, ◌<◌, ◌≤◌, ◌⊎◌, ◌==◌, List, ◌++◌, length, count_by}
+use Rattle.httparse.specs.Ascii.{line_feed}
+use Rattle.httparse.specs.Grammar.{ResponseHead, print_response, ReadsResponse, NeverHasResponse}
+
+-- the most bytes of a head, with the empty lines in front, the most lines, and the most fields (this profile's limits)
+abbrev pub head_bytes : ℕ
+head_bytes = 8192
+
+abbrev pub head_lines : ℕ
+head_lines = 66
+
+abbrev pub head_fields : ℕ
+head_fields = 64
+
+-- how many lines end in the bytes
+abbrev pub line_count : List ℕ → ℕ
+line_count bytes = count_by (λ b. b == line_feed) bytes
+
+-- the text of a head is short enough: as long as 64 fields, a start line and the empty line may be
+pub record IsHeadSize (text : List ℕ) (fields : ℕ) : Type 0 where
+  pub bytes : length text ≤ head_bytes
+  pub lines : line_count text ≤ head_lines
+  pub fields_fit : fields ≤ head_fields
+
+-- no head that is not whole yet can end within the limits
+abbrev pub IsPastLimits : List ℕ → Type 0
+IsPastLimits bytes = (head_bytes < length bytes) ⊎ (head_lines ≤ line_count bytes)
+
+-- the bytes begin with this response head, and go on with the rest
+pub record BeginsWithResponse (bytes : List ℕ) (head : ResponseHead) (rest : List ℕ) : Type 0 where
+  pub reads : ReadsResponse bytes head rest
+  pub size : IsHeadSize (print_response head) (length head.fields)
+
+-- the bytes begin with no whole response head
+abbrev pub HasNoWholeResponse : List ℕ → Type 0
+HasNoWholeResponse bytes =
+    (head : ResponseHead) (rest : List ℕ) → ¬ (BeginsWithResponse bytes head rest)
+
+-- within the limits a byte came behind which no bytes can make a response head
+pub record HasBadHead (bytes : List ℕ) : Type 0 where
+  pub front : List ℕ
+  pub later : List ℕ
+  pub split : bytes ≡ front ++ later
+  pub never : NeverHasResponse front
+  pub within : ¬ (IsPastLimits front)

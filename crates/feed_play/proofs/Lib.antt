@@ -1,0 +1,5 @@
+mod FeedLineLemmas
+mod LineLemmas
+mod NumberLemmas
+mod PlayerLemmas
+mod WordLemmas

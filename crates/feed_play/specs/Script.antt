@@ -1,0 +1,93 @@
+-- What the lines of a script say.
+use Rattle.std.specs.Prelude.{ℕ, Bool, List, [], ◌∷◌, length, Option, Some, None, option_map, if◌then◌else◌, ◌==◌, ◌&&◌, nat_le, codes}
+use Rattle.std.specs.Option.{option_and_then}
+use Rattle.std.specs.Char.{is_ascii_digit}
+use Rattle.std.specs.List.{list_all}
+use Rattle.std.specs.Str.{bytes_eq}
+use Rattle.std.specs.Str.Parse.{digits_value}
+use Rattle.feed_text.specs.Ascii.{space}
+use Rattle.feed_note.specs.Lines.{onto_first}
+use Rattle.feed_world.specs.declared.event.Event.{Event}
+use Rattle.feed_world.specs.declared.event.Event.TheVariants as event
+use Rattle.feed_play.specs.declared.script.Action.{Action}
+use Rattle.feed_play.specs.declared.script.Action.TheVariants as action
+
+abbrev pub is_space : ℕ → Bool
+is_space b = b == space
+
+-- the words of a line: what stands before, between and behind its spaces
+unfoldable pub words : List ℕ → List (List ℕ)
+words [] = [] ∷ []
+words (b ∷ bs) = if is_space b then [] ∷ words bs else onto_first b (words bs)
+
+-- 1 to 9 decimal digits
+abbrev pub is_number : List ℕ → Bool
+is_number word = nat_le 1 (length word) && nat_le (length word) 9 && list_all is_ascii_digit word
+
+-- the number that a word says
+abbrev pub number_in : List ℕ → Option ℕ
+number_in word = if is_number word then Some (digits_value 10 word) else None
+
+abbrev pub onto : ℕ → Option (List ℕ) → Option (List ℕ)
+onto n numbers = option_map (λ ns. n ∷ ns) numbers
+
+-- the numbers that the words say, where each of them says one
+abbrev pub numbers_in : List (List ℕ) → Option (List ℕ)
+numbers_in [] = Some []
+numbers_in (word ∷ more) = option_and_then (λ n. onto n (numbers_in more)) (number_in word)
+
+-- ---- a line is a name with numbers behind it
+
+abbrev pub one_of : List ℕ → Option ℕ
+one_of (i ∷ []) = Some i
+one_of numbers = None
+
+abbrev pub two_of : List ℕ → Option (ℕ × ℕ)
+two_of (i ∷ n ∷ []) = Some (i, n)
+two_of numbers = None
+
+-- an event of one number, and of two
+abbrev pub event_of_one : (ℕ → Event) → List ℕ → Option Action
+event_of_one event_of numbers = option_map (λ i. action.Event (event_of i)) (one_of numbers)
+
+abbrev pub event_of_two : (ℕ → ℕ → Event) → List ℕ → Option Action
+event_of_two event_of numbers = option_map (λ p. action.Event (event_of p.0 p.1)) (two_of numbers)
+
+-- what a name asks for, with these numbers
+abbrev pub asked_by : List ℕ → List ℕ → Option Action
+asked_by name numbers =
+    if bytes_eq name (codes "commit") then option_map action.Commit (one_of numbers)
+    else (if bytes_eq name (codes "connect") then event_of_one event.Connect numbers
+    else (if bytes_eq name (codes "serve") then event_of_one event.Serve numbers
+    else (if bytes_eq name (codes "idle") then event_of_one event.Idle numbers
+    else (if bytes_eq name (codes "deliver") then event_of_two event.Deliver numbers
+    else (if bytes_eq name (codes "cut") then event_of_one event.Cut numbers
+    else (if bytes_eq name (codes "show") then option_map action.Show (one_of numbers)
+    else None))))))
+
+abbrev pub asked_in : List (List ℕ) → Option Action
+asked_in [] = None
+asked_in (name ∷ more) = option_and_then (asked_by name) (numbers_in more)
+
+-- what a line asks for that is not the first
+abbrev pub action_in : List ℕ → Option Action
+action_in line = asked_in (words line)
+
+abbrev pub world_numbers : List (List ℕ) → Option (List ℕ)
+world_numbers [] = None
+world_numbers (name ∷ more) = if bytes_eq name (codes "world") then numbers_in more else None
+
+-- what the first line says of the world: how many commits a node keeps, how many changes may wait
+-- for a token, and the node that each mirror is behind
+pub record Asked : Type 0 where
+  pub history : ℕ
+  pub staged : ℕ
+  pub upstreams : List ℕ
+
+abbrev pub shape_by : List ℕ → Option Asked
+shape_by (history ∷ staged ∷ upstreams) =
+    Some (record { history = history; staged = staged; upstreams = upstreams })
+shape_by numbers = None
+
+abbrev pub shape_in : List ℕ → Option Asked
+shape_in line = option_and_then shape_by (world_numbers (words line))

@@ -1,0 +1,12 @@
+//! Scripts of what happens in a world of nodes, played.
+#![tactic(auto)]
+
+mod fault;
+mod feed_lines;
+mod lines;
+mod player;
+mod script;
+mod told;
+
+pub use fault::{PlayCause, PlayFault};
+pub use player::play;

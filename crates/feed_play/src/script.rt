@@ -1,0 +1,174 @@
+//! The lines of a script: their words, and what they ask for.
+
+ghost use Rattle.std.specs.Prelude.{◌≡◌, ◌≢◌, ◌≤◌, ◌<◌, ◌++◌, ◌∷◌, [], ℕ, List, length, position, Option, Some, None, IfSome, IfNone, IfOk, IfErr, true, IsTrue};
+ghost use Rattle.std.specs.Option.{option_and_then};
+ghost use Rattle.std.specs.Char.{is_ascii_digit};
+ghost use Rattle.std.specs.List.{list_all};
+ghost use Rattle.std.specs.Str.{bytes_eq};
+ghost use Rattle.std.specs.Str.Parse.{digits_value};
+ghost use Rattle.feed_play.specs.Script.{is_space, words, is_number as says_number, number_in, numbers_in, one_of, two_of, asked_by, world_numbers, shape_in, action_in};
+ghost use Rattle.feed_play.specs.declared.fault.PlayCause.TheVariants.{Script, Memory};
+
+use crate::fault::PlayCause;
+use feed_world::Event;
+use std::alloc::Global;
+
+/// What a line of a script asks for.
+#[derive(Drop)]
+pub enum Action {
+    /// The primary commits the changes of the next feed lines, this many.
+    Commit(usize),
+    /// This event happens, which is no commit.
+    Event(Event),
+    /// What the node of this number shows is printed.
+    Show(usize),
+}
+
+/// The greatest number of digits of a number.
+const DIGITS: usize = 9;
+
+fn space_in(text: &[u8]) -> Option<usize>
+    ensures { result ≡ position is_space text.now }
+{
+    text.iter().position(|byte| *byte == b' ')
+}
+
+/// The first word of a text, and what is behind the space after it.
+fn split_word(text: &[u8]) -> (&[u8], Option<&[u8]>)
+    ensures last { IfNone result.1 (words text.now ≡ result.0.now ∷ []) }
+    ensures more { IfSome result.1 (λ behind. words text.now ≡ result.0.now ∷ words behind.now) }
+    ensures shorter { IfSome result.1 (λ behind. length behind.now < length text.now) }
+{
+    match space_in(text) {
+        Some(end) => (&text[..end], Some(&text[end + 1..])),
+        None => (text, None),
+    }
+}
+
+fn are_digits(word: &[u8]) -> bool
+    ensures { result ≡ list_all is_ascii_digit word.now }
+{
+    word.iter().all(|byte| byte.is_ascii_digit())
+}
+
+fn is_number(word: &[u8]) -> bool
+    ensures { result ≡ says_number word.now }
+{
+    !word.is_empty() && word.len() <= DIGITS && are_digits(word)
+}
+
+/// The number that decimal digits say.
+fn value_of(digits: &[u8]) -> usize
+    requires { says_number digits.now ≡ true }
+    ensures { result ≡ digits_value 10 digits.now }
+{
+    let mut number = 0;
+    'digits: for digit in digits {
+        number = number * 10 + usize::from(*digit - b'0');
+    }
+    number
+}
+
+/// The number that a word says: 1 to 9 decimal digits.
+fn read_number(word: &[u8]) -> Option<usize>
+    ensures { result ≡ number_in word.now }
+{
+    if is_number(word) {
+        Some(value_of(word))
+    } else {
+        None
+    }
+}
+
+/// The numbers that the words of a text say.
+fn read_numbers(alloc: Global, text: &[u8]) -> Result<Vec<usize>, PlayCause>
+    ensures ok { IfOk result (λ numbers. numbers_in (words text.now) ≡ Some numbers.items) }
+    ensures err { IfErr result (λ cause. cause ≢ Memory
+        → (cause ≡ Script) × (numbers_in (words text.now) ≡ None)) }
+{
+    let mut numbers = Vec::new(alloc);
+    let mut left = text;
+    'words: loop {
+        let (word, behind) = split_word(left);
+        let Some(number) = read_number(word) else {
+            return Err(PlayCause::Script);
+        };
+        numbers.push(number)?;
+        match behind {
+            Some(more) => left = more,
+            None => return Ok(numbers),
+        }
+    }
+}
+
+/// Whether a word is this text.
+fn is(word: &[u8], text: &str) -> bool
+    ensures { result ≡ bytes_eq word.now text.now }
+{
+    word == text.as_bytes()
+}
+
+/// The numbers behind the name of a script's first line.
+pub fn read_world(alloc: Global, line: &[u8]) -> Result<Vec<usize>, PlayCause>
+    ensures ok { IfOk result (λ numbers. world_numbers (words line.now) ≡ Some numbers.items) }
+    ensures err { IfErr result (λ cause. cause ≢ Memory
+        → (cause ≡ Script) × (shape_in line.now ≡ None)) }
+{
+    let (name, numbers) = split_word(line);
+    match numbers {
+        Some(numbers) if is(name, "world") => read_numbers(alloc, numbers),
+        _ => Err(PlayCause::Script),
+    }
+}
+
+/// The number that a text says, where it is one word.
+fn read_one(text: &[u8]) -> Option<usize>
+    ensures { result ≡ option_and_then one_of (numbers_in (words text.now)) }
+{
+    // No digit is a space.
+    read_number(text)
+}
+
+/// The numbers that a text of two words says.
+fn read_two(text: &[u8]) -> Option<(usize, usize)>
+    ensures { result ≡ option_and_then two_of (numbers_in (words text.now)) }
+{
+    let (first, behind) = split_word(text);
+    let first = read_number(first)?;
+    Some((first, read_one(behind?)?))
+}
+
+/// What this name asks for with one number.
+fn action_named(name: &[u8], number: usize) -> Option<Action>
+    ensures { result ≡ asked_by name.now (number ∷ []) }
+{
+    if is(name, "commit") {
+        Some(Action::Commit(number))
+    } else if is(name, "connect") {
+        Some(Action::Event(Event::Connect(number)))
+    } else if is(name, "serve") {
+        Some(Action::Event(Event::Serve(number)))
+    } else if is(name, "idle") {
+        Some(Action::Event(Event::Idle(number)))
+    } else if is(name, "cut") {
+        Some(Action::Event(Event::Cut(number)))
+    } else if is(name, "show") {
+        Some(Action::Show(number))
+    } else {
+        None
+    }
+}
+
+/// What a line of a script asks for that is not the first.
+pub fn read_action(line: &[u8]) -> Option<Action>
+    ensures { result ≡ action_in line.now }
+{
+    let (name, numbers) = split_word(line);
+    let numbers = numbers?;
+    if is(name, "deliver") {
+        let (mirror, bytes) = read_two(numbers)?;
+        return Some(Action::Event(Event::Deliver(mirror, bytes)));
+    }
+    let number = read_one(numbers)?;
+    action_named(name, number)
+}

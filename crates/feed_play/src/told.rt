@@ -1,0 +1,52 @@
+//! What is printed of a world: its replies, and what its nodes show.
+
+ghost use Rattle.std.specs.Prelude.{◌≡◌, ◌++◌, string_bytes, IfOk, OnOk, OnErr};
+ghost use Rattle.feed_play.specs.Told.{Tells, Prints, shown_text};
+
+use feed_node::{FeedFault, Node, OpenFault, Pulled};
+use feed_world::Reply;
+use std::alloc::{AllocError, Global};
+
+/// The line that tells a reply.
+fn reply_line(alloc: Global, reply: &Reply) -> Result<String, AllocError>
+    ensures { IfOk result (λ line. Tells reply.now (string_bytes line)) }
+{
+    match reply {
+        Reply::Committed(token) => {
+            let token = token.text();
+            format!(in alloc; "committed {token}\n")
+        }
+        Reply::Opened => String::from_str(alloc, "opened\n"),
+        Reply::Refused => String::from_str(alloc, "refused\n"),
+        Reply::NotYet => String::from_str(alloc, "not yet\n"),
+        Reply::Sent(Pulled::More) => String::from_str(alloc, "sent more\n"),
+        Reply::Sent(Pulled::UpToDate) => String::from_str(alloc, "sent up to date\n"),
+        Reply::Sent(Pulled::Gone) => String::from_str(alloc, "sent gone\n"),
+        Reply::Idled => String::from_str(alloc, "idled\n"),
+        Reply::Delivered(count) => format!(in alloc; "delivered {count}\n"),
+        Reply::Broke(_, FeedFault::Memory) => String::from_str(alloc, "broke out of memory\n"),
+        Reply::Broke(_, fault) => format!(in alloc; "broke {fault}\n"),
+        Reply::Cut => String::from_str(alloc, "cut\n"),
+    }
+}
+
+/// Prints the line that tells a reply.
+pub fn print_reply(alloc: Global, reply: &Reply, out: &mut Vec<u8>) -> Result<(), AllocError>
+    ensures ok { OnOk result (Prints out.old.items out.new.items (Tells reply.now)) }
+    ensures err { OnErr result (out.new.items ≡ out.old.items) }
+{
+    let line = reply_line(alloc, reply)?;
+    out.extend_from_slice(line.as_bytes())
+}
+
+/// Prints the snapshot of what a node shows, its token on the last line, or `nothing`.
+pub fn print_shown(alloc: Global, node: &Node, out: &mut Vec<u8>) -> Result<(), AllocError>
+    ensures ok { OnOk result (out.new.items ≡ out.old.items ++ shown_text node.now.shown.published) }
+    ensures err { OnErr result (out.new.items ≡ out.old.items) }
+{
+    match node.open(alloc, None) {
+        Ok((_, text)) => out.extend_from_slice(text.as_slice()),
+        Err(OpenFault::NotYet) => out.extend_from_slice(b"nothing\n"),
+        Err(OpenFault::NotHeld | OpenFault::Memory) => Err(AllocError),
+    }
+}

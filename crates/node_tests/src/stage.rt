@@ -1,0 +1,145 @@
+//! A world, and what happens in it, step by step.
+
+use feed_node::{Limits, Node};
+use feed_note::write_batch;
+use feed_world::World;
+use std::alloc::Global;
+use world_scripts::{Act, Script, Want};
+
+/// What happens and is replied, or what a node or a connection shows.
+#[derive(Clone, Copy)]
+pub enum Step {
+    Act(Act, Want),
+    /// The lines of a script from one place up to another.
+    Part(&'static Script, usize, usize),
+    /// A node's snapshot is this.
+    Shows(usize, &'static str),
+    ShowsNothing(usize),
+    /// No node has this number.
+    NoNode(usize),
+    /// The connection of a mirror was sent so many bytes, brought so many, and ends with this
+    /// token.
+    Carries(usize, usize, usize, &'static str),
+    CarriesNone(usize),
+    /// A node has published this token.
+    At(usize, &'static str),
+    Holds(usize, &'static str),
+    Lacks(usize, &'static str),
+    /// A node shows this object, or none, under a type and an id.
+    Finds(usize, &'static str, &'static str, Option<&'static str>),
+    /// Two nodes show the same tables, or not.
+    Same(usize, usize, bool),
+    /// The commits are these, as lines with their tokens.
+    Logs(&'static str),
+}
+
+fn shows(alloc: Global, node: &Node, want: &str) -> Option<bool> {
+    let (_, text) = node.open(alloc, None).ok()?;
+    Some(text.as_slice() == want.as_bytes())
+}
+
+fn finds(node: &Node, kind: &str, id: &str, want: Option<&str>) -> Option<bool> {
+    Some(match node.published()?.get(kind, id) {
+        Some(object) => want.map(|text| text.as_bytes()) == Some(object.bytes()),
+        None => want.is_none(),
+    })
+}
+
+fn carries(world: &World, number: usize, sent: usize, delivered: usize, last: &str) -> bool {
+    match world.link(number) {
+        Some(link) => {
+            let are_counts = link.sent == sent && link.delivered == delivered;
+            are_counts && link.last.text() == last
+        }
+        None => false,
+    }
+}
+
+fn are_same(world: &World, one: usize, other: usize) -> Option<bool> {
+    let tables = world.node(one)?.published()?;
+    Some(tables.same(world.node(other)?.published()?))
+}
+
+fn logs(alloc: Global, world: &World, want: &str) -> Option<bool> {
+    let mut text = Vec::new(alloc);
+    for commit in world.log() {
+        write_batch(alloc, commit.changes.as_slice(), &commit.token, &mut text).ok()?;
+    }
+    Some(text.as_slice() == want.as_bytes())
+}
+
+/// Whether a world answers an event like this.
+fn acts(alloc: Global, world: &mut World, act: Act, want: Want) -> Option<bool> {
+    Some(want.is_met(&world.step(alloc, act.event(alloc)?)))
+}
+
+/// Whether each of these lines of a script has its right reply.
+fn plays(alloc: Global, world: &mut World, lines: &[(Act, Want)]) -> Option<bool> {
+    for (act, want) in lines {
+        if !acts(alloc, world, *act, *want)? {
+            return Some(false);
+        }
+    }
+    Some(true)
+}
+
+/// Whether a node or a connection shows what a step says.
+fn is_shown(alloc: Global, world: &World, step: Step) -> Option<bool> {
+    match step {
+        Step::Shows(number, want) => shows(alloc, world.node(number)?, want),
+        Step::NoNode(number) => Some(world.node(number).is_none()),
+        Step::Carries(number, sent, delivered, last) => {
+            Some(carries(world, number, sent, delivered, last))
+        }
+        Step::CarriesNone(number) => Some(world.link(number).is_none()),
+        Step::Holds(number, token) => Some(world.node(number)?.holds(token)),
+        Step::Lacks(number, token) => Some(!world.node(number)?.holds(token)),
+        Step::Finds(number, kind, id, want) => finds(world.node(number)?, kind, id, want),
+        Step::Same(one, other, want) => Some(are_same(world, one, other)? == want),
+        Step::Logs(want) => logs(alloc, world, want),
+        _ => is_published(world, step),
+    }
+}
+
+/// Whether a node has published what a step says, if anything.
+fn is_published(world: &World, step: Step) -> Option<bool> {
+    match step {
+        Step::At(number, want) => Some(world.node(number)?.token()?.text() == want),
+        Step::ShowsNothing(number) => {
+            let node = world.node(number)?;
+            Some(node.published().is_none() && node.token().is_none())
+        }
+        _ => None,
+    }
+}
+
+fn goes(alloc: Global, world: &mut World, step: Step) -> Option<bool> {
+    match step {
+        Step::Act(act, want) => acts(alloc, world, act, want),
+        Step::Part(script, from, to) => plays(alloc, world, script.lines.get(from..to)?),
+        _ => is_shown(alloc, world, step),
+    }
+}
+
+/// Steps in a new world of mirrors behind these nodes, with these limits.
+#[derive(Clone, Copy)]
+pub struct Course {
+    pub up: &'static [usize],
+    pub history: usize,
+    pub staged: usize,
+    pub steps: &'static [Step],
+}
+
+/// How many steps go as they say, up to the first that does not.
+pub fn right(alloc: Global, course: &Course) -> Option<usize> {
+    let limits = Limits::new(course.history, course.staged).ok()?;
+    let mut world = World::new(alloc, course.up, limits).ok()?;
+    let mut count: usize = 0;
+    for step in course.steps {
+        if goes(alloc, &mut world, *step) != Some(true) {
+            return Some(count);
+        }
+        count = count.saturating_add(1);
+    }
+    Some(count)
+}

@@ -1,0 +1,12 @@
+//! Worked scripts of worlds: what happens, and what is replied to it. Tests play them.
+#![tactic(auto)]
+
+mod act;
+mod lines;
+mod want;
+mod worked;
+
+pub use act::{Act, events};
+pub use lines::{GROUP_1, GROUP_2, NO_TEAM_1, NO_TEAMS, STATE, TEAM_1, TEAM_2};
+pub use want::Want;
+pub use worked::{ALL, FOLLOWED, GONE, LOST, Script};

@@ -1,0 +1,82 @@
+//! Scripts worked by hand from the rules on worlds.
+
+use crate::act::Act::{self, Commit, Connect, Cut, Deliver, Idle, Serve};
+use crate::lines::{GROUP_1, GROUP_2, NO_TEAM_1, NO_TEAMS, STATE, TEAM_1, TEAM_2};
+use crate::want::Want;
+use feed_node::Pulled;
+
+/// More bytes than were sent.
+pub const ALL: usize = 9999;
+
+/// A script: the node that each mirror is behind, how many commits a node keeps, what happens, and
+/// the tokens that the nodes have published at its end, the primary's first.
+#[derive(Clone, Copy)]
+pub struct Script {
+    pub up: &'static [usize],
+    pub history: usize,
+    pub lines: &'static [(Act, Want)],
+    pub ends: &'static [&'static str],
+}
+
+/// A mirror's token is no longer held, and its next connection is cut within the snapshot.
+pub const LOST: Script = Script {
+    up: &[0],
+    history: 2,
+    lines: &[
+        (Commit(TEAM_1), Want::Committed("1")),
+        (Connect(1), Want::Opened),
+        (Deliver(1, ALL), Want::Delivered(1)),
+        (Commit(STATE), Want::Committed("2")),
+        (Commit(NO_TEAMS), Want::Committed("3")),
+        (Commit(GROUP_1), Want::Committed("4")),
+        (Commit(GROUP_2), Want::Committed("5")),
+        (Connect(1), Want::Refused),
+        (Connect(1), Want::Opened),
+        (Deliver(1, 10), Want::Delivered(0)),
+        (Cut(1), Want::Cut),
+        (Connect(1), Want::Opened),
+        (Deliver(1, ALL), Want::Delivered(1)),
+    ],
+    ends: &["5", "5"],
+};
+
+/// A relay is published anew while the session of a mirror behind it is open.
+pub const GONE: Script = Script {
+    up: &[0, 1],
+    history: 1,
+    lines: &[
+        (Commit(TEAM_1), Want::Committed("1")),
+        (Connect(1), Want::Opened),
+        (Deliver(1, ALL), Want::Delivered(1)),
+        (Connect(2), Want::Opened),
+        (Commit(TEAM_2), Want::Committed("2")),
+        (Commit(NO_TEAM_1), Want::Committed("3")),
+        (Commit(STATE), Want::Committed("4")),
+        (Connect(1), Want::Refused),
+        (Connect(1), Want::Opened),
+        (Deliver(1, ALL), Want::Delivered(1)),
+        (Serve(2), Want::Sent(Pulled::Gone)),
+        (Idle(2), Want::Sent(Pulled::Gone)),
+        (Deliver(2, ALL), Want::Delivered(1)),
+        (Connect(2), Want::Refused),
+        (Connect(2), Want::Opened),
+        (Deliver(2, ALL), Want::Delivered(1)),
+    ],
+    ends: &["4", "4", "4"],
+};
+
+/// A commit is sent on an open connection, and then a line feed.
+pub const FOLLOWED: Script = Script {
+    up: &[0],
+    history: 1,
+    lines: &[
+        (Connect(1), Want::Opened),
+        (Deliver(1, ALL), Want::Delivered(1)),
+        (Commit(STATE), Want::Committed("1")),
+        (Serve(1), Want::Sent(Pulled::More)),
+        (Serve(1), Want::Sent(Pulled::UpToDate)),
+        (Idle(1), Want::Idled),
+        (Deliver(1, ALL), Want::Delivered(1)),
+    ],
+    ends: &["1", "1"],
+};
