@@ -1,5 +1,6 @@
 pub mod AskedLemmas
 pub mod DeviceLemmas
+pub mod FrameLemmas
 pub mod RefusalTexts
 pub mod RequestLemmas
 pub mod RestLemmas
