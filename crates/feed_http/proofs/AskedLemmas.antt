@@ -1,5 +1,5 @@
 -- A request is read in one way.
-use Rattle.std.proofs.Common.{◌≡◌, ℕ, List, [], sym, ap, ap₂, ◌∙◌, refl, subst, Option, length, not, ◌||◌, ◌==◌, is_some, cond}
+use Rattle.std.proofs.Common.{◌≡◌, ℕ, List, [], sym, ap, ap₂, ◌∙◌, refl, subst, Option, length, not, ◌||◌, ◌==◌, is_some}
 use Rattle.std.specs.Prelude.{slice_index, if◌then◌else◌}
 use Rattle.httparse.specs.Grammar.{RequestHead}
 use Rattle.httparse.proofs.GrammarLemmas.{request_unique}

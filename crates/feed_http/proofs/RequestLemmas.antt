@@ -1,13 +1,12 @@
 -- A request that is written here is read as it was meant.
-use Rattle.std.proofs.Common.{◌≡◌, ◌≢◌, refl, sym, ap, ap₂, ◌∙◌, subst, ℕ, zero, suc, ◌+◌, ◌*◌, ◌-◌, ◌/◌, ◌%◌, ◌<◌, ◌≤◌, Bool, true, false, cond, not, ◌&&◌, ◌||◌, ◌==◌, ◌⊎◌, inl, inr, ⊎_elim, List, [], ◌∷◌, ◌++◌, length, take, drop, get_or, All, IsUtf8, codes, append_assoc, append-nil, length-append, take_all, arith, is_some}
+use Rattle.std.proofs.Common.{◌≡◌, ◌≢◌, refl, sym, ap, ap₂, ◌∙◌, subst, ℕ, zero, suc, ◌+◌, ◌*◌, ◌/◌, ◌%◌, ◌<◌, ◌≤◌, Bool, true, false, cond, not, ◌&&◌, ◌||◌, ◌==◌, ◌⊎◌, inl, inr, ⊎_elim, List, [], ◌∷◌, ◌++◌, length, take, drop, All, IsUtf8, codes, append_assoc, append-nil, length-append, arith}
 use Rattle.std.specs.Prelude.{if◌then◌else◌, Option, Some, None, IfSome, option_map, find, bytes_eq, Ok, Err, Result, nat_lt, nat_le, slice_index}
-use Rattle.std.specs.List.{list_all, list_any, flat_map, prefix_len, sum_by, count_by}
-use Rattle.std.specs.Char.{is_ascii_alphanumeric}
+use Rattle.std.specs.List.{list_all, prefix_len}
 use Rattle.std.specs.Str.Lossy.{utf8_lossy}
 use Rattle.std.proofs.Math.Seq.{take-append_seam, take-length, drop-append-add}
-use Rattle.std.proofs.lemmas.Bool.{cases_Bool, cases_eq, cases_lt, cond_both, eq-eqb}
+use Rattle.std.proofs.lemmas.Bool.{cases_lt, cond_both, eq-eqb}
 use Rattle.std.proofs.lemmas.Bool.Decides.{nat_tests}
-use Rattle.std.proofs.lemmas.List.Folds.{list_all-append, prefix_len-append}
+use Rattle.std.proofs.lemmas.List.Folds.{list_all-append}
 use Rattle.std.proofs.lemmas.List.Sums.{AllPass-from_list_all, list_all-from_AllPass, sum_by-append}
 use Rattle.std.proofs.lemmas.List.Elements.{All-weaker, All-nil, All-cons, All-append}
 use Rattle.std.proofs.lemmas.Slice.Eq.{bytes_eq-Decides}
@@ -15,21 +14,20 @@ use Rattle.std.proofs.Math.Utf8.{scalar, scalars, scalar_cases, encode, encodes}
 use Rattle.std.proofs.lemmas.Str.{IsUtf8-from_ascii, utf8_lossy-IsUtf8}
 use Rattle.std.proofs.lemmas.Str.Ascii.{IsAscii-from_all}
 use Rattle.percent_encoding.specs.Percent.{percent_encode_byte}
-use Rattle.percent_encoding.proofs.PercentLemmas.{IsByte}
-use Rattle.form_urlencoded.specs.Form.{decode, split_once, split_pair, raw_pairs, IsPlain, is_unchanged, serialize_byte, byte_serialize}
+use Rattle.form_urlencoded.specs.Form.{split_once, split_pair, raw_pairs, IsPlain, is_unchanged, serialize_byte, byte_serialize}
 use Rattle.form_urlencoded.proofs.FormLemmas.{raw_pairs_first, split_once_before_none, split_once_before_at, split_once_after_at, decode_plain, IsSerializedByte, All-byte_serialize, byte_serialize-nil, byte_serialize-cons, decode-byte_serialize}
 use Rattle.httparse.specs.Ascii.{crlf_bytes}
-use Rattle.httparse.specs.Grammar.{RequestHead, IsRequestHead, ReadsRequest, Field, IsField, IsToken, crlf, is_token_byte, is_uri_byte, is_value_byte, print_request}
+use Rattle.httparse.specs.Grammar.{RequestHead, IsRequestHead, Field, IsField, IsToken, crlf, is_token_byte, is_uri_byte, is_value_byte, print_request}
 use Rattle.http_uri.specs.declared.uri.Uri.{Uri as Target}
-use Rattle.http_uri.specs.Uri.{Spells, uri_path, uri_query}
+use Rattle.http_uri.specs.Uri.{Spells, uri_path}
 use Rattle.http_uri.specs.ByteClasses.{is_path_byte, is_query_byte, is_delimiter, index_of, split_once_front, split_once_back}
-use Rattle.http_uri.specs.Grammar.{AllPass, IsPathAndQuery, IsPathInput, or_slash, path_of, query_of, without_fragment}
+use Rattle.http_uri.specs.Grammar.{AllPass, IsPathAndQuery, IsPathInput, or_slash, path_of, without_fragment}
 use Rattle.feed_http.specs.declared.place.PlaceFault.{PlaceFault}
 use Rattle.feed_http.specs.declared.place.PlaceFault.TheVariants.{BadHost, BadBase, BadContest}
-use Rattle.feed_http.specs.Heads.{BeginsWithRequest, IsHeadSize, line_count}
-use Rattle.feed_http.specs.Place.{Place, place_of, is_alphanumeric_or, is_text_of, is_host, is_base, is_contest}
-use Rattle.feed_http.specs.RequestText.{head_text, feed_path, since_query, request_line, request_text}
-use Rattle.feed_http.specs.Asked.{Asks, Requests, IsRequestFor, feed, form_text, parameter, since_token}
+use Rattle.feed_http.specs.Heads.{IsHeadSize, line_count}
+use Rattle.feed_http.specs.Place.{Place, is_alphanumeric_or, is_text_of, is_host, is_base, is_contest}
+use Rattle.feed_http.specs.RequestText.{head_text, feed_path, since_query, request_text}
+use Rattle.feed_http.specs.Asked.{Requests, form_text, parameter, since_token}
 use Rattle.feed_http.specs.Laws.{RequestIsRead}
 
 -- ---- tests of bytes

@@ -1,15 +1,13 @@
 -- What sessions are sent.
-use Rattle.std.proofs.Common.{◌≡◌, ◌≢◌, refl, sym, ap, ◌∙◌, ℕ, zero, suc, ◌+◌, ◌-◌, ◌<◌, ◌≤◌, ◌^◌, Bool, true, false, true≢false, List, [], ◌∷◌, ◌++◌, length, get_or, arith, inl, inr, subst, Option, Some, None, append_assoc, append-nil, length-append, map, cond, not, nat_lt, Result, Ok, Err}
-use Rattle.std.specs.Prelude.{slice_get, MatchOption, unwrap_or, if◌then◌else◌, min, AllPairs, position, OnErr, IfSome}
+use Rattle.std.proofs.Common.{◌≡◌, ◌≢◌, refl, sym, ap, ◌∙◌, ℕ, zero, suc, ◌+◌, ◌-◌, ◌<◌, ◌≤◌, Bool, true, false, List, [], ◌∷◌, ◌++◌, length, get_or, arith, inl, inr, subst, Option, Some, None, append_assoc, append-nil, map, cond, not, nat_lt, Result, Ok, Err}
+use Rattle.std.specs.Prelude.{slice_get, MatchOption, unwrap_or, if◌then◌else◌, position, OnErr, IfSome}
 use Rattle.std.specs.List.{flat_map, prefix_len}
 use Rattle.std.proofs.lemmas.Bool.Decides.{nat_tests}
-use Rattle.std.specs.Option.{option_and_then}
 use Rattle.std.specs.Str.{bytes_eq}
 use Rattle.std.specs.Io.KnownBytes.{Appends}
 use Rattle.std.proofs.KnownBytes.{Appends-trans, Appends-nil}
-use Rattle.std.proofs.lemmas.Bool.{cases_lt, cases_Bool}
-use Rattle.std.proofs.lemmas.Option.{option_and_then_some, get_or_from_slice_get, slice_get_cases}
-use Rattle.std.proofs.lemmas.List.Quantifiers.{position-Some}
+use Rattle.std.proofs.lemmas.Bool.{cases_Bool}
+use Rattle.std.proofs.lemmas.Option.{option_and_then_some}
 use Rattle.std.proofs.lemmas.Slice.Eq.{bytes_eq-Decides}
 use Rattle.std.proofs.lemmas.Grind.{flat_map-append}
 use Rattle.std.proofs.lemmas.List.{map-append}
@@ -25,7 +23,7 @@ use Rattle.feed_http.specs.Device.{AppendsFront, counted}
 use Rattle.feed_http.specs.Framed.{frame, frame_end}
 use Rattle.feed_http.specs.Served.{behind_opening, farewell}
 use Rattle.feed_http.specs.Answered.{parts_of}
-use Rattle.feed_http.specs.Serving.{Sends, up_to_date, lost, sends, commit_text, SendsAnswer, Tells}
+use Rattle.feed_http.specs.Serving.{Sends, up_to_date, lost, sends, commit_text, SendsAnswer}
 use Rattle.feed_http.specs.Sending.{Sent, sent_none, sent_one, commit_frames, WroteSome, WroteAnswer}
 use Rattle.feed_http.specs.declared.fault.Served.{Served}
 

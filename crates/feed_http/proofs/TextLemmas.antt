@@ -1,5 +1,5 @@
 -- Texts that are appended part by part.
-use Rattle.std.proofs.Common.{◌≡◌, List, ℕ, ◌++◌, ap, ◌∙◌, sym, append_assoc}
+use Rattle.std.proofs.Common.{◌≡◌, List, ℕ, ◌++◌, ap, ◌∙◌, append_assoc}
 
 -- one part more
 pub appended : (old middle new front part : List ℕ) → middle ≡ old ++ front → new ≡ middle ++ part → new ≡ old ++ (front ++ part)

@@ -1,8 +1,10 @@
 -- What is written here is read here as it was meant.
-use Rattle.std.specs.Prelude.{◌≡◌, ℕ, ◌≤◌, List, [], length, Option, IfSome, IsUtf8}
-use Rattle.feed_node.specs.States.{NodeState}
-use Rattle.feed_node.specs.Serving.{opens}
+use Rattle.std.specs.Prelude.{◌≡◌, ℕ, ◌≤◌, Bool, false, List, [], length, drop, Option, Some, IfSome, IsUtf8}
+use Rattle.feed_node.specs.declared.commit.Commit.{Commit}
+use Rattle.feed_node.specs.States.{NodeState, IsConsistent, place_of}
+use Rattle.feed_http.specs.Sessions.{opens}
 use Rattle.feed_http.specs.declared.framing.Framing.{Framing}
+use Rattle.feed_http.specs.Serving.{Sends}
 use Rattle.feed_http.specs.Place.{Place, IsPlace}
 use Rattle.feed_http.specs.RequestText.{request_text}
 use Rattle.feed_http.specs.Asked.{Asked, Asks, feed}
@@ -22,3 +24,9 @@ abbrev pub RequestIsAnswered : Type 0
 RequestIsAnswered = (place : Place) (since : Option (List ℕ)) (node : NodeState) (framing : Framing) (answer : AnswerParts) → IsPlace place → place.base ≡ []
     → IfSome since (λ token. (length token ≤ 255) × IsUtf8 token) → AnswersTo (request_text place since) place.contest node framing answer
     → answer ≡ answer_opened framing (opens node since)
+
+-- A session at a held token is sent the kept commits after it, in order, and does not lose its token: the held token at a place
+-- is the one before the kept commit at that place.
+abbrev pub SendsTheRest : Type 0
+SendsTheRest = (node : NodeState) (token : List ℕ) (place : ℕ) (sent : List Commit) (gone : Bool) → IsConsistent node → place_of node token ≡ Some place
+    → Sends node token sent gone → (sent ≡ drop place node.kept) × (gone ≡ false)

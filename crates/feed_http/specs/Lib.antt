@@ -3,6 +3,7 @@ pub mod Answered
 pub mod Asked
 pub mod AskedFor
 pub mod Device
+pub mod FrameLaws
 pub mod Framed
 pub mod HeadRead
 pub mod HeadReading

@@ -3,7 +3,7 @@ use Rattle.std.specs.Prelude.{◌≡◌, ℕ, Bool, List, [], ◌∷◌, ◌++�
 use Rattle.std.specs.List.{flat_map}
 use Rattle.feed_node.specs.declared.commit.Commit.{Commit}
 use Rattle.feed_node.specs.States.{NodeState}
-use Rattle.feed_node.specs.Serving.{Commit_after, next}
+use Rattle.feed_http.specs.Sessions.{Commit_after, next}
 use Rattle.feed_http.specs.declared.fault.Served.{Served}
 use Rattle.feed_http.specs.declared.framing.Framing.{Framing}
 use Rattle.feed_http.specs.Answered.{AnswerParts}

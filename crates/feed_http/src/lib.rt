@@ -23,6 +23,7 @@ pub use answering::{Answered, answer};
 pub use asking::ask;
 pub use device::{FeedRead, FeedWrite};
 pub use fault::{EngineFault, Served};
+pub use feed_follow::{FollowFault, Follower, Progress};
 pub use framing::{Framing, frame, frame_end};
 pub use heads::{HEAD_BYTES, HEAD_FIELDS, HEAD_LINES};
 pub use laws::http_laws;

@@ -2,6 +2,8 @@
 //! is a function, its name here, and its line in the crate's file `stdout`.
 
 mod feeds;
+mod follow;
+mod http;
 mod lines;
 mod nodes;
 mod stores;
@@ -27,6 +29,15 @@ pub const NAMES: &[&str] = &[
     "batches_array",
     "write",
     "tables_apply",
+    "answer_opened",
+    "answer_snapshot",
+    "answer_not_held",
+    "answer_other_path",
+    "place",
+    "request",
+    "chunk",
+    "follow_chunked",
+    "follow_sized",
     "world_new",
     "world_lost",
     "world_gone",
@@ -51,6 +62,15 @@ pub fn run(name: &str, trial: &mut Trial) -> Option<Outcome> {
         "batches_array" => lines::batches_array(trial),
         "write" => lines::write(trial),
         "tables_apply" => stores::tables_apply(trial),
+        "answer_opened" => http::answer_opened(trial),
+        "answer_snapshot" => http::answer_snapshot(trial),
+        "answer_not_held" => http::answer_not_held(trial),
+        "answer_other_path" => http::answer_other_path(trial),
+        "place" => http::place(trial),
+        "request" => http::request(trial),
+        "chunk" => http::chunk(trial),
+        "follow_chunked" => follow::follow_chunked(trial),
+        "follow_sized" => follow::follow_sized(trial),
         "world_new" => worlds::world_new(trial),
         "world_lost" => worlds::world_lost(trial),
         "world_gone" => worlds::world_gone(trial),

@@ -91,7 +91,10 @@ pub fn request(trial: &mut Trial) -> Option<Outcome> {
     }
     let is_unchanged = out.as_slice() == b"x".as_slice();
     let repeats = request_text(&place, Some("a b&1"), &mut out).is_ok();
-    Some(given(is_unchanged && repeats && is_behind(&out, REQUEST), Outcome::Memory))
+    Some(given(
+        is_unchanged && repeats && is_behind(&out, REQUEST),
+        Outcome::Memory,
+    ))
 }
 
 /// A chunk is written behind other bytes.
@@ -107,7 +110,10 @@ pub fn chunk(trial: &mut Trial) -> Option<Outcome> {
     }
     let is_unchanged = out.as_slice() == b"x".as_slice();
     let repeats = frame(alloc, Framing::Chunked, b"0123456789abcdef", &mut out).is_ok();
-    Some(given(is_unchanged && repeats && is_behind(&out, framed), Outcome::Memory))
+    Some(given(
+        is_unchanged && repeats && is_behind(&out, framed),
+        Outcome::Memory,
+    ))
 }
 
 fn is_behind(out: &Vec<u8>, text: &[u8]) -> bool {

@@ -1,5 +1,4 @@
-use Rattle.std.proofs.Common.{◌≡◌, ℕ, List, sym, ap, subst}
-use Rattle.std.specs.Prelude.{Option, Some}
+use Rattle.std.proofs.Common.{ℕ, List, sym, subst}
 use Rattle.std.specs.Io.KnownBytes.{Appends}
 use Rattle.feed_http.specs.Device.{AppendsFront}
 use Rattle.feed_http.specs.Answered.{parts_of}

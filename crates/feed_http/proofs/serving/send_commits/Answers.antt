@@ -1,9 +1,8 @@
-use Rattle.std.proofs.Common.{◌≡◌, refl, sym, ap, ◌∙◌, ℕ, ◌+◌, List, [], ◌∷◌, ◌++◌, length, arith, subst, Some, length-append}
+use Rattle.std.proofs.Common.{◌≡◌, refl, sym, ap, ◌∙◌, [], ◌∷◌, ◌++◌, arith, subst, length-append}
 use Rattle.std.specs.Io.KnownBytes.{Appends}
-use Rattle.std.proofs.KnownBytes.{Appends-nil, Appends-trans}
-use Rattle.feed_node.specs.declared.commit.Commit.{Commit}
+use Rattle.std.proofs.KnownBytes.{Appends-nil}
 use Rattle.feed_http.specs.Framed.{frame}
-use Rattle.feed_http.specs.Device.{counted, AppendsFront}
+use Rattle.feed_http.specs.Device.{AppendsFront}
 use Rattle.feed_http.specs.Serving.{Sends, up_to_date, lost, commit_text}
 use Rattle.feed_http.specs.Sending.{Sent, sent_none, sent_one}
 use Rattle.feed_http.proofs.ServingLemmas.{sends_behind, next_moves, ahead_falls, pulls_more, pulls_up_to_date, pulls_gone, on_err, wrote_these, wrote_into, wrote_one, ahead}

@@ -1,5 +1,5 @@
 -- What was written are the frames of the commits that the session was sent.
-use Rattle.std.proofs.Common.{◌≡◌, ℕ, List, length}
+use Rattle.std.proofs.Common.{◌≡◌, List, length}
 use Rattle.std.specs.Io.KnownBytes.{Appends}
 use Rattle.feed_node.specs.declared.commit.Commit.{Commit}
 use Rattle.feed_http.specs.Device.{counted}

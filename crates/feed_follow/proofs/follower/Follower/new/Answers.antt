@@ -5,7 +5,7 @@ use Rattle.feed_follow.proofs.follower.Follower.new.Goals as goal
 
 pub returns : goal.returns
 returns c = record {
-  asked = c.is_some.ensures ∙ is_some_copied c.since.result ∙ ap is_some c.since.ensures;
+  asked = c.is_some.ensures ∙ is_some_copied c.since.result ∙ ap is_some c.since.ensures.since;
   stands = nothing_in_head c.is_some.result;
   keeps = (refl, refl);
   leaves = refl;
