@@ -10,5 +10,4 @@ mod world;
 
 pub use event::{Event, Reply, ShapeFault, WorldFault};
 pub use laws::world_laws;
-
 pub use world::{Link, MOST_NODES, World};
