@@ -8,6 +8,7 @@ use Rattle.clap.specs.Walk.{one_of}
 use Rattle.clap.specs.Words.{App, Row, Rule, Text, new_app, new_rule, subcommand_of, with_rule, with_subcommand}
 use Rattle.clap.specs.declared.builder.action.ArgAction.TheVariants.{SetTrue}
 use Rattle.clap.specs.declared.builder.value_parser.ValueParser.TheVariants.{Unsigned}
+use Rattle.feed_node.specs.Limits.{most_commits, most_changes}
 use Rattle.feed_cli.specs.declared.words.Request.{Request}
 use Rattle.feed_cli.specs.declared.words.Request.TheVariants as request
 use Rattle.feed_cli.specs.declared.words.TablesOptions.{TablesOptions}
@@ -28,10 +29,10 @@ abbrev pub flag : Text → Rule
 flag name = record (new_rule name) { long = Some name; action = Some SetTrue }
 
 abbrev pub history : Rule
-history = number_option (codes "history") 65536 (codes "1000")
+history = number_option (codes "history") most_commits (codes "1000")
 
 abbrev pub staged : Rule
-staged = number_option (codes "staged") 1000000 (codes "1000000")
+staged = number_option (codes "staged") most_changes (codes "1000000")
 
 abbrev pub verbose : Rule
 verbose = flag (codes "verbose")

@@ -6,7 +6,7 @@ ghost use Rattle.feed_cli.specs.Words.{history, staged, verbose, command_line, A
 
 use clap::error::ErrorKind;
 use clap::{Arg, ArgAction, ArgMatches, Command, Error, value_parser};
-use feed_node::Limits;
+use feed_node::{Limits, MOST_CHANGES, MOST_COMMITS};
 use std::alloc::{AllocError, Global};
 
 /// The name of the program.
@@ -55,7 +55,7 @@ fn history_option<'a>(alloc: Global) -> Arg<'a>
         .long("history")
         .value_name("N")
         .help("How many commits are kept, 1 to 65536")
-        .value_parser(value_parser!(u64).range(1..=65_536))
+        .value_parser(value_parser!(u64).range(1..=MOST_COMMITS as i64))
         .default_value("1000")
 }
 
@@ -70,7 +70,7 @@ fn staged_option<'a>(alloc: Global) -> Arg<'a>
         .help(
             "How many changes may wait for a token, and the greatest size of the tables, 1 to 1000000",
         )
-        .value_parser(value_parser!(u64).range(1..=1_000_000))
+        .value_parser(value_parser!(u64).range(1..=MOST_CHANGES as i64))
         .default_value("1000000")
 }
 
