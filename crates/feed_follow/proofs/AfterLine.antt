@@ -8,14 +8,16 @@ use Rattle.httparse.proofs.ChunkLemmas.{chunk_line_unique}
 use Rattle.feed_follow.specs.ChunkedBody.{Chunk, IsChunk, IsSizeLine, size_line, print_chunk, carried, IsLastLine, AreTrailers, IsChunkedFront, IsBreak, IsEmptyOrCr, print_trailers}
 
 -- a size line is read in one way
-pub same_line : (l k : ChunkLine) (z w : List ℕ) → IsSizeLine l → IsSizeLine k → size_line l ++ (crlf_bytes ++ z) ≡ size_line k ++ (crlf_bytes ++ w) → (l ≡ k) × (z ≡ w)
+pub same_line : (l k : ChunkLine) (z w : List ℕ) → IsSizeLine l → IsSizeLine k
+    → size_line l ++ (crlf_bytes ++ z) ≡ size_line k ++ (crlf_bytes ++ w) → (l ≡ k) × (z ≡ w)
 unfolding print_chunk_line
 same_line l k z w is_l is_k e =
     chunk_line_unique (size_line l ++ (crlf_bytes ++ z)) l k z w
     (is_l.is_line, sym (append_assoc (size_line l) crlf_bytes z)) (is_k.is_line, e ∙ sym (append_assoc (size_line k) crlf_bytes w))
 
 -- a whole line isn't one that breaks off
-line_goes_on : (l k : ChunkLine) (z end more : List ℕ) → IsSizeLine l → IsSizeLine k → end ++ more ≡ crlf_bytes → 0 < length more
+line_goes_on : (l k : ChunkLine) (z end more : List ℕ) → IsSizeLine l → IsSizeLine k
+    → end ++ more ≡ crlf_bytes → 0 < length more
     → size_line l ++ (crlf_bytes ++ z) ≡ size_line k ++ end → ⊥
 line_goes_on l k z end more is_l is_k ends some e =
     let longer : size_line l ++ (crlf_bytes ++ (z ++ more)) ≡ size_line k ++ (crlf_bytes ++ []) =
@@ -66,7 +68,8 @@ module _ (l : ChunkLine) (z : List ℕ) (is_l : IsSizeLine l) where
       let size : chunk_size l ≡ length c.bytes = ap chunk_size line ∙ is.size in
       inl (rw size is.some, inl (record { bytes = c.bytes; rest = after; others = bytes; size_is = size; spelled = rest; front = front; payload_is = refl }))
 
-  in_body : (chunks : List Chunk) (last : ChunkLine) (trailers : List (List ℕ)) → AllByRecursion IsChunk chunks → IsLastLine last → AreTrailers trailers
+  in_body : (chunks : List Chunk) (last : ChunkLine) (trailers : List (List ℕ))
+      → AllByRecursion IsChunk chunks → IsLastLine last → AreTrailers trailers
       → size_line l ++ (crlf_bytes ++ z) ≡ flat_map print_chunk chunks ++ size_line last ++ crlf_bytes ++ print_trailers trailers ++ crlf_bytes
       → Follows (chunk_size l) z (carried chunks)
   in_body [] last trailers are is_last are_trailers e =
@@ -76,7 +79,8 @@ module _ (l : ChunkLine) (z : List ℕ) (is_l : IsSizeLine l) where
       in_chunks c chunks (size_line last ++ crlf_bytes ++ print_trailers trailers ++ crlf_bytes) (carried chunks) are.0 (e ∙ simp append_assoc)
       (inl (record { chunks = chunks; last = last; trailers = trailers; are_chunks = are.1; is_last = is_last; are_trailers = are_trailers; spelled = simp append_assoc; payload_is = refl }))
 
-  in_break : (rest bytes : List ℕ) → IsBreak rest bytes → size_line l ++ (crlf_bytes ++ z) ≡ rest → Follows (chunk_size l) z bytes
+  in_break : (rest bytes : List ℕ) → IsBreak rest bytes → size_line l ++ (crlf_bytes ++ z) ≡ rest
+      → Follows (chunk_size l) z bytes
   in_break rest bytes (inl (inl none, empty)) e =
       let short : length (size_line l ++ (crlf_bytes ++ z)) ≡ 0 = ap length (e ∙ none) in
       absurd (omega (arith, length-append (size_line l) (crlf_bytes ++ z)))
@@ -93,19 +97,22 @@ module _ (l : ChunkLine) (z : List ℕ) (is_l : IsSizeLine l) where
       inr (ap chunk_size line ∙ t.is_last.size, record { trailers = t.trailers; part = t.part; end = t.end; are_trailers = t.are_trailers; is_part = t.is_part; ends = inl t.ends; spelled = same; payload_is = empty })
 
   in_front : (chunks : List Chunk) (rest bytes : List ℕ) → AllByRecursion IsChunk chunks → IsBreak rest bytes
-      → size_line l ++ (crlf_bytes ++ z) ≡ flat_map print_chunk chunks ++ rest → Follows (chunk_size l) z (carried chunks ++ bytes)
+      → size_line l ++ (crlf_bytes ++ z) ≡ flat_map print_chunk chunks ++ rest
+      → Follows (chunk_size l) z (carried chunks ++ bytes)
   in_front [] rest bytes are is e = in_break rest bytes is e
   in_front (c ∷ chunks) rest bytes are is e =
       rw append_assoc (in_chunks c chunks rest (carried chunks ++ bytes) are.0 e
       (inr (record { chunks = chunks; rest = rest; bytes = bytes; are_chunks = are.1; is_break = is; spelled = refl; payload_is = refl })))
 
   -- what follows a size line
-  pub after_line : (payload : List ℕ) → IsChunkedFront (size_line l ++ (crlf_bytes ++ z)) payload → Follows (chunk_size l) z payload
+  pub after_line : (payload : List ℕ) → IsChunkedFront (size_line l ++ (crlf_bytes ++ z)) payload
+      → Follows (chunk_size l) z payload
   after_line payload (inl body) = rw body.payload_is (in_body body.chunks body.last body.trailers body.are_chunks body.is_last body.are_trailers body.spelled)
   after_line payload (inr front) = rw front.payload_is (in_front front.chunks front.rest front.bytes front.are_chunks front.is_break front.spelled)
 
 -- only CR stands behind the bytes of a chunk
-no_other : (size : ℕ) (bytes : List ℕ) (b : ℕ) (payload : List ℕ) → size ≡ length bytes → 0 < length bytes → b ≢ carriage_return
+no_other : (size : ℕ) (bytes : List ℕ) (b : ℕ) (payload : List ℕ) → size ≡ length bytes
+    → 0 < length bytes → b ≢ carriage_return
     → Follows size (bytes ++ b ∷ []) payload → ⊥
 no_other size bytes b payload is some other (inl (above, inl goes)) =
     let lengths : length (bytes ++ b ∷ []) ≡ length (goes.bytes ++ (crlf_bytes ++ goes.rest)) = ap length goes.spelled in
@@ -126,7 +133,8 @@ no_other size bytes b payload is some other (inl (above, inr stops)) = stopped s
         other (let e : b ≡ carriage_return = cc in e)
 no_other size bytes b payload is some other (inr (none, ends)) = absurd (omega arith)
 
-pub other_byte_refused : (l : ChunkLine) (bytes : List ℕ) (b : ℕ) (payload : List ℕ) → IsSizeLine l → chunk_size l ≡ length bytes → 0 < length bytes → b ≢ carriage_return
+pub other_byte_refused : (l : ChunkLine) (bytes : List ℕ) (b : ℕ) (payload : List ℕ) → IsSizeLine l
+    → chunk_size l ≡ length bytes → 0 < length bytes → b ≢ carriage_return
     → ¬ (IsChunkedFront (size_line l ++ (crlf_bytes ++ (bytes ++ b ∷ []))) payload)
 other_byte_refused l bytes b payload is_l size some other front =
     no_other (chunk_size l) bytes b payload size some other (after_line l (bytes ++ b ∷ []) is_l payload front)

@@ -29,11 +29,14 @@ to_the_end n bytes = take_all (length bytes - n) (drop n bytes) (omega (arith, l
 pub fed_nothing : (mirror : MirrorState) → HasFed mirror [] mirror
 fed_nothing mirror start before h = subst (λ t. HasReached start t mirror) (sym (append-nil before)) h
 
-pub fed_both : (old middle new : MirrorState) (p q : List ℕ) → HasFed old p middle → HasFed middle q new → HasFed old (p ++ q) new
+pub fed_both : (old middle new : MirrorState) (p q : List ℕ) → HasFed old p middle
+    → HasFed middle q new → HasFed old (p ++ q) new
 fed_both old middle new p q first second start before h =
     subst (λ t. HasReached start t new) (append_assoc before p q) (second start (before ++ p) (first start before h))
 
-stops_later : (old middle new : MirrorState) (p q bytes : List ℕ) (fault : FeedFault) → HasFed old p middle → StopsBehind middle q bytes new fault → StopsBehind old (p ++ q) bytes new fault
+stops_later : (old middle new : MirrorState) (p q bytes : List ℕ) (fault : FeedFault)
+    → HasFed old p middle → StopsBehind middle q bytes new fault
+    → StopsBehind old (p ++ q) bytes new fault
 stops_later old middle new p q bytes fault fed stops start before h =
     subst (λ t. StopsAt start t bytes new fault) (append_assoc before p q) (stops start (before ++ p) (fed start before h))
 
@@ -42,7 +45,9 @@ stops_later old middle new p q bytes fault fed stops start before h =
 pub feeds_nothing : (at : Chunking) (mirror : MirrorState) → FeedsChunks at [] mirror at mirror
 feeds_nothing at mirror = record { payload = []; reads = stays at; fed = fed_nothing mirror }
 
-pub feeds_both : (at middle to : Chunking) (x y : List ℕ) (old between new : MirrorState) → FeedsChunks at x old middle between → FeedsChunks middle y between to new → FeedsChunks at (x ++ y) old to new
+pub feeds_both : (at middle to : Chunking) (x y : List ℕ) (old between new : MirrorState)
+    → FeedsChunks at x old middle between → FeedsChunks middle y between to new
+    → FeedsChunks at (x ++ y) old to new
 feeds_both at middle to x y old between new first second = record {
   payload = first.payload ++ second.payload;
   reads = reads_both at middle to x first.payload y second.payload first.reads second.reads;
@@ -50,7 +55,9 @@ feeds_both at middle to x y old between new first second = record {
 }
 
 -- the mirror stopped within bytes of the chunk that comes next
-pub stops_in_data : (left : ℕ) (bytes later : List ℕ) (old new : MirrorState) (fault : FollowFault) → length bytes ≤ left → StopsFeeding old bytes new fault → StopsInChunks (InBytes left) (bytes ++ later) old new fault
+pub stops_in_data : (left : ℕ) (bytes later : List ℕ) (old new : MirrorState) (fault : FollowFault)
+    → length bytes ≤ left → StopsFeeding old bytes new fault
+    → StopsInChunks (InBytes left) (bytes ++ later) old new fault
 stops_in_data left bytes later old new (Feed fault) few stops = record {
   front = [];
   bytes = bytes;
@@ -65,7 +72,9 @@ stops_in_data left bytes later old new (Feed fault) few stops = record {
 stops_in_data left bytes later old new fault few stops = absurd stops
 
 -- the same behind a front that was read
-pub stops_behind : (at middle : Chunking) (front rest : List ℕ) (old between new : MirrorState) (fault : FollowFault) → FeedsChunks at front old middle between → StopsInChunks middle rest between new fault → StopsInChunks at (front ++ rest) old new fault
+pub stops_behind : (at middle : Chunking) (front rest : List ℕ) (old between new : MirrorState) (fault : FollowFault)
+    → FeedsChunks at front old middle between → StopsInChunks middle rest between new fault
+    → StopsInChunks at (front ++ rest) old new fault
 stops_behind at middle front rest old between new BadChunk feeds meets = record {
   front = front ++ meets.front;
   byte = meets.byte;
@@ -90,7 +99,9 @@ stops_behind at middle front rest old between new (Feed fault) feeds stop = reco
 stops_behind at middle front rest old between new fault feeds stop = absurd stop
 
 -- a byte that is none of a chunk's
-pub feeds_byte : (at to : Chunking) (b : ℕ) (mirror : MirrorState) → ((left : ℕ) → at ≢ InBytes left) → next at b ≡ Some to → FeedsChunks at (b ∷ []) mirror to mirror
+pub feeds_byte : (at to : Chunking) (b : ℕ) (mirror : MirrorState)
+    → ((left : ℕ) → at ≢ InBytes left) → next at b ≡ Some to
+    → FeedsChunks at (b ∷ []) mirror to mirror
 feeds_byte at to b mirror other e = record {
   payload = [];
   reads = subst (λ p. Reads at (b ∷ []) p to) (ap (λ p. p ++ []) (brings_nothing at b other)) (goes at to to b [] [] e (stays to));
@@ -98,12 +109,16 @@ feeds_byte at to b mirror other e = record {
 }
 
 -- bytes of a chunk
-pub feeds_data : (left : ℕ) (bytes : List ℕ) (to : Chunking) (old new : MirrorState) → Reads (InBytes left) bytes bytes to → HasFed old bytes new → FeedsChunks (InBytes left) bytes old to new
+pub feeds_data : (left : ℕ) (bytes : List ℕ) (to : Chunking) (old new : MirrorState)
+    → Reads (InBytes left) bytes bytes to → HasFed old bytes new
+    → FeedsChunks (InBytes left) bytes old to new
 feeds_data left bytes to old new reads fed = record { payload = bytes; reads = reads; fed = fed }
 
 -- ---- a body of which so many bytes are still to come
 
-sized_brings : (left : ℕ) (text payload more : List ℕ) (framing : BodyFraming) → ReadsBody framing text payload (Sized left) → length more ≤ left → BringsBody framing (text ++ more) (payload ++ more)
+sized_brings : (left : ℕ) (text payload more : List ℕ) (framing : BodyFraming)
+    → ReadsBody framing text payload (Sized left) → length more ≤ left
+    → BringsBody framing (text ++ more) (payload ++ more)
 sized_brings left text payload more framing h few =
     let same : payload ++ more ≡ text ++ more = ap (λ t. t ++ more) h.2 in
     subst (λ f. BringsBody f (text ++ more) (payload ++ more)) (sym h.0)
@@ -115,7 +130,8 @@ sized_brings left text payload more framing h few =
 -- a mirror that stopped within what belongs to the body
 stops_so : (start : MirrorState) (framing : BodyFraming) (text payload bytes later : List ℕ) (old new : MirrorState) (fault : FollowFault)
     → ((more : List ℕ) → length more ≤ length bytes → BringsBody framing (text ++ more) (payload ++ more))
-    → StopsFeeding old bytes new fault → HasReached start payload old → BodyFails start framing text (bytes ++ later) new fault
+    → StopsFeeding old bytes new fault → HasReached start payload old
+    → BodyFails start framing text (bytes ++ later) new fault
 stops_so start framing text payload bytes later old new (Feed FeedMemory) brings stops reached =
     let (counted, uncounted, whole, cut) = stops start payload reached in
     record {
@@ -137,28 +153,34 @@ stops_so start framing text payload bytes later old new (Feed fault) brings stop
     }
 stops_so start framing text payload bytes later old new fault brings stops reached = absurd stops
 
-pub sized_stops : (left : ℕ) (bytes later : List ℕ) (old new : MirrorState) (fault : FollowFault) → length bytes ≤ left → StopsFeeding old bytes new fault → BodyStops (Sized left) (bytes ++ later) old new fault
+pub sized_stops : (left : ℕ) (bytes later : List ℕ) (old new : MirrorState) (fault : FollowFault)
+    → length bytes ≤ left → StopsFeeding old bytes new fault
+    → BodyStops (Sized left) (bytes ++ later) old new fault
 sized_stops left bytes later old new fault few stops start framing text payload h reached =
     stops_so start framing text payload bytes later old new fault
     (λ more short. sized_brings left text payload more framing h (let all : length more ≤ left = omega arith in all)) stops reached
 
-pub sized_ends : (left : ℕ) (bytes later : List ℕ) (old new : MirrorState) → length bytes ≡ left → HasFed old bytes new → BodyGoesOn (Sized left) (bytes ++ later) old new Done
+pub sized_ends : (left : ℕ) (bytes later : List ℕ) (old new : MirrorState) → length bytes ≡ left
+    → HasFed old bytes new → BodyGoesOn (Sized left) (bytes ++ later) old new Done
 sized_ends left bytes later old new full fed framing text payload h =
     let whole : IsBody framing (text ++ bytes) (payload ++ bytes) =
     subst (λ f. IsBody f (text ++ bytes) (payload ++ bytes)) (sym h.0) (omega (arith, length-append text bytes), ap (λ t. t ++ bytes) h.2) in
     (bytes, (text ++ bytes, later, sym (append_assoc text bytes later), whole), fed)
 
-pub sized_goes_on : (left : ℕ) (bytes : List ℕ) (old new : MirrorState) → length bytes < left → HasFed old bytes new → BodyGoesOn (Sized left) bytes old new (Sized (left - length bytes))
+pub sized_goes_on : (left : ℕ) (bytes : List ℕ) (old new : MirrorState) → length bytes < left
+    → HasFed old bytes new → BodyGoesOn (Sized left) bytes old new (Sized (left - length bytes))
 sized_goes_on left bytes old new some fed framing text payload h =
     let same : length text + left ≡ length (text ++ bytes) + (left - length bytes) = omega (arith, length-append text bytes) in
     (bytes, (h.0 ∙ ap framed.Sized same, omega arith, ap (λ t. t ++ bytes) h.2), fed)
 
 -- ---- a body to the end of the connection
 
-pub open_goes_on : (bytes : List ℕ) (old new : MirrorState) → HasFed old bytes new → BodyGoesOn ToEnd bytes old new ToEnd
+pub open_goes_on : (bytes : List ℕ) (old new : MirrorState) → HasFed old bytes new
+    → BodyGoesOn ToEnd bytes old new ToEnd
 open_goes_on bytes old new fed framing text payload h = (bytes, (h.0, ap (λ t. t ++ bytes) h.1), fed)
 
-pub open_stops : (bytes : List ℕ) (old new : MirrorState) (fault : FollowFault) → StopsFeeding old bytes new fault → BodyStops ToEnd bytes old new fault
+pub open_stops : (bytes : List ℕ) (old new : MirrorState) (fault : FollowFault)
+    → StopsFeeding old bytes new fault → BodyStops ToEnd bytes old new fault
 open_stops bytes old new fault stops start framing text payload h reached =
     subst (λ t. BodyFails start framing text t new fault) (append-nil bytes)
     (stops_so start framing text payload bytes [] old new fault
@@ -166,12 +188,15 @@ open_stops bytes old new fault stops start framing text payload h reached =
 
 -- ---- a chunked body
 
-chunks_bring : (text payload front q : List ℕ) (at to : Chunking) (framing : BodyFraming) → ReadsBody framing text payload (InChunks at) → to ≢ Whole → Reads at front q to → IsBodyFront framing (text ++ front) (payload ++ q)
+chunks_bring : (text payload front q : List ℕ) (at to : Chunking) (framing : BodyFraming)
+    → ReadsBody framing text payload (InChunks at) → to ≢ Whole → Reads at front q to
+    → IsBodyFront framing (text ++ front) (payload ++ q)
 chunks_bring text payload front q at to framing h going reads =
     subst (λ f. IsBodyFront f (text ++ front) (payload ++ q)) (sym h.0)
     (run_breaks_off to (text ++ front) (payload ++ q) going (reads_both LineStart at to text payload front q h.2 reads))
 
-pub chunks_end : (at : Chunking) (piece : List ℕ) (old new : MirrorState) → FeedsToEnd at piece old Whole new → BodyGoesOn (InChunks at) piece old new Done
+pub chunks_end : (at : Chunking) (piece : List ℕ) (old new : MirrorState)
+    → FeedsToEnd at piece old Whole new → BodyGoesOn (InChunks at) piece old new Done
 chunks_end at piece old new run framing text payload h =
     let body = run_is_whole (text ++ run.front) (payload ++ run.feeds.payload) (reads_both LineStart at Whole text payload run.front run.feeds.payload h.2 run.feeds.reads) in (
       run.feeds.payload,
@@ -184,7 +209,8 @@ chunks_end at piece old new run framing text payload h =
       run.feeds.fed,
     )
 
-pub chunks_go_on : (at to : Chunking) (piece : List ℕ) (old new : MirrorState) → to ≢ Whole → FeedsToEnd at piece old to new → BodyGoesOn (InChunks at) piece old new (InChunks to)
+pub chunks_go_on : (at to : Chunking) (piece : List ℕ) (old new : MirrorState) → to ≢ Whole
+    → FeedsToEnd at piece old to new → BodyGoesOn (InChunks at) piece old new (InChunks to)
 chunks_go_on at to piece old new going run framing text payload h =
     let all : run.front ≡ piece = elim run.to_end [
       | inl none ↦ sym (run.split ∙ ap (λ t. run.front ++ t) none ∙ append-nil run.front)
@@ -193,13 +219,16 @@ chunks_go_on at to piece old new going run framing text payload h =
     let reads = reads_both LineStart at to text payload run.front run.feeds.payload h.2 run.feeds.reads in
     (run.feeds.payload, (h.0, going, subst (λ t. Reads LineStart (text ++ t) (payload ++ run.feeds.payload) to) all reads), run.feeds.fed)
 
-chunk_brings : (at : Chunking) (text payload front q counted : List ℕ) (left : ℕ) (framing : BodyFraming) → ReadsBody framing text payload (InChunks at) → Reads at front q (InBytes left) → length counted ≤ left
+chunk_brings : (at : Chunking) (text payload front q counted : List ℕ) (left : ℕ) (framing : BodyFraming)
+    → ReadsBody framing text payload (InChunks at) → Reads at front q (InBytes left)
+    → length counted ≤ left
     → IsBodyFront framing (text ++ (front ++ counted)) (payload ++ (q ++ counted))
 chunk_brings at text payload front q counted left framing h reads few =
     let (to, going, run) = data_run counted left few in
     chunks_bring text payload (front ++ counted) (q ++ counted) at to framing h going (reads_both at (InBytes left) to front q counted counted reads run)
 
-pub chunks_stop : (at : Chunking) (piece : List ℕ) (old new : MirrorState) (fault : FollowFault) → StopsInChunks at piece old new fault → BodyStops (InChunks at) piece old new fault
+pub chunks_stop : (at : Chunking) (piece : List ℕ) (old new : MirrorState) (fault : FollowFault)
+    → StopsInChunks at piece old new fault → BodyStops (InChunks at) piece old new fault
 chunks_stop at piece old new BadChunk meets start framing text payload h reached =
     let q = meets.feeds.payload in
     let run = reads_both LineStart at meets.place text payload meets.front q h.2 meets.feeds.reads in
@@ -239,7 +268,9 @@ chunks_stop at piece old new fault stop start framing text payload h reached = a
 
 -- ---- no body, or one that is whole
 
-pub rest_stays : (part : Part) (piece : List ℕ) (mirror : MirrorState) → ((left : ℕ) → part ≢ Sized left) → ((at : Chunking) → part ≢ InChunks at) → part ≢ ToEnd → BodyGoesOn part piece mirror mirror part
+pub rest_stays : (part : Part) (piece : List ℕ) (mirror : MirrorState)
+    → ((left : ℕ) → part ≢ Sized left) → ((at : Chunking) → part ≢ InChunks at) → part ≢ ToEnd
+    → BodyGoesOn part piece mirror mirror part
 rest_stays (Sized left) piece mirror a b c framing text payload h = absurd (a left refl)
 rest_stays (InChunks at) piece mirror a b c framing text payload h = absurd (b at refl)
 rest_stays ToEnd piece mirror a b c framing text payload h = absurd (c refl)

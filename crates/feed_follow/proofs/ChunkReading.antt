@@ -101,7 +101,8 @@ pub record StandsIn (at : Chunking) (text payload : List ℕ) : Type 0 where
 -- ---- the tests of a byte
 
 -- a choice that gives a place
-pub if_either : {P : Type 0} (c : Bool) (x y : Option Chunking) (t : Chunking) → (if c then x else y) ≡ Some t → (c ≡ true → x ≡ Some t → P) → (c ≡ false → y ≡ Some t → P) → P
+pub if_either : {P : Type 0} (c : Bool) (x y : Option Chunking) (t : Chunking)
+    → (if c then x else y) ≡ Some t → (c ≡ true → x ≡ Some t → P) → (c ≡ false → y ≡ Some t → P) → P
 if_either true x y t e f g = f refl e
 if_either false x y t e f g = g refl e
 
@@ -134,7 +135,8 @@ all_digits (d ∷ ds) h = (digit_small d h.0, all_digits ds h.1)
 pass_one : (test : ℕ → Bool) (b : ℕ) → test b ≡ true → AllPass test (b ∷ [])
 pass_one test b h = All-cons (λ x. test x ≡ true) b [] h (All-nil (λ x. test x ≡ true))
 
-pass_push : (test : ℕ → Bool) (text : List ℕ) (b : ℕ) → AllPass test text → test b ≡ true → AllPass test (text ++ b ∷ [])
+pass_push : (test : ℕ → Bool) (text : List ℕ) (b : ℕ) → AllPass test text → test b ≡ true
+    → AllPass test (text ++ b ∷ [])
 pass_push test text b all h = All-push (λ x. test x ≡ true) text b all h
 
 -- ---- one byte more
@@ -143,7 +145,8 @@ module _ (text : List ℕ) (n size b : ℕ) where
   first_digit : is_ascii_hexdigit b ≡ true → AreDigits (b ∷ []) 1 (digit_value b)
   first_digit h = record { some = lit< tt; few = lit≤ tt; many = refl; hex = pass_one is_ascii_hexdigit b h; value = digits_value_push 16 [] b ∙ zero-add (digit_value b) }
 
-  digit_more : AreDigits text n size → n < 16 → is_ascii_hexdigit b ≡ true → AreDigits (text ++ b ∷ []) (n + 1) (size * 16 + digit_value b)
+  digit_more : AreDigits text n size → n < 16 → is_ascii_hexdigit b ≡ true
+      → AreDigits (text ++ b ∷ []) (n + 1) (size * 16 + digit_value b)
   digit_more d room h = record {
     some = omega arith;
     few = omega arith;
@@ -176,7 +179,9 @@ module _ (text : List ℕ) (n size b : ℕ) where
     spelled = ap (λ t. t ++ b ∷ []) p.spelled ∙ append_assoc p.digits p.pad (b ∷ []);
   }
 
-  extension_first : (digits pad : List ℕ) → AreDigits digits (length digits) size → AllPass is_ows pad → length text ≡ n → n < 1024 → text ≡ digits ++ pad → b ≡ semicolon → IsExtended (text ++ b ∷ []) (n + 1) size
+  extension_first : (digits pad : List ℕ) → AreDigits digits (length digits) size
+      → AllPass is_ows pad → length text ≡ n → n < 1024 → text ≡ digits ++ pad → b ≡ semicolon
+      → IsExtended (text ++ b ∷ []) (n + 1) size
   extension_first digits pad are pads many room spelled h = record {
     digits = digits;
     pad = pad;
@@ -189,7 +194,8 @@ module _ (text : List ℕ) (n size b : ℕ) where
     spelled = ap (λ t. t ++ b ∷ []) spelled ∙ ap (λ c. (digits ++ pad) ++ c ∷ []) h;
   }
 
-  extension_more : IsExtended text n size → n < 1024 → is_extension_byte b ≡ true → IsExtended (text ++ b ∷ []) (n + 1) size
+  extension_more : IsExtended text n size → n < 1024 → is_extension_byte b ≡ true
+      → IsExtended (text ++ b ∷ []) (n + 1) size
   extension_more x room h = record {
     digits = x.digits;
     pad = x.pad;
@@ -204,7 +210,8 @@ module _ (text : List ℕ) (n size b : ℕ) where
 
 -- ---- whole size lines
 
-lined_padded : (text : List ℕ) (n size : ℕ) → IsPadded text n size → IsLined (text ++ carriage_return ∷ []) (carriage_return ∷ []) size
+lined_padded : (text : List ℕ) (n size : ℕ) → IsPadded text n size
+    → IsLined (text ++ carriage_return ∷ []) (carriage_return ∷ []) size
 lined_padded text n size p =
     let line : ChunkLine = record { digits = p.digits; pad = p.pad; extension = None } in
     let same : size_line line ≡ text = append-nil _ ∙ sym p.spelled in
@@ -216,7 +223,8 @@ lined_padded text n size p =
       spelled = ap (λ t. t ++ carriage_return ∷ []) (sym same);
     }
 
-lined_extended : (text : List ℕ) (n size : ℕ) → IsExtended text n size → IsLined (text ++ carriage_return ∷ []) (carriage_return ∷ []) size
+lined_extended : (text : List ℕ) (n size : ℕ) → IsExtended text n size
+    → IsLined (text ++ carriage_return ∷ []) (carriage_return ∷ []) size
 lined_extended text n size x =
     let line : ChunkLine = record { digits = x.digits; pad = x.pad; extension = Some x.extension } in
     let same : size_line line ≡ text = sym x.spelled in
@@ -294,7 +302,8 @@ module _ (text bytes : List ℕ) (h : IsBringing text bytes 0 (carriage_return �
 -- ---- trailer lines
 
 module _ (text part end : List ℕ) (n b : ℕ) where
-  trails_more : IsTrailing text part [] n → is_extension_byte b ≡ true → IsTrailing (text ++ b ∷ []) (part ++ b ∷ []) [] (n + 1)
+  trails_more : IsTrailing text part [] n → is_extension_byte b ≡ true
+      → IsTrailing (text ++ b ∷ []) (part ++ b ∷ []) [] (n + 1)
   trails_more h is = record {
     last = h.last;
     trailers = h.trailers;
@@ -316,21 +325,27 @@ module _ (text part end : List ℕ) (n b : ℕ) where
     spelled = ap (λ t. t ++ b ∷ []) h.spelled ∙ simp append_assoc;
   }
 
-print_push : (trailers : List (List ℕ)) (part : List ℕ) → print_trailers (trailers ++ part ∷ []) ≡ print_trailers trailers ++ (part ++ crlf_bytes)
+print_push : (trailers : List (List ℕ)) (part : List ℕ)
+    → print_trailers (trailers ++ part ∷ []) ≡ print_trailers trailers ++ (part ++ crlf_bytes)
 print_push trailers part = flat_map-append (λ t. t ++ crlf_bytes) trailers (part ∷ []) ∙ ap (λ t. print_trailers trailers ++ t) (append-nil (part ++ crlf_bytes))
 
-pub length_push_trailer : (trailers : List (List ℕ)) (part : List ℕ) (n : ℕ) → length (print_trailers trailers ++ part) ≡ n → length (print_trailers (trailers ++ part ∷ [])) ≡ n + 2
+pub length_push_trailer : (trailers : List (List ℕ)) (part : List ℕ) (n : ℕ)
+    → length (print_trailers trailers ++ part) ≡ n
+    → length (print_trailers (trailers ++ part ∷ [])) ≡ n + 2
 length_push_trailer trailers part n e =
     ap length (print_push trailers part) ∙ ap length (sym (append_assoc (print_trailers trailers) part crlf_bytes))
     ∙ length-append (print_trailers trailers ++ part) crlf_bytes ∙ ap (λ k. k + 2) e
 
-pub are_push : (trailers : List (List ℕ)) (part : List ℕ) (n : ℕ) → AreTrailers trailers → AllPass is_extension_byte part → 0 < length part → length (print_trailers trailers ++ part) ≡ n → n ≤ 8190 → AreTrailers (trailers ++ part ∷ [])
+pub are_push : (trailers : List (List ℕ)) (part : List ℕ) (n : ℕ) → AreTrailers trailers
+    → AllPass is_extension_byte part → 0 < length part
+    → length (print_trailers trailers ++ part) ≡ n → n ≤ 8190 → AreTrailers (trailers ++ part ∷ [])
 are_push trailers part n are is some many short = record {
   each = recursion_from_All IsTrailer _ (All-push IsTrailer trailers part (All-from_recursion IsTrailer trailers are.each) (some, is));
   short = omega (arith, length_push_trailer trailers part n many);
 }
 
-pub trails_line : (text part : List ℕ) (n : ℕ) → IsTrailing text part (carriage_return ∷ []) n → 0 < length part → n ≤ 8190 → IsTrailing (text ++ line_feed ∷ []) [] [] (n + 2)
+pub trails_line : (text part : List ℕ) (n : ℕ) → IsTrailing text part (carriage_return ∷ []) n
+    → 0 < length part → n ≤ 8190 → IsTrailing (text ++ line_feed ∷ []) [] [] (n + 2)
 trails_line text part n h some short = record {
   last = h.last;
   trailers = h.trailers ++ part ∷ [];
@@ -367,10 +382,12 @@ hex_value_small b digit e =
 
 -- ---- what one byte more does
 
-at_of : (s t : Chunking) (text bytes : List ℕ) → ◌≡◌ {A = Option Chunking} (Some s) (Some t) → At s text bytes → At t text bytes
+at_of : (s t : Chunking) (text bytes : List ℕ) → ◌≡◌ {A = Option Chunking} (Some s) (Some t)
+    → At s text bytes → At t text bytes
 at_of s t text bytes e x = subst (λ p. At p text bytes) (some_some s t e) x
 
-step_after_size : (n size b : ℕ) (text : List ℕ) (t : Chunking) → IsPadded text n size → after_size n size b ≡ Some t → At t (text ++ b ∷ []) []
+step_after_size : (n size b : ℕ) (text : List ℕ) (t : Chunking) → IsPadded text n size
+    → after_size n size b ≡ Some t → At t (text ++ b ∷ []) []
 step_after_size n size b text t p e =
     if_either (b == carriage_return) (Some (LineCr size)) _ t e
     (λ h k. at_of (LineCr size) t (text ++ b ∷ []) [] k (subst (λ c. IsLined (text ++ c ∷ []) (carriage_return ∷ []) size) (sym (equal b carriage_return h)) (lined_padded text n size p), refl))
@@ -382,7 +399,8 @@ step_after_size n size b text t p e =
     (λ _ k4. none_some t k4)))
     (λ _ k2. none_some t k2))
 
-step_in_trailer : (n b : ℕ) (text part : List ℕ) (t : Chunking) → IsTrailing text part [] n → (b == carriage_return) ≡ false → in_trailer n b ≡ Some t → At t (text ++ b ∷ []) []
+step_in_trailer : (n b : ℕ) (text part : List ℕ) (t : Chunking) → IsTrailing text part [] n
+    → (b == carriage_return) ≡ false → in_trailer n b ≡ Some t → At t (text ++ b ∷ []) []
 step_in_trailer n b text part t h no_cr e =
     if_either (b == line_feed) None _ t e
     (λ _ k. none_some t k)
@@ -398,7 +416,8 @@ kept t text bytes e x = subst (At t text) (sym (append-nil bytes ∙ e)) x
 
 -- a CR or an LF
 module _ (b : ℕ) (text : List ℕ) where
-  pub as_cr : (P : List ℕ → Type 0) → (b == carriage_return) ≡ true → P (text ++ carriage_return ∷ []) → P (text ++ b ∷ [])
+  pub as_cr : (P : List ℕ → Type 0) → (b == carriage_return) ≡ true
+      → P (text ++ carriage_return ∷ []) → P (text ++ b ∷ [])
   as_cr P h x = subst (λ c. P (text ++ c ∷ [])) (sym (equal b carriage_return h)) x
 
   pub as_lf : (P : List ℕ → Type 0) → (b == line_feed) ≡ true → P (text ++ line_feed ∷ []) → P (text ++ b ∷ [])
@@ -407,7 +426,8 @@ module _ (b : ℕ) (text : List ℕ) where
 pub positive : (n : ℕ) → (n == 0) ≡ false → 0 < n
 positive n h = grind (arith, nat_tests)
 
-pub step : (at t : Chunking) (b : ℕ) (text bytes : List ℕ) → at ≢ BytesCr → At at text bytes → next at b ≡ Some t → At t (text ++ b ∷ []) (bytes ++ brought_by at b)
+pub step : (at t : Chunking) (b : ℕ) (text bytes : List ℕ) → at ≢ BytesCr → At at text bytes
+    → next at b ≡ Some t → At t (text ++ b ∷ []) (bytes ++ brought_by at b)
 step LineStart t b text bytes other (none, empty) e =
     kept t _ bytes empty (if_either (is_ascii_hexdigit b) (Some (InDigits 1 (digit_value b))) None t e
     (λ h k. at_of (InDigits 1 (digit_value b)) t (text ++ b ∷ []) [] k (subst (λ x. AreDigits (x ++ b ∷ []) 1 (digit_value b)) (sym none) (first_digit text 0 0 b h), refl))
@@ -470,14 +490,16 @@ step Whole t b text bytes other is e = none_some t e
 abbrev pub bare_line : List ℕ → List ℕ → Option (List ℕ) → ChunkLine
 bare_line digits pad extension = record { digits = digits; pad = pad; extension = extension }
 
-pub line_of_padded : (text : List ℕ) (n size : ℕ) → IsPadded text n size → (l : ChunkLine) × IsSizeLine l × (text ≡ size_line l)
+pub line_of_padded : (text : List ℕ) (n size : ℕ) → IsPadded text n size
+    → (l : ChunkLine) × IsSizeLine l × (text ≡ size_line l)
 line_of_padded text n size p =
     let l = bare_line p.digits p.pad None in
     let same : size_line l ≡ text = append-nil _ ∙ sym p.spelled in
     let short = p.short in
     (l, record { is_line = record { digits = (p.are.some, p.are.few, p.are.hex); pad = p.pads; extension = tt }; short = rw same (omega (arith, p.many)) }, sym same)
 
-pub line_of_extended : (text : List ℕ) (n size : ℕ) → IsExtended text n size → (l : ChunkLine) × IsSizeLine l × (text ≡ size_line l)
+pub line_of_extended : (text : List ℕ) (n size : ℕ) → IsExtended text n size
+    → (l : ChunkLine) × IsSizeLine l × (text ≡ size_line l)
 line_of_extended text n size x =
     let l = bare_line x.digits x.pad (Some x.extension) in
     let same : size_line l ≡ text = sym x.spelled in

@@ -25,10 +25,13 @@ use Rattle.feed_follow.proofs.ChunkReading.{StandsIn, step, IsBringing, IsTraili
 carried_push : (chunks : List Chunk) (c : Chunk) → carried (chunks ++ c ∷ []) ≡ carried chunks ++ c.bytes
 carried_push chunks c = flat_map-append (λ x. x.bytes) chunks (c ∷ []) ∙ ap (λ t. carried chunks ++ t) (append-nil c.bytes)
 
-print_more : (chunks : List Chunk) (c : Chunk) → flat_map print_chunk (chunks ++ c ∷ []) ≡ flat_map print_chunk chunks ++ print_chunk c
+print_more : (chunks : List Chunk) (c : Chunk)
+    → flat_map print_chunk (chunks ++ c ∷ []) ≡ flat_map print_chunk chunks ++ print_chunk c
 print_more chunks c = flat_map-append print_chunk chunks (c ∷ []) ∙ ap (λ t. flat_map print_chunk chunks ++ t) (append-nil (print_chunk c))
 
-moves_in : (at t : Chunking) (b : ℕ) (text payload : List ℕ) → at ≢ BytesCr → StandsIn at text payload → next at b ≡ Some t → StandsIn t (text ++ b ∷ []) (payload ++ brought_by at b)
+moves_in : (at t : Chunking) (b : ℕ) (text payload : List ℕ) → at ≢ BytesCr
+    → StandsIn at text payload → next at b ≡ Some t
+    → StandsIn t (text ++ b ∷ []) (payload ++ brought_by at b)
 moves_in at t b text payload other s e = record {
   chunks = s.chunks;
   rest = s.rest ++ b ∷ [];
@@ -39,7 +42,8 @@ moves_in at t b text payload other s e = record {
   payload_is = ap (λ p. p ++ brought_by at b) s.payload_is ∙ append_assoc (carried s.chunks) s.bytes (brought_by at b);
 }
 
-ends_chunk : (b : ℕ) (text payload : List ℕ) → StandsIn BytesCr text payload → (b == line_feed) ≡ true → StandsIn LineStart (text ++ b ∷ []) (payload ++ [])
+ends_chunk : (b : ℕ) (text payload : List ℕ) → StandsIn BytesCr text payload
+    → (b == line_feed) ≡ true → StandsIn LineStart (text ++ b ∷ []) (payload ++ [])
 ends_chunk b text payload s h =
     let chunk = brought_chunk s.rest s.bytes s.is_at.0 in
     record {
@@ -54,7 +58,8 @@ ends_chunk b text payload s h =
       payload_is = append-nil payload ∙ s.payload_is ∙ sym (carried_push s.chunks chunk) ∙ sym (append-nil _);
     }
 
-moves : (at t : Chunking) (b : ℕ) (text payload : List ℕ) → StandsIn at text payload → next at b ≡ Some t → StandsIn t (text ++ b ∷ []) (payload ++ brought_by at b)
+moves : (at t : Chunking) (b : ℕ) (text payload : List ℕ) → StandsIn at text payload
+    → next at b ≡ Some t → StandsIn t (text ++ b ∷ []) (payload ++ brought_by at b)
 moves LineStart t b text payload s e = moves_in LineStart t b text payload (λ x. cc) s e
 moves (InDigits n size) t b text payload s e = moves_in (InDigits n size) t b text payload (λ x. cc) s e
 moves (InPad n size) t b text payload s e = moves_in (InPad n size) t b text payload (λ x. cc) s e
@@ -73,7 +78,8 @@ moves EndCr t b text payload s e = moves_in EndCr t b text payload (λ x. cc) s 
 moves Whole t b text payload s e = moves_in Whole t b text payload (λ x. cc) s e
 
 -- wherever a body stands, more bytes that can stand there bring it on
-pub stands_on : (at to : Chunking) (bytes brought text payload : List ℕ) → Reads at bytes brought to → StandsIn at text payload → StandsIn to (text ++ bytes) (payload ++ brought)
+pub stands_on : (at to : Chunking) (bytes brought text payload : List ℕ) → Reads at bytes brought to
+    → StandsIn at text payload → StandsIn to (text ++ bytes) (payload ++ brought)
 stands_on at to bytes brought text payload (stays _) s = subst (λ t. StandsIn at t (payload ++ [])) (sym (append-nil text)) (subst (λ p. StandsIn at text p) (sym (append-nil payload)) s)
 stands_on at to bytes brought text payload (goes _ behind _ b more later e reads) s =
     let s2 = stands_on behind to more later (text ++ b ∷ []) (payload ++ brought_by at b) reads (moves at behind b text payload s e) in
@@ -85,10 +91,12 @@ starts = record { chunks = []; rest = []; bytes = []; are_chunks = tt; is_at = (
 
 -- ---- what has come so far is the front of a body
 
-breaks : (at : Chunking) (text payload : List ℕ) (s : StandsIn at text payload) → IsBreak s.rest s.bytes → IsChunkedFront text payload
+breaks : (at : Chunking) (text payload : List ℕ) (s : StandsIn at text payload)
+    → IsBreak s.rest s.bytes → IsChunkedFront text payload
 breaks at text payload s is = inr (record { chunks = s.chunks; rest = s.rest; bytes = s.bytes; are_chunks = s.are_chunks; is_break = is; spelled = s.spelled; payload_is = s.payload_is })
 
-in_chunk : (text bytes : List ℕ) (left : ℕ) (end : List ℕ) → IsBringing text bytes left end → (end ≡ []) ⊎ ((end ≡ carriage_return ∷ []) × (left ≡ 0)) → IsInChunk text bytes
+in_chunk : (text bytes : List ℕ) (left : ℕ) (end : List ℕ) → IsBringing text bytes left end
+    → (end ≡ []) ⊎ ((end ≡ carriage_return ∷ []) × (left ≡ 0)) → IsInChunk text bytes
 in_chunk text bytes left end h ends = record {
   line = h.line;
   end = end;
@@ -99,7 +107,9 @@ in_chunk text bytes left end h ends = record {
   spelled = h.spelled ∙ simp append_assoc;
 }
 
-in_trailers : (text part end : List ℕ) (n : ℕ) → IsTrailing text part end n → (part ≡ []) ⊎ ((0 < length part) × (n ≤ 8190)) → (end ≡ []) ⊎ (end ≡ carriage_return ∷ []) → IsInTrailers text
+in_trailers : (text part end : List ℕ) (n : ℕ) → IsTrailing text part end n
+    → (part ≡ []) ⊎ ((0 < length part) × (n ≤ 8190)) → (end ≡ []) ⊎ (end ≡ carriage_return ∷ [])
+    → IsInTrailers text
 in_trailers text part end n h is_part ends = record {
   last = h.last;
   trailers = h.trailers;
@@ -159,7 +169,8 @@ is_front Whole text payload s = inl (is_whole text payload s)
 -- ---- complete: the front of a body is read
 
 -- one run behind another
-pub reads_both : (at middle to : Chunking) (x p y q : List ℕ) → Reads at x p middle → Reads middle y q to → Reads at (x ++ y) (p ++ q) to
+pub reads_both : (at middle to : Chunking) (x p y q : List ℕ) → Reads at x p middle
+    → Reads middle y q to → Reads at (x ++ y) (p ++ q) to
 reads_both at middle to x p y q (stays _) second = second
 reads_both at middle to x p y q (goes _ behind _ b more later e first) second =
     subst (λ payload. Reads at ((b ∷ more) ++ y) payload to) (sym (append_assoc (brought_by at b) later q))
@@ -172,7 +183,9 @@ reads_as at to x y p q e f r = subst (λ t. Reads at t q to) e (subst (λ t. Rea
 one : (at to : Chunking) (b : ℕ) → next at b ≡ Some to → Reads at (b ∷ []) (brought_by at b ++ []) to
 one at to b e = goes at to to b [] [] e (stays to)
 
-digits_run : (ds : List ℕ) (n m size : ℕ) → AllByRecursion (λ b. is_ascii_hexdigit b ≡ true) ds → m ≡ n + length ds → m ≤ 16 → Reads (InDigits n size) ds [] (InDigits m (digits_value_after 16 size ds))
+digits_run : (ds : List ℕ) (n m size : ℕ) → AllByRecursion (λ b. is_ascii_hexdigit b ≡ true) ds
+    → m ≡ n + length ds → m ≤ 16
+    → Reads (InDigits n size) ds [] (InDigits m (digits_value_after 16 size ds))
 digits_run [] n m size h e few = let same : n ≡ m = omega arith in subst (λ k. Reads (InDigits n size) [] [] (InDigits k size)) same (stays (InDigits n size))
 digits_run (d ∷ ds) n m size h e few =
     let room : nat_lt n 16 ≡ true = grind (arith, nat_tests) in
@@ -211,10 +224,12 @@ none_brought (InBytes left) t b e is =
 none_brought _ t b e is = refl
 
 -- a byte of a size line, and then these
-goes_in_line : (at behind to : Chunking) (b : ℕ) (bytes : List ℕ) → next at b ≡ Some behind → is_in_line behind ≡ true → Reads behind bytes [] to → Reads at (b ∷ bytes) [] to
+goes_in_line : (at behind to : Chunking) (b : ℕ) (bytes : List ℕ) → next at b ≡ Some behind
+    → is_in_line behind ≡ true → Reads behind bytes [] to → Reads at (b ∷ bytes) [] to
 goes_in_line at behind to b bytes e is reads = subst (λ p. Reads at (b ∷ bytes) p to) (none_brought at behind b e is) (goes at behind to b bytes [] e reads)
 
-pad_run : (pad : List ℕ) (at : Chunking) (n m size : ℕ) → EndsSize at n size → AllByRecursion (λ b. is_ows b ≡ true) pad → m ≡ n + length pad → m ≤ 1024
+pad_run : (pad : List ℕ) (at : Chunking) (n m size : ℕ) → EndsSize at n size
+    → AllByRecursion (λ b. is_ows b ≡ true) pad → m ≡ n + length pad → m ≤ 1024
     → (to : Chunking) × EndsSize to m size × Reads at pad [] to
 pad_run [] at n m size ends h e short = let same : n ≡ m = omega arith in (at, subst (λ k. EndsSize at k size) same ends, stays at)
 pad_run (b ∷ pad) at n m size ends h e short =
@@ -230,7 +245,9 @@ text_is_no_cr b h = grind (arith, nat_tests)
 text_is_no_lf : (b : ℕ) → is_extension_byte b ≡ true → (b == line_feed) ≡ false
 text_is_no_lf b h = grind (arith, nat_tests)
 
-extension_run : (bytes : List ℕ) (n m size : ℕ) → AllByRecursion (λ b. is_extension_byte b ≡ true) bytes → m ≡ n + length bytes → m ≤ 1024 → Reads (InExtension n size) bytes [] (InExtension m size)
+extension_run : (bytes : List ℕ) (n m size : ℕ)
+    → AllByRecursion (λ b. is_extension_byte b ≡ true) bytes → m ≡ n + length bytes → m ≤ 1024
+    → Reads (InExtension n size) bytes [] (InExtension m size)
 extension_run [] n m size h e short = let same : n ≡ m = omega arith in subst (λ k. Reads (InExtension n size) [] [] (InExtension k size)) same (stays (InExtension n size))
 extension_run (b ∷ bytes) n m size h e short =
     let room : nat_lt n 1024 ≡ true = grind (arith, nat_tests) in
@@ -239,7 +256,8 @@ extension_run (b ∷ bytes) n m size h e short =
     goes (InExtension n size) (InExtension (n + 1) size) (InExtension m size) b bytes [] (rw no_cr (rw no_lf (rw room refl))) (extension_run bytes (n + 1) m size h.1 (omega arith) short)
 
 -- what may follow the digits of a size line
-extended_run : (extension : Option (List ℕ)) (at : Chunking) (n size : ℕ) → EndsSize at n size → IsExtension extension → n + length (print_extension extension) ≤ 1024
+extended_run : (extension : Option (List ℕ)) (at : Chunking) (n size : ℕ) → EndsSize at n size
+    → IsExtension extension → n + length (print_extension extension) ≤ 1024
     → (to : Chunking) × (next to carriage_return ≡ Some (LineCr size)) × Reads at (print_extension extension) [] to
 extended_run None at n size ends h short = (at, ends carriage_return refl, stays at)
 extended_run (Some text) at n size ends h short =
@@ -251,7 +269,9 @@ extended_run (Some text) at n size ends h short =
           (extension_run text (n + 1) (n + 1 + length text) size (recursion_from_All (λ b. is_extension_byte b ≡ true) text h) refl (omega arith)),
     )
 
-line_run : (digits pad : List ℕ) (extension : Option (List ℕ)) → 0 < length digits → length digits ≤ 16 → AllByRecursion (λ b. is_ascii_hexdigit b ≡ true) digits → AllByRecursion (λ b. is_ows b ≡ true) pad
+line_run : (digits pad : List ℕ) (extension : Option (List ℕ)) → 0 < length digits
+    → length digits ≤ 16 → AllByRecursion (λ b. is_ascii_hexdigit b ≡ true) digits
+    → AllByRecursion (λ b. is_ows b ≡ true) pad
     → IsExtension extension → length ((digits ++ pad) ++ print_extension extension) ≤ 1024
     → (to : Chunking) × (next to carriage_return ≡ Some (LineCr (digits_value 16 digits))) × Reads LineStart ((digits ++ pad) ++ print_extension extension) [] to
 line_run [] pad extension some few hex ows is short = absurd (omega arith)
@@ -271,14 +291,16 @@ line_run (d ∷ ds) pad extension some few hex ows is short =
     )
 
 -- a size line with its CR
-lined_run : (l : ChunkLine) → IsSizeLine l → Reads LineStart (size_line l ++ carriage_return ∷ []) [] (LineCr (chunk_size l))
+lined_run : (l : ChunkLine) → IsSizeLine l
+    → Reads LineStart (size_line l ++ carriage_return ∷ []) [] (LineCr (chunk_size l))
 lined_run l is =
     let run = line_run l.digits l.pad l.extension is.is_line.digits.0 is.is_line.digits.1 (recursion_from_All (λ b. is_ascii_hexdigit b ≡ true) l.digits is.is_line.digits.2) (recursion_from_All (λ b. is_ows b ≡ true) l.pad is.is_line.pad) is.is_line.extension is.short in
     reads_both LineStart run.0 (LineCr (chunk_size l)) (size_line l) [] (carriage_return ∷ []) [] run.2
     (goes_in_line run.0 (LineCr (chunk_size l)) (LineCr (chunk_size l)) carriage_return [] run.1 refl (stays (LineCr (chunk_size l))))
 
 -- and with its CR LF
-pub whole_line_run : (l : ChunkLine) → IsSizeLine l → Reads LineStart (size_line l ++ crlf_bytes) [] (after_line (chunk_size l))
+pub whole_line_run : (l : ChunkLine) → IsSizeLine l
+    → Reads LineStart (size_line l ++ crlf_bytes) [] (after_line (chunk_size l))
 whole_line_run l is =
     subst (λ t. Reads LineStart t [] (after_line (chunk_size l))) (append_assoc (size_line l) (carriage_return ∷ []) (line_feed ∷ []))
     (reads_both LineStart (LineCr (chunk_size l)) (after_line (chunk_size l)) (size_line l ++ carriage_return ∷ []) [] (line_feed ∷ []) [] (lined_run l is)
@@ -293,7 +315,8 @@ not_last : (k : ℕ) → 0 < k → ((1 + k) == 1) ≡ false
 not_last k h = grind (arith, nat_tests)
 
 -- some of them
-pub some_run : (bytes : List ℕ) (left to : ℕ) → left ≡ length bytes + to → 0 < to → Reads (InBytes left) bytes bytes (InBytes to)
+pub some_run : (bytes : List ℕ) (left to : ℕ) → left ≡ length bytes + to → 0 < to
+    → Reads (InBytes left) bytes bytes (InBytes to)
 some_run [] left to e some = let same : left ≡ to = omega arith in subst (λ k. Reads (InBytes left) [] [] (InBytes k)) same (stays (InBytes left))
 some_run (b ∷ bytes) left to e some =
     let more : (left == 1) ≡ false = grind (arith, nat_tests) in
@@ -316,7 +339,9 @@ crlf_run : Reads BytesEnd crlf_bytes [] LineStart
 crlf_run = goes BytesEnd BytesCr LineStart carriage_return (line_feed ∷ []) [] refl (goes BytesCr LineStart LineStart line_feed [] [] refl (stays LineStart))
 
 -- a size line of a chunk, and then these bytes
-pub bytes_from : (l : ChunkLine) (bytes brought : List ℕ) (to : Chunking) → IsSizeLine l → 0 < chunk_size l → Reads (InBytes (chunk_size l)) bytes brought to → Reads LineStart (size_line l ++ (crlf_bytes ++ bytes)) brought to
+pub bytes_from : (l : ChunkLine) (bytes brought : List ℕ) (to : Chunking) → IsSizeLine l
+    → 0 < chunk_size l → Reads (InBytes (chunk_size l)) bytes brought to
+    → Reads LineStart (size_line l ++ (crlf_bytes ++ bytes)) brought to
 bytes_from l bytes brought to is some reads =
     subst (λ t. Reads LineStart t brought to) (append_assoc (size_line l) crlf_bytes bytes)
     (reads_both LineStart (InBytes (chunk_size l)) to (size_line l ++ crlf_bytes) [] bytes brought (subst (λ p. Reads LineStart (size_line l ++ crlf_bytes) [] p) (after_some (chunk_size l) some) (whole_line_run l is)) reads)
@@ -329,7 +354,8 @@ chunk_run c is =
     reads_as LineStart LineStart (size_line c.line ++ (crlf_bytes ++ (c.bytes ++ crlf_bytes))) (print_chunk c) (c.bytes ++ []) c.bytes (sym (simp append_assoc)) (append-nil c.bytes)
     (bytes_from c.line (c.bytes ++ crlf_bytes) (c.bytes ++ []) LineStart is.line (omega (arith, is.some)) (reads_both (InBytes (chunk_size c.line)) BytesEnd LineStart c.bytes c.bytes crlf_bytes [] data_run crlf_run))
 
-pub chunks_run : (chunks : List Chunk) → AllByRecursion IsChunk chunks → Reads LineStart (flat_map print_chunk chunks) (carried chunks) LineStart
+pub chunks_run : (chunks : List Chunk) → AllByRecursion IsChunk chunks
+    → Reads LineStart (flat_map print_chunk chunks) (carried chunks) LineStart
 chunks_run [] are = stays LineStart
 chunks_run (c ∷ chunks) are = reads_both LineStart LineStart LineStart (print_chunk c) c.bytes (flat_map print_chunk chunks) (carried chunks) (chunk_run c are.0) (chunks_run chunks are.1)
 
@@ -341,26 +367,31 @@ trailer_byte n b h small =
     let no_lf = text_is_no_lf b h in
     rw no_lf (rw room refl)
 
-part_run : (part : List ℕ) (n m : ℕ) → AllByRecursion (λ b. is_extension_byte b ≡ true) part → m ≡ n + length part → m ≤ 8190 → Reads (InTrailer n) part [] (InTrailer m)
+part_run : (part : List ℕ) (n m : ℕ) → AllByRecursion (λ b. is_extension_byte b ≡ true) part
+    → m ≡ n + length part → m ≤ 8190 → Reads (InTrailer n) part [] (InTrailer m)
 part_run [] n m h e short = let same : n ≡ m = omega arith in subst (λ k. Reads (InTrailer n) [] [] (InTrailer k)) same (stays (InTrailer n))
 part_run (b ∷ part) n m h e short =
     let no_cr = text_is_no_cr b h.0 in
     goes (InTrailer n) (InTrailer (n + 1)) (InTrailer m) b part [] (rw no_cr (trailer_byte n b h.0 (omega arith))) (part_run part (n + 1) m h.1 (omega arith) short)
 
 -- an unfinished trailer line
-pub unfinished_run : (part : List ℕ) (n m : ℕ) → IsTrailer part → m ≡ n + length part → m ≤ 8190 → Reads (TrailerStart n) part [] (InTrailer m)
+pub unfinished_run : (part : List ℕ) (n m : ℕ) → IsTrailer part → m ≡ n + length part → m ≤ 8190
+    → Reads (TrailerStart n) part [] (InTrailer m)
 unfinished_run [] n m is e short = absurd (omega (arith, is.0))
 unfinished_run (b ∷ part) n m is e short =
     let all = recursion_from_All (λ c. is_extension_byte c ≡ true) (b ∷ part) is.1 in
     let no_cr = text_is_no_cr b all.0 in
     goes (TrailerStart n) (InTrailer (n + 1)) (InTrailer m) b part [] (rw no_cr (trailer_byte n b all.0 (omega arith))) (part_run part (n + 1) m all.1 (omega arith) short)
 
-trailer_run : (text : List ℕ) (n m : ℕ) → IsTrailer text → m ≡ n + length text → m ≤ 8190 → Reads (TrailerStart n) (text ++ crlf_bytes) [] (TrailerStart (m + 2))
+trailer_run : (text : List ℕ) (n m : ℕ) → IsTrailer text → m ≡ n + length text → m ≤ 8190
+    → Reads (TrailerStart n) (text ++ crlf_bytes) [] (TrailerStart (m + 2))
 trailer_run text n m is e short =
     reads_both (TrailerStart n) (InTrailer m) (TrailerStart (m + 2)) text [] crlf_bytes [] (unfinished_run text n m is e short)
     (goes (InTrailer m) (TrailerCr m) (TrailerStart (m + 2)) carriage_return (line_feed ∷ []) [] refl (goes (TrailerCr m) (TrailerStart (m + 2)) (TrailerStart (m + 2)) line_feed [] [] refl (stays (TrailerStart (m + 2)))))
 
-pub trailers_run : (trailers : List (List ℕ)) (n m : ℕ) → AllByRecursion IsTrailer trailers → m ≡ n + length (print_trailers trailers) → m ≤ 8192 → Reads (TrailerStart n) (print_trailers trailers) [] (TrailerStart m)
+pub trailers_run : (trailers : List (List ℕ)) (n m : ℕ) → AllByRecursion IsTrailer trailers
+    → m ≡ n + length (print_trailers trailers) → m ≤ 8192
+    → Reads (TrailerStart n) (print_trailers trailers) [] (TrailerStart m)
 trailers_run [] n m are e short = let same : n ≡ m = omega arith in subst (λ k. Reads (TrailerStart n) [] [] (TrailerStart k)) same (stays (TrailerStart n))
 trailers_run (t ∷ trailers) n m are e short =
     let grown : length (print_trailers (t ∷ trailers)) ≡ length t + 2 + length (print_trailers trailers) = length-append (t ++ crlf_bytes) (print_trailers trailers) ∙ ap (λ k. k + length (print_trailers trailers)) (length-append t crlf_bytes) in
@@ -369,7 +400,9 @@ trailers_run (t ∷ trailers) n m are e short =
 
 -- ---- every front of a body is read
 
-last_from : (l : ChunkLine) (text payload : List ℕ) (to : Chunking) → IsLastLine l → Reads (TrailerStart 0) text payload to → Reads LineStart (size_line l ++ (crlf_bytes ++ text)) payload to
+last_from : (l : ChunkLine) (text payload : List ℕ) (to : Chunking) → IsLastLine l
+    → Reads (TrailerStart 0) text payload to
+    → Reads LineStart (size_line l ++ (crlf_bytes ++ text)) payload to
 last_from l text payload to is reads =
     subst (λ t. Reads LineStart t payload to) (append_assoc (size_line l) crlf_bytes text)
     (reads_both LineStart (TrailerStart 0) to (size_line l ++ crlf_bytes) [] text payload (subst (λ p. Reads LineStart (size_line l ++ crlf_bytes) [] (after_line p)) is.size (whole_line_run l is.line)) reads)
@@ -399,7 +432,8 @@ in_line_going at size e same =
     let none : ◌≡◌ {A = Option Chunking} None (Some (LineCr size)) = subst (λ p. next p carriage_return ≡ Some (LineCr size)) same e in
     cc
 
-line_leads : (l : ChunkLine) (end : List ℕ) → IsSizeLine l → (end ≡ []) ⊎ (end ≡ carriage_return ∷ []) → Leads LineStart (size_line l ++ end) []
+line_leads : (l : ChunkLine) (end : List ℕ) → IsSizeLine l
+    → (end ≡ []) ⊎ (end ≡ carriage_return ∷ []) → Leads LineStart (size_line l ++ end) []
 line_leads l end is (inl none) =
     let run = line_run l.digits l.pad l.extension is.is_line.digits.0 is.is_line.digits.1 (recursion_from_All (λ b. is_ascii_hexdigit b ≡ true) l.digits is.is_line.digits.2) (recursion_from_All (λ b. is_ows b ≡ true) l.pad is.is_line.pad) is.is_line.extension is.short in
     record { to = run.0; reads = subst (λ t. Reads LineStart t [] run.0) (sym (ap (λ t. size_line l ++ t) none ∙ append-nil (size_line l))) run.2; going = in_line_going run.0 (chunk_size l) run.1 }
@@ -421,7 +455,8 @@ module _ (text bytes : List ℕ) (h : IsInChunk text bytes) where
       }
 
   -- all have come
-  all_leads : chunk_size h.line ≡ length bytes → (h.end ≡ []) ⊎ (h.end ≡ carriage_return ∷ []) → Leads LineStart text bytes
+  all_leads : chunk_size h.line ≡ length bytes → (h.end ≡ []) ⊎ (h.end ≡ carriage_return ∷ [])
+      → Leads LineStart text bytes
   all_leads full (inl none) = record {
     to = BytesEnd;
     reads = reads_as LineStart BytesEnd (size_line h.line ++ (crlf_bytes ++ (bytes ++ h.end))) text bytes bytes chunk_spelled refl
@@ -446,7 +481,9 @@ chunk_leads text bytes h = elim h.ends [ inl none ↦ with_none none | inr cr �
         elim (cases_lt (length bytes) (chunk_size h.line)) [ inl few ↦ some_leads text bytes h none few | inr full ↦ all_leads text bytes h (let e : chunk_size h.line ≡ length bytes = omega arith in e) (inl none) ]
 
 module _ (text : List ℕ) (h : IsInTrailers text) where
-  trailing_to : (part_text payload : List ℕ) (to : Chunking) → h.part ++ h.end ≡ part_text → Reads (TrailerStart (length (print_trailers h.trailers))) part_text [] to → Reads LineStart text [] to
+  trailing_to : (part_text payload : List ℕ) (to : Chunking) → h.part ++ h.end ≡ part_text
+      → Reads (TrailerStart (length (print_trailers h.trailers))) part_text [] to
+      → Reads LineStart text [] to
   trailing_to part_text payload to same reads =
       let spelled : text ≡ size_line h.last ++ (crlf_bytes ++ (print_trailers h.trailers ++ (h.part ++ h.end))) = h.spelled ∙ simp append_assoc in
       reads_as LineStart to (size_line h.last ++ (crlf_bytes ++ (print_trailers h.trailers ++ part_text))) text [] []
@@ -458,7 +495,8 @@ module _ (text : List ℕ) (h : IsInTrailers text) where
   no_part_leads none (inl empty) = record { to = TrailerStart (length (print_trailers h.trailers)); reads = trailing_to [] [] (TrailerStart (length (print_trailers h.trailers))) (ap (λ t. t ++ h.end) none ∙ empty) (stays (TrailerStart (length (print_trailers h.trailers)))); going = λ same. cc }
   no_part_leads none (inr cr) = record { to = EndCr; reads = trailing_to (carriage_return ∷ []) [] EndCr (ap (λ t. t ++ h.end) none ∙ cr) (goes (TrailerStart (length (print_trailers h.trailers))) EndCr EndCr carriage_return [] [] refl (stays EndCr)); going = λ same. cc }
 
-  part_leads : AreTrailers (h.trailers ++ h.part ∷ []) → (h.end ≡ []) ⊎ (h.end ≡ carriage_return ∷ []) → Leads LineStart text []
+  part_leads : AreTrailers (h.trailers ++ h.part ∷ [])
+      → (h.end ≡ []) ⊎ (h.end ≡ carriage_return ∷ []) → Leads LineStart text []
   part_leads are ends =
       let n = length (print_trailers h.trailers) in
       let all = All-from_recursion IsTrailer (h.trailers ++ h.part ∷ []) are.each in
@@ -500,7 +538,8 @@ breaks_off_leads text payload b =
       going = leads.going;
     }
 
-pub front_reads : (text payload : List ℕ) → IsChunkedFront text payload → (to : Chunking) × Reads LineStart text payload to
+pub front_reads : (text payload : List ℕ) → IsChunkedFront text payload
+    → (to : Chunking) × Reads LineStart text payload to
 front_reads text payload (inl body) = (Whole, body_run text payload body)
 front_reads text payload (inr breaks) = let leads = breaks_off_leads text payload breaks in (leads.to, leads.reads)
 
@@ -517,12 +556,15 @@ runs_bring at to bytes payload (goes _ behind _ b more later e reads) =
     ap (λ o. brought_by at b ++ unwrap_or (option_map (λ p. brought p more) o) []) e ∙ ap (λ p. brought_by at b ++ p) (runs_bring behind to more later reads)
 
 -- a run of bytes and one more byte
-last_step : (at to middle : Chunking) (b : ℕ) (bytes payload : List ℕ) → Reads at bytes payload middle → after_bytes at (bytes ++ b ∷ []) ≡ Some to → next middle b ≡ Some to
+last_step : (at to middle : Chunking) (b : ℕ) (bytes payload : List ℕ)
+    → Reads at bytes payload middle → after_bytes at (bytes ++ b ∷ []) ≡ Some to
+    → next middle b ≡ Some to
 last_step at to middle b bytes payload (stays _) e = option_and_then_some (λ p. after_bytes p []) (next at b) to e (λ x is same. is ∙ same)
 last_step at to middle b bytes payload (goes _ behind _ c more later is reads) e = last_step behind to middle b more later reads (sym (ap (option_and_then (λ p. after_bytes p (more ++ b ∷ []))) is) ∙ e)
 
 -- a byte that can't stand there is the front of no body
-pub refused_byte : (at : Chunking) (b : ℕ) (text payload other : List ℕ) → Reads LineStart text payload at → next at b ≡ None → ¬ (IsChunkedFront (text ++ b ∷ []) other)
+pub refused_byte : (at : Chunking) (b : ℕ) (text payload other : List ℕ)
+    → Reads LineStart text payload at → next at b ≡ None → ¬ (IsChunkedFront (text ++ b ∷ []) other)
 refused_byte at b text payload other reads none front =
     let (to, run) = front_reads (text ++ b ∷ []) other front in
     let some = last_step LineStart to at b text payload reads (runs_to LineStart to (text ++ b ∷ []) other run) in
@@ -532,7 +574,9 @@ refused_byte at b text payload other reads none front =
 -- ---- steps of code
 
 -- one byte more
-pub reads_more : (at middle to : Chunking) (b : ℕ) (bytes payload : List ℕ) → Reads at bytes payload middle → next middle b ≡ Some to → Reads at (bytes ++ b ∷ []) (payload ++ brought_by middle b) to
+pub reads_more : (at middle to : Chunking) (b : ℕ) (bytes payload : List ℕ)
+    → Reads at bytes payload middle → next middle b ≡ Some to
+    → Reads at (bytes ++ b ∷ []) (payload ++ brought_by middle b) to
 reads_more at middle to b bytes payload reads e =
     reads_as at to (bytes ++ b ∷ []) (bytes ++ b ∷ []) (payload ++ (brought_by middle b ++ [])) (payload ++ brought_by middle b) refl (ap (λ t. payload ++ t) (append-nil (brought_by middle b)))
     (reads_both at middle to bytes payload (b ∷ []) (brought_by middle b ++ []) reads (one middle to b e))
@@ -602,7 +646,8 @@ brings_nothing _ b h = refl
 pub run_is_whole : (text payload : List ℕ) → Reads LineStart text payload Whole → IsChunkedBody text payload
 run_is_whole text payload reads = is_whole text payload (stands_on LineStart Whole text payload [] [] reads starts)
 
-pub run_breaks_off : (at : Chunking) (text payload : List ℕ) → at ≢ Whole → Reads LineStart text payload at → BreaksOff text payload
+pub run_breaks_off : (at : Chunking) (text payload : List ℕ) → at ≢ Whole
+    → Reads LineStart text payload at → BreaksOff text payload
 run_breaks_off at text payload going reads =
     elim (is_front at text payload (stands_on LineStart at text payload [] [] reads starts)) [
       | inl body ↦
@@ -612,7 +657,8 @@ run_breaks_off at text payload going reads =
     ]
 
 -- some bytes of a chunk
-pub data_run : (bytes : List ℕ) (left : ℕ) → length bytes ≤ left → (to : Chunking) × (to ≢ Whole) × Reads (InBytes left) bytes bytes to
+pub data_run : (bytes : List ℕ) (left : ℕ) → length bytes ≤ left
+    → (to : Chunking) × (to ≢ Whole) × Reads (InBytes left) bytes bytes to
 data_run [] left few = (InBytes left, λ same. cc, stays (InBytes left))
 data_run (b ∷ bytes) left few =
     elim (cases_lt (length (b ∷ bytes)) left) [

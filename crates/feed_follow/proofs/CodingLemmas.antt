@@ -37,7 +37,9 @@ pub record AreDigits (text : List ℕ) (n number : ℕ) : Type 0 where
   pub value : number ≡ digits_value 10 (take n text)
   pub small : number < 10 ^ n
 
-pub more_digits : (text : List ℕ) (n number digit : ℕ) (within : n < length text) → AreDigits text n number → is_ascii_digit (get_or text n 0) ≡ true → digit ≡ digit_value (get_or text n 0) → digit < 10
+pub more_digits : (text : List ℕ) (n number digit : ℕ) (within : n < length text)
+    → AreDigits text n number → is_ascii_digit (get_or text n 0) ≡ true
+    → digit ≡ digit_value (get_or text n 0) → digit < 10
     → AreDigits text (n + 1) (number * 10 + digit)
 more_digits text n number digit within so_far is worth few =
     let more : take (n + 1) text ≡ take n text ++ get_or text n 0 ∷ [] = take_more text n 0 within in
@@ -51,7 +53,8 @@ more_digits text n number digit within so_far is worth few =
     }
 
 -- text with another byte is no length
-pub other_byte : (text : List ℕ) (n : ℕ) → n < length text → is_ascii_digit (get_or text n 0) ≡ false → is_length text ≡ false
+pub other_byte : (text : List ℕ) (n : ℕ) → n < length text
+    → is_ascii_digit (get_or text n 0) ≡ false → is_length text ≡ false
 other_byte text n within h =
     let none : list_all is_ascii_digit text ≡ false = list_all_at is_ascii_digit text n 0 within h in
     rw none (and_false (nat_lt 0 (length text) && nat_le (length text) 18))
@@ -60,7 +63,8 @@ other_byte text n within h =
     and_false true = refl
     and_false false = refl
 
-pub is_whole_length : (text : List ℕ) → 0 < length text → length text ≤ 18 → list_all is_ascii_digit text ≡ true → is_length text ≡ true
+pub is_whole_length : (text : List ℕ) → 0 < length text → length text ≤ 18
+    → list_all is_ascii_digit text ≡ true → is_length text ≡ true
 is_whole_length text some few digits =
     let a : nat_lt 0 (length text) ≡ true = grind (arith, nat_tests) in
     let b : nat_le (length text) 18 ≡ true = grind (arith, nat_tests) in
@@ -78,7 +82,8 @@ abbrev pub by_lengths : BodyFraming → List (List ℕ) → Result BodyFraming F
 by_lengths framing [] = Ok framing
 by_lengths framing (text ∷ texts) = and_then (by_length framing text) (λ next. by_lengths next texts)
 
-by_same : (n : ℕ) (values : List (List ℕ)) → by_lengths (Sized n) values ≡ (if list_all (says_length n) values then Ok (Sized n) else Err BadLength)
+by_same : (n : ℕ) (values : List (List ℕ))
+    → by_lengths (Sized n) values ≡ (if list_all (says_length n) values then Ok (Sized n) else Err BadLength)
 by_same n [] = refl
 by_same n (value ∷ values) =
     elim (cases_Bool (says_length n value)) [
@@ -145,7 +150,8 @@ module _ (f : List ℕ × List ℕ) (fields : List (List ℕ × List ℕ)) (know
         | inr other ↦ rw other (known is_chunked)
       ]
 
-codings_are : (is_chunked : Bool) (fields : List (List ℕ × List ℕ)) → by_codings is_chunked fields ≡ by_parts is_chunked fields
+codings_are : (is_chunked : Bool) (fields : List (List ℕ × List ℕ))
+    → by_codings is_chunked fields ≡ by_parts is_chunked fields
 codings_are is_chunked [] = refl
 codings_are is_chunked (f ∷ fields) =
     elim (cases_Bool (is_word (codes "content-encoding") f.0)) [
@@ -161,12 +167,15 @@ abbrev pub framed_by : List (List ℕ × List ℕ) → Bool → Result BodyFrami
 framed_by fields true = Ok InChunks
 framed_by fields false = framing_by_length (values_of (codes "content-length") fields)
 
-transfers_are : (values lengths : List (List ℕ)) (fields : List (List ℕ × List ℕ)) → lengths ≡ values_of (codes "content-length") fields → framing_by_transfer values lengths ≡ and_then (by_transfers false values) (framed_by fields)
+transfers_are : (values lengths : List (List ℕ)) (fields : List (List ℕ × List ℕ))
+    → lengths ≡ values_of (codes "content-length") fields
+    → framing_by_transfer values lengths ≡ and_then (by_transfers false values) (framed_by fields)
 transfers_are [] lengths fields e = ap framing_by_length e
 transfers_are (value ∷ []) lengths fields e = elim (cases_Bool (is_word (codes "chunked") value)) [ inl h ↦ rw h refl | inr h ↦ rw h refl ]
 transfers_are (value ∷ (other ∷ values)) lengths fields e = elim (cases_Bool (is_word (codes "chunked") value)) [ inl h ↦ rw h refl | inr h ↦ rw h refl ]
 
-pub framing_is : (fields : List (List ℕ × List ℕ)) → body_framing fields ≡ and_then (by_codings false fields) (framed_by fields)
+pub framing_is : (fields : List (List ℕ × List ℕ))
+    → body_framing fields ≡ and_then (by_codings false fields) (framed_by fields)
 framing_is fields = parts_are ∙ ap (λ (r : Result Bool FollowFault). and_then r (framed_by fields)) (sym (codings_are false fields))
   where
     parts_are : body_framing fields ≡ and_then (by_parts false fields) (framed_by fields)
@@ -184,18 +193,25 @@ rest_of fields i = map header_parts (drop i fields)
 pub no_rest : (fields : List Header) (i : ℕ) → length fields ≤ i → rest_of fields i ≡ []
 no_rest fields i all = ap (map header_parts) (drop_all i fields all)
 
-next_field : (fields : List Header) (i : ℕ) (d : Header) (name : List ℕ) → i < length fields → name ≡ (get_or fields i d).name.now → rest_of fields i ≡ (name, (get_or fields i d).value.now) ∷ rest_of fields (i + 1)
+next_field : (fields : List Header) (i : ℕ) (d : Header) (name : List ℕ) → i < length fields
+    → name ≡ (get_or fields i d).name.now
+    → rest_of fields i ≡ (name, (get_or fields i d).value.now) ∷ rest_of fields (i + 1)
 next_field fields i d name within e =
     ap (map header_parts) (drop_more fields i d within) ∙ ap (λ (n : List ℕ). (n, (get_or fields i d).value.now) ∷ rest_of fields (i + 1)) (sym e)
 
-pub more_coding : (fields : List Header) (i : ℕ) (d : Header) (is_chunked : Bool) (name : List ℕ) → i < length fields → name ≡ (get_or fields i d).name.now
+pub more_coding : (fields : List Header) (i : ℕ) (d : Header) (is_chunked : Bool) (name : List ℕ)
+    → i < length fields → name ≡ (get_or fields i d).name.now
     → by_codings is_chunked (rest_of fields i) ≡ and_then (by_coding is_chunked (name, (get_or fields i d).value.now)) (λ next. by_codings next (rest_of fields (i + 1)))
 more_coding fields i d is_chunked name within e = ap (by_codings is_chunked) (next_field fields i d name within e)
 
-pub more_length : (fields : List Header) (i : ℕ) (d : Header) (framing : BodyFraming) (name : List ℕ) → i < length fields → name ≡ (get_or fields i d).name.now → is_word (codes "content-length") name ≡ true
+pub more_length : (fields : List Header) (i : ℕ) (d : Header) (framing : BodyFraming) (name : List ℕ)
+    → i < length fields → name ≡ (get_or fields i d).name.now
+    → is_word (codes "content-length") name ≡ true
     → lengths_of framing (rest_of fields i) ≡ and_then (by_length framing (get_or fields i d).value.now) (λ next. lengths_of next (rest_of fields (i + 1)))
 more_length fields i d framing name within e is = ap (lengths_of framing) (next_field fields i d name within e) ∙ rw is refl
 
-pub other_field : (fields : List Header) (i : ℕ) (d : Header) (framing : BodyFraming) (name : List ℕ) → i < length fields → name ≡ (get_or fields i d).name.now → is_word (codes "content-length") name ≡ false
+pub other_field : (fields : List Header) (i : ℕ) (d : Header) (framing : BodyFraming) (name : List ℕ)
+    → i < length fields → name ≡ (get_or fields i d).name.now
+    → is_word (codes "content-length") name ≡ false
     → lengths_of framing (rest_of fields i) ≡ lengths_of framing (rest_of fields (i + 1))
 other_field fields i d framing name within e other = ap (lengths_of framing) (next_field fields i d name within e) ∙ rw other refl

@@ -28,13 +28,17 @@ front_of a b c d e few =
 
 -- ---- longer and shorter bytes
 
-pub longer : (bytes more : List ℕ) (head : ResponseHead) (rest : List ℕ) → BeginsWithResponse bytes head rest → BeginsWithResponse (bytes ++ more) head (rest ++ more)
+pub longer : (bytes more : List ℕ) (head : ResponseHead) (rest : List ℕ)
+    → BeginsWithResponse bytes head rest → BeginsWithResponse (bytes ++ more) head (rest ++ more)
 longer bytes more head rest b = record { reads = ReadsResponse-append bytes head rest more b.reads; size = b.size }
 
-pub shorter : (bytes more : List ℕ) (head : ResponseHead) (rest : List ℕ) → BeginsWithResponse (bytes ++ more) head rest → length (print_response head) ≤ length bytes → BeginsWithResponse bytes head (drop (length (print_response head)) bytes)
+pub shorter : (bytes more : List ℕ) (head : ResponseHead) (rest : List ℕ)
+    → BeginsWithResponse (bytes ++ more) head rest → length (print_response head) ≤ length bytes
+    → BeginsWithResponse bytes head (drop (length (print_response head)) bytes)
 shorter bytes more head rest b few = record { reads = (b.reads.0, front_of bytes more (print_response head) rest b.reads.1 few); size = b.size }
 
-pub no_head_beyond : (bytes more : List ℕ) → (length bytes ≡ 8192) ⊎ (more ≡ []) → HasNoWholeResponse bytes → HasNoWholeResponse (bytes ++ more)
+pub no_head_beyond : (bytes more : List ℕ) → (length bytes ≡ 8192) ⊎ (more ≡ [])
+    → HasNoWholeResponse bytes → HasNoWholeResponse (bytes ++ more)
 no_head_beyond bytes more (inl full) none = λ head rest b.
     let few = b.size.bytes in
     none head (drop (length (print_response head)) bytes) (shorter bytes more head rest b (omega arith))
@@ -50,12 +54,15 @@ past_more bytes more (inr lines) = inr (omega (arith, line_count-append bytes mo
 bad_more : (bytes more : List ℕ) → HasBadHead bytes → HasBadHead (bytes ++ more)
 bad_more bytes more bad = record { front = bad.front; later = bad.later ++ more; split = ap (λ t. t ++ more) bad.split ∙ append_assoc bad.front bad.later more; never = bad.never; within = bad.within }
 
-stands_more : (bytes more : List ℕ) (fault : FollowFault) → StandsInHead bytes (failed fault []) → StandsInHead (bytes ++ more) (failed fault [])
+stands_more : (bytes more : List ℕ) (fault : FollowFault) → StandsInHead bytes (failed fault [])
+    → StandsInHead (bytes ++ more) (failed fault [])
 stands_more bytes more LongHead h = (past_more bytes more h.0, refl)
 stands_more bytes more BadHead h = (bad_more bytes more h.0, refl)
 stands_more bytes more fault h = absurd h
 
-pub no_head_more : (had_token : Bool) (bytes more : List ℕ) (fault : FollowFault) → (length bytes ≡ 8192) ⊎ (more ≡ []) → IsNoHead had_token bytes fault → IsNoHead had_token (bytes ++ more) fault
+pub no_head_more : (had_token : Bool) (bytes more : List ℕ) (fault : FollowFault)
+    → (length bytes ≡ 8192) ⊎ (more ≡ []) → IsNoHead had_token bytes fault
+    → IsNoHead had_token (bytes ++ more) fault
 no_head_more had_token bytes more fault end stop = record {
   of_head = stop.of_head;
   stands = elim stop.stands [
@@ -66,7 +73,9 @@ no_head_more had_token bytes more fault end stop = record {
 
 -- ---- what the parser says
 
-pub other_size : (bytes : List ℕ) (head : ResponseHead) (rest : List ℕ) → ReadsResponse bytes head rest → ¬ (IsHeadSize (print_response head) (length head.fields)) → HasNoWholeResponse bytes
+pub other_size : (bytes : List ℕ) (head : ResponseHead) (rest : List ℕ)
+    → ReadsResponse bytes head rest → ¬ (IsHeadSize (print_response head) (length head.fields))
+    → HasNoWholeResponse bytes
 other_size bytes head rest reads other found tail b =
     let same = (response_unique bytes found head tail rest b.reads reads).0 in
     other (subst (λ h. IsHeadSize (print_response h) (length h.fields)) same b.size)
@@ -77,30 +86,41 @@ no_response bytes none head rest b = none head rest b.reads
 pub never_whole : (bytes : List ℕ) → NeverHasResponse bytes → HasNoWholeResponse bytes
 never_whole bytes never head rest b = never [] head rest (subst (λ t. ReadsResponse t head rest) (sym (append-nil bytes)) b.reads)
 
-pub head_text : (bytes : List ℕ) (head : ResponseHead) (len : ℕ) → ReadsResponse bytes head (drop len bytes) → len ≡ length (print_response head) → take len bytes ≡ print_response head
+pub head_text : (bytes : List ℕ) (head : ResponseHead) (len : ℕ)
+    → ReadsResponse bytes head (drop len bytes) → len ≡ length (print_response head)
+    → take len bytes ≡ print_response head
 head_text bytes head len reads same =
     ap (λ n. take n bytes) same ∙ ap (take (length (print_response head))) reads.1 ∙ take-append_seam (print_response head) (drop len bytes)
 
 -- the text and the headers that were read have the size of the head
-header_count : (headers : List Header) (head : ResponseHead) → map header_parts headers ≡ map name_and_value head.fields → length headers ≡ length head.fields
+header_count : (headers : List Header) (head : ResponseHead)
+    → map header_parts headers ≡ map name_and_value head.fields
+    → length headers ≡ length head.fields
 header_count headers head fields = sym (length-map headers header_parts) ∙ ap length fields ∙ length-map head.fields name_and_value
 
-pub sized_to : (bytes : List ℕ) (headers : List Header) (head : ResponseHead) (len : ℕ) → ReadsResponse bytes head (drop len bytes) → len ≡ length (print_response head) → map header_parts headers ≡ map name_and_value head.fields
+pub sized_to : (bytes : List ℕ) (headers : List Header) (head : ResponseHead) (len : ℕ)
+    → ReadsResponse bytes head (drop len bytes) → len ≡ length (print_response head)
+    → map header_parts headers ≡ map name_and_value head.fields
     → IsHeadSize (take len bytes) (length headers) → IsHeadSize (print_response head) (length head.fields)
 sized_to bytes headers head len reads same fields size =
     subst (λ n. IsHeadSize (print_response head) n) (header_count headers head fields) (subst (λ t. IsHeadSize t (length headers)) (head_text bytes head len reads same) size)
 
-pub sized_from : (bytes : List ℕ) (headers : List Header) (head : ResponseHead) (len : ℕ) → ReadsResponse bytes head (drop len bytes) → len ≡ length (print_response head) → map header_parts headers ≡ map name_and_value head.fields
+pub sized_from : (bytes : List ℕ) (headers : List Header) (head : ResponseHead) (len : ℕ)
+    → ReadsResponse bytes head (drop len bytes) → len ≡ length (print_response head)
+    → map header_parts headers ≡ map name_and_value head.fields
     → IsHeadSize (print_response head) (length head.fields) → IsHeadSize (take len bytes) (length headers)
 sized_from bytes headers head len reads same fields size =
     subst (λ n. IsHeadSize (take len bytes) n) (sym (header_count headers head fields)) (subst (λ t. IsHeadSize t (length head.fields)) (sym (head_text bytes head len reads same)) size)
 
-pub len_fits : (bytes : List ℕ) (head : ResponseHead) (len : ℕ) → ReadsResponse bytes head (drop len bytes) → len ≡ length (print_response head) → len ≤ length bytes
+pub len_fits : (bytes : List ℕ) (head : ResponseHead) (len : ℕ)
+    → ReadsResponse bytes head (drop len bytes) → len ≡ length (print_response head)
+    → len ≤ length bytes
 len_fits bytes head len reads same =
     let total = ap length reads.1 ∙ length-append (print_response head) (drop len bytes) in
     omega arith
 
-pub verdict_is : (had_token : Bool) (status : ℕ) (headers : List Header) (head : ResponseHead) → status ≡ status_code head → map header_parts headers ≡ map name_and_value head.fields
+pub verdict_is : (had_token : Bool) (status : ℕ) (headers : List Header) (head : ResponseHead)
+    → status ≡ status_code head → map header_parts headers ≡ map name_and_value head.fields
     → verdict_of had_token status (map header_parts headers) ≡ verdict had_token head
 verdict_is had_token status headers head same fields =
     ap (λ n. verdict_of had_token n (map header_parts headers)) same ∙ ap (verdict_of had_token (status_code head)) fields
@@ -114,7 +134,9 @@ pub record WholeAt (had_token : Bool) (kept piece : List ℕ) (found : WholeHead
   pub begins : BeginsWithResponse (kept ++ take (found.len - length kept) piece) head []
   pub says : verdict had_token head ≡ Ok found.says
 
-pub whole_at : (had_token : Bool) (kept piece : List ℕ) (len : ℕ) (found : WholeHead) → IsUnfinished kept → IsHeadRead had_token (kept ++ take len piece) found → WholeAt had_token kept piece found
+pub whole_at : (had_token : Bool) (kept piece : List ℕ) (len : ℕ) (found : WholeHead)
+    → IsUnfinished kept → IsHeadRead had_token (kept ++ take len piece) found
+    → WholeAt had_token kept piece found
 whole_at had_token kept piece len found unfinished h = record { head = head; behind = behind; begins = begins; says = h.says }
   where
     head : ResponseHead
@@ -154,7 +176,9 @@ whole_at had_token kept piece len found unfinished h = record { head = head; beh
 -- ---- what the bytes of a head may still be
 
 -- the bytes that are looked at are as many as may be, or all
-pub looked_end : (kept piece : List ℕ) (len : ℕ) → length kept ≤ 8192 → len ≡ min (length piece) (8192 - length kept) → (length (kept ++ take len piece) ≡ 8192) ⊎ (drop len piece ≡ [])
+pub looked_end : (kept piece : List ℕ) (len : ℕ) → length kept ≤ 8192
+    → len ≡ min (length piece) (8192 - length kept)
+    → (length (kept ++ take len piece) ≡ 8192) ⊎ (drop len piece ≡ [])
 looked_end kept piece len small e = elim (cases_lt len (length piece)) [
   | inl less ↦ inl (omega (arith, length-append kept (take len piece), length-take len piece))
   | inr all ↦ inr (drop_all len piece all)
@@ -163,11 +187,15 @@ looked_end kept piece len small e = elim (cases_lt len (length piece)) [
 all_looked : (kept piece : List ℕ) (len : ℕ) → (kept ++ take len piece) ++ drop len piece ≡ kept ++ piece
 all_looked kept piece len = append_assoc kept (take len piece) (drop len piece) ∙ ap (λ t. kept ++ t) (take-append-drop len piece)
 
-pub in_piece : (had_token : Bool) (kept piece : List ℕ) (len : ℕ) (fault : FollowFault) → (length (kept ++ take len piece) ≡ 8192) ⊎ (drop len piece ≡ []) → IsNoHead had_token (kept ++ take len piece) fault → IsNoHead had_token (kept ++ piece) fault
+pub in_piece : (had_token : Bool) (kept piece : List ℕ) (len : ℕ) (fault : FollowFault)
+    → (length (kept ++ take len piece) ≡ 8192) ⊎ (drop len piece ≡ [])
+    → IsNoHead had_token (kept ++ take len piece) fault → IsNoHead had_token (kept ++ piece) fault
 in_piece had_token kept piece len fault end stop =
     subst (λ t. IsNoHead had_token t fault) (all_looked kept piece len) (no_head_more had_token (kept ++ take len piece) (drop len piece) fault end stop)
 
-pub too_long : (had_token : Bool) (kept piece : List ℕ) (len : ℕ) → length kept ≤ 8192 → len ≡ min (length piece) (8192 - length kept) → len < length piece → IsUnfinished (kept ++ take len piece) → IsNoHead had_token (kept ++ piece) LongHead
+pub too_long : (had_token : Bool) (kept piece : List ℕ) (len : ℕ) → length kept ≤ 8192
+    → len ≡ min (length piece) (8192 - length kept) → len < length piece
+    → IsUnfinished (kept ++ take len piece) → IsNoHead had_token (kept ++ piece) LongHead
 too_long had_token kept piece len small e less unfinished = record {
   of_head = tt;
   stands = inl (
@@ -176,7 +204,8 @@ too_long had_token kept piece len small e less unfinished = record {
   );
 }
 
-pub found_in_piece : (had_token : Bool) (kept piece : List ℕ) (len : ℕ) (found : WholeHead) (h : IsHeadRead had_token (kept ++ take len piece) found) → BeginsWithResponse (kept ++ piece) h.head (drop found.len (kept ++ take len piece) ++ drop len piece)
+pub found_in_piece : (had_token : Bool) (kept piece : List ℕ) (len : ℕ) (found : WholeHead) (h : IsHeadRead had_token (kept ++ take len piece) found)
+    → BeginsWithResponse (kept ++ piece) h.head (drop found.len (kept ++ take len piece) ++ drop len piece)
 found_in_piece had_token kept piece len found h =
     subst (λ t. BeginsWithResponse t h.head (drop found.len (kept ++ take len piece) ++ drop len piece)) (all_looked kept piece len)
     (longer (kept ++ take len piece) (drop len piece) h.head (drop found.len (kept ++ take len piece)) h.begins)

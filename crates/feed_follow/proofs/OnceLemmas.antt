@@ -42,7 +42,8 @@ no_end Whole going = absurd (going refl)
 no_end at going = refl
 
 -- a byte that can stand there leads on
-leads : (at to : Chunking) (b : ℕ) (bytes : List ℕ) → next at b ≡ Some to → comes_to at (b ∷ bytes) ≡ behind (brought_by at b) (comes_to to bytes)
+leads : (at to : Chunking) (b : ℕ) (bytes : List ℕ) → next at b ≡ Some to
+    → comes_to at (b ∷ bytes) ≡ behind (brought_by at b) (comes_to to bytes)
 leads Whole to b bytes e = let none : ◌≡◌ {A = Option Chunking} None (Some to) = e in cc
 leads LineStart to b bytes e = ap (λ o. unwrap_or (option_map (λ t. behind [] (comes_to t bytes)) o) (failed BadChunk [])) e
 leads (InDigits n size) to b bytes e = ap (λ o. unwrap_or (option_map (λ t. behind [] (comes_to t bytes)) o) (failed BadChunk [])) e
@@ -58,7 +59,8 @@ leads (TrailerCr n) to b bytes e = ap (λ o. unwrap_or (option_map (λ t. behind
 leads EndCr to b bytes e = ap (λ o. unwrap_or (option_map (λ t. behind [] (comes_to t bytes)) o) (failed BadChunk [])) e
 
 -- a run, and then the rest
-run_comes : (at to : Chunking) (bytes payload rest : List ℕ) → Reads at bytes payload to → comes_to at (bytes ++ rest) ≡ behind payload (comes_to to rest)
+run_comes : (at to : Chunking) (bytes payload rest : List ℕ) → Reads at bytes payload to
+    → comes_to at (bytes ++ rest) ≡ behind payload (comes_to to rest)
 run_comes at to bytes payload rest (stays _) = sym (behind_nothing (comes_to at rest))
   where
     behind_nothing : (s : Standing) → behind [] s ≡ s
@@ -77,24 +79,28 @@ run_comes at to bytes payload rest (goes _ middle _ b more later e reads) =
     behind_both x y in_head = refl
     behind_both x y token_refused = refl
 
-stops : (at : Chunking) (b : ℕ) (rest : List ℕ) → at ≢ Whole → next at b ≡ None → comes_to at (b ∷ rest) ≡ failed BadChunk []
+stops : (at : Chunking) (b : ℕ) (rest : List ℕ) → at ≢ Whole → next at b ≡ None
+    → comes_to at (b ∷ rest) ≡ failed BadChunk []
 stops at b rest going none = rw (no_end at going) (rw none refl)
 
-chunked_done : (body ignored payload : List ℕ) → Reads LineStart body payload Whole → done payload ≡ comes_to LineStart (body ++ ignored)
+chunked_done : (body ignored payload : List ℕ) → Reads LineStart body payload Whole
+    → done payload ≡ comes_to LineStart (body ++ ignored)
 chunked_done body ignored payload reads = sym (run_comes LineStart Whole body payload ignored reads ∙ ap (behind payload) (whole_done ignored) ∙ ap done (append-nil payload))
   where
     whole_done : (rest : List ℕ) → comes_to Whole rest ≡ done []
     whole_done [] = refl
     whole_done (b ∷ rest) = refl
 
-chunked_open : (at : Chunking) (text payload : List ℕ) → at ≢ Whole → Reads LineStart text payload at → in_body payload ≡ comes_to LineStart text
+chunked_open : (at : Chunking) (text payload : List ℕ) → at ≢ Whole
+    → Reads LineStart text payload at → in_body payload ≡ comes_to LineStart text
 chunked_open at text payload going reads =
     let open_end : comes_to at [] ≡ in_body [] = rw (no_end at going) refl in
     sym (ap (comes_to LineStart) (sym (append-nil text)) ∙ run_comes LineStart at text payload [] reads ∙ ap (behind payload) open_end ∙ ap in_body (append-nil payload))
 
 -- behind a front that breaks off a byte that can't stand there leads nowhere
 leads_nowhere : (at : Chunking) (byte : ℕ) (front payload : List ℕ) → Reads LineStart front payload at
-    → ((other : List ℕ) → ¬ (IsChunkedFront (front ++ byte ∷ []) other)) → (o : Option Chunking) → next at byte ≡ o → next at byte ≡ None
+    → ((other : List ℕ) → ¬ (IsChunkedFront (front ++ byte ∷ []) other)) → (o : Option Chunking)
+        → next at byte ≡ o → next at byte ≡ None
 leads_nowhere at byte front payload reads never None e = e
 leads_nowhere at byte front payload reads never (Some to) e =
     let text = front ++ byte ∷ [] in
@@ -115,7 +121,8 @@ body_comes_to ToEnd text = in_body text
 body_comes_to (Sized n) text = if nat_lt (length text) n then in_body text else done (take n text)
 body_comes_to InChunks text = comes_to LineStart text
 
-body_is : (framing : BodyFraming) (text : List ℕ) (s : Standing) → StandsInBody framing text s → s ≡ body_comes_to framing text
+body_is : (framing : BodyFraming) (text : List ℕ) (s : Standing) → StandsInBody framing text s
+    → s ≡ body_comes_to framing text
 body_is ToEnd text (in_body payload) h = ap in_body h
 body_is ToEnd text (done payload) (body, ignored, split, is) = absurd is
 body_is ToEnd text (failed BadChunk payload) h = let other = h.0 in cc
@@ -133,7 +140,8 @@ body_is InChunks text (done payload) (body, ignored, split, is) = chunked_done b
 body_is InChunks text (failed BadChunk payload) h = chunked_bad text payload h.1
 body_is InChunks text s h = absurd h
 
-behind_once : (v : Result Verdict FollowFault) (rest : List ℕ) (a b : Standing) → StandsBehind v rest a → StandsBehind v rest b → a ≡ b
+behind_once : (v : Result Verdict FollowFault) (rest : List ℕ) (a b : Standing)
+    → StandsBehind v rest a → StandsBehind v rest b → a ≡ b
 behind_once (Ok (Body framing)) rest a b h k = body_is framing rest a h ∙ sym (body_is framing rest b k)
 behind_once (Ok Refusal) rest a b h k = h ∙ sym k
 behind_once (Err fault) rest a b h k = h ∙ sym k
@@ -144,7 +152,8 @@ never_more : (bytes : List ℕ) → HasBadHead bytes → NeverHasResponse bytes
 never_more bytes bad more head rest reads =
     bad.never (bad.later ++ more) head rest (subst (λ t. ReadsResponse t head rest) (ap (λ t. t ++ more) bad.split ∙ append_assoc bad.front bad.later more) reads)
 
-head_once : (bytes : List ℕ) (a b : Standing) → StandsInHead bytes a → StandsInHead bytes b → (a ≡ b) ⊎ NeverHasResponse bytes
+head_once : (bytes : List ℕ) (a b : Standing) → StandsInHead bytes a → StandsInHead bytes b
+    → (a ≡ b) ⊎ NeverHasResponse bytes
 head_once bytes (failed BadHead p) b h k = inr (never_more bytes h.0)
 head_once bytes a (failed BadHead q) h k = inr (never_more bytes k.0)
 head_once bytes in_head in_head h k = inl refl
@@ -155,7 +164,8 @@ head_once bytes in_head b h k = absurd k
 head_once bytes (failed LongHead p) b h k = absurd k
 head_once bytes a b h k = absurd h
 
-pub stands_once : (had_token : Bool) (bytes : List ℕ) (a b : Standing) → Stands had_token bytes a → Stands had_token bytes b → (a ≡ b) ⊎ NeverHasResponse bytes
+pub stands_once : (had_token : Bool) (bytes : List ℕ) (a b : Standing) → Stands had_token bytes a
+    → Stands had_token bytes b → (a ≡ b) ⊎ NeverHasResponse bytes
 stands_once had_token bytes a b (inl (none, h)) (inl (also, k)) = head_once bytes a b h k
 stands_once had_token bytes a b (inl (none, h)) (inr (head, rest, begins, k)) = absurd (none head rest begins)
 stands_once had_token bytes a b (inr (head, rest, begins, h)) (inl (none, k)) = absurd (none head rest begins)

@@ -35,27 +35,32 @@ use Rattle.feed_follow.proofs.BodyLemmas.{to_the_end}
 
 -- ---- the mirror
 
-pub cut_after : (start : MirrorState) (payload : List ℕ) (mirror : MirrorState) → HasReached start payload mirror → IsCutAfter start payload (cut_off mirror)
+pub cut_after : (start : MirrorState) (payload : List ℕ) (mirror : MirrorState)
+    → HasReached start payload mirror → IsCutAfter start payload (cut_off mirror)
 cut_after start payload mirror h = record {
   notes = h.notes;
   nothing_bad = subst (λ l. ReadsLines l (present_opening start) payload h.notes) h.limits h.stands.nothing_bad;
   state = ap cut_off h.stands.state ∙ ap (λ l. cut_off (mirror_after l (present_opening start) h.notes [])) h.limits;
 }
 
-cut_again : (start : MirrorState) (payload : List ℕ) (mirror : MirrorState) → IsCutAfter start payload mirror → IsCutAfter start payload (cut_off mirror)
+cut_again : (start : MirrorState) (payload : List ℕ) (mirror : MirrorState)
+    → IsCutAfter start payload mirror → IsCutAfter start payload (cut_off mirror)
 cut_again start payload mirror h = record { notes = h.notes; nothing_bad = h.nothing_bad; state = ap cut_off h.state }
 
-fault_again : (start : MirrorState) (payload : List ℕ) (fault : FeedFault) (mirror : MirrorState) → IsCutAtFault start payload fault mirror → IsCutAtFault start payload fault (cut_off mirror)
+fault_again : (start : MirrorState) (payload : List ℕ) (fault : FeedFault) (mirror : MirrorState)
+    → IsCutAtFault start payload fault mirror → IsCutAtFault start payload fault (cut_off mirror)
 fault_again start payload fault mirror h = record { notes = h.notes; first = h.first; state = ap cut_off h.state }
 
 -- ---- behind a whole head
 
 stands_behind : (had_token : Bool) (bytes : List ℕ) (head : ResponseHead) (text : List ℕ) (framing : BodyFraming) (standing : Standing)
-    → BeginsWithResponse bytes head text → verdict had_token head ≡ Ok (Body framing) → StandsInBody framing text standing → Stands had_token bytes standing
+    → BeginsWithResponse bytes head text → verdict had_token head ≡ Ok (Body framing)
+    → StandsInBody framing text standing → Stands had_token bytes standing
 stands_behind had_token bytes head text framing standing begins says h =
     inr (head, text, begins, subst (λ v. StandsBehind v text standing) (sym says) h)
 
-body_stands : (framing : BodyFraming) (text payload : List ℕ) (part : Part) → ReadsBody framing text payload part → StandsInBody framing text (standing_with payload part)
+body_stands : (framing : BodyFraming) (text payload : List ℕ) (part : Part)
+    → ReadsBody framing text payload part → StandsInBody framing text (standing_with payload part)
 body_stands framing text payload ToEnd h = subst (λ f. StandsInBody f text (in_body payload)) (sym h.0) h.1
 body_stands framing text payload (Sized left) h = subst (λ f. StandsInBody f text (in_body payload)) (sym h.0) (let some = h.1 in omega arith, h.2)
 body_stands framing text payload (InChunks at) h = subst (λ f. StandsInBody f text (in_body payload)) (sym h.0) (run_breaks_off at text payload h.1 h.2)
@@ -66,13 +71,15 @@ body_stands framing text payload Closed h = absurd h
 module _ (start : MirrorState) (bytes : List ℕ) (had_token : Bool) (kept : List ℕ) (mirror : MirrorState) (asked : had_token ≡ is_some start.since)
     (head : ResponseHead) (text : List ℕ) (begins : BeginsWithResponse bytes head text) (framing : BodyFraming) (says : verdict had_token head ≡ Ok (Body framing))
     (payload : List ℕ) (reached : HasReached start payload mirror) where
-  is_in : (part : Part) → ReadsBody framing text payload part → IsInBody (record { had_token = had_token; kept = kept; part = part }) bytes (standing_with payload part)
+  is_in : (part : Part) → ReadsBody framing text payload part
+      → IsInBody (record { had_token = had_token; kept = kept; part = part }) bytes (standing_with payload part)
   is_in part reads = record { head = head; text = text; begins = begins; framing = framing; says = says; payload = payload; reads = reads; standing_is = refl }
 
   stands_so : (part : Part) → ReadsBody framing text payload part → Stands had_token bytes (standing_with payload part)
   stands_so part reads = stands_behind had_token bytes head text framing (standing_with payload part) begins says (body_stands framing text payload part reads)
 
-  pub behind_head : (part : Part) → ReadsBody framing text payload part → GoesOn start bytes (record { had_token = had_token; kept = kept; part = part }) mirror (progress part)
+  pub behind_head : (part : Part) → ReadsBody framing text payload part
+      → GoesOn start bytes (record { had_token = had_token; kept = kept; part = part }) mirror (progress part)
   behind_head ToEnd reads = (in_body payload, refl, record { asked = asked; stands = stands_so ToEnd reads; keeps = is_in ToEnd reads; leaves = reached })
   behind_head (Sized left) reads = (in_body payload, refl, record { asked = asked; stands = stands_so (Sized left) reads; keeps = is_in (Sized left) reads; leaves = reached })
   behind_head (InChunks at) reads = (in_body payload, refl, record { asked = asked; stands = stands_so (InChunks at) reads; keeps = is_in (InChunks at) reads; leaves = reached })
@@ -82,7 +89,8 @@ module _ (start : MirrorState) (bytes : List ℕ) (had_token : Bool) (kept : Lis
 
 -- ---- a head that goes on
 
-pub head_goes_on : (start : MirrorState) (bytes : List ℕ) (had_token : Bool) (kept : List ℕ) (mirror : MirrorState) (part : Part) → had_token ≡ is_some start.since → HeadGoesOn had_token bytes start kept mirror part
+pub head_goes_on : (start : MirrorState) (bytes : List ℕ) (had_token : Bool) (kept : List ℕ) (mirror : MirrorState) (part : Part)
+    → had_token ≡ is_some start.since → HeadGoesOn had_token bytes start kept mirror part
     → GoesOn start bytes (record { had_token = had_token; kept = kept; part = part }) mirror (progress part)
 head_goes_on start bytes had_token kept mirror Head asked h =
     (in_head, refl, record { asked = asked; stands = inl (h.0.no_head, h.0.within); keeps = (h.1, refl); leaves = h.2 })
@@ -118,7 +126,9 @@ pub record InBody (start : MirrorState) (before : List ℕ) (follower : Follower
 
 from_keeps : (start : MirrorState) (before : List ℕ) (standing : Standing) (had_token : Bool) (kept : List ℕ) (part : Part) (mirror : MirrorState)
     → ((payload : List ℕ) → Leaves start (standing_with payload part) mirror → HasReached start payload mirror)
-    → IsInBody (record { had_token = had_token; kept = kept; part = part }) before standing → Leaves start standing mirror → InBody start before (record { had_token = had_token; kept = kept; part = part }) mirror
+    → IsInBody (record { had_token = had_token; kept = kept; part = part }) before standing
+    → Leaves start standing mirror
+    → InBody start before (record { had_token = had_token; kept = kept; part = part }) mirror
 from_keeps start before standing had_token kept part mirror reach k leaves = record {
   head = k.head;
   text = k.text;
@@ -130,8 +140,10 @@ from_keeps start before standing had_token kept part mirror reach k leaves = rec
   reached = reach k.payload (subst (λ s. Leaves start s mirror) k.standing_is leaves);
 }
 
-pub in_body_of : (start : MirrorState) (before : List ℕ) (standing : Standing) (had_token : Bool) (kept : List ℕ) (part : Part) (mirror : MirrorState) → is_body part ≡ true
-    → FollowsAt start before standing (record { had_token = had_token; kept = kept; part = part }) mirror → InBody start before (record { had_token = had_token; kept = kept; part = part }) mirror
+pub in_body_of : (start : MirrorState) (before : List ℕ) (standing : Standing) (had_token : Bool) (kept : List ℕ) (part : Part) (mirror : MirrorState)
+    → is_body part ≡ true
+    → FollowsAt start before standing (record { had_token = had_token; kept = kept; part = part }) mirror
+    → InBody start before (record { had_token = had_token; kept = kept; part = part }) mirror
 in_body_of start before standing had_token kept ToEnd mirror is f = from_keeps start before standing had_token kept ToEnd mirror (λ _ h. h) f.keeps f.leaves
 in_body_of start before standing had_token kept (Sized left) mirror is f = from_keeps start before standing had_token kept (Sized left) mirror (λ _ h. h) f.keeps f.leaves
 in_body_of start before standing had_token kept (InChunks at) mirror is f = from_keeps start before standing had_token kept (InChunks at) mirror (λ _ h. h) f.keeps f.leaves
@@ -139,8 +151,10 @@ in_body_of start before standing had_token kept Done mirror is f = from_keeps st
 in_body_of start before standing had_token kept Head mirror is f = cc
 in_body_of start before standing had_token kept Closed mirror is f = cc
 
-pub body_goes_on : (start : MirrorState) (before piece : List ℕ) (standing : Standing) (had_token : Bool) (kept more : List ℕ) (part to : Part) (old new : MirrorState) → is_body part ≡ true
-    → FollowsAt start before standing (record { had_token = had_token; kept = kept; part = part }) old → BodyGoesOn part piece old new to
+pub body_goes_on : (start : MirrorState) (before piece : List ℕ) (standing : Standing) (had_token : Bool) (kept more : List ℕ) (part to : Part) (old new : MirrorState)
+    → is_body part ≡ true
+    → FollowsAt start before standing (record { had_token = had_token; kept = kept; part = part }) old
+    → BodyGoesOn part piece old new to
     → GoesOn start (before ++ piece) (record { had_token = had_token; kept = more; part = to }) new (progress to)
 body_goes_on start before piece standing had_token kept other part to old new is f goes =
     let b = in_body_of start before standing had_token kept part old is f in
@@ -151,13 +165,16 @@ body_goes_on start before piece standing had_token kept other part to old new is
 -- ---- a body with a fault
 
 brings_behind : (had_token : Bool) (bytes : List ℕ) (head : ResponseHead) (text : List ℕ) (framing : BodyFraming) (payload : List ℕ)
-    → BeginsWithResponse bytes head text → verdict had_token head ≡ Ok (Body framing) → BringsBody framing text payload → Brings had_token bytes payload
+    → BeginsWithResponse bytes head text → verdict had_token head ≡ Ok (Body framing)
+    → BringsBody framing text payload → Brings had_token bytes payload
 brings_behind had_token bytes head text framing payload begins says (inl h) = inl (stands_behind had_token bytes head text framing (in_body payload) begins says h)
 brings_behind had_token bytes head text framing payload begins says (inr h) = inr (stands_behind had_token bytes head text framing (done payload) begins says h)
 
 -- of which text came with the bytes before and a front of the piece
 pub body_fails : (start : MirrorState) (had_token : Bool) (before front rest : List ℕ) (head : ResponseHead) (text : List ℕ) (framing : BodyFraming) (new : MirrorState) (fault : FollowFault)
-    → BeginsWithResponse (before ++ front) head text → verdict had_token head ≡ Ok (Body framing) → BodyFails start framing text rest new fault → Fails start had_token before (front ++ rest) (cut_off new) fault
+    → BeginsWithResponse (before ++ front) head text → verdict had_token head ≡ Ok (Body framing)
+    → BodyFails start framing text rest new fault
+    → Fails start had_token before (front ++ rest) (cut_off new) fault
 body_fails start had_token before front rest head text framing new BadChunk begins says h = (
   h.payload,
   stands_behind had_token (before ++ (front ++ rest)) head (text ++ rest) framing (failed BadChunk h.payload)
@@ -186,8 +203,10 @@ body_fails start had_token before front rest head text framing new (Feed fault) 
 }
 body_fails start had_token before front rest head text framing new fault begins says h = absurd h
 
-pub body_stops : (start : MirrorState) (before piece : List ℕ) (standing : Standing) (had_token : Bool) (kept : List ℕ) (part : Part) (old new : MirrorState) (fault : FollowFault) → is_body part ≡ true
-    → FollowsAt start before standing (record { had_token = had_token; kept = kept; part = part }) old → BodyStops part piece old new fault → Fails start had_token before piece (cut_off new) fault
+pub body_stops : (start : MirrorState) (before piece : List ℕ) (standing : Standing) (had_token : Bool) (kept : List ℕ) (part : Part) (old new : MirrorState) (fault : FollowFault)
+    → is_body part ≡ true
+    → FollowsAt start before standing (record { had_token = had_token; kept = kept; part = part }) old
+    → BodyStops part piece old new fault → Fails start had_token before piece (cut_off new) fault
 body_stops start before piece standing had_token kept part old new fault is f stops =
     let b = in_body_of start before standing had_token kept part old is f in
     body_fails start had_token before [] piece b.head b.text b.framing new fault (subst (λ t. BeginsWithResponse t b.head b.text) (sym (append-nil before)) b.begins) b.says
@@ -195,13 +214,16 @@ body_stops start before piece standing had_token kept part old new fault is f st
 
 -- ---- a head with a fault
 
-no_head_stands : (had_token : Bool) (bytes : List ℕ) (fault : FollowFault) → IsNoHead had_token bytes fault → Stands had_token bytes (failed fault [])
+no_head_stands : (had_token : Bool) (bytes : List ℕ) (fault : FollowFault)
+    → IsNoHead had_token bytes fault → Stands had_token bytes (failed fault [])
 no_head_stands had_token bytes fault h = elim h.stands [
   | inl none ↦ inl none
   | inr (head, rest, begins, says) ↦ inr (head, rest, begins, subst (λ v. StandsBehind v rest (failed fault [])) (sym says) refl)
 ]
 
-pub head_stops : (start : MirrorState) (before piece : List ℕ) (had_token : Bool) (new : MirrorState) (fault : FollowFault) → IsUnfinished before → HeadStops had_token before piece start new fault → Fails start had_token before piece (cut_off new) fault
+pub head_stops : (start : MirrorState) (before piece : List ℕ) (had_token : Bool) (new : MirrorState) (fault : FollowFault)
+    → IsUnfinished before → HeadStops had_token before piece start new fault
+    → Fails start had_token before piece (cut_off new) fault
 head_stops start before piece had_token new Memory unfinished h = record {
   counted = [];
   uncounted = piece;
@@ -220,7 +242,9 @@ head_stops start before piece had_token new BadCoding unfinished h = ([], no_hea
 head_stops start before piece had_token new BadLength unfinished h = ([], no_head_stands had_token (before ++ piece) BadLength h.0, ap cut_off h.1)
 
 -- a head that can't be followed
-pub stops_in_head : (had_token : Bool) (before piece : List ℕ) (mirror : MirrorState) (fault : FollowFault) → IsNoHead had_token (before ++ piece) fault → HeadStops had_token before piece mirror mirror fault
+pub stops_in_head : (had_token : Bool) (before piece : List ℕ) (mirror : MirrorState) (fault : FollowFault)
+    → IsNoHead had_token (before ++ piece) fault
+    → HeadStops had_token before piece mirror mirror fault
 stops_in_head had_token before piece mirror LongHead h = (h, refl)
 stops_in_head had_token before piece mirror BadHead h = (h, refl)
 stops_in_head had_token before piece mirror (Status status) h = (h, refl)
@@ -230,7 +254,9 @@ stops_in_head had_token before piece mirror fault h = absurd h.of_head
 
 -- a body behind a head that can't
 pub stops_in_body : (had_token : Bool) (before piece : List ℕ) (old new : MirrorState) (fault : FollowFault) (front text : List ℕ) (head : ResponseHead) (framing : BodyFraming)
-    → piece ≡ front ++ text → BeginsWithResponse (before ++ front) head [] → verdict had_token head ≡ Ok (Body framing) → BodyFails old framing [] text new fault → HeadStops had_token before piece old new fault
+    → piece ≡ front ++ text → BeginsWithResponse (before ++ front) head []
+    → verdict had_token head ≡ Ok (Body framing) → BodyFails old framing [] text new fault
+    → HeadStops had_token before piece old new fault
 stops_in_body had_token before piece old new BadChunk front text head framing split begins says h = record { front = front; text = text; split = split; head = head; begins = begins; framing = framing; says = says; fails = h }
 stops_in_body had_token before piece old new (Feed fault) front text head framing split begins says h = record { front = front; text = text; split = split; head = head; begins = begins; framing = framing; says = says; fails = h }
 stops_in_body had_token before piece old new fault front text head framing split begins says h = absurd h
@@ -247,7 +273,8 @@ first_reads (framed.Sized n) =
     ]
 
 -- what a body part brought behind a head
-pub brings_part : (had_token : Bool) (bytes : List ℕ) (old new : MirrorState) (kept : List ℕ) (part : Part) → HeadBrings had_token bytes old new part → HeadGoesOn had_token bytes old kept new part
+pub brings_part : (had_token : Bool) (bytes : List ℕ) (old new : MirrorState) (kept : List ℕ) (part : Part)
+    → HeadBrings had_token bytes old new part → HeadGoesOn had_token bytes old kept new part
 brings_part had_token bytes old new kept ToEnd h = h
 brings_part had_token bytes old new kept (Sized left) h = h
 brings_part had_token bytes old new kept (InChunks at) h = h
@@ -283,8 +310,10 @@ record AtHead (start : MirrorState) (before : List ℕ) (had_token : Bool) (kept
   began : old ≡ start
   asked : had_token ≡ is_some start.since
 
-at_head : (start : MirrorState) (before : List ℕ) (standing : Standing) (had_token : Bool) (kept : List ℕ) (part : Part) (old : MirrorState) → part ≡ Head
-    → FollowsAt start before standing (record { had_token = had_token; kept = kept; part = part }) old → AtHead start before had_token kept old
+at_head : (start : MirrorState) (before : List ℕ) (standing : Standing) (had_token : Bool) (kept : List ℕ) (part : Part) (old : MirrorState)
+    → part ≡ Head
+    → FollowsAt start before standing (record { had_token = had_token; kept = kept; part = part }) old
+    → AtHead start before had_token kept old
 at_head start before standing had_token kept part old e f =
     let g = subst (λ p. FollowsAt start before standing (record { had_token = had_token; kept = kept; part = p }) old) e f in
     let stands = subst (λ s. Stands had_token before s) g.keeps.1 g.stands in
@@ -306,7 +335,9 @@ module _ (start : MirrorState) (before : List ℕ) (standing : Standing) (had_to
       (subst (λ x. HeadGoesOn had_token (x ++ piece) start more new to) a.same (subst (λ m. HeadGoesOn had_token (kept ++ piece) m more new to) a.began goes)))
       (h a.unfinished)
 
-  pub head_err : part ≡ Head → (IsUnfinished kept → IfErr r (HeadStops had_token kept piece old new)) → IfErr r (Fails start had_token before piece (cut_off new))
+  pub head_err : part ≡ Head
+      → (IsUnfinished kept → IfErr r (HeadStops had_token kept piece old new))
+      → IfErr r (Fails start had_token before piece (cut_off new))
   head_err e h =
       let a = at_head start before standing had_token kept part old e f in
       MatchResult-weaker r (h a.unfinished) (λ _ x. x)
@@ -319,12 +350,15 @@ module _ (start : MirrorState) (before : List ℕ) (standing : Standing) (had_to
       IfOk-weaker r (BodyGoesOn part piece old new) (λ to. GoesOn start (before ++ piece) (record { had_token = had_token; kept = more; part = to }) new (progress to))
       (λ to goes. body_goes_on start before piece standing had_token kept more part to old new (a_body part head closed) f goes) h
 
-  pub body_err : part ≢ Head → part ≢ Closed → IfErr r (BodyStops part piece old new) → IfErr r (Fails start had_token before piece (cut_off new))
+  pub body_err : part ≢ Head → part ≢ Closed → IfErr r (BodyStops part piece old new)
+      → IfErr r (Fails start had_token before piece (cut_off new))
   body_err head closed h = MatchResult-weaker r h (λ _ x. x) (λ fault stops. body_stops start before piece standing had_token kept part old new fault (a_body part head closed) f stops)
 
 -- ---- a head that is whole
 
-pub refuses : (had_token : Bool) (kept piece : List ℕ) (len : ℕ) (found : WholeHead) (old new : MirrorState) → IsHeadRead had_token (kept ++ take len piece) found → found.says ≡ Refusal → new ≡ refused_off old → HeadRefuses had_token (kept ++ piece) old new
+pub refuses : (had_token : Bool) (kept piece : List ℕ) (len : ℕ) (found : WholeHead) (old new : MirrorState)
+    → IsHeadRead had_token (kept ++ take len piece) found → found.says ≡ Refusal
+    → new ≡ refused_off old → HeadRefuses had_token (kept ++ piece) old new
 refuses had_token kept piece len found old new h is refused = record {
   head = h.head;
   rest = drop found.len (kept ++ take len piece) ++ drop len piece;
@@ -336,13 +370,17 @@ refuses had_token kept piece len found old new h is refused = record {
 module _ (had_token : Bool) (kept piece : List ℕ) (len : ℕ) (found : WholeHead) (framing : BodyFraming) (part : Part) (s : ℕ) (old mid new : MirrorState)
     (unfinished : IsUnfinished kept) (h : IsHeadRead had_token (kept ++ take len piece) found) (is : found.says ≡ Body framing)
     (first : part ≡ first_part framing) (at : s ≡ found.len - length kept) (began : HasReached old [] mid) where
-  begins : (w : ResponseHead) → BeginsWithResponse (kept ++ take (found.len - length kept) piece) w [] → BeginsWithResponse (kept ++ take s piece) w []
+  begins : (w : ResponseHead)
+      → BeginsWithResponse (kept ++ take (found.len - length kept) piece) w []
+      → BeginsWithResponse (kept ++ take s piece) w []
   begins w b = subst (λ n. BeginsWithResponse (kept ++ take n piece) w []) (sym at) b
 
   first_is : ReadsBody framing [] [] part
   first_is = subst (ReadsBody framing [] []) (sym first) (first_reads framing)
 
-  pub whole_goes_on : (more : List ℕ) (to : Part) → BodyGoesOn part (take (length piece - s) (drop s piece)) mid new to → HeadGoesOn had_token (kept ++ piece) old more new to
+  pub whole_goes_on : (more : List ℕ) (to : Part)
+      → BodyGoesOn part (take (length piece - s) (drop s piece)) mid new to
+      → HeadGoesOn had_token (kept ++ piece) old more new to
   whole_goes_on more to goes =
       let w = whole_at had_token kept piece len found unfinished h in
       let (payload, reads, fed) = subst (λ t. BodyGoesOn part t mid new to) (to_the_end s piece) goes framing [] [] first_is in
@@ -358,7 +396,9 @@ module _ (had_token : Bool) (kept piece : List ℕ) (len : ℕ) (found : WholeHe
         reached = fed old [] began;
       })
 
-  pub whole_stops : (fault : FollowFault) → BodyStops part (take (length piece - s) (drop s piece)) mid new fault → HeadStops had_token kept piece old new fault
+  pub whole_stops : (fault : FollowFault)
+      → BodyStops part (take (length piece - s) (drop s piece)) mid new fault
+      → HeadStops had_token kept piece old new fault
   whole_stops fault stops =
       let w = whole_at had_token kept piece len found unfinished h in
       stops_in_body had_token kept piece old new fault (take s piece) (drop s piece) w.head framing (sym (take-append-drop s piece)) (begins w.head w.begins)

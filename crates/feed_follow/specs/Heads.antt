@@ -4,7 +4,8 @@ use Rattle.std.specs.Prelude.{◌≡◌, ℕ, ◌<◌, ◌≤◌, ◌⊎◌, ◌
 use Rattle.httparse.specs.Ascii.{line_feed}
 use Rattle.httparse.specs.Grammar.{ResponseHead, print_response, ReadsResponse, NeverHasResponse}
 
--- the most bytes of a head, with the empty lines in front, the most lines, and the most fields (this profile's limits)
+-- the most bytes of a head, with the empty lines in front, the most lines, and the most fields
+-- (this profile's limits)
 abbrev pub head_bytes : ℕ
 head_bytes = 8192
 

@@ -22,8 +22,10 @@ no_request bytes head rest begins never = (
 )
 
 -- what a whole head and its target request
-pub requests : (bytes : List ℕ) (head : RequestHead) (rest method path text : List ℕ) (minor : ℕ) (target : Target) (since : Option (List ℕ)) → BeginsWithRequest bytes head rest
-    → text ≡ head.target → slice_index text 0 ≡ 47 → Spells text target → method ≡ head.method → uri_path target ≡ path → minor ≡ head.minor → since ≡ since_token (uri_query target)
+pub requests : (bytes : List ℕ) (head : RequestHead) (rest method path text : List ℕ) (minor : ℕ) (target : Target) (since : Option (List ℕ))
+    → BeginsWithRequest bytes head rest
+    → text ≡ head.target → slice_index text 0 ≡ 47 → Spells text target → method ≡ head.method
+    → uri_path target ≡ path → minor ≡ head.minor → since ≡ since_token (uri_query target)
     → Requests bytes method path minor since
 requests bytes head rest method path text minor target since begins is_text is_path spells is_method at_path is_minor is_since = record {
   head = head;
@@ -38,10 +40,12 @@ requests bytes head rest method path text minor target since begins is_text is_p
 -- ---- bytes ask for one thing
 
 -- a request that the bytes begin with leaves nothing too large or unreadable
-asks_no_large : (bytes method path : List ℕ) (minor : ℕ) (since : Option (List ℕ)) → Requests bytes method path minor since → ¬ (IsTooLargeRequest bytes)
+asks_no_large : (bytes method path : List ℕ) (minor : ℕ) (since : Option (List ℕ))
+    → Requests bytes method path minor since → ¬ (IsTooLargeRequest bytes)
 asks_no_large bytes method path minor since r large = large.1 r.head r.is_request.rest r.is_request.begins
 
-asks_readable : (bytes method path : List ℕ) (minor : ℕ) (since : Option (List ℕ)) → Requests bytes method path minor since → ¬ (HasNoRequest bytes)
+asks_readable : (bytes method path : List ℕ) (minor : ℕ) (since : Option (List ℕ))
+    → Requests bytes method path minor since → ¬ (HasNoRequest bytes)
 asks_readable bytes method path minor since r none = none r.head r.target r.is_request
 
 -- two requests at the front of the bytes are one
@@ -51,8 +55,10 @@ pub record AreOne (method path method2 path2 : List ℕ) (minor minor2 : ℕ) (s
   pub minors : minor ≡ minor2
   pub sinces : since ≡ since2
 
-one_target : (target target2 : Target) (path path2 : List ℕ) (since since2 : Option (List ℕ)) → (uri_scheme target ≡ uri_scheme target2) × (uri_authority target ≡ uri_authority target2) × (uri_data target ≡ uri_data target2)
-    → uri_path target ≡ path → uri_path target2 ≡ path2 → since_token (uri_query target) ≡ since → since_token (uri_query target2) ≡ since2 → (path ≡ path2) × (since ≡ since2)
+one_target : (target target2 : Target) (path path2 : List ℕ) (since since2 : Option (List ℕ))
+    → (uri_scheme target ≡ uri_scheme target2) × (uri_authority target ≡ uri_authority target2) × (uri_data target ≡ uri_data target2)
+    → uri_path target ≡ path → uri_path target2 ≡ path2 → since_token (uri_query target) ≡ since
+    → since_token (uri_query target2) ≡ since2 → (path ≡ path2) × (since ≡ since2)
 one_target target target2 path path2 since since2 (schemes, authorities, kept) p p2 s s2 = (
   sym p ∙ same_path ∙ p2,
   sym s ∙ ap (λ d. since_token (query_of d)) kept ∙ s2,
@@ -61,7 +67,9 @@ one_target target target2 path path2 since since2 (schemes, authorities, kept) p
     same_path : uri_path target ≡ uri_path target2
     same_path = ap₂ (λ d scheme. if not (length d == 0) || is_some scheme then path_of d else []) kept schemes
 
-pub one_request : (bytes method path method2 path2 : List ℕ) (minor minor2 : ℕ) (since since2 : Option (List ℕ)) → Requests bytes method path minor since → Requests bytes method2 path2 minor2 since2 → AreOne method path method2 path2 minor minor2 since since2
+pub one_request : (bytes method path method2 path2 : List ℕ) (minor minor2 : ℕ) (since since2 : Option (List ℕ))
+    → Requests bytes method path minor since → Requests bytes method2 path2 minor2 since2
+    → AreOne method path method2 path2 minor minor2 since since2
 one_request bytes method path method2 path2 minor minor2 since since2 a b =
     let heads : a.head ≡ b.head = (request_unique bytes a.head b.head a.is_request.rest b.is_request.rest a.is_request.begins.reads b.is_request.begins.reads).0 in
     let spells : Spells b.head.target a.target = subst (λ h. Spells h.target a.target) heads a.is_request.spells in

@@ -9,14 +9,16 @@ use Rattle.std.proofs.KnownBytes.{Consumes-trans}
 use Rattle.feed_http.specs.Device.{counted, RoseBy, Moved, MovedSome}
 
 -- what was copied is the front of what was left
-pub given_front : (left copied tail : List ℕ) (n : ℕ) → copied ≡ take n left → n ≤ length left → left ≡ take n (copied ++ tail) ++ drop n left
+pub given_front : (left copied tail : List ℕ) (n : ℕ) → copied ≡ take n left → n ≤ length left
+    → left ≡ take n (copied ++ tail) ++ drop n left
 given_front left copied tail n e fits =
     let len : length copied ≡ n = ap length e ∙ length-take-le n left fits in
     let whole : take n (copied ++ tail) ≡ copied = ap (λ k. take k (copied ++ tail)) (sym len) ∙ take-append_seam copied tail in
     sym (take-append-drop n left) ∙ ap (λ l. l ++ drop n left) (sym e ∙ sym whole)
 
 -- the front of the rest joins what is done
-pub moves_front : (all done rest : List ℕ) (n : ℕ) → all ≡ done ++ rest → all ≡ (done ++ take n rest) ++ take (length rest - n) (drop n rest)
+pub moves_front : (all done rest : List ℕ) (n : ℕ) → all ≡ done ++ rest
+    → all ≡ (done ++ take n rest) ++ take (length rest - n) (drop n rest)
 moves_front all done rest n e =
     e ∙ ap (λ l. done ++ l) (sym (take-append-drop n rest)) ∙ sym (append_assoc done (take n rest) (drop n rest))
     ∙ ap (λ l. (done ++ take n rest) ++ l) (sym (take_rest rest n))
@@ -51,7 +53,8 @@ unread_nothing (Some xs) None h = h
 unread_nothing (Some xs) (Some ys) h = sym h
 
 -- what was taken before is all
-pub taken_before : (a b c : Option (List ℕ)) (taken : List ℕ) → Consumes a b taken → Consumes b c [] → Consumes a c taken
+pub taken_before : (a b c : Option (List ℕ)) (taken : List ℕ) → Consumes a b taken → Consumes b c []
+    → Consumes a c taken
 taken_before None b c taken h k = tt
 taken_before (Some xs) None c taken h k = absurd h
 taken_before (Some xs) (Some ys) None taken h k = absurd k

@@ -23,7 +23,8 @@ all_hex : (ds : List ℕ) → AllDigits 16 ds → AllPass is_ascii_hexdigit ds
 all_hex [] h = All-nil (λ b. is_ascii_hexdigit b ≡ true)
 all_hex (d ∷ ds) h = All-cons (λ b. is_ascii_hexdigit b ≡ true) d ds (hex_digit d h.0) (all_hex ds h.1)
 
-cond_short : (b : Bool) (x y : List ℕ) (m : ℕ) → (b ≡ true → length x ≤ m) → (b ≡ false → length y ≤ m) → length (if b then x else y) ≤ m
+cond_short : (b : Bool) (x y : List ℕ) (m : ℕ) → (b ≡ true → length x ≤ m)
+    → (b ≡ false → length y ≤ m) → length (if b then x else y) ≤ m
 cond_short true x y m first second = first refl
 cond_short false x y m first second = second refl
 
@@ -31,7 +32,8 @@ quotient_zero : (n : ℕ) → n < 16 → (n / 16 == 0) ≡ true
 quotient_zero n h = let e : n / 16 ≡ 0 = omega arith in rw e refl
 
 -- a number below 16 ^ (places + 1) has at most so many digits
-onto_short : (k places n : ℕ) (acc : List ℕ) → n < 16 ^ suc places → length (digits_onto k 16 false n acc) ≤ suc places + length acc
+onto_short : (k places n : ℕ) (acc : List ℕ) → n < 16 ^ suc places
+    → length (digits_onto k 16 false n acc) ≤ suc places + length acc
 onto_short zero places n acc h = omega arith
 onto_short (suc k) zero n acc h =
     let more = digit_glyph false (n % 16) ∷ acc in

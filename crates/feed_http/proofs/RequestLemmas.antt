@@ -63,10 +63,12 @@ passes false q h k = let no : ◌≡◌ {A = Bool} false true = k in cc
 implied : (p q : ℕ → Bool) → all_below (λ b. not (p b) || q b) 128 ≡ true → (b : ℕ) → b < 128 → p b ≡ true → q b ≡ true
 implied p q table b less h = passes (p b) (q b) (below (λ x. not (p x) || q x) 128 table b less) h
 
-all_weaker : (p q : ℕ → Bool) → ((b : ℕ) → p b ≡ true → q b ≡ true) → (xs : List ℕ) → list_all p xs ≡ true → list_all q xs ≡ true
+all_weaker : (p q : ℕ → Bool) → ((b : ℕ) → p b ≡ true → q b ≡ true) → (xs : List ℕ)
+    → list_all p xs ≡ true → list_all q xs ≡ true
 all_weaker p q imply xs h = list_all-from_AllPass q xs (All-weaker (λ b. p b ≡ true) (λ b. q b ≡ true) imply xs (AllPass-from_list_all p xs h))
 
-all_joined : (p : ℕ → Bool) (xs ys : List ℕ) → list_all p xs ≡ true → list_all p ys ≡ true → list_all p (xs ++ ys) ≡ true
+all_joined : (p : ℕ → Bool) (xs ys : List ℕ) → list_all p xs ≡ true → list_all p ys ≡ true
+    → list_all p (xs ++ ys) ≡ true
 all_joined p xs ys h k = list_all-append p xs ys ∙ both (list_all p xs) (list_all p ys) h k
 
 -- ---- the bytes of a request
@@ -102,7 +104,8 @@ target_byte b = is_uri_byte b && nat_lt b 128 && not (b == 35) && not (b == 10)
 feed_target : (b : ℕ) → feed_byte b ≡ true → (target_byte b && is_path_byte b && not (b == 63)) ≡ true
 feed_target b h = implied feed_byte (λ x. target_byte x && is_path_byte x && not (x == 63)) refl b (feed_byte_small b h) h
 
-asking_target : (b : ℕ) → asking_byte b ≡ true → (target_byte b && is_query_byte b && not (b == 38) && not (b == 61)) ≡ true
+asking_target : (b : ℕ) → asking_byte b ≡ true
+    → (target_byte b && is_query_byte b && not (b == 38) && not (b == 61)) ≡ true
 asking_target b h = implied asking_byte (λ x. target_byte x && is_query_byte x && not (x == 38) && not (x == 61)) refl b (asking_byte_small b h) h
 
 host_value : (b : ℕ) → host_byte b ≡ true → (is_value_byte b && not (b == 10)) ≡ true
@@ -194,20 +197,23 @@ serialized_bytes token = list_all-from_AllPass asking_byte (byte_serialize token
 abbrev pub asking : List ℕ → List ℕ
 asking token = name ++ 61 ∷ byte_serialize token
 
-asking_passes : (p : ℕ → Bool) → ((b : ℕ) → asking_byte b ≡ true → p b ≡ true) → list_all p name ≡ true → p 61 ≡ true → (token : List ℕ) → list_all p (asking token) ≡ true
+asking_passes : (p : ℕ → Bool) → ((b : ℕ) → asking_byte b ≡ true → p b ≡ true)
+    → list_all p name ≡ true → p 61 ≡ true → (token : List ℕ) → list_all p (asking token) ≡ true
 asking_passes p imply named equals token =
     all_joined p name (61 ∷ byte_serialize token) named (both (p 61) (list_all p (byte_serialize token)) equals (all_weaker asking_byte p imply (byte_serialize token) (serialized_bytes token)))
 
 no_ampersand : (b : ℕ) → asking_byte b ≡ true → not (b == 38) ≡ true
 no_ampersand b h = implied asking_byte (λ x. not (x == 38)) refl b (asking_byte_small b h) h
 
-found_first : (test : List ℕ × List ℕ → Bool) (pair : List ℕ × List ℕ) (pairs : List (List ℕ × List ℕ)) → test pair ≡ true → find test (pair ∷ pairs) ≡ Some pair
+found_first : (test : List ℕ × List ℕ → Bool) (pair : List ℕ × List ℕ) (pairs : List (List ℕ × List ℕ))
+    → test pair ≡ true → find test (pair ∷ pairs) ≡ Some pair
 found_first test pair pairs passed = ap (λ b. cond b (Some pair) (find test pairs)) passed
 
 same_bytes : (x y : List ℕ) → x ≡ y → bytes_eq x y ≡ true
 same_bytes x y e = (bytes_eq-Decides x y).1 e
 
-one_pair : (token : List ℕ) → (rest : List (List ℕ × List ℕ)) × (raw_pairs (asking token) ≡ split_pair (asking token) ∷ rest)
+one_pair : (token : List ℕ)
+    → (rest : List (List ℕ × List ℕ)) × (raw_pairs (asking token) ≡ split_pair (asking token) ∷ rest)
 one_pair token =
     let q = asking token in
     let before : (split_once 38 q).0 ≡ q = split_once_before_none 38 q (other_bytes 38 q (asking_passes (λ b. not (b == 38)) no_ampersand refl refl token)) in (
@@ -229,7 +235,8 @@ token_asked token h =
 
 -- ---- where a target is cut
 
-prefix_past : (p : ℕ → Bool) (xs ys : List ℕ) → list_all p xs ≡ true → prefix_len p (xs ++ ys) ≡ length xs + prefix_len p ys
+prefix_past : (p : ℕ → Bool) (xs ys : List ℕ) → list_all p xs ≡ true
+    → prefix_len p (xs ++ ys) ≡ length xs + prefix_len p ys
 prefix_past p [] ys h = omega arith
 prefix_past p (x ∷ xs) ys h =
     let passed : p x ≡ true = both_left (p x) (list_all p xs) h in
@@ -349,7 +356,9 @@ pub record IsFeedTarget (target path : List ℕ) (query : Option (List ℕ)) : T
   pub some : 0 < length target
   pub short : length target ≤ 863
 
-feed_bytes : (p : ℕ → Bool) → ((b : ℕ) → feed_byte b ≡ true → p b ≡ true) → (contest : List ℕ) → list_all (is_alphanumeric_or (codes "._-")) contest ≡ true → list_all p (feed_path [] contest) ≡ true
+feed_bytes : (p : ℕ → Bool) → ((b : ℕ) → feed_byte b ≡ true → p b ≡ true) → (contest : List ℕ)
+    → list_all (is_alphanumeric_or (codes "._-")) contest ≡ true
+    → list_all p (feed_path [] contest) ≡ true
 feed_bytes p imply contest h =
     all_weaker feed_byte p imply (feed_path [] contest)
     (all_joined feed_byte (codes "/contests/" ++ contest) (codes "/event-feed")
@@ -379,7 +388,8 @@ abbrev pub query_for : Option (List ℕ) → Option (List ℕ)
 query_for None = None
 query_for (Some token) = Some (asking token)
 
-without_query : (path : List ℕ) → list_all (λ b. not (b == 63)) path ≡ true → (split_once_front 63 (path ++ []) ≡ path) × (split_once_back 63 (path ++ []) ≡ None)
+without_query : (path : List ℕ) → list_all (λ b. not (b == 63)) path ≡ true
+    → (split_once_front 63 (path ++ []) ≡ path) × (split_once_back 63 (path ++ []) ≡ None)
 without_query path h =
     let at : index_of 63 (path ++ []) ≡ length path = ap (index_of 63) (append-nil path) ∙ prefix_whole (λ b. not (b == 63)) path h in
     let many : length (path ++ []) ≡ length path = ap length (append-nil path) in
@@ -388,7 +398,8 @@ without_query path h =
       ap (λ b. cond b (Some (drop (index_of 63 (path ++ []) + 1) (path ++ []))) None) no,
     )
 
-with_query : (path query : List ℕ) → list_all (λ b. not (b == 63)) path ≡ true → (split_once_front 63 (path ++ 63 ∷ query) ≡ path) × (split_once_back 63 (path ++ 63 ∷ query) ≡ Some query)
+with_query : (path query : List ℕ) → list_all (λ b. not (b == 63)) path ≡ true
+    → (split_once_front 63 (path ++ 63 ∷ query) ≡ path) × (split_once_back 63 (path ++ 63 ∷ query) ≡ Some query)
 with_query path query h =
     let at : index_of 63 (path ++ 63 ∷ query) ≡ length path = prefix_past (λ b. not (b == 63)) path (63 ∷ query) h ∙ omega arith in
     let many : length (path ++ 63 ∷ query) ≡ length path + length (63 ∷ query) = length-append path (63 ∷ query) in
@@ -398,8 +409,10 @@ with_query path query h =
           ∙ ap (λ n. Some (drop (n + 1) (path ++ 63 ∷ query))) at ∙ ap Some (drop-append-add path (63 ∷ query) 1),
     )
 
-feed_target_is : (contest : List ℕ) (since : Option (List ℕ)) → list_all (is_alphanumeric_or (codes "._-")) contest ≡ true → length contest ≤ 64
-    → IfSome since (λ token. (length token ≤ 255) × IsUtf8 token) → IsFeedTarget (feed_path [] contest ++ since_query since) (feed_path [] contest) (query_for since)
+feed_target_is : (contest : List ℕ) (since : Option (List ℕ))
+    → list_all (is_alphanumeric_or (codes "._-")) contest ≡ true → length contest ≤ 64
+    → IfSome since (λ token. (length token ≤ 255) × IsUtf8 token)
+    → IsFeedTarget (feed_path [] contest ++ since_query since) (feed_path [] contest) (query_for since)
 feed_target_is contest None h few fits =
     let path = feed_path [] contest in
     let cut = without_query path (feed_bytes (λ b. not (b == 63)) no_mark contest h) in
@@ -429,14 +442,17 @@ feed_target_is contest (Some token) h few fits =
       short = omega (arith, path_length contest, length-append path (63 ∷ asking token), length-append name (61 ∷ byte_serialize token), serialized_short token);
     }
 
-since_is_asked : (since : Option (List ℕ)) → IfSome since (λ token. (length token ≤ 255) × IsUtf8 token) → since_token (query_for since) ≡ since
+since_is_asked : (since : Option (List ℕ))
+    → IfSome since (λ token. (length token ≤ 255) × IsUtf8 token)
+    → since_token (query_for since) ≡ since
 since_is_asked None fits = refl
 since_is_asked (Some token) fits = token_asked token fits.1
 
 -- ---- the place
 
 parts_ok : (host base contest : Bool) (x y : Place)
-    → (if not host then Err BadHost else (if not base then Err BadBase else (if not contest then Err BadContest else Ok x))) ≡ Ok y → (host ≡ true) × (contest ≡ true)
+    → (if not host then Err BadHost else (if not base then Err BadBase else (if not contest then Err BadContest else Ok x))) ≡ Ok y
+    → (host ≡ true) × (contest ≡ true)
 parts_ok true true true x y e = (refl, refl)
 parts_ok true true false x y e = let no : ◌≡◌ {A = Result Place PlaceFault} (Err BadContest) (Ok y) = e in absurd (cc)
 parts_ok true false contest x y e = let no : ◌≡◌ {A = Result Place PlaceFault} (Err BadBase) (Ok y) = e in absurd (cc)
@@ -501,7 +517,8 @@ target_utf8 : (target : List ℕ) → list_all target_byte target ≡ true → I
 target_utf8 target h =
     IsUtf8-from_ascii target (IsAscii-from_all target (All-weaker (λ b. target_byte b ≡ true) (λ b. b < 128) target_ascii target (AllPass-from_list_all target_byte target h)))
 
-is_head : (target host : List ℕ) → list_all target_byte target ≡ true → 0 < length target → list_all host_byte host ≡ true → IsRequestHead (head_for target host)
+is_head : (target host : List ℕ) → list_all target_byte target ≡ true → 0 < length target
+    → list_all host_byte host ≡ true → IsRequestHead (head_for target host)
 is_head target host h some k = record {
   method = get_token;
   target = (some, AllPass-from_list_all is_uri_byte target (all_weaker target_byte is_uri_byte target_uri target h));
@@ -513,7 +530,9 @@ is_head target host h some k = record {
 host_lines : (host : List ℕ) → list_all host_byte host ≡ true → line_count host ≡ 0
 host_lines host h = no_lines host (all_weaker host_byte (λ b. not (b == 10)) (λ b passed. implied host_byte (λ x. not (x == 10)) refl b (host_byte_small b passed) passed) host h)
 
-is_small : (target host : List ℕ) → list_all target_byte target ≡ true → length target ≤ 863 → list_all host_byte host ≡ true → length host ≤ 255 → IsHeadSize (print_request (head_for target host)) 3
+is_small : (target host : List ℕ) → list_all target_byte target ≡ true → length target ≤ 863
+    → list_all host_byte host ≡ true → length host ≤ 255
+    → IsHeadSize (print_request (head_for target host)) 3
 is_small target host h short k few = record {
   bytes = subst (λ t. length t ≤ 8192) (sym (printed target host)) (omega (arith, sent_length target host));
   lines = subst (λ t. line_count t ≤ 66) (sym (printed target host))
@@ -533,11 +552,13 @@ whole_target : (target : List ℕ) → list_all target_byte target ≡ true → 
 whole_target target h =
     ap (λ n. take n target) (prefix_whole (λ b. not (b == 35)) target (all_weaker target_byte (λ b. not (b == 35)) target_no_hash target h)) ∙ take-length target
 
-query_passes : (query : Option (List ℕ)) → IfSome query (λ q. list_all is_query_byte q ≡ true) → IfSome query (AllPass is_query_byte)
+query_passes : (query : Option (List ℕ)) → IfSome query (λ q. list_all is_query_byte q ≡ true)
+    → IfSome query (AllPass is_query_byte)
 query_passes None h = tt
 query_passes (Some q) h = AllPass-from_list_all is_query_byte q h
 
-is_path_and_query : (target path : List ℕ) (query : Option (List ℕ)) → IsFeedTarget target path query → IsPathAndQuery target
+is_path_and_query : (target path : List ℕ) (query : Option (List ℕ))
+    → IsFeedTarget target path query → IsPathAndQuery target
 is_path_and_query target path query f =
     let path_passes : AllPass is_path_byte path = AllPass-from_list_all is_path_byte path f.path_bytes in
     let short = f.short in
@@ -549,7 +570,8 @@ is_path_and_query target path query f =
       short = omega arith;
     }
 
-spells_target : (target path : List ℕ) (query : Option (List ℕ)) → IsFeedTarget target path query → Spells target (uri_for target)
+spells_target : (target path : List ℕ) (query : Option (List ℕ)) → IsFeedTarget target path query
+    → Spells target (uri_for target)
 spells_target target path query f =
     let whole = whole_target target f.bytes in
     let short = f.short in
@@ -557,15 +579,18 @@ spells_target target path query f =
     let input : IsPathInput target = record { start = inr slash; short = omega arith; kept = subst IsPathAndQuery (sym whole) (is_path_and_query target path query f) } in
     (omega arith, ((inr f.first, input), sym whole))
 
-path_of_target : (target path : List ℕ) (query : Option (List ℕ)) → IsFeedTarget target path query → uri_path (uri_for target) ≡ path
+path_of_target : (target path : List ℕ) (query : Option (List ℕ)) → IsFeedTarget target path query
+    → uri_path (uri_for target) ≡ path
 path_of_target target path query f =
     ap (λ b. cond (not b || false) (path_of target) []) (not_zero (length target) f.some) ∙ ap or_slash f.front
     ∙ ap (λ b. cond b (codes "/") path) (not_zero (length path) f.path_some)
 
 -- ---- together
 
-requests : (host base contest : List ℕ) (since : Option (List ℕ)) → base ≡ [] → list_all host_byte host ≡ true → length host ≤ 255
-    → list_all (is_alphanumeric_or (codes "._-")) contest ≡ true → length contest ≤ 64 → IfSome since (λ token. (length token ≤ 255) × IsUtf8 token)
+requests : (host base contest : List ℕ) (since : Option (List ℕ)) → base ≡ []
+    → list_all host_byte host ≡ true → length host ≤ 255
+    → list_all (is_alphanumeric_or (codes "._-")) contest ≡ true → length contest ≤ 64
+    → IfSome since (λ token. (length token ≤ 255) × IsUtf8 token)
     → Requests (request_text (record { host = host; base = base; contest = contest }) since) (codes "GET") (feed_path [] contest) 1 since
 requests host base contest since e host_bytes host_short contest_bytes contest_short fits =
     let path = feed_path [] contest in

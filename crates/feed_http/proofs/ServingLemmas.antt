@@ -40,7 +40,8 @@ pub tokens-length : (kept : List Commit) → length (tokens kept) ≡ length kep
 tokens-length [] = refl
 tokens-length (c ∷ kept) = ap suc (tokens-length kept)
 
-token_at : (kept : List Commit) (k : ℕ) (c : Commit) → slice_get kept k ≡ Some c → (k < length kept) × (get_or (tokens kept) k [] ≡ c.token)
+token_at : (kept : List Commit) (k : ℕ) (c : Commit) → slice_get kept k ≡ Some c
+    → (k < length kept) × (get_or (tokens kept) k [] ≡ c.token)
 token_at [] k c e = let same : ◌≡◌ {A = Option Commit} None (Some c) = e in absurd (cc)
 token_at (d ∷ kept) zero c e = let same : ◌≡◌ {A = Option Commit} (Some d) (Some c) = e in (omega arith, let is : d ≡ c = cc in ap (λ x. x.token) is)
 token_at (d ∷ kept) (suc k) c e = let more = token_at kept k c e in (omega (arith, more.0), more.1)
@@ -50,7 +51,9 @@ or_lost_some None c e = let same : Lost ≡ Commit_after c = e in absurd (cc)
 or_lost_some (Some d) c e = let same : Commit_after d ≡ Commit_after c = e in let is : d ≡ c = cc in ap Some is
 
 -- where a test first passes
-first_at : (p : List ℕ → Bool) (xs : List (List ℕ)) (k : ℕ) → k < length xs → p (get_or xs k []) ≡ true → ((j : ℕ) → j < k → p (get_or xs j []) ≡ false) → prefix_len (λ x. not (p x)) xs ≡ k
+first_at : (p : List ℕ → Bool) (xs : List (List ℕ)) (k : ℕ) → k < length xs
+    → p (get_or xs k []) ≡ true → ((j : ℕ) → j < k → p (get_or xs j []) ≡ false)
+    → prefix_len (λ x. not (p x)) xs ≡ k
 first_at p [] k within here before = absurd (omega arith)
 first_at p (x ∷ xs) zero within here before = rw here refl
 first_at p (x ∷ xs) (suc k) within here before =
@@ -58,7 +61,9 @@ first_at p (x ∷ xs) (suc k) within here before =
     let more = first_at p xs k (omega arith) here (λ j less. before (suc j) (omega arith)) in
     rw first (omega arith)
 
-position_at : (p : List ℕ → Bool) (xs : List (List ℕ)) (k : ℕ) → k < length xs → p (get_or xs k []) ≡ true → ((j : ℕ) → j < k → p (get_or xs j []) ≡ false) → position p xs ≡ Some k
+position_at : (p : List ℕ → Bool) (xs : List (List ℕ)) (k : ℕ) → k < length xs
+    → p (get_or xs k []) ≡ true → ((j : ℕ) → j < k → p (get_or xs j []) ≡ false)
+    → position p xs ≡ Some k
 position_at p xs k within here before =
     let at = first_at p xs k within here before in
     let less : nat_lt k (length xs) ≡ true = grind (arith, nat_tests) in
@@ -67,7 +72,9 @@ position_at p xs k within here before =
 differs : (x y : List ℕ) → x ≢ y → bytes_eq x y ≡ false
 differs x y h = elim (cases_Bool (bytes_eq x y)) [ inl same ↦ absurd (h ((bytes_eq-Decides x y).0 same)) | inr other ↦ other ]
 
-place_behind : (node : NodeState) (commit : Commit) (k : ℕ) (p : Published) → HoldsItsTokens node p → k < length node.kept → get_or (tokens node.kept) k [] ≡ commit.token → place_of node commit.token ≡ Some (k + 1)
+place_behind : (node : NodeState) (commit : Commit) (k : ℕ) (p : Published) → HoldsItsTokens node p
+    → k < length node.kept → get_or (tokens node.kept) k [] ≡ commit.token
+    → place_of node commit.token ≡ Some (k + 1)
 place_behind node commit k p h within is =
     let many : length node.held ≡ suc (length node.kept) = ap length h.held ∙ ap suc (tokens-length node.kept) in
     let there : get_or node.held (suc k) [] ≡ commit.token = ap (λ l. get_or l (suc k) []) h.held ∙ is in
@@ -75,16 +82,20 @@ place_behind node commit k p h within is =
     (λ j less. differs (get_or node.held j []) commit.token (λ same. h.distinct j (suc k) [] less (omega arith) (same ∙ sym there))) in
     found ∙ ap Some (let e : suc k ≡ k + 1 = omega arith in e)
 
-place_next : (node : NodeState) (commit : Commit) (k : ℕ) (o : Option Published) → MatchOption o (node ≡ nothing_published) (HoldsItsTokens node) → k < length node.kept → get_or (tokens node.kept) k [] ≡ commit.token → place_of node commit.token ≡ Some (k + 1)
+place_next : (node : NodeState) (commit : Commit) (k : ℕ) (o : Option Published)
+    → MatchOption o (node ≡ nothing_published) (HoldsItsTokens node) → k < length node.kept
+    → get_or (tokens node.kept) k [] ≡ commit.token → place_of node commit.token ≡ Some (k + 1)
 place_next node commit k None h within is = let none : length node.kept ≡ 0 = ap (λ n. length n.kept) h in absurd (omega arith)
 place_next node commit k (Some p) h within is = place_behind node commit k p h within is
 
-moves_at : (node : NodeState) (token : List ℕ) (commit : Commit) → IsConsistent node → (k : ℕ) → place_of node token ≡ Some k → slice_get node.kept k ≡ Some commit → Moves node token commit
+moves_at : (node : NodeState) (token : List ℕ) (commit : Commit) → IsConsistent node → (k : ℕ)
+    → place_of node token ≡ Some k → slice_get node.kept k ≡ Some commit → Moves node token commit
 moves_at node token commit consistent k at is =
     let found = token_at node.kept k commit is in
     record { place = k; at = at; within = found.0; behind = place_next node commit k node.published consistent found.0 found.1 }
 
-pub next_moves : (node : NodeState) (token : List ℕ) (commit : Commit) → IsConsistent node → next node token ≡ Commit_after commit → Moves node token commit
+pub next_moves : (node : NodeState) (token : List ℕ) (commit : Commit) → IsConsistent node
+    → next node token ≡ Commit_after commit → Moves node token commit
 next_moves node token commit consistent e =
     elim (cases_Bool (is_published (published_token node) token)) [
       | inl h ↦ (let same : Nothing_new ≡ Commit_after commit = ap (λ b. if b then Nothing_new else or_lost (commit_after node token)) (sym h) ∙ e in absurd (cc))
@@ -98,7 +109,8 @@ next_moves node token commit consistent e =
 abbrev pub ahead : NodeState → List ℕ → ℕ
 ahead node token = length node.kept - unwrap_or (place_of node token) (length node.kept)
 
-pub ahead_falls : (node : NodeState) (token : List ℕ) (commit : Commit) → Moves node token commit → ahead node commit.token < ahead node token
+pub ahead_falls : (node : NodeState) (token : List ℕ) (commit : Commit) → Moves node token commit
+    → ahead node commit.token < ahead node token
 ahead_falls node token commit m =
     let here : unwrap_or (place_of node token) (length node.kept) ≡ m.place = ap (λ o. unwrap_or o (length node.kept)) m.at in
     let there : unwrap_or (place_of node commit.token) (length node.kept) ≡ m.place + 1 = ap (λ o. unwrap_or o (length node.kept)) m.behind in
@@ -108,7 +120,8 @@ ahead_falls node token commit m =
 -- ---- runs of a session
 
 -- a run, and what follows it
-pub sends_behind : (node : NodeState) (start to : List ℕ) (sent later : List Commit) (gone : Bool) → Sent node start sent to → Sends node to later gone → Sends node start (sent ++ later) gone
+pub sends_behind : (node : NodeState) (start to : List ℕ) (sent later : List Commit) (gone : Bool)
+    → Sent node start sent to → Sends node to later gone → Sends node start (sent ++ later) gone
 sends_behind node start to sent later gone (sent_none _) s = s
 sends_behind node start to sent later gone (sent_one _ token earlier commit run e) s =
     subst (λ l. Sends node start l gone) (sym (append_assoc earlier (commit ∷ []) later))
@@ -120,7 +133,8 @@ pub record Runs (node : NodeState) (token : List ℕ) : Type 0 where
   pub gone : Bool
   pub sends_them : Sends node token sent gone
 
-runs_from : (node : NodeState) → IsConsistent node → (fuel : ℕ) (token : List ℕ) (n : Next) → next node token ≡ n → ahead node token ≤ fuel → Runs node token
+runs_from : (node : NodeState) → IsConsistent node → (fuel : ℕ) (token : List ℕ) (n : Next)
+    → next node token ≡ n → ahead node token ≤ fuel → Runs node token
 runs_from node consistent fuel token Nothing_new e few = record { sent = []; gone = false; sends_them = up_to_date token e }
 runs_from node consistent fuel token Lost e few = record { sent = []; gone = true; sends_them = lost token e }
 runs_from node consistent zero token (Commit_after commit) e few =
@@ -136,13 +150,15 @@ runs node token consistent = runs_from node consistent (ahead node token) token 
 
 -- ---- what was written
 
-pub frames-append : (framing : Framing) (xs ys : List Commit) → commit_frames framing (xs ++ ys) ≡ commit_frames framing xs ++ commit_frames framing ys
+pub frames-append : (framing : Framing) (xs ys : List Commit)
+    → commit_frames framing (xs ++ ys) ≡ commit_frames framing xs ++ commit_frames framing ys
 frames-append framing xs ys = ap (flat_map (frame framing)) (map-append commit_text xs ys) ∙ flat_map-append (frame framing) (map commit_text xs) (map commit_text ys)
 
 -- what a run wrote is a front of all that is written, if what came last is a front of what comes next
 pub wrote_some : (node : NodeState) (start to : List ℕ) (sent : List Commit) (framing : Framing) (old middle new : Option (List ℕ)) (text behind : List ℕ) (rest : Runs node to)
     → Sent node start sent to → Appends old middle (commit_frames framing sent) → AppendsFront middle new text
-    → behind_opening framing (map commit_text rest.sent) rest.gone ≡ text ++ behind → WroteSome node start framing old new
+    → behind_opening framing (map commit_text rest.sent) rest.gone ≡ text ++ behind
+    → WroteSome node start framing old new
 wrote_some node start to sent framing old middle new text behind rest run wrote (front, more, split, front_wrote) goes = record {
   sent = sent ++ rest.sent;
   gone = rest.gone;
@@ -160,18 +176,21 @@ wrote_some node start to sent framing old middle new text behind rest run wrote 
 
 -- ---- what a pull says
 
-pub pulls_more : (n : Next) (token new_token sent new_sent : List ℕ) (pulled : Pulled) → Pulls n token new_token sent new_sent pulled → pulled ≡ More
+pub pulls_more : (n : Next) (token new_token sent new_sent : List ℕ) (pulled : Pulled)
+    → Pulls n token new_token sent new_sent pulled → pulled ≡ More
     → (commit : Commit) × (n ≡ Commit_after commit) × (new_token ≡ commit.token) × (new_sent ≡ sent ++ commit_text commit)
 pulls_more Nothing_new token new_token sent new_sent pulled h e = let same : UpToDate ≡ More = sym h.0 ∙ e in absurd (cc)
 pulls_more Lost token new_token sent new_sent pulled h e = let same : Gone ≡ More = sym h.0 ∙ e in absurd (cc)
 pulls_more (Commit_after commit) token new_token sent new_sent pulled h e = (commit, refl, h.1, h.2)
 
-pub pulls_up_to_date : (n : Next) (token new_token sent new_sent : List ℕ) (pulled : Pulled) → Pulls n token new_token sent new_sent pulled → pulled ≡ UpToDate → n ≡ Nothing_new
+pub pulls_up_to_date : (n : Next) (token new_token sent new_sent : List ℕ) (pulled : Pulled)
+    → Pulls n token new_token sent new_sent pulled → pulled ≡ UpToDate → n ≡ Nothing_new
 pulls_up_to_date Nothing_new token new_token sent new_sent pulled h e = refl
 pulls_up_to_date Lost token new_token sent new_sent pulled h e = let same : Gone ≡ UpToDate = sym h.0 ∙ e in absurd (cc)
 pulls_up_to_date (Commit_after commit) token new_token sent new_sent pulled h e = let same : More ≡ UpToDate = sym h.0 ∙ e in absurd (cc)
 
-pub pulls_gone : (n : Next) (token new_token sent new_sent : List ℕ) (pulled : Pulled) → Pulls n token new_token sent new_sent pulled → pulled ≡ Gone → n ≡ Lost
+pub pulls_gone : (n : Next) (token new_token sent new_sent : List ℕ) (pulled : Pulled)
+    → Pulls n token new_token sent new_sent pulled → pulled ≡ Gone → n ≡ Lost
 pulls_gone Nothing_new token new_token sent new_sent pulled h e = let same : UpToDate ≡ Gone = sym h.0 ∙ e in absurd (cc)
 pulls_gone Lost token new_token sent new_sent pulled h e = refl
 pulls_gone (Commit_after commit) token new_token sent new_sent pulled h e = let same : More ≡ Gone = sym h.0 ∙ e in absurd (cc)
@@ -181,15 +200,20 @@ on_err (Ok _) P h = tt
 on_err (Err _) P h = h
 
 -- nothing more was written
-pub wrote_these : (node : NodeState) (start to : List ℕ) (sent : List Commit) (framing : Framing) (old new : Option (List ℕ)) → IsConsistent node
+pub wrote_these : (node : NodeState) (start to : List ℕ) (sent : List Commit) (framing : Framing) (old new : Option (List ℕ))
+    → IsConsistent node
     → Sent node start sent to → Appends old new (commit_frames framing sent) → WroteSome node start framing old new
 wrote_these node start to sent framing old new consistent run wrote =
     let rest = runs node to consistent in
     wrote_some node start to sent framing old new new [] (behind_opening framing (map commit_text rest.sent) rest.gone) rest run wrote ([], [], refl, Appends-nil new) refl
 
 -- a front of the next commit was written
-pub wrote_into : (node : NodeState) (start to : List ℕ) (sent : List Commit) (commit : Commit) (framing : Framing) (old middle new : Option (List ℕ)) → IsConsistent node
-    → Sent node start sent to → next node to ≡ Commit_after commit → Appends old middle (commit_frames framing sent) → AppendsFront middle new (frame framing (commit_text commit)) → WroteSome node start framing old new
+pub wrote_into : (node : NodeState) (start to : List ℕ) (sent : List Commit) (commit : Commit) (framing : Framing) (old middle new : Option (List ℕ))
+    → IsConsistent node
+    → Sent node start sent to → next node to ≡ Commit_after commit
+    → Appends old middle (commit_frames framing sent)
+    → AppendsFront middle new (frame framing (commit_text commit))
+    → WroteSome node start framing old new
 wrote_into node start to sent commit framing old middle new consistent run e wrote front =
     let rest = runs node commit.token consistent in
     let all : Runs node to = record { sent = commit ∷ rest.sent; gone = rest.gone; sends_them = sends to commit rest.sent rest.gone e rest.sends_them } in
@@ -197,7 +221,9 @@ wrote_into node start to sent commit framing old middle new consistent run e wro
     (append_assoc (frame framing (commit_text commit)) (commit_frames framing rest.sent) (farewell framing rest.gone ++ frame_end framing))
 
 -- the commit's frame joins those before it
-pub wrote_one : (sent : List Commit) (commit : Commit) (framing : Framing) (old middle new : Option (List ℕ)) → Appends old middle (commit_frames framing sent) → Appends middle new (frame framing (commit_text commit))
+pub wrote_one : (sent : List Commit) (commit : Commit) (framing : Framing) (old middle new : Option (List ℕ))
+    → Appends old middle (commit_frames framing sent)
+    → Appends middle new (frame framing (commit_text commit))
     → Appends old new (commit_frames framing (sent ++ commit ∷ []))
 wrote_one sent commit framing old middle new wrote more =
     subst (Appends old new) (sym (frames-append framing sent (commit ∷ []) ∙ ap (λ t. commit_frames framing sent ++ t) (append-nil (frame framing (commit_text commit)))))
@@ -207,7 +233,9 @@ wrote_one sent commit framing old middle new wrote more =
 
 -- all commits were sent, and a front of the end was written
 pub wrote_to_end : (node : NodeState) (start : List ℕ) (sent : List Commit) (gone : Bool) (framing : Framing) (old middle new : Option (List ℕ))
-    → Sends node start sent gone → Appends old middle (commit_frames framing sent) → AppendsFront middle new (farewell framing gone ++ frame_end framing) → WroteSome node start framing old new
+    → Sends node start sent gone → Appends old middle (commit_frames framing sent)
+    → AppendsFront middle new (farewell framing gone ++ frame_end framing)
+    → WroteSome node start framing old new
 wrote_to_end node start sent gone framing old middle new s wrote (front, more, split, front_wrote) = record {
   sent = sent;
   gone = gone;
@@ -224,11 +252,13 @@ abbrev served_of : ℕ → List Commit → Bool → Served
 served_of status sent gone = record { status = status; commits = counted 0 (length sent); gone = gone }
 
 -- the answer that opens no session
-pub sends_none : (node : NodeState) (status : ℕ) (framing : Framing) (text : List ℕ) → SendsAnswer node (parts_of status framing text None) text (record { status = status; commits = 0; gone = false })
+pub sends_none : (node : NodeState) (status : ℕ) (framing : Framing) (text : List ℕ)
+    → SendsAnswer node (parts_of status framing text None) text (record { status = status; commits = 0; gone = false })
 sends_none node status framing text = record { sent = []; gone = false; sends = (refl, refl); text_is = sym (append-nil text); tells = record { status = refl; commits = refl; gone_is = refl } }
 
 -- a front of the answer was written
-pub wrote_answer : (node : NodeState) (status : ℕ) (framing : Framing) (text : List ℕ) (session : Option (List ℕ)) (old new : Option (List ℕ)) → IfSome session (λ _. IsConsistent node)
+pub wrote_answer : (node : NodeState) (status : ℕ) (framing : Framing) (text : List ℕ) (session : Option (List ℕ)) (old new : Option (List ℕ))
+    → IfSome session (λ _. IsConsistent node)
     → AppendsFront old new text → WroteAnswer node (parts_of status framing text session) old new
 wrote_answer node status framing text None old new consistent front =
     (text, served_of status [] false, sends_none node status framing text, front)
@@ -243,7 +273,8 @@ wrote_answer node status framing text (Some token) old new consistent (front, mo
 
 -- the answer and a front of what the session is sent
 pub wrote_session : (node : NodeState) (status : ℕ) (framing : Framing) (text token : List ℕ) (old middle new : Option (List ℕ))
-    → Appends old middle text → WroteSome node token framing middle new → WroteAnswer node (parts_of status framing text (Some token)) old new
+    → Appends old middle text → WroteSome node token framing middle new
+    → WroteAnswer node (parts_of status framing text (Some token)) old new
 wrote_session node status framing text token old middle new wrote w =
     let (front, more, split, front_wrote) = w.front in
     let behind = behind_opening framing (map commit_text w.sent) w.gone in (
@@ -255,7 +286,8 @@ wrote_session node status framing text token old middle new wrote w =
 
 -- the answer and all that the session is sent
 pub sends_session : (node : NodeState) (status : ℕ) (framing : Framing) (text token : List ℕ) (sent : List Commit) (gone : Bool) (count : ℕ) (old middle new : Option (List ℕ))
-    → Sends node token sent gone → count ≡ counted 0 (length sent) → Appends old middle text → Appends middle new (behind_opening framing (map commit_text sent) gone)
+    → Sends node token sent gone → count ≡ counted 0 (length sent) → Appends old middle text
+    → Appends middle new (behind_opening framing (map commit_text sent) gone)
     → (all : List ℕ) × SendsAnswer node (parts_of status framing text (Some token)) all (record { status = status; commits = count; gone = gone }) × Appends old new all
 sends_session node status framing text token sent gone count old middle new s is wrote more = (
   text ++ behind_opening framing (map commit_text sent) gone,

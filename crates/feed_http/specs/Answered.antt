@@ -12,7 +12,8 @@ use Rattle.feed_http.specs.Answer.{refusal_code, refusal_text}
 use Rattle.feed_http.specs.Asked.{Asked, refused, feed, framing_for, Asks}
 use Rattle.feed_http.specs.Served.{opening_text}
 
--- an answer: its status code, the framing of its body, its text, and the token of the session that it opens, if it opens one
+-- an answer: its status code, the framing of its body, its text, and the token of the session that
+-- it opens, if it opens one
 pub record AnswerParts : Type 0 where
   pub status : ℕ
   pub framing : Framing
@@ -21,11 +22,14 @@ pub record AnswerParts : Type 0 where
 
 -- the answer that refuses
 abbrev pub refusing : Refusal → AnswerParts
-refusing refusal = record { status = refusal_code refusal; framing = Close; text = refusal_text refusal; session = None }
+refusing refusal =
+    record { status = refusal_code refusal; framing = Close; text = refusal_text refusal; session = None }
 
--- the answer with the feed, where the node opens a session; the last case never comes: `opens` gives no want of memory
+-- the answer with the feed, where the node opens a session; the last case never comes: `opens`
+-- gives no want of memory
 abbrev pub answer_opened : Framing → Result Started OpenFault → AnswerParts
-answer_opened framing (Ok started) = record { status = 200; framing = framing; text = opening_text framing started.text; session = Some started.token }
+answer_opened framing (Ok started) =
+    record { status = 200; framing = framing; text = opening_text framing started.text; session = Some started.token }
 answer_opened framing (Err NotYet) = refusing NothingPublished
 answer_opened framing (Err NotHeld) = refusing TokenNotHeld
 answer_opened framing (Err Memory) = refusing NothingPublished
@@ -33,11 +37,13 @@ answer_opened framing (Err Memory) = refusing NothingPublished
 -- what the node answers to what is asked, where the body may be framed so
 abbrev pub answer_to : Asked → NodeState → Framing → AnswerParts
 answer_to (refused refusal) node framing = refusing refusal
-answer_to (feed minor since) node framing = answer_opened (framing_for minor framing) (opens node since)
+answer_to (feed minor since) node framing =
+    answer_opened (framing_for minor framing) (opens node since)
 
 -- the parts of an answer
 abbrev pub parts_of : ℕ → Framing → List ℕ → Option (List ℕ) → AnswerParts
-parts_of status framing text session = record { status = status; framing = framing; text = text; session = session }
+parts_of status framing text session =
+    record { status = status; framing = framing; text = text; session = session }
 
 -- the answer to these bytes
 pub record AnswersTo (head contest : List ℕ) (node : NodeState) (framing : Framing) (answer : AnswerParts) : Type 0 where

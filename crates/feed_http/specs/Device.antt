@@ -25,7 +25,8 @@ RoseAtMost old new most = (calls : ℕ) × (calls ≤ most) × RoseBy old new ca
 
 -- some front of the text was appended to the known bytes
 abbrev pub AppendsFront : Option (List ℕ) → Option (List ℕ) → List ℕ → Type 0
-AppendsFront old new text = (front : List ℕ) × (rest : List ℕ) × (text ≡ front ++ rest) × Appends old new front
+AppendsFront old new text =
+    (front : List ℕ) × (rest : List ℕ) × (text ≡ front ++ rest) × Appends old new front
 
 -- the bytes that a device lost were appended to these bytes
 abbrev pub Moved : Option (List ℕ) → Option (List ℕ) → List ℕ → List ℕ → Type 0
@@ -33,4 +34,6 @@ Moved old new before after = (given : List ℕ) × (after ≡ before ++ given) �
 
 -- the same, but that further bytes which the device lost were not kept
 abbrev pub MovedSome : Option (List ℕ) → Option (List ℕ) → List ℕ → List ℕ → Type 0
-MovedSome old new before after = (given : List ℕ) × (lost : List ℕ) × (after ≡ before ++ given) × Consumes old new (given ++ lost)
+MovedSome old new before after =
+    (given : List ℕ) × (lost : List ℕ) × (after ≡ before ++ given)
+    × Consumes old new (given ++ lost)

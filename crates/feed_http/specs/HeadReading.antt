@@ -7,7 +7,8 @@ use Rattle.feed_http.specs.Heads.{head_bytes, BeginsWithRequest, HasNoWholeReque
 abbrev pub read_bytes : ℕ
 read_bytes = 4096
 
--- how many bytes the next read asks for, after so many: not past the most that a head may have, and then one
+-- how many bytes the next read asks for, after so many: not past the most that a head may have, and
+-- then one
 abbrev pub most_after : ℕ → ℕ
 most_after len = if nat_lt len head_bytes then min read_bytes (head_bytes - len) else 1
 
@@ -23,4 +24,5 @@ IsEnough bytes =
 -- the bytes are what reads gave, each of which was still needed and asked for no more than it may
 pub data IsReadAsNeeded : List ℕ → Type 0 where
   none_read : IsReadAsNeeded []
-  more_read : (front last : List ℕ) → IsReadAsNeeded front → IsStillNeeded front → length last ≤ most_after (length front) → IsReadAsNeeded (front ++ last)
+  more_read : (front last : List ℕ) → IsReadAsNeeded front → IsStillNeeded front
+      → length last ≤ most_after (length front) → IsReadAsNeeded (front ++ last)

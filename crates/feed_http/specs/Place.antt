@@ -19,7 +19,8 @@ is_alphanumeric_or marks b = is_ascii_alphanumeric b || list_any (λ mark. mark 
 abbrev pub is_text_of : ℕ → List ℕ → List ℕ → Bool
 is_text_of most marks text = nat_le (length text) most && list_all (is_alphanumeric_or marks) text
 
--- 1 to 255 characters that a host and a port may have; that they make a host (RFC 3986, section 3.2.2) isn't looked at
+-- 1 to 255 characters that a host and a port may have; that they make a host (RFC 3986, section
+-- 3.2.2) isn't looked at
 abbrev pub is_host : List ℕ → Bool
 is_host text = nat_lt 0 (length text) && is_text_of 255 (codes ".-:[]") text
 
@@ -32,8 +33,8 @@ is_rooted (b ∷ bytes) = b == 47 && not (slice_index (b ∷ bytes) (length (b �
 abbrev pub is_base : List ℕ → Bool
 is_base text = is_text_of 255 (codes "._-~/") text && is_rooted text
 
--- a contest's id: 1 to 64 of the characters of ids in the CLICS Contest API (the length is this profile's limit; where `.` and
--- `-` stand isn't looked at)
+-- a contest's id: 1 to 64 of the characters of ids in the CLICS Contest API (the length is this
+-- profile's limit; where `.` and `-` stand isn't looked at)
 abbrev pub is_contest : List ℕ → Bool
 is_contest text = nat_lt 0 (length text) && is_text_of 64 (codes "._-") text
 
@@ -53,7 +54,8 @@ place_of host base contest =
 abbrev pub IsPlace : Place → Type 0
 IsPlace place = place_of place.host place.base place.contest ≡ Ok place
 
--- why three texts are no place: the first of the reasons; or memory ran out, and nothing else is wrong
+-- why three texts are no place: the first of the reasons; or memory ran out, and nothing else is
+-- wrong
 abbrev pub RefusesPlace : List ℕ → List ℕ → List ℕ → PlaceFault → Type 0
 RefusesPlace host base contest Memory = IsPlace (make_place host base contest)
 RefusesPlace host base contest fault = place_of host base contest ≡ Err fault

@@ -1,4 +1,5 @@
--- The text of a request for a feed (RFC 9112, section 3; the CLICS Contest API's section on the event feed).
+-- The text of a request for a feed (RFC 9112, section 3; the CLICS Contest API's section on the
+-- event feed).
 use Rattle.std.specs.Prelude.{ℕ, List, [], ◌∷◌, ◌++◌, codes, Option, Some, None}
 use Rattle.std.specs.List.{flat_map}
 use Rattle.httparse.specs.Ascii.{crlf_bytes}
@@ -20,7 +21,8 @@ since_query (Some token) = codes "?since_token=" ++ byte_serialize token
 
 -- the request's first line
 abbrev pub request_line : Place → Option (List ℕ) → List ℕ
-request_line place since = codes "GET " ++ feed_path place.base place.contest ++ since_query since ++ codes " HTTP/1.1"
+request_line place since =
+    codes "GET " ++ feed_path place.base place.contest ++ since_query since ++ codes " HTTP/1.1"
 
 -- the request to this place for what came after the token, or for all
 abbrev pub request_text : Place → Option (List ℕ) → List ℕ

@@ -15,7 +15,8 @@ use Rattle.feed_http.specs.Serving.{Sends, commit_text, SendsAnswer}
 -- a session at one token was sent these commits, and is at another one
 pub data Sent (node : NodeState) : List ℕ → List Commit → List ℕ → Type 0 where
   sent_none : (token : List ℕ) → Sent node token [] token
-  sent_one : (start token : List ℕ) (earlier : List Commit) (commit : Commit) → Sent node start earlier token → next node token ≡ Commit_after commit
+  sent_one : (start token : List ℕ) (earlier : List Commit) (commit : Commit)
+      → Sent node start earlier token → next node token ≡ Commit_after commit
       → Sent node start (earlier ++ commit ∷ []) commit.token
 
 -- the texts of commits, framed
@@ -31,4 +32,6 @@ pub record WroteSome (node : NodeState) (token : List ℕ) (framing : Framing) (
 
 -- a front was written of all that a node writes with this answer
 abbrev pub WroteAnswer : NodeState → AnswerParts → Option (List ℕ) → Option (List ℕ) → Type 0
-WroteAnswer node answer old new = (text : List ℕ) × (served : Served) × SendsAnswer node answer text served × AppendsFront old new text
+WroteAnswer node answer old new =
+    (text : List ℕ) × (served : Served) × SendsAnswer node answer text served
+    × AppendsFront old new text

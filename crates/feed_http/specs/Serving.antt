@@ -20,7 +20,8 @@ commit_text commit = batch_text commit.changes commit.token
 pub data Sends (node : NodeState) : List ℕ → List Commit → Bool → Type 0 where
   up_to_date : (token : List ℕ) → next node token ≡ Nothing_new → Sends node token [] false
   lost : (token : List ℕ) → next node token ≡ Lost → Sends node token [] true
-  sends : (token : List ℕ) (commit : Commit) (later : List Commit) (gone : Bool) → next node token ≡ Commit_after commit
+  sends : (token : List ℕ) (commit : Commit) (later : List Commit) (gone : Bool)
+      → next node token ≡ Commit_after commit
       → Sends node commit.token later gone → Sends node token (commit ∷ later) gone
 
 -- ---- what is written
@@ -31,7 +32,8 @@ written_behind None framing sent gone = []
 written_behind (Some _) framing sent gone = behind_opening framing (map commit_text sent) gone
 
 abbrev pub answered_text : AnswerParts → List Commit → Bool → List ℕ
-answered_text answer sent gone = answer.text ++ written_behind answer.session answer.framing sent gone
+answered_text answer sent gone =
+    answer.text ++ written_behind answer.session answer.framing sent gone
 
 -- what `Served` tells
 pub record Tells (answer : AnswerParts) (sent : List Commit) (gone : Bool) (served : Served) : Type 0 where
@@ -59,12 +61,15 @@ pub record Serves (head contest : List ℕ) (node : NodeState) (framing : Framin
   pub sends : SendsAnswer node answer text served
 
 -- reading broke off where a head was still needed, and nothing was written
-abbrev pub BrokeInHead : Option (List ℕ) → Option (List ℕ) → Option (List ℕ) → Option (List ℕ) → Type 0
+abbrev pub BrokeInHead : Option (List ℕ) → Option (List ℕ) → Option (List ℕ) → Option (List ℕ)
+    → Type 0
 BrokeInHead source left old new =
     (head : List ℕ) × Consumes source left head × IsReadAsNeeded head × IsStillNeeded head × Appends old new []
 
--- these bytes were read, as far as the head took, and a front of what a node writes to a client that sent them was written
-abbrev pub BrokeBehindHead : List ℕ → NodeState → Framing → Option (List ℕ) → Option (List ℕ) → Option (List ℕ) → Option (List ℕ) → Type 0
+-- these bytes were read, as far as the head took, and a front of what a node writes to a client
+-- that sent them was written
+abbrev pub BrokeBehindHead : List ℕ → NodeState → Framing → Option (List ℕ) → Option (List ℕ)
+    → Option (List ℕ) → Option (List ℕ) → Type 0
 BrokeBehindHead contest node framing source left old new =
     (head : List ℕ) × (text : List ℕ) × (served : Served) × Consumes source left head × IsReadAsNeeded head × (IsEnough head ⊎ IsAtEnd left)
     × Serves head contest node framing text served × AppendsFront old new text

@@ -13,7 +13,8 @@ use Rattle.feed_http.proofs.RequestLemmas.{request_is_read}
 use Rattle.feed_http.proofs.RestLemmas.{sends_the_rest}
 use Rattle.feed_http.proofs.laws.http_laws.Goals as goal
 
-carries : (framing : Framing) (texts : List (List ℕ)) → AreTexts texts → IsUnfinished framing (flat_map (frame framing) texts) (joined texts)
+carries : (framing : Framing) (texts : List (List ℕ)) → AreTexts texts
+    → IsUnfinished framing (flat_map (frame framing) texts) (joined texts)
 carries Close texts are = refl
 carries Chunked texts are = frames_so_far texts are
 

@@ -6,13 +6,15 @@ use Rattle.std.proofs.lemmas.Slice.Eq.{bytes_eq-Decides}
 use Rattle.std.proofs.Math.Seq.{take-append_seam}
 use Rattle.feed_http.proofs.request_target.behind.Goals as goal
 
-none_behind : (text front : List ℕ) → bytes_eq (take (length front) text) front ≡ false → (rest : List ℕ) → text ≢ front ++ rest
+none_behind : (text front : List ℕ) → bytes_eq (take (length front) text) front ≡ false
+    → (rest : List ℕ) → text ≢ front ++ rest
 none_behind text front differs rest is =
     let same : take (length front) text ≡ front = ap (take (length front)) is ∙ take-append_seam front rest in
     let yes : bytes_eq (take (length front) text) front ≡ true = (bytes_eq-Decides (take (length front) text) front).1 same in
     cc
 
-some_behind : (text front : List ℕ) → bytes_eq (take (length front) text) front ≡ true → text ≡ front ++ drop (length front) text
+some_behind : (text front : List ℕ) → bytes_eq (take (length front) text) front ≡ true
+    → text ≡ front ++ drop (length front) text
 some_behind text front same =
     let is : take (length front) text ≡ front = (bytes_eq-Decides (take (length front) text) front).0 same in
     sym (take-append-drop (length front) text) ∙ ap (λ l. l ++ drop (length front) text) is

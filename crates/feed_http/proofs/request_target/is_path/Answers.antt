@@ -5,14 +5,17 @@ use Rattle.std.proofs.lemmas.Slice.Eq.{bytes_eq-Decides}
 use Rattle.std.proofs.lemmas.List.{append_cancel_left}
 use Rattle.feed_http.proofs.request_target.is_path.Goals as goal
 
-joins : (path first rest name last end : List ℕ) → path ≡ first ++ rest → rest ≡ name ++ last → end ≡ last → path ≡ (first ++ name) ++ end
+joins : (path first rest name last end : List ℕ) → path ≡ first ++ rest → rest ≡ name ++ last
+    → end ≡ last → path ≡ (first ++ name) ++ end
 joins path first rest name last end is more same = is ∙ ap (λ l. first ++ l) (more ∙ ap (λ l. name ++ l) (sym same)) ∙ sym (append_assoc first name end)
 
-parts : (path first rest name last end : List ℕ) → path ≡ first ++ rest → rest ≡ name ++ last → path ≡ (first ++ name) ++ end → last ≡ end
+parts : (path first rest name last end : List ℕ) → path ≡ first ++ rest → rest ≡ name ++ last
+    → path ≡ (first ++ name) ++ end → last ≡ end
 parts path first rest name last end is more whole =
     append_cancel_left name last end (sym more ∙ append_cancel_left first rest (name ++ end) (sym is ∙ whole ∙ append_assoc first name end))
 
-reads : (b : Bool) (path first rest name last end : List ℕ) → path ≡ first ++ rest → rest ≡ name ++ last → b ≡ bytes_eq last end → IsTrue b ↔ (path ≡ (first ++ name) ++ end)
+reads : (b : Bool) (path first rest name last end : List ℕ) → path ≡ first ++ rest
+    → rest ≡ name ++ last → b ≡ bytes_eq last end → IsTrue b ↔ (path ≡ (first ++ name) ++ end)
 reads b path first rest name last end is more test = (
   λ yes. joins path first rest name last end is more (sym ((bytes_eq-Decides last end).0 (sym test ∙ yes))),
   λ whole. test ∙ (bytes_eq-Decides last end).1 (parts path first rest name last end is more whole),
