@@ -100,7 +100,7 @@ chunked_open at text payload going reads =
 -- behind a front that breaks off a byte that can't stand there leads nowhere
 leads_nowhere : (at : Chunking) (byte : ℕ) (front payload : List ℕ) → Reads LineStart front payload at
     → ((other : List ℕ) → ¬ (IsChunkedFront (front ++ byte ∷ []) other)) → (o : Option Chunking)
-        → next at byte ≡ o → next at byte ≡ None
+    → next at byte ≡ o → next at byte ≡ None
 leads_nowhere at byte front payload reads never None e = e
 leads_nowhere at byte front payload reads never (Some to) e =
     let text = front ++ byte ∷ [] in
