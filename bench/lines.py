@@ -37,19 +37,21 @@ def below(crate):
     return found
 
 
-def built(folder):
-    """The program of bench/lines, built in this folder."""
-    crates = below("feed_note")
+def built(folder, program="lines", above="feed_note"):
+    """The program of bench/PROGRAM, built in this folder."""
+    crates = below(above)
     for name in crates:
         shutil.copytree(TOP / "crates" / name, folder / "crates" / name, symlinks=True)
-    (folder / "crates/lines/src").mkdir(parents=True)
-    shutil.copyfile(TOP / "bench/lines/main.rattle", folder / "crates/lines/src/main.rt")
-    (folder / "crates.txt").write_text("".join(f"{line}\n" for line in crates.values()) + "lines: feed_note\n")
+    crate = folder / "crates" / program
+    (crate / "src").mkdir(parents=True)
+    shutil.copyfile(TOP / "bench" / program / "main.rattle", crate / "src/main.rt")
+    own = f"{program}: {' '.join(crates)}\n"
+    (folder / "crates.txt").write_text("".join(f"{line}\n" for line in crates.values()) + own)
     words = ["rt", "run", "--", "1"]
-    done = subprocess.run(words, cwd=folder / "crates/lines", stdin=subprocess.DEVNULL, capture_output=True, text=True)
+    done = subprocess.run(words, cwd=crate, stdin=subprocess.DEVNULL, capture_output=True, text=True)
     if done.returncode != 0:
-        sys.exit(f"{done.stdout}{done.stderr}\nlines.py: the program was not built")
-    return folder / "crates/lines/out/lines"
+        sys.exit(f"{done.stdout}{done.stderr}\n{program}: the program was not built")
+    return crate / "out" / program
 
 
 def generated(size, folder):
@@ -114,4 +116,5 @@ def main():
             print(f"| {part} | {seconds:.3f} | {1000 * seconds / part:.1f} |")
 
 
-main()
+if __name__ == "__main__":
+    main()

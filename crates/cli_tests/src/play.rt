@@ -30,7 +30,7 @@ fn plays(rt: &(impl Abort + AllocGlobal), script: &Script, devices: &Devices) ->
 }
 
 /// Scripts that are played to their end.
-const PLAYED: [Script; 5] = [
+const PLAYED: [Script; 6] = [
     // A mirror whose token is no longer held, and a cut within its second snapshot.
     Script {
         text: r#"world 2 100 0
@@ -151,6 +151,36 @@ delivered 1
 "#,
         told: "",
     },
+    // A mirror that is saved and restarted, before it has published anything and then; each time
+    // what it shows is told.
+    Script {
+        text: r#"world 1 100 0
+restart 1 9
+save 1
+restart 1 9
+connect 1
+deliver 1 9999
+save 1
+restart 1 52
+show 1
+restart 1 53
+show 1
+restart 1 999999999
+"#,
+        printed: r#"restarted nothing
+saved 0
+restarted nothing
+opened
+delivered 1
+saved 53
+restarted nothing
+nothing
+restarted 0
+{"type":"contest","id":null,"data":null,"token":"0"}
+restarted 0
+"#,
+        told: "",
+    },
     // A mirror that is behind a node which has published nothing.
     Script {
         text: "world 1 1 0 1\nconnect 2\nshow 2\nshow 0\n",
@@ -242,8 +272,8 @@ const NO_FORMS: [&str; 15] = [
     "deliver 1",
     "deliver 1 1 1",
     "deliver 1 1000000000",
-    "save 1",
-    "restart 1 1",
+    "save 1 1",
+    "restart 1",
     "world 1 1 0",
 ];
 
@@ -264,7 +294,7 @@ fn refuses_lines_of_no_form(rt: HostRuntime) -> Result<(), Fail> {
 }
 
 /// Scripts that stop at a line; what was told before it is printed.
-const STOPPED: [Script; 12] = [
+const STOPPED: [Script; 14] = [
     // Too few feed lines, of which one is faulty as well; and an unfinished last line is none.
     Script {
         text: "world 1 1 0
@@ -301,7 +331,39 @@ commit 1
         printed: "",
         told: "play: line 3: no type\n",
     },
+    // A mirror is restarted from a part of what was saved, and from all of it; then it has no
+    // connection.
+    Script {
+        text: r#"world 1 100 0
+commit 2
+{"type":"teams","id":"1","data":{"id":"1"}}
+{"type":"teams","id":"2","data":{"id":"2"},"token":"b"}
+connect 1
+deliver 1 9999
+save 1
+restart 1 136
+connect 1
+deliver 1 9999
+restart 1 137
+serve 1
+"#,
+        printed: r#"committed 1
+opened
+delivered 1
+saved 137
+restarted nothing
+opened
+delivered 1
+restarted 1
+"#,
+        told: "play: line 12: no connection\n",
+    },
     // What a world refuses.
+    Script {
+        text: "world 1 1 0\nsave 1\nsave 0\n",
+        printed: "saved 0\n",
+        told: "play: line 3: no such node\n",
+    },
     Script {
         text: "world 1 1 0\nshow 1\nshow 2\n",
         printed: "nothing\n",

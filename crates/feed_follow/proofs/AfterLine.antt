@@ -13,7 +13,11 @@ pub same_line : (l k : ChunkLine) (z w : List ℕ) → IsSizeLine l → IsSizeLi
 unfolding print_chunk_line
 same_line l k z w is_l is_k e =
     chunk_line_unique (size_line l ++ (crlf_bytes ++ z)) l k z w
-    (is_l.is_line, sym (append_assoc (size_line l) crlf_bytes z)) (is_k.is_line, e ∙ sym (append_assoc (size_line k) crlf_bytes w))
+    (is_l.is_line, sym (append_assoc (size_line l) crlf_bytes z)) (
+      is_k.is_line,
+      e
+          ∙ sym (append_assoc (size_line k) crlf_bytes w),
+    )
 
 -- a whole line isn't one that breaks off
 line_goes_on : (l k : ChunkLine) (z end more : List ℕ) → IsSizeLine l → IsSizeLine k
@@ -21,7 +25,8 @@ line_goes_on : (l k : ChunkLine) (z end more : List ℕ) → IsSizeLine l → Is
     → size_line l ++ (crlf_bytes ++ z) ≡ size_line k ++ end → ⊥
 line_goes_on l k z end more is_l is_k ends some e =
     let longer : size_line l ++ (crlf_bytes ++ (z ++ more)) ≡ size_line k ++ (crlf_bytes ++ []) =
-    sym (simp append_assoc) ∙ ap (λ t. t ++ more) e ∙ append_assoc (size_line k) end more ∙ ap (λ t. size_line k ++ t) (ends ∙ sym (append-nil crlf_bytes)) in
+    sym (simp append_assoc) ∙ ap (λ t. t ++ more) e ∙ append_assoc (size_line k) end more
+    ∙ ap (λ t. size_line k ++ t) (ends ∙ sym (append-nil crlf_bytes)) in
     let none : z ++ more ≡ [] = (same_line l k (z ++ more) [] is_l is_k longer).1 in
     let lengths : length (z ++ more) ≡ 0 = ap length none in
     omega (arith, length-append z more)
@@ -55,29 +60,73 @@ pub record Ends (text payload : List ℕ) : Type 0 where
   pub payload_is : payload ≡ []
 
 abbrev pub Follows : ℕ → List ℕ → List ℕ → Type 0
-Follows size text payload = ((0 < size) × (GoesOn size text payload ⊎ Stops size text payload)) ⊎ ((size ≡ 0) × Ends text payload)
+Follows size text payload = ((0 < size) × (GoesOn size text payload ⊎ Stops size text payload))
+    ⊎ ((size ≡ 0) × Ends text payload)
 
 module _ (l : ChunkLine) (z : List ℕ) (is_l : IsSizeLine l) where
   -- the first chunk is the line's
   in_chunks : (c : Chunk) (chunks : List Chunk) (tail bytes : List ℕ) → IsChunk c
       → size_line l ++ (crlf_bytes ++ z) ≡ flat_map print_chunk (c ∷ chunks) ++ tail
-      → IsChunkedFront (flat_map print_chunk chunks ++ tail) bytes → Follows (chunk_size l) z (c.bytes ++ bytes)
+      → IsChunkedFront (flat_map print_chunk chunks ++ tail) bytes
+      → Follows (chunk_size l) z (c.bytes ++ bytes)
   in_chunks c chunks tail bytes is e front =
       let after = flat_map print_chunk chunks ++ tail in
-      let (line, rest) = same_line l c.line z (c.bytes ++ (crlf_bytes ++ after)) is_l is.line (e ∙ simp append_assoc) in
+      let (line, rest) = same_line l c.line z (c.bytes ++ (crlf_bytes ++ after)) is_l is.line
+      (e ∙ simp append_assoc) in
       let size : chunk_size l ≡ length c.bytes = ap chunk_size line ∙ is.size in
-      inl (rw size is.some, inl (record { bytes = c.bytes; rest = after; others = bytes; size_is = size; spelled = rest; front = front; payload_is = refl }))
+      inl (
+        rw size is.some,
+        inl
+            (record {
+              bytes = c.bytes;
+              rest = after;
+              others = bytes;
+              size_is = size;
+              spelled =
+                  rest;
+              front = front;
+              payload_is = refl;
+            }),
+      )
 
   in_body : (chunks : List Chunk) (last : ChunkLine) (trailers : List (List ℕ))
       → AllByRecursion IsChunk chunks → IsLastLine last → AreTrailers trailers
-      → size_line l ++ (crlf_bytes ++ z) ≡ flat_map print_chunk chunks ++ size_line last ++ crlf_bytes ++ print_trailers trailers ++ crlf_bytes
+      → size_line l ++ (crlf_bytes ++ z) ≡ flat_map print_chunk chunks ++ size_line last
+      ++ crlf_bytes ++ print_trailers trailers ++ crlf_bytes
       → Follows (chunk_size l) z (carried chunks)
   in_body [] last trailers are is_last are_trailers e =
-      let (line, rest) = same_line l last z (print_trailers trailers ++ crlf_bytes) is_l is_last.line (e ∙ simp append_assoc) in
-      inr (ap chunk_size line ∙ is_last.size, record { trailers = trailers; part = []; end = crlf_bytes; are_trailers = are_trailers; is_part = inl refl; ends = inr (refl, refl); spelled = rest; payload_is = refl })
+      let (line, rest) = same_line l last z (print_trailers trailers ++ crlf_bytes) is_l
+      is_last.line (e ∙ simp append_assoc) in
+      inr (
+        ap chunk_size line
+            ∙ is_last.size,
+        record {
+          trailers = trailers;
+          part = [];
+          end = crlf_bytes;
+          are_trailers = are_trailers;
+          is_part =
+              inl refl;
+          ends = inr (refl, refl);
+          spelled = rest;
+          payload_is = refl;
+        },
+      )
   in_body (c ∷ chunks) last trailers are is_last are_trailers e =
-      in_chunks c chunks (size_line last ++ crlf_bytes ++ print_trailers trailers ++ crlf_bytes) (carried chunks) are.0 (e ∙ simp append_assoc)
-      (inl (record { chunks = chunks; last = last; trailers = trailers; are_chunks = are.1; is_last = is_last; are_trailers = are_trailers; spelled = simp append_assoc; payload_is = refl }))
+      in_chunks c chunks (size_line last ++ crlf_bytes ++ print_trailers trailers ++ crlf_bytes)
+      (carried chunks) are.0 (e ∙ simp append_assoc)
+      (inl (record {
+        chunks = chunks;
+        last = last;
+        trailers = trailers;
+        are_chunks =
+            are.1;
+        is_last = is_last;
+        are_trailers = are_trailers;
+        spelled =
+            simp append_assoc;
+        payload_is = refl;
+      }))
 
   in_break : (rest bytes : List ℕ) → IsBreak rest bytes → size_line l ++ (crlf_bytes ++ z) ≡ rest
       → Follows (chunk_size l) z bytes
@@ -87,48 +136,98 @@ module _ (l : ChunkLine) (z : List ℕ) (is_l : IsSizeLine l) where
   in_break rest bytes (inl (inr (k, end, is_k, inl ends, same), empty)) e =
       absurd (line_goes_on l k z end crlf_bytes is_l is_k (rw ends refl) (omega arith) (e ∙ same))
   in_break rest bytes (inl (inr (k, end, is_k, inr ends, same), empty)) e =
-      absurd (line_goes_on l k z end (line_feed ∷ []) is_l is_k (rw ends refl) (omega arith) (e ∙ same))
+      absurd (line_goes_on l k z end (line_feed ∷ []) is_l is_k (rw ends refl) (omega arith)
+      (e ∙ same))
   in_break rest bytes (inr (inl chunk)) e =
-      let (line, same) = same_line l chunk.line z (bytes ++ chunk.end) is_l chunk.is_line (e ∙ chunk.spelled ∙ simp append_assoc) in
+      let (line, same) = same_line l chunk.line z (bytes ++ chunk.end) is_l chunk.is_line
+      (e ∙ chunk.spelled ∙ simp append_assoc) in
       let size : chunk_size l ≡ chunk_size chunk.line = ap chunk_size line in
-      inl (rw size chunk.some, inr (record { end = chunk.end; fits = rw size chunk.fits; ends = rw size chunk.ends; spelled = same }))
+      inl (
+        rw size chunk.some,
+        inr
+            (record {
+              end = chunk.end;
+              fits = rw size chunk.fits;
+              ends = rw size chunk.ends;
+              spelled =
+                  same;
+            }),
+      )
   in_break rest bytes (inr (inr (t, empty))) e =
-      let (line, same) = same_line l t.last z (print_trailers t.trailers ++ (t.part ++ t.end)) is_l t.is_last.line (e ∙ t.spelled ∙ simp append_assoc) in
-      inr (ap chunk_size line ∙ t.is_last.size, record { trailers = t.trailers; part = t.part; end = t.end; are_trailers = t.are_trailers; is_part = t.is_part; ends = inl t.ends; spelled = same; payload_is = empty })
+      let (line, same) = same_line l t.last z (print_trailers t.trailers ++ (t.part ++ t.end)) is_l
+      t.is_last.line (e ∙ t.spelled ∙ simp append_assoc) in
+      inr (
+        ap chunk_size line
+            ∙ t.is_last.size,
+        record {
+          trailers = t.trailers;
+          part = t.part;
+          end = t.end;
+          are_trailers =
+              t.are_trailers;
+          is_part = t.is_part;
+          ends = inl t.ends;
+          spelled = same;
+          payload_is =
+              empty;
+        },
+      )
 
-  in_front : (chunks : List Chunk) (rest bytes : List ℕ) → AllByRecursion IsChunk chunks → IsBreak rest bytes
+  in_front : (chunks : List Chunk) (rest bytes : List ℕ) → AllByRecursion IsChunk chunks
+      → IsBreak rest bytes
       → size_line l ++ (crlf_bytes ++ z) ≡ flat_map print_chunk chunks ++ rest
       → Follows (chunk_size l) z (carried chunks ++ bytes)
   in_front [] rest bytes are is e = in_break rest bytes is e
   in_front (c ∷ chunks) rest bytes are is e =
       rw append_assoc (in_chunks c chunks rest (carried chunks ++ bytes) are.0 e
-      (inr (record { chunks = chunks; rest = rest; bytes = bytes; are_chunks = are.1; is_break = is; spelled = refl; payload_is = refl })))
+      (inr (record {
+        chunks = chunks;
+        rest = rest;
+        bytes = bytes;
+        are_chunks = are.1;
+        is_break =
+            is;
+        spelled = refl;
+        payload_is = refl;
+      })))
 
   -- what follows a size line
   pub after_line : (payload : List ℕ) → IsChunkedFront (size_line l ++ (crlf_bytes ++ z)) payload
       → Follows (chunk_size l) z payload
-  after_line payload (inl body) = rw body.payload_is (in_body body.chunks body.last body.trailers body.are_chunks body.is_last body.are_trailers body.spelled)
-  after_line payload (inr front) = rw front.payload_is (in_front front.chunks front.rest front.bytes front.are_chunks front.is_break front.spelled)
+  after_line payload (inl body) = rw body.payload_is
+      (in_body body.chunks body.last body.trailers body.are_chunks body.is_last body.are_trailers
+      body.spelled)
+  after_line payload (inr front) = rw front.payload_is
+      (in_front front.chunks front.rest front.bytes front.are_chunks front.is_break front.spelled)
 
 -- only CR stands behind the bytes of a chunk
 no_other : (size : ℕ) (bytes : List ℕ) (b : ℕ) (payload : List ℕ) → size ≡ length bytes
     → 0 < length bytes → b ≢ carriage_return
     → Follows size (bytes ++ b ∷ []) payload → ⊥
 no_other size bytes b payload is some other (inl (above, inl goes)) =
-    let lengths : length (bytes ++ b ∷ []) ≡ length (goes.bytes ++ (crlf_bytes ++ goes.rest)) = ap length goes.spelled in
+    let lengths : length (bytes ++ b ∷ []) ≡ length (goes.bytes ++ (crlf_bytes ++ goes.rest)) =
+    ap length goes.spelled in
     let size_is : size ≡ length goes.bytes = goes.size_is in
-    absurd (omega (arith, length-append bytes (b ∷ []), length-append goes.bytes (crlf_bytes ++ goes.rest)))
+    absurd (omega (
+      arith,
+      length-append bytes (b ∷ []),
+      length-append goes.bytes
+          (crlf_bytes ++ goes.rest),
+    ))
 no_other size bytes b payload is some other (inl (above, inr stops)) = stopped stops.ends
   where
-    stopped : ((stops.end ≡ []) ⊎ ((stops.end ≡ carriage_return ∷ []) × (length payload ≡ size))) → ⊥
+    stopped : ((stops.end ≡ []) ⊎ ((stops.end ≡ carriage_return ∷ []) × (length payload ≡ size)))
+        → ⊥
     stopped (inl none) =
-        let lengths : length (bytes ++ b ∷ []) ≡ length (payload ++ stops.end) = ap length stops.spelled in
+        let lengths : length (bytes ++ b ∷ []) ≡ length (payload ++ stops.end) =
+        ap length stops.spelled in
         let nothing : length stops.end ≡ 0 = ap length none in
         let fits : length payload ≤ size = stops.fits in
         absurd (omega (arith, length-append bytes (b ∷ []), length-append payload stops.end))
     stopped (inr (last, full)) =
         let tail : b ∷ [] ≡ stops.end =
-        sym (drop_at bytes (b ∷ []) size (sym is)) ∙ ap (drop size) stops.spelled ∙ drop_at payload stops.end size full in
+        sym (drop_at bytes (b ∷ []) size (sym is)) ∙ ap (drop size) stops.spelled
+        ∙ drop_at payload stops.end size full in
         let same : b ∷ [] ≡ carriage_return ∷ [] = tail ∙ last in
         other (let e : b ≡ carriage_return = cc in e)
 no_other size bytes b payload is some other (inr (none, ends)) = absurd (omega arith)
@@ -137,4 +236,5 @@ pub other_byte_refused : (l : ChunkLine) (bytes : List ℕ) (b : ℕ) (payload :
     → chunk_size l ≡ length bytes → 0 < length bytes → b ≢ carriage_return
     → ¬ (IsChunkedFront (size_line l ++ (crlf_bytes ++ (bytes ++ b ∷ []))) payload)
 other_byte_refused l bytes b payload is_l size some other front =
-    no_other (chunk_size l) bytes b payload size some other (after_line l (bytes ++ b ∷ []) is_l payload front)
+    no_other (chunk_size l) bytes b payload size some other
+    (after_line l (bytes ++ b ∷ []) is_l payload front)

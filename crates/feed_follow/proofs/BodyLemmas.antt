@@ -27,18 +27,21 @@ to_the_end n bytes = take_all (length bytes - n) (drop n bytes) (omega (arith, l
 -- ---- the mirror
 
 pub fed_nothing : (mirror : MirrorState) → HasFed mirror [] mirror
-fed_nothing mirror start before h = subst (λ t. HasReached start t mirror) (sym (append-nil before)) h
+fed_nothing mirror start before h = subst (λ t. HasReached start t mirror)
+    (sym (append-nil before)) h
 
 pub fed_both : (old middle new : MirrorState) (p q : List ℕ) → HasFed old p middle
     → HasFed middle q new → HasFed old (p ++ q) new
 fed_both old middle new p q first second start before h =
-    subst (λ t. HasReached start t new) (append_assoc before p q) (second start (before ++ p) (first start before h))
+    subst (λ t. HasReached start t new) (append_assoc before p q)
+    (second start (before ++ p) (first start before h))
 
 stops_later : (old middle new : MirrorState) (p q bytes : List ℕ) (fault : FeedFault)
     → HasFed old p middle → StopsBehind middle q bytes new fault
     → StopsBehind old (p ++ q) bytes new fault
 stops_later old middle new p q bytes fault fed stops start before h =
-    subst (λ t. StopsAt start t bytes new fault) (append_assoc before p q) (stops start (before ++ p) (fed start before h))
+    subst (λ t. StopsAt start t bytes new fault) (append_assoc before p q)
+    (stops start (before ++ p) (fed start before h))
 
 -- ---- chunks
 
@@ -72,7 +75,8 @@ stops_in_data left bytes later old new (Feed fault) few stops = record {
 stops_in_data left bytes later old new fault few stops = absurd stops
 
 -- the same behind a front that was read
-pub stops_behind : (at middle : Chunking) (front rest : List ℕ) (old between new : MirrorState) (fault : FollowFault)
+pub stops_behind : (at middle : Chunking) (front rest : List ℕ) (old between new : MirrorState)
+    (fault : FollowFault)
     → FeedsChunks at front old middle between → StopsInChunks middle rest between new fault
     → StopsInChunks at (front ++ rest) old new fault
 stops_behind at middle front rest old between new BadChunk feeds meets = record {
@@ -80,7 +84,8 @@ stops_behind at middle front rest old between new BadChunk feeds meets = record 
   byte = meets.byte;
   later = meets.later;
   place = meets.place;
-  split = ap (λ t. front ++ t) meets.split ∙ sym (append_assoc front meets.front (meets.byte ∷ meets.later));
+  split = ap (λ t. front ++ t) meets.split
+      ∙ sym (append_assoc front meets.front (meets.byte ∷ meets.later));
   feeds = feeds_both at middle meets.place front meets.front old between new feeds meets.feeds;
   going = meets.going;
   refused = meets.refused;
@@ -91,10 +96,13 @@ stops_behind at middle front rest old between new (Feed fault) feeds stop = reco
   later = stop.later;
   left = stop.left;
   payload = feeds.payload ++ stop.payload;
-  split = ap (λ t. front ++ t) stop.split ∙ sym (append_assoc front stop.front (stop.bytes ++ stop.later));
-  reads = reads_both at middle (InBytes stop.left) front feeds.payload stop.front stop.payload feeds.reads stop.reads;
+  split = ap (λ t. front ++ t) stop.split
+      ∙ sym (append_assoc front stop.front (stop.bytes ++ stop.later));
+  reads = reads_both at middle (InBytes stop.left) front feeds.payload stop.front stop.payload
+      feeds.reads stop.reads;
   fits = stop.fits;
-  stops = stops_later old between new feeds.payload stop.payload stop.bytes fault feeds.fed stop.stops;
+  stops = stops_later old between new feeds.payload stop.payload stop.bytes fault feeds.fed
+      stop.stops;
 }
 stops_behind at middle front rest old between new fault feeds stop = absurd stop
 
@@ -104,7 +112,8 @@ pub feeds_byte : (at to : Chunking) (b : ℕ) (mirror : MirrorState)
     → FeedsChunks at (b ∷ []) mirror to mirror
 feeds_byte at to b mirror other e = record {
   payload = [];
-  reads = subst (λ p. Reads at (b ∷ []) p to) (ap (λ p. p ++ []) (brings_nothing at b other)) (goes at to to b [] [] e (stays to));
+  reads = subst (λ p. Reads at (b ∷ []) p to) (ap (λ p. p ++ []) (brings_nothing at b other))
+      (goes at to to b [] [] e (stays to));
   fed = fed_nothing mirror;
 }
 
@@ -124,12 +133,19 @@ sized_brings left text payload more framing h few =
     subst (λ f. BringsBody f (text ++ more) (payload ++ more)) (sym h.0)
     (elim (cases_lt (length more) left) [
       | inl less ↦ inl (omega (arith, length-append text more), same)
-      | inr full ↦ inr (text ++ more, [], sym (append-nil (text ++ more)), (omega (arith, length-append text more), same))
+      | inr full ↦ inr (
+        text ++ more,
+        [],
+        sym (append-nil (text ++ more)),
+        (omega (arith, length-append text more), same),
+      )
     ])
 
 -- a mirror that stopped within what belongs to the body
-stops_so : (start : MirrorState) (framing : BodyFraming) (text payload bytes later : List ℕ) (old new : MirrorState) (fault : FollowFault)
-    → ((more : List ℕ) → length more ≤ length bytes → BringsBody framing (text ++ more) (payload ++ more))
+stops_so : (start : MirrorState) (framing : BodyFraming) (text payload bytes later : List ℕ)
+    (old new : MirrorState) (fault : FollowFault)
+    → ((more : List ℕ) → length more ≤ length bytes
+    → BringsBody framing (text ++ more) (payload ++ more))
     → StopsFeeding old bytes new fault → HasReached start payload old
     → BodyFails start framing text (bytes ++ later) new fault
 stops_so start framing text payload bytes later old new (Feed FeedMemory) brings stops reached =
@@ -149,7 +165,8 @@ stops_so start framing text payload bytes later old new (Feed fault) brings stop
       whole = sym (append_assoc text bytes later);
       payload = payload ++ bytes;
       brings = brings bytes (omega arith);
-      cut = subst (λ t. IsCutAtFault start (t ++ bytes) fault new) (append-nil payload) (stops start payload reached);
+      cut = subst (λ t. IsCutAtFault start (t ++ bytes) fault new) (append-nil payload)
+          (stops start payload reached);
     }
 stops_so start framing text payload bytes later old new fault brings stops reached = absurd stops
 
@@ -158,33 +175,38 @@ pub sized_stops : (left : ℕ) (bytes later : List ℕ) (old new : MirrorState) 
     → BodyStops (Sized left) (bytes ++ later) old new fault
 sized_stops left bytes later old new fault few stops start framing text payload h reached =
     stops_so start framing text payload bytes later old new fault
-    (λ more short. sized_brings left text payload more framing h (let all : length more ≤ left = omega arith in all)) stops reached
+    (λ more short. sized_brings left text payload more framing h
+    (let all : length more ≤ left = omega arith in all)) stops reached
 
 pub sized_ends : (left : ℕ) (bytes later : List ℕ) (old new : MirrorState) → length bytes ≡ left
     → HasFed old bytes new → BodyGoesOn (Sized left) (bytes ++ later) old new Done
 sized_ends left bytes later old new full fed framing text payload h =
     let whole : IsBody framing (text ++ bytes) (payload ++ bytes) =
-    subst (λ f. IsBody f (text ++ bytes) (payload ++ bytes)) (sym h.0) (omega (arith, length-append text bytes), ap (λ t. t ++ bytes) h.2) in
+    subst (λ f. IsBody f (text ++ bytes) (payload ++ bytes)) (sym h.0)
+    (omega (arith, length-append text bytes), ap (λ t. t ++ bytes) h.2) in
     (bytes, (text ++ bytes, later, sym (append_assoc text bytes later), whole), fed)
 
 pub sized_goes_on : (left : ℕ) (bytes : List ℕ) (old new : MirrorState) → length bytes < left
     → HasFed old bytes new → BodyGoesOn (Sized left) bytes old new (Sized (left - length bytes))
 sized_goes_on left bytes old new some fed framing text payload h =
-    let same : length text + left ≡ length (text ++ bytes) + (left - length bytes) = omega (arith, length-append text bytes) in
+    let same : length text + left ≡ length (text ++ bytes) + (left - length bytes) =
+    omega (arith, length-append text bytes) in
     (bytes, (h.0 ∙ ap framed.Sized same, omega arith, ap (λ t. t ++ bytes) h.2), fed)
 
 -- ---- a body to the end of the connection
 
 pub open_goes_on : (bytes : List ℕ) (old new : MirrorState) → HasFed old bytes new
     → BodyGoesOn ToEnd bytes old new ToEnd
-open_goes_on bytes old new fed framing text payload h = (bytes, (h.0, ap (λ t. t ++ bytes) h.1), fed)
+open_goes_on bytes old new fed framing text payload h =
+    (bytes, (h.0, ap (λ t. t ++ bytes) h.1), fed)
 
 pub open_stops : (bytes : List ℕ) (old new : MirrorState) (fault : FollowFault)
     → StopsFeeding old bytes new fault → BodyStops ToEnd bytes old new fault
 open_stops bytes old new fault stops start framing text payload h reached =
     subst (λ t. BodyFails start framing text t new fault) (append-nil bytes)
     (stops_so start framing text payload bytes [] old new fault
-    (λ more _. subst (λ f. BringsBody f (text ++ more) (payload ++ more)) (sym h.0) (inl (ap (λ t. t ++ more) h.1))) stops reached)
+    (λ more _. subst (λ f. BringsBody f (text ++ more) (payload ++ more)) (sym h.0)
+    (inl (ap (λ t. t ++ more) h.1))) stops reached)
 
 -- ---- a chunked body
 
@@ -193,12 +215,15 @@ chunks_bring : (text payload front q : List ℕ) (at to : Chunking) (framing : B
     → IsBodyFront framing (text ++ front) (payload ++ q)
 chunks_bring text payload front q at to framing h going reads =
     subst (λ f. IsBodyFront f (text ++ front) (payload ++ q)) (sym h.0)
-    (run_breaks_off to (text ++ front) (payload ++ q) going (reads_both LineStart at to text payload front q h.2 reads))
+    (run_breaks_off to (text ++ front) (payload ++ q) going
+    (reads_both LineStart at to text payload front q h.2 reads))
 
 pub chunks_end : (at : Chunking) (piece : List ℕ) (old new : MirrorState)
     → FeedsToEnd at piece old Whole new → BodyGoesOn (InChunks at) piece old new Done
 chunks_end at piece old new run framing text payload h =
-    let body = run_is_whole (text ++ run.front) (payload ++ run.feeds.payload) (reads_both LineStart at Whole text payload run.front run.feeds.payload h.2 run.feeds.reads) in (
+    let body = run_is_whole (text ++ run.front) (payload ++ run.feeds.payload)
+    (reads_both LineStart at Whole text payload run.front run.feeds.payload h.2
+    run.feeds.reads) in (
       run.feeds.payload,
       (
         text ++ run.front,
@@ -216,22 +241,34 @@ chunks_go_on at to piece old new going run framing text payload h =
       | inl none ↦ sym (run.split ∙ ap (λ t. run.front ++ t) none ∙ append-nil run.front)
       | inr whole ↦ absurd (going whole)
     ] in
-    let reads = reads_both LineStart at to text payload run.front run.feeds.payload h.2 run.feeds.reads in
-    (run.feeds.payload, (h.0, going, subst (λ t. Reads LineStart (text ++ t) (payload ++ run.feeds.payload) to) all reads), run.feeds.fed)
+    let reads = reads_both LineStart at to text payload run.front run.feeds.payload h.2
+    run.feeds.reads in (
+      run.feeds.payload,
+      (
+        h.0,
+        going,
+        subst
+            (λ t. Reads LineStart (text ++ t) (payload ++ run.feeds.payload) to) all reads,
+      ),
+      run.feeds.fed,
+    )
 
-chunk_brings : (at : Chunking) (text payload front q counted : List ℕ) (left : ℕ) (framing : BodyFraming)
+chunk_brings : (at : Chunking) (text payload front q counted : List ℕ) (left : ℕ)
+    (framing : BodyFraming)
     → ReadsBody framing text payload (InChunks at) → Reads at front q (InBytes left)
     → length counted ≤ left
     → IsBodyFront framing (text ++ (front ++ counted)) (payload ++ (q ++ counted))
 chunk_brings at text payload front q counted left framing h reads few =
     let (to, going, run) = data_run counted left few in
-    chunks_bring text payload (front ++ counted) (q ++ counted) at to framing h going (reads_both at (InBytes left) to front q counted counted reads run)
+    chunks_bring text payload (front ++ counted) (q ++ counted) at to framing h going
+    (reads_both at (InBytes left) to front q counted counted reads run)
 
 pub chunks_stop : (at : Chunking) (piece : List ℕ) (old new : MirrorState) (fault : FollowFault)
     → StopsInChunks at piece old new fault → BodyStops (InChunks at) piece old new fault
 chunks_stop at piece old new BadChunk meets start framing text payload h reached =
     let q = meets.feeds.payload in
-    let run = reads_both LineStart at meets.place text payload meets.front q h.2 meets.feeds.reads in
+    let run = reads_both LineStart at meets.place text payload meets.front q h.2
+    meets.feeds.reads in
     record {
       payload = payload ++ q;
       framed = h.0;
@@ -239,9 +276,11 @@ chunks_stop at piece old new BadChunk meets start framing text payload h reached
         front = text ++ meets.front;
         byte = meets.byte;
         rest = meets.later;
-        spelled = ap (λ t. text ++ t) meets.split ∙ sym (append_assoc text meets.front (meets.byte ∷ meets.later));
+        spelled = ap (λ t. text ++ t) meets.split
+            ∙ sym (append_assoc text meets.front (meets.byte ∷ meets.later));
         breaks = run_breaks_off meets.place (text ++ meets.front) (payload ++ q) meets.going run;
-        never = λ other. refused_byte meets.place meets.byte (text ++ meets.front) (payload ++ q) other run meets.refused;
+        never = λ other. refused_byte meets.place meets.byte (text ++ meets.front)
+            (payload ++ q) other run meets.refused;
       };
       reached = meets.feeds.fed start payload reached;
     }
@@ -252,7 +291,8 @@ chunks_stop at piece old new (Feed FeedMemory) stop start framing text payload h
       uncounted = uncounted ++ stop.later;
       whole = stop.split ∙ ap (λ t. stop.front ++ (t ++ stop.later)) whole ∙ simp append_assoc;
       payload = payload ++ (stop.payload ++ counted);
-      brings = inl (chunk_brings at text payload stop.front stop.payload counted stop.left framing h stop.reads (omega (arith, stop.fits, ap length whole, length-append counted uncounted)));
+      brings = inl (chunk_brings at text payload stop.front stop.payload counted stop.left framing h
+          stop.reads (omega (arith, stop.fits, ap length whole, length-append counted uncounted)));
       cut = subst (λ t. IsCutAfter start t new) (append_assoc payload stop.payload counted) cut;
     }
 chunks_stop at piece old new (Feed fault) stop start framing text payload h reached =
@@ -261,8 +301,10 @@ chunks_stop at piece old new (Feed fault) stop start framing text payload h reac
       later = stop.later;
       whole = ap (λ t. text ++ t) stop.split ∙ simp append_assoc;
       payload = payload ++ (stop.payload ++ stop.bytes);
-      brings = inl (chunk_brings at text payload stop.front stop.payload stop.bytes stop.left framing h stop.reads stop.fits);
-      cut = subst (λ t. IsCutAtFault start t fault new) (append_assoc payload stop.payload stop.bytes) (stop.stops start payload reached);
+      brings = inl (chunk_brings at text payload stop.front stop.payload stop.bytes stop.left
+          framing h stop.reads stop.fits);
+      cut = subst (λ t. IsCutAtFault start t fault new)
+          (append_assoc payload stop.payload stop.bytes) (stop.stops start payload reached);
     }
 chunks_stop at piece old new fault stop start framing text payload h reached = absurd stop
 
@@ -275,7 +317,17 @@ rest_stays (Sized left) piece mirror a b c framing text payload h = absurd (a le
 rest_stays (InChunks at) piece mirror a b c framing text payload h = absurd (b at refl)
 rest_stays ToEnd piece mirror a b c framing text payload h = absurd (c refl)
 rest_stays Done piece mirror a b c framing text payload h =
-    let (body, ignored, split, is) = h in
-    ([], (body, ignored ++ piece, ap (λ t. t ++ piece) split ∙ append_assoc body ignored piece, subst (λ p. IsBody framing body p) (sym (append-nil payload)) is), fed_nothing mirror)
+    let (body, ignored, split, is) = h in (
+      [],
+      (
+        body,
+        ignored ++ piece,
+        ap (λ t. t ++ piece) split
+            ∙ append_assoc body ignored piece,
+        subst (λ p. IsBody framing body p)
+            (sym (append-nil payload)) is,
+      ),
+      fed_nothing mirror,
+    )
 rest_stays Head piece mirror a b c framing text payload h = absurd h
 rest_stays Closed piece mirror a b c framing text payload h = absurd h

@@ -42,13 +42,17 @@ pub more_digits : (text : List ℕ) (n number digit : ℕ) (within : n < length 
     → digit ≡ digit_value (get_or text n 0) → digit < 10
     → AreDigits text (n + 1) (number * 10 + digit)
 more_digits text n number digit within so_far is worth few =
-    let more : take (n + 1) text ≡ take n text ++ get_or text n 0 ∷ [] = take_more text n 0 within in
+    let more : take (n + 1) text ≡ take n text ++ get_or text n 0 ∷ [] =
+    take_more text n 0 within in
     let wide : 10 ^ (n + 1) ≡ 10 * 10 ^ n = ap (λ k. 10 ^ k) (add-one n) ∙ pow-succ' 10 n in
     let small = so_far.small in
     record {
-      digits = list_all_more is_ascii_digit text n 0 within ∙ ap (λ b. b && is_ascii_digit (get_or text n 0)) so_far.digits ∙ is;
-      value = ap (λ k. k * 10 + digit) so_far.value ∙ ap (λ k. digits_value 10 (take n text) * 10 + k) worth
-          ∙ sym (digits_value_after_push 10 0 (take n text) (get_or text n 0)) ∙ ap (digits_value 10) (sym more);
+      digits = list_all_more is_ascii_digit text n 0 within
+          ∙ ap (λ b. b && is_ascii_digit (get_or text n 0)) so_far.digits ∙ is;
+      value = ap (λ k. k * 10 + digit) so_far.value
+          ∙ ap (λ k. digits_value 10 (take n text) * 10 + k) worth
+          ∙ sym (digits_value_after_push 10 0 (take n text) (get_or text n 0))
+          ∙ ap (digits_value 10) (sym more);
       small = omega arith;
     }
 
@@ -56,7 +60,8 @@ more_digits text n number digit within so_far is worth few =
 pub other_byte : (text : List ℕ) (n : ℕ) → n < length text
     → is_ascii_digit (get_or text n 0) ≡ false → is_length text ≡ false
 other_byte text n within h =
-    let none : list_all is_ascii_digit text ≡ false = list_all_at is_ascii_digit text n 0 within h in
+    let none : list_all is_ascii_digit text ≡ false = list_all_at is_ascii_digit text n 0 within
+    h in
     rw none (and_false (nat_lt 0 (length text) && nat_le (length text) 18))
   where
     and_false : (b : Bool) → (b && false) ≡ false
@@ -73,17 +78,20 @@ is_whole_length text some few digits =
 -- ---- the lengths of a head, one after the other
 
 -- what a step says, and then the rest
-abbrev pub and_then : {X Y : Type 0} → Result X FollowFault → (X → Result Y FollowFault) → Result Y FollowFault
+abbrev pub and_then : {X Y : Type 0} → Result X FollowFault → (X → Result Y FollowFault)
+    → Result Y FollowFault
 and_then (Ok x) f = f x
 and_then (Err fault) f = Err fault
 
 -- the framing by these lengths behind earlier ones that gave this
 abbrev pub by_lengths : BodyFraming → List (List ℕ) → Result BodyFraming FollowFault
 by_lengths framing [] = Ok framing
-by_lengths framing (text ∷ texts) = and_then (by_length framing text) (λ next. by_lengths next texts)
+by_lengths framing (text ∷ texts) = and_then (by_length framing text)
+    (λ next. by_lengths next texts)
 
 by_same : (n : ℕ) (values : List (List ℕ))
-    → by_lengths (Sized n) values ≡ (if list_all (says_length n) values then Ok (Sized n) else Err BadLength)
+    → by_lengths (Sized n)
+    values ≡ (if list_all (says_length n) values then Ok (Sized n) else Err BadLength)
 by_same n [] = refl
 by_same n (value ∷ values) =
     elim (cases_Bool (says_length n value)) [
@@ -98,7 +106,8 @@ pub by_all : (values : List (List ℕ)) → framing_by_length values ≡ by_leng
 by_all [] = refl
 by_all (value ∷ values) =
     elim (cases_Bool (is_length value)) [
-      | inl h ↦ rw h (rw (same_number (digits_value 10 value)) (sym (by_same (digits_value 10 value) values)))
+      | inl h ↦ rw h (rw (same_number (digits_value 10 value))
+          (sym (by_same (digits_value 10 value) values)))
       | inr h ↦ rw h refl
     ]
 
@@ -111,18 +120,21 @@ lengths_of framing fields = by_lengths framing (values_of (codes "content-length
 -- whether the body is chunked by these fields behind earlier ones that said this
 abbrev pub by_codings : Bool → List (List ℕ × List ℕ) → Result Bool FollowFault
 by_codings is_chunked [] = Ok is_chunked
-by_codings is_chunked (f ∷ fields) = and_then (by_coding is_chunked f) (λ next. by_codings next fields)
+by_codings is_chunked (f ∷ fields) = and_then (by_coding is_chunked f)
+    (λ next. by_codings next fields)
 
 -- by the values of Transfer-Encoding alone
 abbrev by_transfers : Bool → List (List ℕ) → Result Bool FollowFault
 by_transfers is_chunked [] = Ok is_chunked
 by_transfers true (value ∷ values) = Err BadCoding
-by_transfers false (value ∷ values) = if is_word (codes "chunked") value then by_transfers true values else Err BadCoding
+by_transfers false (value ∷ values) = if is_word (codes "chunked") value then by_transfers true
+    values else Err BadCoding
 
 -- the codings of the content, and then those of the transfer
 abbrev by_parts : Bool → List (List ℕ × List ℕ) → Result Bool FollowFault
 by_parts is_chunked fields =
-    if not (list_all (is_word (codes "identity")) (values_of (codes "content-encoding") fields)) then Err BadCoding
+    if not (list_all (is_word (codes "identity"))
+    (values_of (codes "content-encoding") fields)) then Err BadCoding
     else by_transfers is_chunked (values_of (codes "transfer-encoding") fields)
 
 if_same : {X : Type 0} (b : Bool) (x : X) → (if b then x else x) ≡ x
@@ -130,20 +142,32 @@ if_same true x = refl
 if_same false x = refl
 
 -- a field of the transfer, where the rest is known
-module _ (f : List ℕ × List ℕ) (fields : List (List ℕ × List ℕ)) (known : (is_chunked : Bool) → by_codings is_chunked fields ≡ by_parts is_chunked fields) where
+module _ (f : List ℕ × List ℕ) (fields : List (List ℕ × List ℕ)) (known : (is_chunked : Bool)
+    → by_codings is_chunked fields ≡ by_parts is_chunked fields) where
   chunks_more : (is_chunked : Bool)
-      → and_then (if is_chunked || not (is_word (codes "chunked") f.1) then Err BadCoding else Ok true) (λ next. by_codings next fields)
-      ≡ (if not (list_all (is_word (codes "identity")) (values_of (codes "content-encoding") fields)) then Err BadCoding else by_transfers is_chunked (f.1 ∷ values_of (codes "transfer-encoding") fields))
-  chunks_more true = sym (if_same (not (list_all (is_word (codes "identity")) (values_of (codes "content-encoding") fields))) (Err BadCoding))
+      → and_then (if is_chunked || not (is_word (codes "chunked") f.1) then Err BadCoding else Ok
+      true) (λ next. by_codings next fields)
+      ≡ (if not (list_all (is_word (codes "identity"))
+      (values_of (codes "content-encoding") fields)) then Err BadCoding else by_transfers
+      is_chunked (f.1 ∷ values_of (codes "transfer-encoding") fields))
+  chunks_more true = sym
+      (if_same (not (list_all (is_word (codes "identity"))
+      (values_of (codes "content-encoding") fields))) (Err BadCoding))
   chunks_more false =
       elim (cases_Bool (is_word (codes "chunked") f.1)) [
         | inl is ↦ rw is (known true)
-        | inr other ↦ rw other (sym (if_same (not (list_all (is_word (codes "identity")) (values_of (codes "content-encoding") fields))) (Err BadCoding)))
+        | inr other ↦ rw other
+            (sym (if_same (not (list_all (is_word (codes "identity"))
+            (values_of (codes "content-encoding") fields))) (Err BadCoding)))
       ]
 
   transfer_more : (is_chunked : Bool)
-      → and_then (if not (is_word (codes "transfer-encoding") f.0) then Ok is_chunked else (if is_chunked || not (is_word (codes "chunked") f.1) then Err BadCoding else Ok true)) (λ next. by_codings next fields)
-      ≡ (if not (list_all (is_word (codes "identity")) (values_of (codes "content-encoding") fields)) then Err BadCoding else by_transfers is_chunked (values_of (codes "transfer-encoding") (f ∷ fields)))
+      → and_then (if not (is_word (codes "transfer-encoding") f.0) then Ok is_chunked else
+      (if is_chunked || not (is_word (codes "chunked") f.1) then Err BadCoding else Ok true))
+      (λ next. by_codings next fields)
+      ≡ (if not (list_all (is_word (codes "identity"))
+      (values_of (codes "content-encoding") fields)) then Err BadCoding else by_transfers
+      is_chunked (values_of (codes "transfer-encoding") (f ∷ fields)))
   transfer_more is_chunked =
       elim (cases_Bool (is_word (codes "transfer-encoding") f.0)) [
         | inl is ↦ rw is (chunks_more is_chunked)
@@ -156,7 +180,8 @@ codings_are is_chunked [] = refl
 codings_are is_chunked (f ∷ fields) =
     elim (cases_Bool (is_word (codes "content-encoding") f.0)) [
       | inl content ↦ elim (cases_Bool (is_word (codes "identity") f.1)) [
-        | inl same ↦ rw content (rw same (transfer_more f fields (λ b. codings_are b fields) is_chunked))
+        | inl same ↦ rw content
+            (rw same (transfer_more f fields (λ b. codings_are b fields) is_chunked))
         | inr other ↦ rw content (rw other refl)
       ]
       | inr none ↦ rw none (transfer_more f fields (λ b. codings_are b fields) is_chunked)
@@ -171,17 +196,23 @@ transfers_are : (values lengths : List (List ℕ)) (fields : List (List ℕ × L
     → lengths ≡ values_of (codes "content-length") fields
     → framing_by_transfer values lengths ≡ and_then (by_transfers false values) (framed_by fields)
 transfers_are [] lengths fields e = ap framing_by_length e
-transfers_are (value ∷ []) lengths fields e = elim (cases_Bool (is_word (codes "chunked") value)) [ inl h ↦ rw h refl | inr h ↦ rw h refl ]
-transfers_are (value ∷ (other ∷ values)) lengths fields e = elim (cases_Bool (is_word (codes "chunked") value)) [ inl h ↦ rw h refl | inr h ↦ rw h refl ]
+transfers_are (value ∷ []) lengths fields e = elim (cases_Bool (is_word (codes "chunked") value))
+    [ inl h ↦ rw h refl | inr h ↦ rw h refl ]
+transfers_are (value ∷ (other ∷ values)) lengths fields e = elim
+    (cases_Bool (is_word (codes "chunked") value)) [ inl h ↦ rw h refl | inr h ↦ rw h refl ]
 
 pub framing_is : (fields : List (List ℕ × List ℕ))
     → body_framing fields ≡ and_then (by_codings false fields) (framed_by fields)
-framing_is fields = parts_are ∙ ap (λ (r : Result Bool FollowFault). and_then r (framed_by fields)) (sym (codings_are false fields))
+framing_is fields = parts_are
+    ∙ ap (λ (r : Result Bool FollowFault). and_then r (framed_by fields))
+    (sym (codings_are false fields))
   where
     parts_are : body_framing fields ≡ and_then (by_parts false fields) (framed_by fields)
     parts_are =
-        elim (cases_Bool (list_all (is_word (codes "identity")) (values_of (codes "content-encoding") fields))) [
-          | inl same ↦ rw same (transfers_are (values_of (codes "transfer-encoding") fields) (values_of (codes "content-length") fields) fields refl)
+        elim (cases_Bool (list_all (is_word (codes "identity"))
+        (values_of (codes "content-encoding") fields))) [
+          | inl same ↦ rw same (transfers_are (values_of (codes "transfer-encoding") fields)
+              (values_of (codes "content-length") fields) fields refl)
           | inr other ↦ rw other refl
         ]
 
@@ -197,21 +228,31 @@ next_field : (fields : List Header) (i : ℕ) (d : Header) (name : List ℕ) →
     → name ≡ (get_or fields i d).name.now
     → rest_of fields i ≡ (name, (get_or fields i d).value.now) ∷ rest_of fields (i + 1)
 next_field fields i d name within e =
-    ap (map header_parts) (drop_more fields i d within) ∙ ap (λ (n : List ℕ). (n, (get_or fields i d).value.now) ∷ rest_of fields (i + 1)) (sym e)
+    ap (map header_parts) (drop_more fields i d within)
+    ∙ ap (λ (n : List ℕ). (n, (get_or fields i d).value.now) ∷ rest_of fields (i + 1)) (sym e)
 
 pub more_coding : (fields : List Header) (i : ℕ) (d : Header) (is_chunked : Bool) (name : List ℕ)
     → i < length fields → name ≡ (get_or fields i d).name.now
-    → by_codings is_chunked (rest_of fields i) ≡ and_then (by_coding is_chunked (name, (get_or fields i d).value.now)) (λ next. by_codings next (rest_of fields (i + 1)))
-more_coding fields i d is_chunked name within e = ap (by_codings is_chunked) (next_field fields i d name within e)
+    → by_codings is_chunked (rest_of fields i) ≡ and_then
+    (by_coding is_chunked (name, (get_or fields i d).value.now))
+    (λ next. by_codings next (rest_of fields (i + 1)))
+more_coding fields i d is_chunked name within e = ap (by_codings is_chunked)
+    (next_field fields i d name within e)
 
-pub more_length : (fields : List Header) (i : ℕ) (d : Header) (framing : BodyFraming) (name : List ℕ)
+pub more_length : (fields : List Header) (i : ℕ) (d : Header) (framing : BodyFraming)
+    (name : List ℕ)
     → i < length fields → name ≡ (get_or fields i d).name.now
     → is_word (codes "content-length") name ≡ true
-    → lengths_of framing (rest_of fields i) ≡ and_then (by_length framing (get_or fields i d).value.now) (λ next. lengths_of next (rest_of fields (i + 1)))
-more_length fields i d framing name within e is = ap (lengths_of framing) (next_field fields i d name within e) ∙ rw is refl
+    → lengths_of framing (rest_of fields i) ≡ and_then
+    (by_length framing (get_or fields i d).value.now)
+    (λ next. lengths_of next (rest_of fields (i + 1)))
+more_length fields i d framing name within e is = ap (lengths_of framing)
+    (next_field fields i d name within e) ∙ rw is refl
 
-pub other_field : (fields : List Header) (i : ℕ) (d : Header) (framing : BodyFraming) (name : List ℕ)
+pub other_field : (fields : List Header) (i : ℕ) (d : Header) (framing : BodyFraming)
+    (name : List ℕ)
     → i < length fields → name ≡ (get_or fields i d).name.now
     → is_word (codes "content-length") name ≡ false
     → lengths_of framing (rest_of fields i) ≡ lengths_of framing (rest_of fields (i + 1))
-other_field fields i d framing name within e other = ap (lengths_of framing) (next_field fields i d name within e) ∙ rw other refl
+other_field fields i d framing name within e other = ap (lengths_of framing)
+    (next_field fields i d name within e) ∙ rw other refl

@@ -35,7 +35,9 @@ is_end at = false
 abbrev comes_to : Chunking → List ℕ → Standing
 comes_to at [] = if is_end at then done [] else in_body []
 comes_to at (b ∷ bytes) =
-    if is_end at then done [] else unwrap_or (option_map (λ to. behind (brought_by at b) (comes_to to bytes)) (next at b)) (failed BadChunk [])
+    if is_end at then done [] else unwrap_or
+    (option_map (λ to. behind (brought_by at b) (comes_to to bytes)) (next at b))
+    (failed BadChunk [])
 
 no_end : (at : Chunking) → at ≢ Whole → is_end at ≡ false
 no_end Whole going = absurd (going refl)
@@ -45,18 +47,31 @@ no_end at going = refl
 leads : (at to : Chunking) (b : ℕ) (bytes : List ℕ) → next at b ≡ Some to
     → comes_to at (b ∷ bytes) ≡ behind (brought_by at b) (comes_to to bytes)
 leads Whole to b bytes e = let none : ◌≡◌ {A = Option Chunking} None (Some to) = e in cc
-leads LineStart to b bytes e = ap (λ o. unwrap_or (option_map (λ t. behind [] (comes_to t bytes)) o) (failed BadChunk [])) e
-leads (InDigits n size) to b bytes e = ap (λ o. unwrap_or (option_map (λ t. behind [] (comes_to t bytes)) o) (failed BadChunk [])) e
-leads (InPad n size) to b bytes e = ap (λ o. unwrap_or (option_map (λ t. behind [] (comes_to t bytes)) o) (failed BadChunk [])) e
-leads (InExtension n size) to b bytes e = ap (λ o. unwrap_or (option_map (λ t. behind [] (comes_to t bytes)) o) (failed BadChunk [])) e
-leads (LineCr size) to b bytes e = ap (λ o. unwrap_or (option_map (λ t. behind [] (comes_to t bytes)) o) (failed BadChunk [])) e
-leads (InBytes left) to b bytes e = ap (λ o. unwrap_or (option_map (λ t. behind (b ∷ []) (comes_to t bytes)) o) (failed BadChunk [])) e
-leads BytesEnd to b bytes e = ap (λ o. unwrap_or (option_map (λ t. behind [] (comes_to t bytes)) o) (failed BadChunk [])) e
-leads BytesCr to b bytes e = ap (λ o. unwrap_or (option_map (λ t. behind [] (comes_to t bytes)) o) (failed BadChunk [])) e
-leads (TrailerStart n) to b bytes e = ap (λ o. unwrap_or (option_map (λ t. behind [] (comes_to t bytes)) o) (failed BadChunk [])) e
-leads (InTrailer n) to b bytes e = ap (λ o. unwrap_or (option_map (λ t. behind [] (comes_to t bytes)) o) (failed BadChunk [])) e
-leads (TrailerCr n) to b bytes e = ap (λ o. unwrap_or (option_map (λ t. behind [] (comes_to t bytes)) o) (failed BadChunk [])) e
-leads EndCr to b bytes e = ap (λ o. unwrap_or (option_map (λ t. behind [] (comes_to t bytes)) o) (failed BadChunk [])) e
+leads LineStart to b bytes e =
+    ap (λ o. unwrap_or (option_map (λ t. behind [] (comes_to t bytes)) o) (failed BadChunk [])) e
+leads (InDigits n size) to b bytes e =
+    ap (λ o. unwrap_or (option_map (λ t. behind [] (comes_to t bytes)) o) (failed BadChunk [])) e
+leads (InPad n size) to b bytes e =
+    ap (λ o. unwrap_or (option_map (λ t. behind [] (comes_to t bytes)) o) (failed BadChunk [])) e
+leads (InExtension n size) to b bytes e =
+    ap (λ o. unwrap_or (option_map (λ t. behind [] (comes_to t bytes)) o) (failed BadChunk [])) e
+leads (LineCr size) to b bytes e =
+    ap (λ o. unwrap_or (option_map (λ t. behind [] (comes_to t bytes)) o) (failed BadChunk [])) e
+leads (InBytes left) to b bytes e =
+    ap (λ o. unwrap_or (option_map (λ t. behind (b ∷ []) (comes_to t bytes)) o)
+    (failed BadChunk [])) e
+leads BytesEnd to b bytes e =
+    ap (λ o. unwrap_or (option_map (λ t. behind [] (comes_to t bytes)) o) (failed BadChunk [])) e
+leads BytesCr to b bytes e =
+    ap (λ o. unwrap_or (option_map (λ t. behind [] (comes_to t bytes)) o) (failed BadChunk [])) e
+leads (TrailerStart n) to b bytes e =
+    ap (λ o. unwrap_or (option_map (λ t. behind [] (comes_to t bytes)) o) (failed BadChunk [])) e
+leads (InTrailer n) to b bytes e =
+    ap (λ o. unwrap_or (option_map (λ t. behind [] (comes_to t bytes)) o) (failed BadChunk [])) e
+leads (TrailerCr n) to b bytes e =
+    ap (λ o. unwrap_or (option_map (λ t. behind [] (comes_to t bytes)) o) (failed BadChunk [])) e
+leads EndCr to b bytes e =
+    ap (λ o. unwrap_or (option_map (λ t. behind [] (comes_to t bytes)) o) (failed BadChunk [])) e
 
 -- a run, and then the rest
 run_comes : (at to : Chunking) (bytes payload rest : List ℕ) → Reads at bytes payload to
@@ -70,7 +85,9 @@ run_comes at to bytes payload rest (stays _) = sym (behind_nothing (comes_to at 
     behind_nothing in_head = refl
     behind_nothing token_refused = refl
 run_comes at to bytes payload rest (goes _ middle _ b more later e reads) =
-    leads at middle b (more ++ rest) e ∙ ap (behind (brought_by at b)) (run_comes middle to more later rest reads) ∙ behind_both (brought_by at b) later (comes_to to rest)
+    leads at middle b (more ++ rest) e
+    ∙ ap (behind (brought_by at b)) (run_comes middle to more later rest reads)
+    ∙ behind_both (brought_by at b) later (comes_to to rest)
   where
     behind_both : (x y : List ℕ) (s : Standing) → behind x (behind y s) ≡ behind (x ++ y) s
     behind_both x y (in_body payload) = ap in_body (sym (append_assoc x y payload))
@@ -85,7 +102,8 @@ stops at b rest going none = rw (no_end at going) (rw none refl)
 
 chunked_done : (body ignored payload : List ℕ) → Reads LineStart body payload Whole
     → done payload ≡ comes_to LineStart (body ++ ignored)
-chunked_done body ignored payload reads = sym (run_comes LineStart Whole body payload ignored reads ∙ ap (behind payload) (whole_done ignored) ∙ ap done (append-nil payload))
+chunked_done body ignored payload reads = sym (run_comes LineStart Whole body payload ignored reads
+    ∙ ap (behind payload) (whole_done ignored) ∙ ap done (append-nil payload))
   where
     whole_done : (rest : List ℕ) → comes_to Whole rest ≡ done []
     whole_done [] = refl
@@ -95,24 +113,34 @@ chunked_open : (at : Chunking) (text payload : List ℕ) → at ≢ Whole
     → Reads LineStart text payload at → in_body payload ≡ comes_to LineStart text
 chunked_open at text payload going reads =
     let open_end : comes_to at [] ≡ in_body [] = rw (no_end at going) refl in
-    sym (ap (comes_to LineStart) (sym (append-nil text)) ∙ run_comes LineStart at text payload [] reads ∙ ap (behind payload) open_end ∙ ap in_body (append-nil payload))
+    sym (ap (comes_to LineStart) (sym (append-nil text))
+    ∙ run_comes LineStart at text payload [] reads ∙ ap (behind payload) open_end
+    ∙ ap in_body (append-nil payload))
 
 -- behind a front that breaks off a byte that can't stand there leads nowhere
-leads_nowhere : (at : Chunking) (byte : ℕ) (front payload : List ℕ) → Reads LineStart front payload at
+leads_nowhere : (at : Chunking) (byte : ℕ) (front payload : List ℕ)
+    → Reads LineStart front payload at
     → ((other : List ℕ) → ¬ (IsChunkedFront (front ++ byte ∷ []) other)) → (o : Option Chunking)
     → next at byte ≡ o → next at byte ≡ None
 leads_nowhere at byte front payload reads never None e = e
 leads_nowhere at byte front payload reads never (Some to) e =
     let text = front ++ byte ∷ [] in
     let brought = payload ++ brought_by at byte in
-    absurd (never brought (is_front to text brought (stands_on LineStart to text brought [] [] (reads_more LineStart at to byte front payload reads e) starts)))
+    absurd (never brought
+    (is_front to text brought
+    (stands_on LineStart to text brought [] []
+    (reads_more LineStart at to byte front payload reads e) starts)))
 
-chunked_bad : (text payload : List ℕ) → HasBadChunk text payload → failed BadChunk payload ≡ comes_to LineStart text
+chunked_bad : (text payload : List ℕ) → HasBadChunk text payload
+    → failed BadChunk payload ≡ comes_to LineStart text
 chunked_bad text payload bad =
     let run = breaks_off_leads bad.front payload bad.breaks in
-    let none = leads_nowhere run.to bad.byte bad.front payload run.reads bad.never (next run.to bad.byte) refl in
-    sym (ap (comes_to LineStart) bad.spelled ∙ run_comes LineStart run.to bad.front payload (bad.byte ∷ bad.rest) run.reads
-    ∙ ap (behind payload) (stops run.to bad.byte bad.rest run.going none) ∙ ap (failed BadChunk) (append-nil payload))
+    let none = leads_nowhere run.to bad.byte bad.front payload run.reads bad.never
+    (next run.to bad.byte) refl in
+    sym (ap (comes_to LineStart) bad.spelled
+    ∙ run_comes LineStart run.to bad.front payload (bad.byte ∷ bad.rest) run.reads
+    ∙ ap (behind payload) (stops run.to bad.byte bad.rest run.going none)
+    ∙ ap (failed BadChunk) (append-nil payload))
 
 -- ---- each body
 
@@ -131,18 +159,24 @@ body_is (Sized n) text (in_body payload) h =
     let less : nat_lt (length text) n ≡ true = (let few = h.0 in grind (arith, nat_tests)) in
     rw less (ap in_body h.1)
 body_is (Sized n) text (done payload) (body, ignored, split, is) =
-    let more : nat_lt (length text) n ≡ false = (let full = is.0 in let total : length text ≡ length body + length ignored = ap length split ∙ length-append body ignored in grind (arith, nat_tests)) in
-    rw more (ap done (is.1 ∙ sym (take-append_seam body ignored) ∙ ap (λ k. take k (body ++ ignored)) is.0 ∙ ap (take n) (sym split)))
+    let more : nat_lt (length text) n ≡ false =
+    (let full = is.0 in let total : length text ≡ length body + length ignored = ap length split
+    ∙ length-append body ignored in grind (arith, nat_tests)) in
+    rw more (ap done (is.1 ∙ sym (take-append_seam body ignored)
+    ∙ ap (λ k. take k (body ++ ignored)) is.0 ∙ ap (take n) (sym split)))
 body_is (Sized n) text (failed BadChunk payload) h = let other = h.0 in cc
 body_is (Sized n) text s h = absurd h
-body_is InChunks text (in_body payload) h = let run = breaks_off_leads text payload h in chunked_open run.to text payload run.going run.reads
-body_is InChunks text (done payload) (body, ignored, split, is) = chunked_done body ignored payload (body_run body payload is) ∙ ap (comes_to LineStart) (sym split)
+body_is InChunks text (in_body payload) h = let run = breaks_off_leads text payload
+    h in chunked_open run.to text payload run.going run.reads
+body_is InChunks text (done payload) (body, ignored, split, is) = chunked_done body ignored payload
+    (body_run body payload is) ∙ ap (comes_to LineStart) (sym split)
 body_is InChunks text (failed BadChunk payload) h = chunked_bad text payload h.1
 body_is InChunks text s h = absurd h
 
 behind_once : (v : Result Verdict FollowFault) (rest : List ℕ) (a b : Standing)
     → StandsBehind v rest a → StandsBehind v rest b → a ≡ b
-behind_once (Ok (Body framing)) rest a b h k = body_is framing rest a h ∙ sym (body_is framing rest b k)
+behind_once (Ok (Body framing)) rest a b h k = body_is framing rest a h
+    ∙ sym (body_is framing rest b k)
 behind_once (Ok Refusal) rest a b h k = h ∙ sym k
 behind_once (Err fault) rest a b h k = h ∙ sym k
 
@@ -150,7 +184,9 @@ behind_once (Err fault) rest a b h k = h ∙ sym k
 
 never_more : (bytes : List ℕ) → HasBadHead bytes → NeverHasResponse bytes
 never_more bytes bad more head rest reads =
-    bad.never (bad.later ++ more) head rest (subst (λ t. ReadsResponse t head rest) (ap (λ t. t ++ more) bad.split ∙ append_assoc bad.front bad.later more) reads)
+    bad.never (bad.later ++ more) head rest
+    (subst (λ t. ReadsResponse t head rest) (ap (λ t. t ++ more) bad.split
+    ∙ append_assoc bad.front bad.later more) reads)
 
 head_once : (bytes : List ℕ) (a b : Standing) → StandsInHead bytes a → StandsInHead bytes b
     → (a ≡ b) ⊎ NeverHasResponse bytes
@@ -159,7 +195,8 @@ head_once bytes a (failed BadHead q) h k = inr (never_more bytes k.0)
 head_once bytes in_head in_head h k = inl refl
 head_once bytes in_head (failed LongHead q) h k = absurd (h k.0)
 head_once bytes (failed LongHead p) in_head h k = absurd (k h.0)
-head_once bytes (failed LongHead p) (failed LongHead q) h k = inl (ap (failed LongHead) (h.1 ∙ sym k.1))
+head_once bytes (failed LongHead p) (failed LongHead q) h k = inl
+    (ap (failed LongHead) (h.1 ∙ sym k.1))
 head_once bytes in_head b h k = absurd k
 head_once bytes (failed LongHead p) b h k = absurd k
 head_once bytes a b h k = absurd h
@@ -167,8 +204,12 @@ head_once bytes a b h k = absurd h
 pub stands_once : (had_token : Bool) (bytes : List ℕ) (a b : Standing) → Stands had_token bytes a
     → Stands had_token bytes b → (a ≡ b) ⊎ NeverHasResponse bytes
 stands_once had_token bytes a b (inl (none, h)) (inl (also, k)) = head_once bytes a b h k
-stands_once had_token bytes a b (inl (none, h)) (inr (head, rest, begins, k)) = absurd (none head rest begins)
-stands_once had_token bytes a b (inr (head, rest, begins, h)) (inl (none, k)) = absurd (none head rest begins)
+stands_once had_token bytes a b (inl (none, h)) (inr (head, rest, begins, k)) = absurd
+    (none head rest begins)
+stands_once had_token bytes a b (inr (head, rest, begins, h)) (inl (none, k)) = absurd
+    (none head rest begins)
 stands_once had_token bytes a b (inr (head, rest, begins, h)) (inr (other, tail, also, k)) =
     let same = response_unique bytes other head tail rest also.reads begins.reads in
-    inl (behind_once (verdict had_token head) rest a b h (subst (λ t. StandsBehind (verdict had_token head) t b) same.1 (subst (λ x. StandsBehind (verdict had_token x) tail b) same.0 k)))
+    inl (behind_once (verdict had_token head) rest a b h
+    (subst (λ t. StandsBehind (verdict had_token head) t b) same.1
+    (subst (λ x. StandsBehind (verdict had_token x) tail b) same.0 k)))

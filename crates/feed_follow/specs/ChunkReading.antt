@@ -1,6 +1,5 @@
 -- How a chunked body is read byte by byte (RFC 9112, section 7.1, within this profile's limits).
-use Rattle.std.specs.Prelude.{◌≡◌, ℕ, ◌+◌, ◌-◌, ◌*◌, ◌<◌, ◌≤◌, ◌^◌, ◌==◌, nat_lt, List, [], ◌∷◌, ◌++◌, Option, Some, None, if◌then◌else◌, option_map, unwrap_or}
-use Rattle.std.specs.Option.{option_and_then}
+use Rattle.std.specs.Prelude.{◌≡◌, ℕ, ◌+◌, ◌-◌, ◌*◌, ◌<◌, ◌≤◌, ◌^◌, ◌==◌, nat_lt, List, [], ◌∷◌, ◌++◌, Option, Some, None, if◌then◌else◌}
 use Rattle.std.specs.Char.{is_ascii_hexdigit, digit_value}
 use Rattle.httparse.specs.Ascii.{carriage_return, line_feed, semicolon}
 use Rattle.httparse.specs.Grammar.{is_ows}
@@ -90,14 +89,3 @@ pub data Reads : Chunking → List ℕ → List ℕ → Chunking → Type 0 wher
   stays : (at : Chunking) → Reads at [] [] at
   goes : (at behind to : Chunking) (b : ℕ) (bytes payload : List ℕ) → next at b ≡ Some behind
       → Reads behind bytes payload to → Reads at (b ∷ bytes) (brought_by at b ++ payload) to
-
--- where the bytes bring a body, if they can stand there
-abbrev pub after_bytes : Chunking → List ℕ → Option Chunking
-after_bytes at [] = Some at
-after_bytes at (b ∷ bytes) = option_and_then (λ behind. after_bytes behind bytes) (next at b)
-
--- the bytes of chunks among these bytes, where each of them can stand
-abbrev pub brought : Chunking → List ℕ → List ℕ
-brought at [] = []
-brought at (b ∷ bytes) =
-    brought_by at b ++ unwrap_or (option_map (λ behind. brought behind bytes) (next at b)) []

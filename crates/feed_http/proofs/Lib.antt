@@ -1,9 +1,6 @@
-pub mod AskedLemmas
 pub mod DeviceLemmas
-pub mod FrameLemmas
-pub mod RefusalTexts
-pub mod RequestLemmas
+pub mod FollowingLemmas
+pub mod LiveLemmas
 pub mod RestLemmas
 pub mod ServingLemmas
 pub mod SessionLemmas
-pub mod TextLemmas

@@ -5,7 +5,7 @@ use Rattle.std.specs.List.{flat_map, prefix_len}
 use Rattle.std.proofs.lemmas.Bool.Decides.{nat_tests}
 use Rattle.std.specs.Str.{bytes_eq}
 use Rattle.std.specs.Io.KnownBytes.{Appends}
-use Rattle.std.proofs.KnownBytes.{Appends-trans, Appends-nil}
+use Rattle.std.proofs.KnownBytes.{Appends-trans}
 use Rattle.std.proofs.lemmas.Bool.{cases_Bool}
 use Rattle.std.proofs.lemmas.Option.{option_and_then_some}
 use Rattle.std.proofs.lemmas.Slice.Eq.{bytes_eq-Decides}
@@ -18,13 +18,13 @@ use Rattle.feed_node.specs.Serving.{is_published, commit_after}
 use Rattle.feed_http.specs.Sessions.{Next, Nothing_new, Lost, Commit_after, next, or_lost, Pulls}
 use Rattle.feed_node.specs.declared.session.Pulled.{Pulled}
 use Rattle.feed_node.specs.declared.session.Pulled.TheVariants.{More, UpToDate, Gone}
-use Rattle.feed_http.specs.declared.framing.Framing.{Framing}
+use Rattle.feed_answer.specs.declared.framing.Framing.{Framing}
 use Rattle.feed_http.specs.Device.{AppendsFront, counted}
-use Rattle.feed_http.specs.Framed.{frame, frame_end}
-use Rattle.feed_http.specs.Served.{behind_opening, farewell}
-use Rattle.feed_http.specs.Answered.{parts_of}
-use Rattle.feed_http.specs.Serving.{Sends, up_to_date, lost, sends, commit_text, SendsAnswer}
-use Rattle.feed_http.specs.Sending.{Sent, sent_none, sent_one, commit_frames, WroteSome, WroteAnswer}
+use Rattle.feed_answer.specs.Framed.{frame, frame_end}
+use Rattle.feed_answer.specs.Served.{behind_opening, farewell}
+use Rattle.feed_answer.specs.Answered.{parts_of}
+use Rattle.feed_http.specs.Serving.{Sends, up_to_date, lost, sends, commit_text, commit_frames, HasAll, BeginsCommit, SendsAnswer}
+use Rattle.feed_http.specs.Sending.{Sent, sent_none, sent_one, WroteCommits, WroteSome, WroteAnswer}
 use Rattle.feed_http.specs.declared.fault.Served.{Served}
 
 -- ---- a session moves on
@@ -127,6 +127,14 @@ sends_behind node start to sent later gone (sent_one _ token earlier commit run 
     subst (λ l. Sends node start l gone) (sym (append_assoc earlier (commit ∷ []) later))
     (sends_behind node start token earlier (commit ∷ later) gone run (sends token commit later gone e s))
 
+-- a run at whose end there is no more
+pub all_sent : (node : NodeState) (start to : List ℕ) (sent : List Commit) (gone : Bool)
+    → Sent node start sent to → HasAll node to gone → Sends node start sent gone
+all_sent node start to sent false run e =
+    subst (λ l. Sends node start l false) (append-nil sent) (sends_behind node start to sent [] false run (up_to_date to e))
+all_sent node start to sent true run e =
+    subst (λ l. Sends node start l true) (append-nil sent) (sends_behind node start to sent [] true run (lost to e))
+
 -- wherever a session is, it is sent some commits, and no more
 pub record Runs (node : NodeState) (token : List ℕ) : Type 0 where
   pub sent : List Commit
@@ -155,22 +163,22 @@ pub frames-append : (framing : Framing) (xs ys : List Commit)
 frames-append framing xs ys = ap (flat_map (frame framing)) (map-append commit_text xs ys) ∙ flat_map-append (frame framing) (map commit_text xs) (map commit_text ys)
 
 -- what a run wrote is a front of all that is written, if what came last is a front of what comes next
-pub wrote_some : (node : NodeState) (start to : List ℕ) (sent : List Commit) (framing : Framing) (old middle new : Option (List ℕ)) (text behind : List ℕ) (rest : Runs node to)
-    → Sent node start sent to → Appends old middle (commit_frames framing sent) → AppendsFront middle new text
-    → behind_opening framing (map commit_text rest.sent) rest.gone ≡ text ++ behind
+pub wrote_some : (node : NodeState) (start to : List ℕ) (sent : List Commit) (framing : Framing) (old new : Option (List ℕ)) (begun behind : List ℕ) (rest : Runs node to)
+    → Sent node start sent to → Appends old new (commit_frames framing sent ++ begun)
+    → behind_opening framing (map commit_text rest.sent) rest.gone ≡ begun ++ behind
     → WroteSome node start framing old new
-wrote_some node start to sent framing old middle new text behind rest run wrote (front, more, split, front_wrote) goes = record {
+wrote_some node start to sent framing old new begun behind rest run wrote goes = record {
   sent = sent ++ rest.sent;
   gone = rest.gone;
   sends = sends_behind node start to sent rest.sent rest.gone run rest.sends_them;
   front = (
-    commit_frames framing sent ++ front,
-    more ++ behind,
+    commit_frames framing sent ++ begun,
+    behind,
     ap (λ t. t ++ (farewell framing rest.gone ++ frame_end framing)) (frames-append framing sent rest.sent)
         ∙ append_assoc (commit_frames framing sent) (commit_frames framing rest.sent) (farewell framing rest.gone ++ frame_end framing)
-        ∙ ap (λ t. commit_frames framing sent ++ t) (goes ∙ ap (λ t. t ++ behind) split ∙ append_assoc front more behind)
-        ∙ sym (append_assoc (commit_frames framing sent) front (more ++ behind)),
-    Appends-trans old middle new (commit_frames framing sent) front wrote front_wrote,
+        ∙ ap (λ t. commit_frames framing sent ++ t) goes
+        ∙ sym (append_assoc (commit_frames framing sent) begun behind),
+    wrote,
   );
 }
 
@@ -184,15 +192,17 @@ pulls_more Lost token new_token sent new_sent pulled h e = let same : Gone ≡ M
 pulls_more (Commit_after commit) token new_token sent new_sent pulled h e = (commit, refl, h.1, h.2)
 
 pub pulls_up_to_date : (n : Next) (token new_token sent new_sent : List ℕ) (pulled : Pulled)
-    → Pulls n token new_token sent new_sent pulled → pulled ≡ UpToDate → n ≡ Nothing_new
-pulls_up_to_date Nothing_new token new_token sent new_sent pulled h e = refl
+    → Pulls n token new_token sent new_sent pulled → pulled ≡ UpToDate
+    → (n ≡ Nothing_new) × (new_token ≡ token)
+pulls_up_to_date Nothing_new token new_token sent new_sent pulled h e = (refl, h.1)
 pulls_up_to_date Lost token new_token sent new_sent pulled h e = let same : Gone ≡ UpToDate = sym h.0 ∙ e in absurd (cc)
 pulls_up_to_date (Commit_after commit) token new_token sent new_sent pulled h e = let same : More ≡ UpToDate = sym h.0 ∙ e in absurd (cc)
 
 pub pulls_gone : (n : Next) (token new_token sent new_sent : List ℕ) (pulled : Pulled)
-    → Pulls n token new_token sent new_sent pulled → pulled ≡ Gone → n ≡ Lost
+    → Pulls n token new_token sent new_sent pulled → pulled ≡ Gone
+    → (n ≡ Lost) × (new_token ≡ token)
 pulls_gone Nothing_new token new_token sent new_sent pulled h e = let same : UpToDate ≡ Gone = sym h.0 ∙ e in absurd (cc)
-pulls_gone Lost token new_token sent new_sent pulled h e = refl
+pulls_gone Lost token new_token sent new_sent pulled h e = (refl, h.1)
 pulls_gone (Commit_after commit) token new_token sent new_sent pulled h e = let same : More ≡ Gone = sym h.0 ∙ e in absurd (cc)
 
 pub on_err : {A E : Type 0} (r : Result A E) (P : Type 0) → P → OnErr r P
@@ -201,24 +211,49 @@ on_err (Err _) P h = h
 
 -- nothing more was written
 pub wrote_these : (node : NodeState) (start to : List ℕ) (sent : List Commit) (framing : Framing) (old new : Option (List ℕ))
-    → IsConsistent node
-    → Sent node start sent to → Appends old new (commit_frames framing sent) → WroteSome node start framing old new
-wrote_these node start to sent framing old new consistent run wrote =
-    let rest = runs node to consistent in
-    wrote_some node start to sent framing old new new [] (behind_opening framing (map commit_text rest.sent) rest.gone) rest run wrote ([], [], refl, Appends-nil new) refl
+    → Sent node start sent to → Appends old new (commit_frames framing sent)
+    → WroteCommits node start framing old new
+wrote_these node start to sent framing old new run wrote = record {
+  sent = sent;
+  token = to;
+  run = run;
+  begun = [];
+  begins = inl refl;
+  wrote = subst (Appends old new) (sym (append-nil (commit_frames framing sent))) wrote;
+}
 
 -- a front of the next commit was written
 pub wrote_into : (node : NodeState) (start to : List ℕ) (sent : List Commit) (commit : Commit) (framing : Framing) (old middle new : Option (List ℕ))
-    → IsConsistent node
     → Sent node start sent to → next node to ≡ Commit_after commit
     → Appends old middle (commit_frames framing sent)
     → AppendsFront middle new (frame framing (commit_text commit))
-    → WroteSome node start framing old new
-wrote_into node start to sent commit framing old middle new consistent run e wrote front =
-    let rest = runs node commit.token consistent in
-    let all : Runs node to = record { sent = commit ∷ rest.sent; gone = rest.gone; sends_them = sends to commit rest.sent rest.gone e rest.sends_them } in
-    wrote_some node start to sent framing old middle new (frame framing (commit_text commit)) (behind_opening framing (map commit_text rest.sent) rest.gone) all run wrote front
-    (append_assoc (frame framing (commit_text commit)) (commit_frames framing rest.sent) (farewell framing rest.gone ++ frame_end framing))
+    → WroteCommits node start framing old new
+wrote_into node start to sent commit framing old middle new run e wrote (front, more, split, front_wrote) = record {
+  sent = sent;
+  token = to;
+  run = run;
+  begun = front;
+  begins = inr (commit, more, e, split);
+  wrote = Appends-trans old middle new (commit_frames framing sent) front wrote front_wrote;
+}
+
+-- what was written is a front of all that is written
+pub wrote_part : (node : NodeState) (start : List ℕ) (framing : Framing) (old new : Option (List ℕ))
+    → IsConsistent node → WroteCommits node start framing old new → WroteSome node start framing old new
+wrote_part node start framing old new consistent w = by w.begins
+  where
+    by : BeginsCommit framing node w.token w.begun → WroteSome node start framing old new
+    by (inl none) =
+        let rest = runs node w.token consistent in
+        let text = behind_opening framing (map commit_text rest.sent) rest.gone in
+        wrote_some node start w.token w.sent framing old new w.begun text rest w.run w.wrote (ap (λ t. t ++ text) (sym none))
+    by (inr (commit, more, e, split)) =
+        let rest = runs node commit.token consistent in
+        let all : Runs node w.token = record { sent = commit ∷ rest.sent; gone = rest.gone; sends_them = sends w.token commit rest.sent rest.gone e rest.sends_them } in
+        let text = behind_opening framing (map commit_text rest.sent) rest.gone in
+        wrote_some node start w.token w.sent framing old new w.begun (more ++ text) all w.run w.wrote
+        (append_assoc (frame framing (commit_text commit)) (commit_frames framing rest.sent) (farewell framing rest.gone ++ frame_end framing)
+        ∙ ap (λ t. t ++ text) split ∙ append_assoc w.begun more text)
 
 -- the commit's frame joins those before it
 pub wrote_one : (sent : List Commit) (commit : Commit) (framing : Framing) (old middle new : Option (List ℕ))

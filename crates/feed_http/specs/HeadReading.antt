@@ -1,7 +1,8 @@
 -- How the head of a request is read: no further than it takes.
 use Rattle.std.specs.Prelude.{ℕ, ◌-◌, ◌≤◌, ◌⊎◌, min, nat_lt, if◌then◌else◌, List, [], ◌++◌, length}
 use Rattle.httparse.specs.Grammar.{RequestHead, NeverHasRequest}
-use Rattle.feed_http.specs.Heads.{head_bytes, BeginsWithRequest, HasNoWholeRequest, IsPastLimits, IsTooLargeRequest}
+use Rattle.feed_follow.specs.Heads.{head_bytes, IsPastLimits}
+use Rattle.feed_answer.specs.Heads.{BeginsWithRequest, HasNoWholeRequest, IsTooLargeRequest}
 
 -- how many bytes one read asks for at most
 abbrev pub read_bytes : ℕ

@@ -1,16 +1,15 @@
 -- How far a server that is sending has come.
 use Rattle.std.specs.Prelude.{◌≡◌, ℕ, Bool, List, [], ◌∷◌, ◌++◌, map, Option}
-use Rattle.std.specs.List.{flat_map}
+use Rattle.std.specs.Io.KnownBytes.{Appends}
 use Rattle.feed_node.specs.declared.commit.Commit.{Commit}
 use Rattle.feed_node.specs.States.{NodeState}
 use Rattle.feed_http.specs.Sessions.{Commit_after, next}
 use Rattle.feed_http.specs.declared.fault.Served.{Served}
-use Rattle.feed_http.specs.declared.framing.Framing.{Framing}
-use Rattle.feed_http.specs.Answered.{AnswerParts}
+use Rattle.feed_answer.specs.declared.framing.Framing.{Framing}
+use Rattle.feed_answer.specs.Answered.{AnswerParts}
 use Rattle.feed_http.specs.Device.{AppendsFront}
-use Rattle.feed_http.specs.Framed.{frame}
-use Rattle.feed_http.specs.Served.{behind_opening}
-use Rattle.feed_http.specs.Serving.{Sends, commit_text, SendsAnswer}
+use Rattle.feed_answer.specs.Served.{behind_opening}
+use Rattle.feed_http.specs.Serving.{Sends, commit_text, commit_frames, BeginsCommit, SendsAnswer}
 
 -- a session at one token was sent these commits, and is at another one
 pub data Sent (node : NodeState) : List ℕ → List Commit → List ℕ → Type 0 where
@@ -19,9 +18,14 @@ pub data Sent (node : NodeState) : List ℕ → List Commit → List ℕ → Typ
       → Sent node start earlier token → next node token ≡ Commit_after commit
       → Sent node start (earlier ++ commit ∷ []) commit.token
 
--- the texts of commits, framed
-abbrev pub commit_frames : Framing → List Commit → List ℕ
-commit_frames framing sent = flat_map (frame framing) (map commit_text sent)
+-- the frames of the commits that a session was sent were written, and a front of the next one's
+pub record WroteCommits (node : NodeState) (start : List ℕ) (framing : Framing) (old new : Option (List ℕ)) : Type 0 where
+  pub sent : List Commit
+  pub token : List ℕ
+  pub run : Sent node start sent token
+  pub begun : List ℕ
+  pub begins : BeginsCommit framing node token begun
+  pub wrote : Appends old new (commit_frames framing sent ++ begun)
 
 -- a front was written of what a session at this token is sent
 pub record WroteSome (node : NodeState) (token : List ℕ) (framing : Framing) (old new : Option (List ℕ)) : Type 0 where

@@ -1,16 +1,18 @@
 -- What a server sends and writes on one connection.
 use Rattle.std.specs.Prelude.{◌≡◌, ◌⊎◌, ℕ, Bool, true, false, List, [], ◌∷◌, ◌++◌, length, map, Option, Some, None}
+use Rattle.std.specs.List.{flat_map}
 use Rattle.std.specs.Io.KnownBytes.{Appends, Consumes, IsAtEnd}
 use Rattle.feed_note.specs.Texts.{batch_text}
 use Rattle.feed_node.specs.declared.commit.Commit.{Commit}
 use Rattle.feed_node.specs.States.{NodeState}
 use Rattle.feed_http.specs.Sessions.{Nothing_new, Lost, Commit_after, next}
 use Rattle.feed_http.specs.declared.fault.Served.{Served}
-use Rattle.feed_http.specs.declared.framing.Framing.{Framing}
-use Rattle.feed_http.specs.Answered.{AnswerParts, AnswersTo}
+use Rattle.feed_answer.specs.declared.framing.Framing.{Framing}
+use Rattle.feed_answer.specs.Answered.{AnswerParts, AnswersTo}
 use Rattle.feed_http.specs.Device.{counted, AppendsFront}
 use Rattle.feed_http.specs.HeadReading.{IsReadAsNeeded, IsStillNeeded, IsEnough}
-use Rattle.feed_http.specs.Served.{behind_opening}
+use Rattle.feed_answer.specs.Framed.{frame}
+use Rattle.feed_answer.specs.Served.{behind_opening}
 
 -- the text of a commit's lines
 abbrev pub commit_text : Commit → List ℕ
@@ -24,7 +26,23 @@ pub data Sends (node : NodeState) : List ℕ → List Commit → Bool → Type 0
       → next node token ≡ Commit_after commit
       → Sends node commit.token later gone → Sends node token (commit ∷ later) gone
 
+-- a session at this token has been sent all: nothing is new, or its token is no longer held
+abbrev pub HasAll : NodeState → List ℕ → Bool → Type 0
+HasAll node token false = next node token ≡ Nothing_new
+HasAll node token true = next node token ≡ Lost
+
 -- ---- what is written
+
+-- the texts of commits, framed
+abbrev pub commit_frames : Framing → List Commit → List ℕ
+commit_frames framing sent = flat_map (frame framing) (map commit_text sent)
+
+-- nothing, or a front of the frame of the commit that comes next
+abbrev pub BeginsCommit : Framing → NodeState → List ℕ → List ℕ → Type 0
+BeginsCommit framing node token begun =
+    (begun ≡ [])
+    ⊎ ((commit : Commit) × (rest : List ℕ) × (next node token ≡ Commit_after commit)
+    × (frame framing (commit_text commit) ≡ begun ++ rest))
 
 -- what is written behind the answer: nothing where it opened no session, else what that was sent
 abbrev pub written_behind : Option (List ℕ) → Framing → List Commit → Bool → List ℕ

@@ -3,13 +3,12 @@ ghost use Rattle.std.specs.Prelude.{◌≡◌, ◌⊎◌, OnOk, OnErr, IfOk, IfE
 ghost use Rattle.std.specs.Io.KnownBytes.{Appends};
 ghost use Rattle.feed_http.specs.declared.fault.EngineFault.{EngineFault as Fault};
 ghost use Rattle.feed_http.specs.Device.{HasFailed, AppendsFront};
-ghost use Rattle.feed_http.specs.RequestText as texts;
+ghost use Rattle.feed_answer.specs.RequestText as texts;
 
 use crate::device::FeedWrite;
 use crate::fault::EngineFault;
-use crate::place::Place;
-use crate::request::request_text;
 use crate::serving::write_bytes;
+use feed_answer::{Place, request_text};
 use feed_node::Mirror;
 use std::alloc::{AllocError, Global};
 

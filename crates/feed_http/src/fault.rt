@@ -2,6 +2,7 @@
 ghost use Rattle.std.specs.Prelude.{◌≡◌};
 ghost use Rattle.feed_http.specs.declared.fault.EngineFault.TheVariants as engine_fault;
 
+use feed_follow::FollowFault;
 use feed_node::CommitFault;
 use std::alloc::AllocError;
 use thiserror::Error;
@@ -21,6 +22,9 @@ pub enum EngineFault {
     /// The primary refused a batch.
     #[error(transparent)]
     Commit(CommitFault),
+    /// A response can't be followed.
+    #[error(transparent)]
+    Follow(FollowFault),
     /// Memory ran out.
     #[error("out of memory")]
     Memory,
@@ -34,6 +38,22 @@ impl From<AllocError> for EngineFault {
     }
 }
 
+impl From<FollowFault> for EngineFault {
+    ghost from_gives = { λ fault given. given ≡ engine_fault.Follow fault };
+
+    fn from(fault: FollowFault) -> EngineFault {
+        EngineFault::Follow(fault)
+    }
+}
+
+impl From<CommitFault> for EngineFault {
+    ghost from_gives = { λ why fault. fault ≡ engine_fault.Commit why };
+
+    fn from(fault: CommitFault) -> EngineFault {
+        EngineFault::Commit(fault)
+    }
+}
+
 /// What an engine served: the status of its answer, how many commits it sent behind what the
 /// session opened with, and whether the node lost the session's token.
 #[derive(Clone, Copy, Debug, PartialEq, Eq)]
@@ -44,4 +64,17 @@ pub struct Served {
     pub commits: u64,
     /// Whether the node lost the session's token.
     pub gone: bool,
+}
+
+/// How a response ended that was followed.
+#[derive(Clone, Copy, Debug, PartialEq, Eq)]
+pub enum Followed {
+    /// The reader ended in the head.
+    Early,
+    /// The reader ended in the body.
+    Ended,
+    /// The body was whole.
+    Done,
+    /// The server does not hold the token that was asked with.
+    TokenRefused,
 }

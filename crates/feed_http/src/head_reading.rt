@@ -7,10 +7,10 @@ ghost use Rattle.feed_http.specs.HeadReading.{read_bytes, most_after, IsReadAsNe
 
 use crate::device::{Failed, FeedRead};
 use crate::fault::EngineFault;
-use crate::heads::{HEAD_BYTES, HeadRead, look_at_request};
+use feed_answer::{HEAD_BYTES, HeadRead, look_at_request};
 
 /// The most bytes of one read.
-const READ_BYTES: usize = 4096;
+pub(crate) const READ_BYTES: usize = 4096;
 
 /// How many bytes the next read asks for.
 fn most_wanted(len: usize) -> usize

@@ -5,19 +5,18 @@ ghost use Rattle.feed_node.specs.declared.commit.Commit.{Commit};
 ghost use Rattle.feed_node.specs.States.{IsConsistent};
 ghost use Rattle.feed_http.specs.declared.fault.EngineFault.{EngineFault as Fault};
 ghost use Rattle.feed_http.specs.Device.{HasFailed, AppendsFront, counted, RoseBy, RoseAtMost};
-ghost use Rattle.feed_http.specs.Framed as framed;
-ghost use Rattle.feed_http.specs.Served.{behind_opening, farewell};
-ghost use Rattle.feed_http.specs.Answered.{parts_of};
+ghost use Rattle.feed_answer.specs.Framed as framed;
+ghost use Rattle.feed_answer.specs.Served.{behind_opening, farewell};
+ghost use Rattle.feed_answer.specs.Answered.{parts_of};
 ghost use Rattle.feed_http.specs.HeadReading.{IsReadAsNeeded, IsEnough, IsStillNeeded};
-ghost use Rattle.feed_http.specs.Serving.{Sends, commit_text, SendsAnswer, Serves, BrokeInHead, BrokeBehindHead};
-ghost use Rattle.feed_http.specs.Sending.{commit_frames, WroteSome, WroteAnswer};
+ghost use Rattle.feed_http.specs.Serving.{Sends, commit_text, commit_frames, HasAll, SendsAnswer, Serves, BrokeInHead, BrokeBehindHead};
+ghost use Rattle.feed_http.specs.Sending.{Sent, WroteCommits, WroteSome, WroteAnswer};
 
-use crate::answering::{Answered, answer};
 use crate::device::{Failed, FeedRead, FeedWrite, write_all};
 use crate::fault::{EngineFault, Served};
-use crate::framing::{Framing, frame, frame_end};
 use crate::head_reading::read_head;
 use crate::sessions::pull_next;
+use feed_answer::{Answered, Framing, answer, frame, frame_end};
 use feed_node::{Node, Pulled, Session};
 use std::alloc::{AllocError, Global};
 
@@ -60,7 +59,7 @@ fn write_framed<W: FeedWrite>(
 
 /// Sends the commits after a session's token, and answers how many there were, and whether the
 /// token is then lost.
-fn send_commits<W: FeedWrite>(
+pub(crate) fn send_commits<W: FeedWrite>(
     alloc: Global,
     writer: &mut W,
     node: &Node,
@@ -68,14 +67,16 @@ fn send_commits<W: FeedWrite>(
     framing: Framing,
 ) -> Result<(u64, bool), EngineFault>
     ensures ok { IfOk result (λ told. (sent : List Commit)
-        × Sends node.now.shown session.old sent told.1 × (told.0 ≡ counted 0 (length sent))
+        × Sent node.now.shown session.old sent session.new
+        × HasAll node.now.shown session.new told.1 × (told.0 ≡ counted 0 (length sent))
         × Appends (W.contents writer.old) (W.contents writer.new) (commit_frames framing sent)) }
-    ensures front { OnErr result (WroteSome node.now.shown session.old framing
+    ensures part { OnErr result (WroteCommits node.now.shown session.old framing
         (W.contents writer.old) (W.contents writer.new)) }
     ensures faults { IfErr result (λ fault. (fault ≡ Fault.Write) ⊎ (fault ≡ Fault.Memory)) }
     ensures write { IsErrOf result Fault.Write → HasFailed (W.failures writer.old)
         (W.failures writer.new) }
     ensures quiet { OnOk result (W.failures writer.new ≡ W.failures writer.old) }
+    ensures consistent { IsConsistent node.now.shown }
 {
     let mut count: u64 = 0;
     'commits: loop {
@@ -92,7 +93,7 @@ fn send_commits<W: FeedWrite>(
 }
 
 /// Ends a session: with a line feed, unless its token is lost.
-fn send_farewell<W: FeedWrite>(
+pub(crate) fn send_farewell<W: FeedWrite>(
     alloc: Global,
     writer: &mut W,
     session: &Session,

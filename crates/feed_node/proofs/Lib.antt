@@ -1,10 +1,16 @@
+pub mod Batches
 pub mod Cuts
+pub mod FeedBatches
 pub mod Going
 pub mod Keeping
 pub mod Latest
 pub mod Marked
 pub mod Mirrored
 pub mod Numbering
+pub mod OneReading
 pub mod Onward
 pub mod Restored
+pub mod Saving
 pub mod Sending
+pub mod SentOnce
+pub mod TextLines

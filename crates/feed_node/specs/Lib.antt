@@ -5,6 +5,8 @@ pub mod Log
 pub mod Marks
 pub mod Mirroring
 pub mod Reading
+pub mod Saved
+pub mod Sent
 pub mod Serving
 pub mod Shown
 pub mod Staged

@@ -1,6 +1,11 @@
 //! Laws of the definitions.
 
-ghost use Rattle.feed_node.specs.Steps.{StepsRead, TakenAreGood};
+ghost use Rattle.feed_node.specs.Saved.{SavedTextsRestore};
+ghost use Rattle.feed_node.specs.Sent.{TextsGoOn, BatchesPublishAtEnd, SnapshotsPublishAtEnd};
+ghost use Rattle.feed_node.specs.Steps.{StepsRead, TakenAreGood, ReadingIsOne, BatchesAreOfFeed};
+
+use feed_note::{line_laws, written_lines_law};
+use feed_tables::table_laws;
 
 /// What stands on an open connection after lines is what one line after the other leaves, and lines
 /// that are taken one after the other are good.
@@ -8,3 +13,22 @@ pub fn node_laws()
     ensures read { StepsRead }
     ensures good { TakenAreGood }
 {}
+
+/// Where nothing is bad, a text has one reading, and no fault stands. A text behind whole lines is
+/// taken from where these lead. The lines of a batch publish once, at their end, and nothing
+/// before; so do those of a snapshot on a fresh connection. A text that was saved restores what was
+/// published, and a proper front of it nothing; neither fails but for want of memory. The batches
+/// of a connection are those of a feed.
+pub fn reading_laws()
+    ensures one { ReadingIsOne }
+    ensures goes_on { TextsGoOn }
+    ensures batches { BatchesPublishAtEnd }
+    ensures snapshots { SnapshotsPublishAtEnd }
+    ensures saved { SavedTextsRestore }
+    ensures of_feed { BatchesAreOfFeed }
+{
+    line_laws();
+    written_lines_law();
+    table_laws();
+    node_laws();
+}

@@ -1,12 +1,13 @@
 -- Lemmas on runs of a script.
 use Rattle.std.proofs.Common.{◌≡◌, ◌≢◌, refl, sym, ap, ◌∙◌, subst, ℕ, zero, suc, ◌+◌, ◌-◌, ◌<◌, ◌≤◌, arith, take, length-drop, List, [], ◌∷◌, ◌++◌, length, map, drop, get_or, slice_get, Option, Some, None, Result, Ok, Err, OnOk, IfErr, IfSome, Bor, append_assoc}
 use Rattle.std.proofs.lemmas.List.{append-nil, take_all}
+use Rattle.std.proofs.lemmas.Option.{slice_get_past}
 use Rattle.std.specs.Prelude.{unwrap_or}
 use Rattle.std.specs.Option.{option_and_then}
 use Rattle.feed_tables.specs.declared.change.Change.{Change}
 use Rattle.feed_note.specs.Lines.{lines as lines_of}
 use Rattle.feed_node.specs.Limits.{Limits, IsInRange}
-use Rattle.feed_node.specs.States.{NodeState}
+use Rattle.feed_node.specs.States.{NodeState, published_token}
 use Rattle.feed_world.specs.Log.{Log}
 use Rattle.feed_world.specs.Position.{node_where}
 use Rattle.feed_world.specs.States.{FollowerState, WorldState, IsWorld, AreMirrors, RefusesShape, shown_at}
@@ -18,9 +19,9 @@ use Rattle.feed_world.specs.declared.event.ShapeFault.TheVariants as shape
 use Rattle.feed_play.specs.Fault.{cause_of_shape}
 use Rattle.feed_play.specs.FeedLines.{TakesFeed}
 use Rattle.feed_play.specs.Lines.{LinesLeft}
-use Rattle.feed_play.specs.Player.{Makes, MakesNone, HasBadLimits, DoesAsked, Replies, Shows, LineDone, LineStops, StopsAsked, StopsShow, StopsShowing, PlaysNext, PlaysOn, PlaysUpTo}
+use Rattle.feed_play.specs.Player.{token_at, Makes, MakesNone, HasBadLimits, DoesAsked, Replies, Shows, LineDone, LineStops, StopsAsked, StopsShow, StopsShowing, PlaysNext, PlaysOn, PlaysUpTo}
 use Rattle.feed_play.specs.Script.{Asked, action_in, shape_by, shape_in, words, world_numbers}
-use Rattle.feed_play.specs.Told.{Prints, Grows, shown_text}
+use Rattle.feed_play.specs.Told.{Prints, shown_text}
 use Rattle.feed_play.specs.declared.fault.PlayCause.{PlayCause}
 use Rattle.feed_play.specs.declared.fault.PlayCause.TheVariants as cause
 use Rattle.feed_play.specs.declared.fault.PlayFault.{PlayFault}
@@ -112,6 +113,16 @@ module _ (w : World) (state : WorldState) (stands : IsWorld w state) where
   shown_nowhere zero e = absurd (cc)
   shown_nowhere (suc i) e = let less = shows_none w.limits w.log w.mirrors state.followers stands.nodes.mirrors i e in omega arith
 
+  -- the token that a node of the world in memory has published
+  pub token_of_node : (i : ℕ) (node : NodeState) → shown_at state i ≡ Some node → published_token node ≡ token_at w (Some i)
+  token_of_node i node e = ap published_token (shown_where i node e).1
+
+  pub token_of_none : (i : ℕ) → shown_at state i ≡ None → None ≡ token_at w (Some i)
+  token_of_none zero e = absurd (cc)
+  token_of_none (suc i) e =
+      let past = slice_get_past w.mirrors i (let less = shown_nowhere (suc i) e in omega arith) in
+      ap (λ m. published_token (node_where w.log (option_and_then (λ m. m.place) m))) (sym past)
+
 -- ---- a further line
 
 -- what was done is done at this line
@@ -159,10 +170,6 @@ module _ (line : List ℕ) (lines : LinesLeft) where
       subst (λ o. StopsAsked o w lines why) (sym is) (no_show i state w stands why.line why.cause (told.0 ∙ at) some (subst (λ q. IfErr q (λ cause. StopsShow state i cause)) told.1 stops))
 
 -- ---- a whole script
-
--- the lines before, and one more
-pub grows_more : (initial before now : List ℕ) → Grows initial before → Grows before now → Grows initial now
-grows_more initial before now (told, one) (text, two) = (told ++ text, two ∙ ap (λ l. l ++ text) one ∙ append_assoc initial told text)
 
 -- printed from here on, of a run that leads to the world of this state
 abbrev pub HasPlayed : List ℕ → WorldState → LinesLeft → List ℕ → List ℕ → Type 0

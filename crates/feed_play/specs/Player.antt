@@ -4,7 +4,7 @@ use Rattle.std.specs.Prelude.{◌≡◌, ◌≢◌, ℕ, ◌+◌, ◌≤◌, ◌
 use Rattle.feed_tables.specs.declared.change.Change.{Change}
 use Rattle.feed_note.specs.Lines.{lines as lines_of}
 use Rattle.feed_node.specs.Limits.{IsInRange}
-use Rattle.feed_node.specs.States.{NodeState}
+use Rattle.feed_node.specs.States.{NodeState, published_token}
 use Rattle.feed_world.specs.States.{IsWorld, WorldState, shown_at}
 use Rattle.feed_world.specs.Step.{Step, IsRefused}
 use Rattle.feed_world.specs.World.{World, HasShape, new_world, node_of}
@@ -57,9 +57,20 @@ MakesNone line cause.Memory = Unit {0}
 
 -- ---- a further line; `behind` are the lines after it, and `left` those that are left then
 
+-- the mirror that an event restarts
+abbrev pub restarted_by : Event → Option ℕ
+restarted_by (event.Restart i n) = Some i
+restarted_by what = None
+
+-- the token that the node of this number has published, where one is named
+abbrev pub token_at : World → Option ℕ → Option (List ℕ)
+token_at w None = None
+token_at w (Some i) = published_token (node_of w i)
+
 -- the world replies to the event, and that is told
 abbrev pub IsReplied : World → Event → List ℕ → World → Type 0
-IsReplied old event text new = (reply : Reply) × Step old event reply new × Tells reply text
+IsReplied old what text new =
+    (reply : Reply) × Step old what reply new × Tells (token_at new (restarted_by what)) reply text
 
 -- what the node of this number shows is printed
 pub record IsShown (w : World) (number : ℕ) (text : List ℕ) : Type 0 where

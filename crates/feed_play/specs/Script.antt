@@ -62,8 +62,10 @@ asked_by name numbers =
     else (if bytes_eq name (codes "idle") then event_of_one event.Idle numbers
     else (if bytes_eq name (codes "deliver") then event_of_two event.Deliver numbers
     else (if bytes_eq name (codes "cut") then event_of_one event.Cut numbers
+    else (if bytes_eq name (codes "save") then event_of_one event.Save numbers
+    else (if bytes_eq name (codes "restart") then event_of_two event.Restart numbers
     else (if bytes_eq name (codes "show") then option_map action.Show (one_of numbers)
-    else None))))))
+    else None))))))))
 
 abbrev pub asked_in : List (List ℕ) → Option Action
 asked_in [] = None

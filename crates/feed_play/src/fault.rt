@@ -10,8 +10,8 @@ use feed_world::{ShapeFault, WorldFault};
 use std::alloc::{AllocError, AllocFailed};
 use thiserror::Error;
 
-/// Why a script was not played to its end, and at which of its lines, counted from 1. That is the line
-/// of what was to happen, or the feed line that can't be read.
+/// Why a script was not played to its end, and at which of its lines, counted from 1. That is the
+/// line of what was to happen, or the feed line that can't be read.
 #[derive(Clone, Copy, Debug, PartialEq, Eq, Error)]
 #[error("line {line}: {cause}")]
 pub struct PlayFault {
@@ -38,7 +38,7 @@ pub enum PlayCause {
     /// The first line's limits are out of range.
     #[error("bad limits")]
     Limits,
-    /// There are over 255 mirrors, or one is not behind an earlier node.
+    /// There are more nodes than a world has at most, or a mirror is not behind an earlier one.
     #[error("bad shape")]
     Shape,
     /// The feed line means nothing. It is no want of memory.

@@ -15,8 +15,8 @@ use feed_note::{LINE_BYTES, Line, read_line};
 use feed_tables::{Change, Changes};
 use std::alloc::Global;
 
-/// Adds the changes of a feed line. Its token says nothing here. A line over the line limit is none of
-/// a feed, so it is none of a script either.
+/// Adds the changes of a feed line. Its token says nothing here. A line over the line limit is none
+/// of a feed, so it is none of a script either.
 fn read_feed_line(alloc: Global, line: &[u8], changes: &mut Vec<Change>) -> Result<(), PlayCause>
     requires { HasNoLineFeed line.now }
     ensures ok { OnOk result ((note : Note) × IsRead line.now note

@@ -3,8 +3,9 @@
 ghost use Rattle.std.specs.Prelude.{◌≡◌, ◌≤◌, ◌+◌, length, Ok, Err, IfOk, IfErr, OnOk, OnErr};
 ghost use Rattle.feed_note.specs.Lines.{lines as lines_of};
 ghost use Rattle.feed_play.specs.Lines.{all_lines, IsLineFrom};
-ghost use Rattle.feed_play.specs.Player.{Makes, MakesNone, Replies, Shows, LineDone, StopsEvent, StopsShow, LineStops, Plays, Stops};
-ghost use Rattle.feed_play.specs.Told.{Prints, Grows};
+ghost use Rattle.std.specs.Option.{option_copied};
+ghost use Rattle.feed_play.specs.Player.{restarted_by, token_at, Makes, MakesNone, Replies, Shows, LineDone, StopsEvent, StopsShow, LineStops, Plays, Stops};
+ghost use Rattle.feed_play.specs.Told.{Prints};
 ghost use Rattle.feed_world.specs.States.{IsWorld};
 ghost use Rattle.feed_world.specs.World.{World as Numbers};
 
@@ -32,6 +33,23 @@ fn make_world(alloc: Global, line: &[u8]) -> Result<World, PlayCause>
     Ok(World::new(alloc, upstreams, limits)?)
 }
 
+/// The mirror that an event restarts.
+fn restarted(event: &Event) -> Option<usize>
+    ensures { result ≡ restarted_by event.now }
+{
+    match event {
+        Event::Restart(number, _) => Some(*number),
+        _ => None,
+    }
+}
+
+/// The token that the node of this number has published, where one is named.
+fn token_of(world: &World, number: Option<usize>) -> Option<&str>
+    ensures { (w : Numbers) → IsWorld w world.now → option_copied result ≡ token_at w number }
+{
+    Some(world.node(number?)?.token()?.text())
+}
+
 /// Makes an event happen, and prints the world's reply.
 fn play_event(
     alloc: Global,
@@ -41,18 +59,17 @@ fn play_event(
 ) -> Result<(), PlayCause>
     ensures ok { OnOk result (Replies event world.old world.new out.old.items out.new.items) }
     ensures err { IfErr result (λ cause. StopsEvent world.old event cause) }
-    ensures grows { Grows out.old.items out.new.items }
     ensures quiet { OnErr result (out.new.items ≡ out.old.items) }
 {
+    let restarted = restarted(&event);
     let reply = world.step(alloc, event)?;
-    Ok(print_reply(alloc, &reply, out)?)
+    Ok(print_reply(alloc, &reply, token_of(world, restarted), out)?)
 }
 
 /// Prints what the node of this number shows.
 fn show(alloc: Global, world: &World, number: usize, out: &mut Vec<u8>) -> Result<(), PlayCause>
     ensures ok { OnOk result (Shows world.now number out.old.items out.new.items) }
     ensures err { IfErr result (λ cause. StopsShow world.now number cause) }
-    ensures grows { Grows out.old.items out.new.items }
     ensures quiet { OnErr result (out.new.items ≡ out.old.items) }
 {
     let Some(node) = world.node(number) else {
@@ -85,7 +102,6 @@ fn play_line(
     ensures err { IfErr result (λ fault. LineStops line.now world.old lines.old fault) }
     ensures quiet { OnErr result (out.new.items ≡ out.old.items) }
 
-    ensures grows { Grows out.old.items out.new.items }
     ensures all { all_lines lines.new ≡ all_lines lines.old }
     ensures later { lines.old.read ≤ lines.new.read }
     ensures fewer { length lines.new.left ≤ length lines.old.left }
@@ -107,14 +123,14 @@ fn play_line(
     }
 }
 
-/// Plays a script: makes the world of its first line, does what each further line asks for, one after
-/// the other, and appends what is told of it. At the first fault it stops; what was told before stays.
+/// Plays a script: makes the world of its first line, does what each further line asks for, one
+/// after the other, and appends what is told of it. At the first fault it stops; what was told
+/// before stays.
 pub fn play(alloc: Global, script: &[u8], out: &mut Vec<u8>) -> Result<(), PlayFault>
     ensures ok { OnOk result (Prints out.old.items out.new.items (λ told. Plays script.now told)) }
     ensures err { IfErr result (λ fault.
         Prints out.old.items out.new.items (λ told. Stops script.now told fault)) }
 
-    ensures grows { Grows out.old.items out.new.items }
     ensures line { IfErr result (λ fault.
         IsLineFrom 1 (length (lines_of script.now) + 1) fault.line) }
 {

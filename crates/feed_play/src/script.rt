@@ -152,6 +152,8 @@ fn action_named(name: &[u8], number: usize) -> Option<Action>
         Some(Action::Event(Event::Idle(number)))
     } else if is(name, "cut") {
         Some(Action::Event(Event::Cut(number)))
+    } else if is(name, "save") {
+        Some(Action::Event(Event::Save(number)))
     } else if is(name, "show") {
         Some(Action::Show(number))
     } else {
@@ -168,6 +170,10 @@ pub fn read_action(line: &[u8]) -> Option<Action>
     if is(name, "deliver") {
         let (mirror, bytes) = read_two(numbers)?;
         return Some(Action::Event(Event::Deliver(mirror, bytes)));
+    }
+    if is(name, "restart") {
+        let (mirror, bytes) = read_two(numbers)?;
+        return Some(Action::Event(Event::Restart(mirror, bytes)));
     }
     let number = read_one(numbers)?;
     action_named(name, number)

@@ -1,15 +1,16 @@
 //! What is printed of a world: its replies, and what its nodes show.
 
 ghost use Rattle.std.specs.Prelude.{◌≡◌, ◌++◌, string_bytes, IfOk, OnOk, OnErr};
+ghost use Rattle.std.specs.Option.{option_copied};
 ghost use Rattle.feed_play.specs.Told.{Tells, Prints, shown_text};
 
 use feed_node::{FeedFault, Node, OpenFault, Pulled};
 use feed_world::Reply;
 use std::alloc::{AllocError, Global};
 
-/// The line that tells a reply.
-fn reply_line(alloc: Global, reply: &Reply) -> Result<String, AllocError>
-    ensures { IfOk result (λ line. Tells reply.now (string_bytes line)) }
+/// The line that tells a reply. The token is the one that a restarted mirror has published.
+fn reply_line(alloc: Global, reply: &Reply, token: Option<&str>) -> Result<String, AllocError>
+    ensures { IfOk result (λ line. Tells (option_copied token.entry) reply.now (string_bytes line)) }
 {
     match reply {
         Reply::Committed(token) => {
@@ -27,21 +28,33 @@ fn reply_line(alloc: Global, reply: &Reply) -> Result<String, AllocError>
         Reply::Broke(_, FeedFault::Memory) => String::from_str(alloc, "broke out of memory\n"),
         Reply::Broke(_, fault) => format!(in alloc; "broke {fault}\n"),
         Reply::Cut => String::from_str(alloc, "cut\n"),
+        Reply::Saved(count) => format!(in alloc; "saved {count}\n"),
+        Reply::Restarted(_) => {
+            let token = token.unwrap_or("nothing");
+            format!(in alloc; "restarted {token}\n")
+        }
     }
 }
 
-/// Prints the line that tells a reply.
-pub fn print_reply(alloc: Global, reply: &Reply, out: &mut Vec<u8>) -> Result<(), AllocError>
-    ensures ok { OnOk result (Prints out.old.items out.new.items (Tells reply.now)) }
+/// Prints the line that tells a reply. The token is the one that a restarted mirror has published.
+pub fn print_reply(
+    alloc: Global,
+    reply: &Reply,
+    token: Option<&str>,
+    out: &mut Vec<u8>,
+) -> Result<(), AllocError>
+    ensures ok { OnOk result (Prints out.old.items out.new.items
+        (Tells (option_copied token.entry) reply.now)) }
     ensures err { OnErr result (out.new.items ≡ out.old.items) }
 {
-    let line = reply_line(alloc, reply)?;
+    let line = reply_line(alloc, reply, token)?;
     out.extend_from_slice(line.as_bytes())
 }
 
 /// Prints the snapshot of what a node shows, its token on the last line, or `nothing`.
 pub fn print_shown(alloc: Global, node: &Node, out: &mut Vec<u8>) -> Result<(), AllocError>
-    ensures ok { OnOk result (out.new.items ≡ out.old.items ++ shown_text node.now.shown.published) }
+    ensures ok { OnOk result (out.new.items
+        ≡ out.old.items ++ shown_text node.now.shown.published) }
     ensures err { OnErr result (out.new.items ≡ out.old.items) }
 {
     match node.open(alloc, None) {

@@ -19,7 +19,8 @@ use Rattle.feed_tables.specs.declared.tables.Table.TheVariants.{One, Many}
 use Rattle.feed_tables.proofs.AtFork.{total}
 use Rattle.feed_tables.proofs.Maps.{in_order_without, from_sorted_without}
 use Rattle.feed_tables.proofs.Within.{AllNamed, named_put, all-filter, listing_within}
-use Rattle.feed_tables.proofs.TablesLaws.{sized, sized_is}
+use Rattle.feed_tables.specs.Walks.{sized}
+use Rattle.feed_tables.proofs.Sizes.{size_is}
 
 -- ---- how many changes there are
 
@@ -40,10 +41,6 @@ length-listings (e ∷ es) =
 at_least_one : (changes : List Change) → length (or_clear changes) ≡ max 1 (length changes)
 at_least_one [] = refl
 at_least_one (c ∷ cs) = omega arith
-
-size_is : (contents : Contents) → size contents ≡ sized (entries contents)
-size_is contents =
-    ap (λ n. n + sum_by object_count (values contents)) (len-entries contents) ∙ sym (sized_is (entries contents))
 
 pub listing_has_size : ListingHasSize
 listing_has_size contents =

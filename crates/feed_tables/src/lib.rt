@@ -4,12 +4,15 @@
 mod change;
 mod collection;
 mod laws;
+mod map;
 mod name;
 mod objects;
-mod place;
+mod patch;
 mod tables;
+mod tree;
 
 pub use change::{Change, Changes};
 pub use laws::table_laws;
 pub use name::{NAME_BYTES, Name, NameFault};
+pub use patch::Patch;
 pub use tables::Tables;

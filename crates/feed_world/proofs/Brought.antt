@@ -1,5 +1,5 @@
 -- A mirror that has read a front of what was sent on its connection is where the whole blocks of that front bring it.
-use Rattle.std.proofs.Common.{◌≡◌, refl, sym, ap, ◌∙◌, subst, ℕ, zero, suc, ◌+◌, ◌-◌, ◌<◌, ◌≤◌, min, Bool, true, false, ◌&&◌, arith, List, [], ◌∷◌, ◌++◌, length, take, drop, append_assoc, length-append, length-drop, length-take-le, take-take, take-append-drop, Option, Some, None, Ok, nat_le, nat_lt, eqb-true, ltb-true, ltb-false}
+use Rattle.std.proofs.Common.{◌≡◌, refl, sym, ap, ◌∙◌, subst, ℕ, zero, suc, ◌+◌, ◌-◌, ◌<◌, ◌≤◌, min, Bool, true, false, ◌&&◌, arith, List, [], ◌∷◌, ◌++◌, length, take, drop, append_assoc, length-append, length-drop, length-take-le, take-take, take-append-drop, Option, Some, None, Ok, inr, nat_le, nat_lt, eqb-true, ltb-true, ltb-false}
 use Rattle.std.specs.Prelude.{if◌then◌else◌, ◌==◌}
 use Rattle.feed_note.specs.declared.line.Line.{Line}
 use Rattle.feed_node.specs.declared.fault.FeedFault.{FeedFault}
@@ -12,13 +12,13 @@ use Rattle.feed_world.specs.declared.event.Reply.TheVariants.{Delivered, Broke}
 use Rattle.feed_world.specs.Connection.{Part, Snapshot, Commit, Line_feed, Connection, part_text, sent_text, blocks_within, blocks_between, moved_by, GoOn, first_parts}
 use Rattle.feed_world.specs.Log.{Log, IsLog}
 use Rattle.feed_world.specs.Position.{Position, node_where, renewed, IsPosition, IsPlace}
-use Rattle.feed_world.specs.Reading.{opening_at, IsOpened, FrontsAreRead, ReadingIsOne}
+use Rattle.feed_node.specs.Steps.{ReadingIsOne}
+use Rattle.feed_world.specs.Reading.{opening_at, IsOpened, FrontsAreRead}
 use Rattle.feed_world.specs.States.{ConnectionState, FollowerState, IsConnection, IsReading, AreLinked, IsMirror, asks_with, Moves, BreaksMirror, IsBrought}
 use Rattle.feed_world.specs.Step.{reached, delivers, with_connection, mirror_delivers, brought_to}
 use Rattle.feed_world.specs.World.{Mirror}
-use Rattle.feed_world.proofs.Batches.{token_count-append}
 use Rattle.feed_world.proofs.Commits.{renewed_is_position}
-use Rattle.feed_world.proofs.Fronts.{not_zero}
+use Rattle.feed_world.proofs.Fronts.{not_zero, token_count-append}
 use Rattle.feed_world.proofs.Growth.{goes_up, fewer_blocks, deliveries_compose}
 
 -- ---- places
@@ -234,7 +234,7 @@ module _ (fronts : FrontsAreRead) (one : ReadingIsOne) (limits : Limits) (log : 
         (next.are ∙ (λ i. drop (k.delivered i) (take (min (k.delivered i + bytes) (length (k.text i))) (k.text i))))
 
     all_taken : (count : ℕ) → Feeds f.mirror piece new count
-        → Moves limits log (Ok (delivers limits.history log m c bytes)) (Delivered count) (record { mirror = new; upstream = f.upstream; connection = Some (past s bytes) })
+        → Moves limits log (Ok (delivers limits.history log m c bytes)) (Delivered count) (record f { mirror = new; connection = Some (past s bytes) })
     all_taken count feeds =
         let d = c.delivered in
         let e = reached log c bytes in
@@ -282,6 +282,8 @@ module _ (fronts : FrontsAreRead) (one : ReadingIsOne) (limits : Limits) (log : 
                 afresh = b.afresh;
               },
             );
+            in_log = h.in_log;
+            saved = h.saved;
           },
         )
 
@@ -298,7 +300,7 @@ module _ (fronts : FrontsAreRead) (one : ReadingIsOne) (limits : Limits) (log : 
         by false e = absurd (never (nothing_next (ltb-false c.delivered (reached log c bytes) e)))
 
     lost_some : (piece ≡ [] → ⊥) → m.connection ≡ Some c → HasLost (opening_at log r.before c.fresh) (take c.delivered (sent_text log c)) piece f.mirror new
-        → BreaksMirror limits log m bytes (record { mirror = new; upstream = f.upstream; connection = None })
+        → BreaksMirror limits log m bytes (record f { mirror = new; connection = None })
     lost_some never there l =
         let d = c.delivered in
         let e = reached log c bytes in
@@ -331,6 +333,8 @@ module _ (fronts : FrontsAreRead) (one : ReadingIsOne) (limits : Limits) (log : 
             node = ap (λ s. s.node) l.state ∙ ap (λ b. keep_latest b.history (reads opening l.notes)) h.bounds ∙ b.node;
             since = ap (λ s. s.since) l.state ∙ b.since;
             linked = ap (λ s. s.connection) l.state;
+            in_log = h.in_log;
+            saved = h.saved;
           };
         }
 
@@ -344,7 +348,7 @@ module _ (fronts : FrontsAreRead) (one : ReadingIsOne) (limits : Limits) (log : 
         (subst (λ bs. FaultsAt limits opening bs notes fault) makes_front (subst (λ l. FaultsAt l opening (take c.delivered text ++ piece) notes fault) h.bounds stop.first))
 
     stopped : (fault : FeedFault) → (piece ≡ [] → fault ≡ FeedMemory → ⊥) → m.connection ≡ Some c → Faulted (opening_at log r.before c.fresh) (take c.delivered (sent_text log c)) piece f.mirror new fault
-        → (fault ≡ FeedMemory) × BreaksMirror limits log m bytes (record { mirror = new; upstream = f.upstream; connection = None })
+        → (fault ≡ FeedMemory) × BreaksMirror limits log m bytes (record f { mirror = new; connection = None })
     stopped FeedMemory never there l = (refl, lost_some (λ e. never e refl) there l)
     stopped NotOpen never there l = absurd (faultless NotOpen l.0 l.1)
     stopped LongLine never there l = absurd (faultless LongLine l.0 l.1)
@@ -353,26 +357,26 @@ module _ (fronts : FrontsAreRead) (one : ReadingIsOne) (limits : Limits) (log : 
     stopped StageFull never there l = absurd (faultless StageFull l.0 l.1)
 
   pub brings_all : f.connection ≡ Some s → (count : ℕ) → Feeds f.mirror piece new count → (after : ConnectionState) → after ≡ past s bytes
-      → Moves limits log (mirror_delivers limits.history log bytes m) (Delivered count) (record { mirror = new; upstream = f.upstream; connection = Some after })
+      → Moves limits log (mirror_delivers limits.history log bytes m) (Delivered count) (record f { mirror = new; connection = Some after })
   brings_all there count feeds after is =
-      subst (λ t. Moves limits log (mirror_delivers limits.history log bytes m) (Delivered count) (record { mirror = new; upstream = f.upstream; connection = Some t })) (sym is)
+      subst (λ t. Moves limits log (mirror_delivers limits.history log bytes m) (Delivered count) (record f { mirror = new; connection = Some t })) (sym is)
       (by m.connection (subst (AreLinked limits log m m.connection f) there h.linked))
     where
       by : (o : Option Connection) → AreLinked limits log m o f (Some s)
-          → Moves limits log (with_connection o (λ c. delivers limits.history log m c bytes)) (Delivered count) (record { mirror = new; upstream = f.upstream; connection = Some (past s bytes) })
+          → Moves limits log (with_connection o (λ c. delivers limits.history log m c bytes)) (Delivered count) (record f { mirror = new; connection = Some (past s bytes) })
       by None l = absurd l
       by (Some c) l = all_taken c l.0 l.1 count feeds
 
   pub brings_some : f.connection ≡ Some s → (number : ℕ) (fault : FeedFault) → (piece ≡ [] → fault ≡ FeedMemory → ⊥) → Stops f.mirror piece new fault → (after : Option ConnectionState) → after ≡ None
-      → IsBrought limits log m number bytes (Broke number fault) (record { mirror = new; upstream = f.upstream; connection = after })
+      → IsBrought limits log m number bytes (Broke number fault) (record f { mirror = new; connection = after })
   brings_some there number fault never stops after is =
-      subst (λ o. IsBrought limits log m number bytes (Broke number fault) (record { mirror = new; upstream = f.upstream; connection = o })) (sym is)
+      subst (λ o. IsBrought limits log m number bytes (Broke number fault) (record f { mirror = new; connection = o })) (sym is)
       (by m.connection refl (subst (AreLinked limits log m m.connection f) there h.linked))
     where
       by : (o : Option Connection) → m.connection ≡ o → AreLinked limits log m o f (Some s)
-          → IsBrought limits log m number bytes (Broke number fault) (record { mirror = new; upstream = f.upstream; connection = None })
+          → IsBrought limits log m number bytes (Broke number fault) (record f { mirror = new; connection = None })
       by None e l = absurd l
       by (Some c) e l =
           let r = l.1 in
           let stop = stopped c l.0 r fault never e (stops (opening_at log r.before c.fresh) (take c.delivered (sent_text log c)) r.notes r.stands) in
-          (refl, stop.0, stop.1)
+          inr (ap (Broke number) stop.0, stop.1)

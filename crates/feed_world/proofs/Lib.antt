@@ -1,5 +1,5 @@
 pub mod Answered
-pub mod Batches
+pub mod Asked
 pub mod Brought
 pub mod Commits
 pub mod Committed
@@ -7,12 +7,12 @@ pub mod Connecting
 pub mod Fronts
 pub mod Grown
 pub mod Growth
-pub mod Lines
 pub mod Linked
 pub mod Listings
+pub mod Lists
 pub mod Moved
-pub mod OneReading
 pub mod Reached
+pub mod Saved
 pub mod Scripts
 pub mod Served
 pub mod Stepped

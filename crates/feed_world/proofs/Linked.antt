@@ -118,19 +118,19 @@ served_any limits log c place P h now over more = chosen (λ (r : Pulled × Conn
 
 -- the mirror with another connection
 mirror_on : (limits : Limits) (log : Log) (m : Mirror) (f : FollowerState) (next : Option Connection) (other : Option ConnectionState) → IsMirror limits log m f
-    → AreLinked limits log (linked m next) next (record { mirror = f.mirror; upstream = f.upstream; connection = other }) other
-    → IsMirror limits log (linked m next) (record { mirror = f.mirror; upstream = f.upstream; connection = other })
-mirror_on limits log m f next other is l = record { place = is.place; upstream = is.upstream; bounds = is.bounds; node = is.node; since = is.since; linked = l }
+    → AreLinked limits log (linked m next) next (record f { connection = other }) other
+    → IsMirror limits log (linked m next) (record f { connection = other })
+mirror_on limits log m f next other is l = record { place = is.place; upstream = is.upstream; bounds = is.bounds; node = is.node; since = is.since; linked = l; in_log = is.in_log; saved = is.saved }
 
 pub mirror_served : (limits : Limits) (log : Log) (m : Mirror) (place : Option Position) (f : FollowerState) (s : ConnectionState) → f.connection ≡ Some s
     → IsLog limits log → IsPlace limits log place → IsMirror limits log m f → (pulled : Pulled) (t : ConnectionState)
     → ((c : Connection) → c.last ≤ length log → IsConnection log c s → (pulled ≡ (serves c place).0) × IsConnection log (serves c place).1 t)
-    → Moves limits log (mirror_serves m place) (Sent pulled) (record { mirror = f.mirror; upstream = f.upstream; connection = Some t })
+    → Moves limits log (mirror_serves m place) (Sent pulled) (record f { connection = Some t })
 mirror_served limits log m place f s held is_log is_place is pulled t serving =
     by m.connection (subst (AreLinked limits log m m.connection f) held is.linked)
   where
     by : (o : Option Connection) → AreLinked limits log m o f (Some s)
-        → Moves limits log (with_connection o (λ c. (Sent (serves c place).0, linked m (Some (serves c place).1)))) (Sent pulled) (record { mirror = f.mirror; upstream = f.upstream; connection = Some t })
+        → Moves limits log (with_connection o (λ c. (Sent (serves c place).0, linked m (Some (serves c place).1)))) (Sent pulled) (record f { connection = Some t })
     by None l = absurd l
     by (Some c) l =
         let served = serving c l.1.opened.sent l.0 in
@@ -148,12 +148,12 @@ mirror_served limits log m place f s held is_log is_place is pulled t serving =
 pub mirror_idled : (limits : Limits) (log : Log) (m : Mirror) (f : FollowerState) (s : ConnectionState) → f.connection ≡ Some s
     → IsMirror limits log m f → (reply : Reply) (t : ConnectionState)
     → ((c : Connection) → IsConnection log c s → (reply ≡ (idles c).0) × IsConnection log (idles c).1 t)
-    → Moves limits log (mirror_idles m) reply (record { mirror = f.mirror; upstream = f.upstream; connection = Some t })
+    → Moves limits log (mirror_idles m) reply (record f { connection = Some t })
 mirror_idled limits log m f s held is reply t idling =
     by m.connection (subst (AreLinked limits log m m.connection f) held is.linked)
   where
     by : (o : Option Connection) → AreLinked limits log m o f (Some s)
-        → Moves limits log (with_connection o (λ c. ((idles c).0, linked m (Some (idles c).1)))) reply (record { mirror = f.mirror; upstream = f.upstream; connection = Some t })
+        → Moves limits log (with_connection o (λ c. ((idles c).0, linked m (Some (idles c).1)))) reply (record f { connection = Some t })
     by None l = absurd l
     by (Some c) l =
         let idled = idling c l.0 in

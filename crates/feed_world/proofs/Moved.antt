@@ -1,23 +1,23 @@
 -- What an event at one mirror does to all nodes.
-use Rattle.std.proofs.Common.{◌≡◌, refl, sym, ap, ◌∙◌, subst, ℕ, zero, suc, ◌+◌, ◌-◌, ◌<◌, ◌≤◌, Bool, true, false, arith, List, [], ◌∷◌, ◌++◌, length, map, take, drop, Option, Some, None, Result, Ok, Err, IfOk, IfErr, slice_get, slice_set, get_or}
+use Rattle.std.proofs.Common.{◌≡◌, refl, sym, ap, ◌∙◌, subst, ℕ, zero, suc, ◌+◌, ◌-◌, ◌<◌, ◌≤◌, Bool, true, false, arith, List, [], ◌∷◌, ◌++◌, length, map, take, drop, Option, Some, None, inl, inr, Result, Ok, Err, IfOk, IfErr, slice_get, slice_set, get_or}
 use Rattle.std.proofs.lemmas.Option.{slice_get_past, slice_get-get_or}
 use Rattle.std.specs.Option.{option_and_then}
-use Rattle.std.specs.Prelude.{IsTrue, if◌then◌else◌}
-use Rattle.feed_node.specs.declared.fault.FeedFault.{FeedFault}
+use Rattle.std.specs.Prelude.{IsTrue, if◌then◌else◌, ◌⊎◌}
 use Rattle.feed_node.specs.declared.fault.FeedFault.TheVariants.{Memory as FeedMemory}
 use Rattle.feed_node.specs.Limits.{Limits}
 use Rattle.feed_node.specs.Log.{PrimaryState}
 use Rattle.feed_node.specs.States.{NodeState}
-use Rattle.feed_world.specs.declared.event.Event.TheVariants.{Connect, Serve, Idle, Deliver, Cut as DoCut}
+use Rattle.feed_world.specs.declared.event.Event.{Event}
+use Rattle.feed_world.specs.declared.event.Event.TheVariants.{Deliver}
 use Rattle.feed_world.specs.declared.event.Reply.{Reply}
-use Rattle.feed_world.specs.declared.event.Reply.TheVariants.{Committed, Opened, Refused, NotYet, Sent, Idled, Delivered, Broke, Cut}
+use Rattle.feed_world.specs.declared.event.Reply.TheVariants.{Broke}
 use Rattle.feed_world.specs.declared.event.WorldFault.{WorldFault}
-use Rattle.feed_world.specs.declared.event.WorldFault.TheVariants.{NoNode, NoConnection, Commit as CommitRefused, Memory}
+use Rattle.feed_world.specs.declared.event.WorldFault.TheVariants.{NoNode, NoConnection, Memory}
 use Rattle.feed_world.specs.Log.{Log}
 use Rattle.feed_world.specs.Connection.{Connection}
 use Rattle.feed_world.specs.Position.{Position, IsPlace, node_where}
 use Rattle.feed_world.specs.States.{FollowerState, IsMirror, ConnectionState, AreLinked, AreMirrors, AreNodes, Moves, RefusesMove, BreaksMirror, NodesMove, IsBrought, all_shown}
-use Rattle.feed_world.specs.Step.{Move, Outcome, outcome, at_node, with_node, after_move, with_connection, is_free, is_free_reply, IsRefused, Step, Breaks, mirror_connects, mirror_serves, mirror_idles, mirror_delivers, mirror_cuts, connects, connects_to, holds_number, brought_to}
+use Rattle.feed_world.specs.Step.{Move, Outcome, outcome, at_node, with_node, after_move, with_connection, is_free, is_free_reply, IsRefused, Breaks, mirror_connects, mirror_serves, mirror_idles, mirror_delivers, mirror_cuts, mirror_saves, mirror_restarts, connects, connects_to, holds_number, brought_to}
 use Rattle.feed_world.specs.World.{Mirror, World, HasShape, mirror_at, with_mirror, place_at}
 
 -- ---- lists of mirrors
@@ -106,7 +106,7 @@ abbrev pub RefusesOutcome : Outcome → WorldFault → Type 0
 RefusesOutcome (Ok p) fault = (fault ≡ Memory) × (is_free_reply p.0 ≡ false)
 RefusesOutcome (Err reason) fault = fault ≡ reason
 
-pub move_refused : (w : World) (i : ℕ) (r : Result Move WorldFault) (fault : WorldFault) → RefusesMove r fault → RefusesOutcome (after_move w i r) fault
+move_refused : (w : World) (i : ℕ) (r : Result Move WorldFault) (fault : WorldFault) → RefusesMove r fault → RefusesOutcome (after_move w i r) fault
 move_refused w i (Ok move) fault k = k
 move_refused w i (Err reason) fault k = k
 
@@ -114,19 +114,20 @@ not_of_false : (b : Bool) → b ≡ false → ¬ (IsTrue b)
 not_of_false true e t = absurd (cc)
 not_of_false false e t = absurd (cc)
 
--- a fault that is not a want of memory is the outcome; a want of memory comes where memory is taken
-pub refused_as : (o : Outcome) (fault : WorldFault) → ¬ (fault ≡ Memory) → RefusesOutcome o fault → o ≡ Err fault
+-- a fault is the outcome, or a want of memory that comes where memory is taken
+pub refused_by : (o : Outcome) (fault : WorldFault) → RefusesOutcome o fault → (o ≡ Err fault) ⊎ ((fault ≡ Memory) × ¬ (IsTrue (is_free o)))
+refused_by (Ok p) fault k = inr (k.0, not_of_false (is_free_reply p.0) k.1)
+refused_by (Err reason) fault k = inl (ap Err (sym k))
+
+-- one that is none is the outcome
+refused_as : (o : Outcome) (fault : WorldFault) → ¬ (fault ≡ Memory) → RefusesOutcome o fault → o ≡ Err fault
 refused_as (Ok p) fault other k = absurd (other k.0)
 refused_as (Err reason) fault other k = ap Err (sym k)
 
-pub memory_taken : (o : Outcome) → RefusesOutcome o Memory → ¬ (IsTrue (is_free o))
-memory_taken (Ok p) k t = not_of_false (is_free_reply p.0) k.1 t
-memory_taken (Err NoNode) k t = absurd (cc)
-memory_taken (Err NoConnection) k t = absurd (cc)
-memory_taken (Err (CommitRefused fault)) k t = absurd (cc)
-memory_taken (Err Memory) k t = absurd (cc)
-
 -- ---- which moves keep the node that a mirror is behind
+
+abbrev pub Keeps : (Mirror → Result Move WorldFault) → Type 0
+Keeps act = (m : Mirror) → IfOk (act m) (λ move. move.1.upstream ≡ m.upstream)
 
 choose_keeps : (m : Mirror) (b : Bool) (x y : Move) → x.1.upstream ≡ m.upstream → y.1.upstream ≡ m.upstream → (if b then x else y).1.upstream ≡ m.upstream
 choose_keeps m true x y p q = p
@@ -136,13 +137,34 @@ connects_to_keeps : (m : Mirror) (server : Position) (own : Option Position) →
 connects_to_keeps m server None = refl
 connects_to_keeps m server (Some own) = choose_keeps m m.afresh _ _ refl (choose_keeps m (holds_number server own.at) _ _ refl refl)
 
-pub connects_keeps : (m : Mirror) (server : Option Position) → (connects m server).1.upstream ≡ m.upstream
+connects_keeps : (m : Mirror) (server : Option Position) → (connects m server).1.upstream ≡ m.upstream
 connects_keeps m None = refl
 connects_keeps m (Some server) = connects_to_keeps m server m.place
 
-pub linked_keeps : (m : Mirror) (c : Option Connection) (act : Connection → Move) → ((d : Connection) → (act d).1.upstream ≡ m.upstream) → IfOk (with_connection c act) (λ move. move.1.upstream ≡ m.upstream)
+linked_keeps : (m : Mirror) (c : Option Connection) (act : Connection → Move) → ((d : Connection) → (act d).1.upstream ≡ m.upstream) → IfOk (with_connection c act) (λ move. move.1.upstream ≡ m.upstream)
 linked_keeps m None act k = tt
 linked_keeps m (Some c) act k = k c
+
+pub keeps_connect : (w : World) → Keeps (λ m. mirror_connects m (place_at w m.upstream))
+keeps_connect w m = connects_keeps m (place_at w m.upstream)
+
+pub keeps_serve : (w : World) → Keeps (λ m. mirror_serves m (place_at w m.upstream))
+keeps_serve w m = linked_keeps m m.connection _ (λ c. refl)
+
+pub keeps_idle : Keeps mirror_idles
+keeps_idle m = linked_keeps m m.connection _ (λ c. refl)
+
+keeps_deliver : (history : ℕ) (log : Log) (n : ℕ) → Keeps (mirror_delivers history log n)
+keeps_deliver history log n m = linked_keeps m m.connection _ (λ c. refl)
+
+pub keeps_cut : Keeps mirror_cuts
+keeps_cut m = linked_keeps m m.connection _ (λ c. refl)
+
+pub keeps_save : (log : Log) → Keeps (mirror_saves log)
+keeps_save log m = refl
+
+pub keeps_restart : (log : Log) (n : ℕ) → Keeps (mirror_restarts log n)
+keeps_restart log n m = refl
 
 -- ---- where nodes are
 
@@ -178,56 +200,8 @@ module _ (w : World) (primary : PrimaryState) (fs : List FollowerState) (h : Are
 
 -- ---- events
 
-module _ (w : World) (primary : PrimaryState) (fs : List FollowerState) (h : AreNodes w primary fs) (number place : ℕ) (same : number ≡ suc place) where
-  -- the mirror of the number
-  pub there : (d : FollowerState) → place < length fs → (m : Mirror) × (slice_get w.mirrors place ≡ Some m) × IsMirror w.limits w.log m (get_or fs place d)
-  there d less = mirror_of w.limits w.log w.mirrors fs place (get_or fs place d) h.mirrors (slice_get-get_or fs place d less)
-
-  leads : (m : Mirror) (act : Mirror → Result Move WorldFault) → slice_get w.mirrors place ≡ Some m → IfOk (act m) (λ move. move.1.upstream ≡ m.upstream)
-      → (reply : Reply) (f : FollowerState) → Moves w.limits w.log (act m) reply f → LeadsTo w (at_node w number act) primary reply (slice_set fs place f)
-  leads m act e keeps reply f k =
-      subst (λ n. LeadsTo w (at_node w n act) primary reply (slice_set fs place f)) (sym same)
-      (subst (λ o. LeadsTo w o primary reply (slice_set fs place f)) (sym (outcome_at w place m act e)) (moved w primary fs h place m (act m) e keeps reply f k))
-
-  refuses : (m : Mirror) (act : Mirror → Result Move WorldFault) → slice_get w.mirrors place ≡ Some m → (fault : WorldFault) → RefusesMove (act m) fault → RefusesOutcome (at_node w number act) fault
-  refuses m act e fault k =
-      subst (λ n. RefusesOutcome (at_node w n act) fault) (sym same)
-      (subst (λ o. RefusesOutcome o fault) (sym (outcome_at w place m act e)) (move_refused w (suc place) (act m) fault k))
-
--- ---- what each event leads to, and why it is refused
-
-abbrev Served : World → Mirror → Option Position
-Served w m = place_at w m.upstream
-
-pub connect_moves : (w : World) (primary : PrimaryState) (i : ℕ) (reply : Reply) (fs : List FollowerState) → LeadsTo w (outcome w (Connect i)) primary reply fs → NodesMove w primary (Connect i) reply fs
-connect_moves w primary i reply fs l = (l.after, record { step = l.outcome; limits = l.limits; log = l.log }, l.nodes)
-
-pub serve_moves : (w : World) (primary : PrimaryState) (i : ℕ) (reply : Reply) (fs : List FollowerState) → LeadsTo w (outcome w (Serve i)) primary reply fs → NodesMove w primary (Serve i) reply fs
-serve_moves w primary i reply fs l = (l.after, record { step = l.outcome; limits = l.limits; log = l.log }, l.nodes)
-
-pub idle_moves : (w : World) (primary : PrimaryState) (i : ℕ) (reply : Reply) (fs : List FollowerState) → LeadsTo w (outcome w (Idle i)) primary reply fs → NodesMove w primary (Idle i) reply fs
-idle_moves w primary i reply fs l = (l.after, record { step = l.outcome; limits = l.limits; log = l.log }, l.nodes)
-
-pub cut_moves : (w : World) (primary : PrimaryState) (i : ℕ) (reply : Reply) (fs : List FollowerState) → LeadsTo w (outcome w (DoCut i)) primary reply fs → NodesMove w primary (DoCut i) reply fs
-cut_moves w primary i reply fs l = (l.after, record { step = l.outcome; limits = l.limits; log = l.log }, l.nodes)
-
-pub connect_refused : (w : World) (i : ℕ) (fault : WorldFault) → RefusesOutcome (outcome w (Connect i)) fault → IsRefused w (Connect i) fault
-connect_refused w i NoNode k = refused_as (outcome w (Connect i)) NoNode (λ e. absurd (cc)) k
-connect_refused w i NoConnection k = refused_as (outcome w (Connect i)) NoConnection (λ e. absurd (cc)) k
-connect_refused w i (CommitRefused fault) k = refused_as (outcome w (Connect i)) (CommitRefused fault) (λ e. absurd (cc)) k
-connect_refused w i Memory k = memory_taken (outcome w (Connect i)) k
-
-pub serve_refused : (w : World) (i : ℕ) (fault : WorldFault) → RefusesOutcome (outcome w (Serve i)) fault → IsRefused w (Serve i) fault
-serve_refused w i NoNode k = refused_as (outcome w (Serve i)) NoNode (λ e. absurd (cc)) k
-serve_refused w i NoConnection k = refused_as (outcome w (Serve i)) NoConnection (λ e. absurd (cc)) k
-serve_refused w i (CommitRefused fault) k = refused_as (outcome w (Serve i)) (CommitRefused fault) (λ e. absurd (cc)) k
-serve_refused w i Memory k = memory_taken (outcome w (Serve i)) k
-
-pub idle_refused : (w : World) (i : ℕ) (fault : WorldFault) → RefusesOutcome (outcome w (Idle i)) fault → IsRefused w (Idle i) fault
-idle_refused w i NoNode k = refused_as (outcome w (Idle i)) NoNode (λ e. absurd (cc)) k
-idle_refused w i NoConnection k = refused_as (outcome w (Idle i)) NoConnection (λ e. absurd (cc)) k
-idle_refused w i (CommitRefused fault) k = refused_as (outcome w (Idle i)) (CommitRefused fault) (λ e. absurd (cc)) k
-idle_refused w i Memory k = memory_taken (outcome w (Idle i)) k
+event_moves : (w : World) (primary : PrimaryState) (event : Event) (reply : Reply) (fs : List FollowerState) → LeadsTo w (outcome w event) primary reply fs → NodesMove w primary event reply fs
+event_moves w primary event reply fs l = (l.after, record { step = inl l.outcome; limits = l.limits; log = l.log }, l.nodes)
 
 -- a mirror without a connection has none in memory, and the other way round
 no_link : (limits : Limits) (log : Log) (m : Mirror) (f : FollowerState) (c : Option Connection) (s : Option ConnectionState) → AreLinked limits log m c f s → s ≡ None → c ≡ None
@@ -235,18 +209,14 @@ no_link limits log m f None s k e = refl
 no_link limits log m f (Some c) None k e = absurd k
 no_link limits log m f (Some c) (Some s) k e = absurd (cc)
 
-pub nothing_linked : (limits : Limits) (log : Log) (m : Mirror) (f : FollowerState) → IsMirror limits log m f → f.connection ≡ None → m.connection ≡ None
-nothing_linked limits log m f k e = no_link limits log m f m.connection f.connection k.linked e
-
 -- where there is no connection, a cut and a delivery are refused
-pub refused_unlinked : (m : Mirror) (act : Connection → Move) (fault : WorldFault) → m.connection ≡ None → fault ≡ NoConnection → RefusesMove (with_connection m.connection act) fault
-refused_unlinked m act fault e f = subst (λ o. RefusesMove (with_connection o act) fault) (sym e) f
+module _ (limits : Limits) (log : Log) (m : Mirror) (f : FollowerState) (act : Connection → Move) where
+  unlinked : (fault : WorldFault) → IsMirror limits log m f → (fault ≡ NoConnection) × (f.connection ≡ None) → RefusesMove (with_connection m.connection act) fault
+  unlinked fault k e = subst (λ o. RefusesMove (with_connection o act) fault) (sym (no_link limits log m f m.connection f.connection k.linked e.1)) e.0
 
-pub cut_refused : (w : World) (i : ℕ) (fault : WorldFault) → fault ≡ NoConnection → RefusesOutcome (outcome w (DoCut i)) fault → IsRefused w (DoCut i) fault
-cut_refused w i fault e k = subst (IsRefused w (DoCut i)) (sym e) (refused_as (outcome w (DoCut i)) NoConnection (λ e. absurd (cc)) (subst (RefusesOutcome (outcome w (DoCut i))) e k))
-
-pub deliver_refused : (w : World) (i n : ℕ) (fault : WorldFault) → fault ≡ NoConnection → RefusesOutcome (outcome w (Deliver i n)) fault → IsRefused w (Deliver i n) fault
-deliver_refused w i n fault e k = subst (IsRefused w (Deliver i n)) (sym e) (refused_as (outcome w (Deliver i n)) NoConnection (λ e. absurd (cc)) (subst (RefusesOutcome (outcome w (Deliver i n))) e k))
+  pub refused_unlinked : (r : Result Reply WorldFault) → IsMirror limits log m f → IfErr r (λ fault. (fault ≡ NoConnection) × (f.connection ≡ None)) → IfErr r (λ fault. RefusesMove (with_connection m.connection act) fault)
+  refused_unlinked (Ok reply) k e = tt
+  refused_unlinked (Err fault) k e = unlinked fault k e
 
 -- no mirror has the number
 no_mirror : (w : World) (number : ℕ) (act : Mirror → Result Move WorldFault) → ((place : ℕ) → number ≡ suc place → length w.mirrors ≤ place) → at_node w number act ≡ Err NoNode
@@ -258,61 +228,44 @@ pub nobody : (w : World) (primary : PrimaryState) (fs : List FollowerState) → 
 nobody w primary fs h number act k =
     no_mirror w number act (λ place e. let l = same_length w.limits w.log w.mirrors fs h.mirrors in let m = k place e in omega arith)
 
-pub keeps_idle : (m : Mirror) → IfOk (mirror_idles m) (λ move. move.1.upstream ≡ m.upstream)
-keeps_idle m = linked_keeps m m.connection _ (λ c. refl)
-
-pub keeps_serve : (m : Mirror) (server : Option Position) → IfOk (mirror_serves m server) (λ move. move.1.upstream ≡ m.upstream)
-keeps_serve m server = linked_keeps m m.connection _ (λ c. refl)
-
-pub keeps_cut : (m : Mirror) → IfOk (mirror_cuts m) (λ move. move.1.upstream ≡ m.upstream)
-keeps_cut m = linked_keeps m m.connection _ (λ c. refl)
-
-pub keeps_deliver : (history : ℕ) (log : Log) (n : ℕ) (m : Mirror) → IfOk (mirror_delivers history log n m) (λ move. move.1.upstream ≡ m.upstream)
-keeps_deliver history log n m = linked_keeps m m.connection _ (λ c. refl)
-
-pub keeps_connect : (m : Mirror) (server : Option Position) → IfOk (mirror_connects m server) (λ move. move.1.upstream ≡ m.upstream)
-keeps_connect m server = connects_keeps m server
-
 module _ (w : World) (primary : PrimaryState) (fs : List FollowerState) (h : AreNodes w primary fs) (number place : ℕ) (same : number ≡ suc place) (d : FollowerState) (less : place < length fs) where
   -- the mirror of this number
   at : (m : Mirror) × (slice_get w.mirrors place ≡ Some m) × IsMirror w.limits w.log m (get_or fs place d)
-  at = there w primary fs h number place same d less
+  at = mirror_of w.limits w.log w.mirrors fs place (get_or fs place d) h.mirrors (slice_get-get_or fs place d less)
 
-  pub idle_leads : (r : Result Reply WorldFault) (f : FollowerState)
-      → ((m : Mirror) → IsMirror w.limits w.log m (get_or fs place d) → IfOk r (λ reply. Moves w.limits w.log (mirror_idles m) reply f)) → IfOk r (λ reply. NodesMove w primary (Idle number) reply (slice_set fs place f))
-  idle_leads (Ok reply) f k = idle_moves w primary number reply _ (leads w primary fs h number place same at.0 mirror_idles at.1 (keeps_idle at.0) reply f (k at.0 at.2))
-  idle_leads (Err fault) f k = tt
+  leads : (act : Mirror → Result Move WorldFault) → Keeps act → (reply : Reply) (f : FollowerState) → Moves w.limits w.log (act at.0) reply f
+      → LeadsTo w (at_node w number act) primary reply (slice_set fs place f)
+  leads act keeps reply f k =
+      subst (λ n. LeadsTo w (at_node w n act) primary reply (slice_set fs place f)) (sym same)
+      (subst (λ o. LeadsTo w o primary reply (slice_set fs place f)) (sym (outcome_at w place at.0 act at.1)) (moved w primary fs h place at.0 (act at.0) at.1 (keeps at.0) reply f k))
 
-  pub idle_fails : (r : Result Reply WorldFault)
-      → ((m : Mirror) → IsMirror w.limits w.log m (get_or fs place d) → IfErr r (λ fault. RefusesMove (mirror_idles m) fault)) → IfErr r (λ fault. IsRefused w (Idle number) fault)
-  idle_fails (Ok reply) k = tt
-  idle_fails (Err fault) k = idle_refused w number fault (refuses w primary fs h number place same at.0 mirror_idles at.1 fault (k at.0 at.2))
+  refuses : (act : Mirror → Result Move WorldFault) (fault : WorldFault) → RefusesMove (act at.0) fault → RefusesOutcome (at_node w number act) fault
+  refuses act fault k =
+      subst (λ n. RefusesOutcome (at_node w n act) fault) (sym same)
+      (subst (λ o. RefusesOutcome o fault) (sym (outcome_at w place at.0 act at.1)) (move_refused w (suc place) (act at.0) fault k))
 
-  pub cut_leads : (r : Result Reply WorldFault) (f : FollowerState)
-      → ((m : Mirror) → IsMirror w.limits w.log m (get_or fs place d) → IfOk r (λ reply. Moves w.limits w.log (mirror_cuts m) reply f)) → IfOk r (λ reply. NodesMove w primary (DoCut number) reply (slice_set fs place f))
-  cut_leads (Ok reply) f k = cut_moves w primary number reply _ (leads w primary fs h number place same at.0 mirror_cuts at.1 (keeps_cut at.0) reply f (k at.0 at.2))
-  cut_leads (Err fault) f k = tt
+  -- an event at which the mirror makes this move
+  pub move_leads : (event : Event) (act : Mirror → Result Move WorldFault) → at_node w number act ≡ outcome w event → Keeps act → (r : Result Reply WorldFault) (f : FollowerState)
+      → ((m : Mirror) → IsMirror w.limits w.log m (get_or fs place d) → IfOk r (λ reply. Moves w.limits w.log (act m) reply f))
+      → IfOk r (λ reply. NodesMove w primary event reply (slice_set fs place f))
+  move_leads event act is keeps (Ok reply) f k =
+      event_moves w primary event reply _ (subst (λ o. LeadsTo w o primary reply (slice_set fs place f)) is (leads act keeps reply f (k at.0 at.2)))
+  move_leads event act is keeps (Err fault) f k = tt
 
-  pub cut_fails : (r : Result Reply WorldFault) → IfErr r (λ fault. (fault ≡ NoConnection) × ((get_or fs place d).connection ≡ None)) → IfErr r (λ fault. IsRefused w (DoCut number) fault)
-  cut_fails (Ok reply) k = tt
-  cut_fails (Err fault) k =
-      let none = nothing_linked w.limits w.log at.0 _ at.2 k.1 in
-      cut_refused w number fault k.0 (refuses w primary fs h number place same at.0 mirror_cuts at.1 fault (refused_unlinked at.0 _ fault none k.0))
+  -- why it makes none; a want of memory is told so
+  pub move_fails : (act : Mirror → Result Move WorldFault) (r : Result Reply WorldFault)
+      → ((m : Mirror) → IsMirror w.limits w.log m (get_or fs place d) → IfErr r (λ fault. RefusesMove (act m) fault))
+      → IfErr r (λ fault. (at_node w number act ≡ Err fault) ⊎ ((fault ≡ Memory) × ¬ (IsTrue (is_free (at_node w number act)))))
+  move_fails act (Ok reply) k = tt
+  move_fails act (Err fault) k = refused_by (at_node w number act) fault (refuses act fault (k at.0 at.2))
 
-  -- another reply than a broken connection
-  delivered : (reply : Reply) (n : ℕ) (f : FollowerState) → Moves w.limits w.log (mirror_delivers w.limits.history w.log n at.0) reply f
-      → LeadsTo w (outcome w (Deliver number n)) primary reply (slice_set fs place f)
-  delivered reply n f k =
-      leads w primary fs h number place same at.0 (mirror_delivers w.limits.history w.log n) at.1 (keeps_deliver w.limits.history w.log n at.0) reply f k
-
-  broken : (n i : ℕ) (fault : FeedFault) (f : FollowerState) → i ≡ number → fault ≡ FeedMemory → BreaksMirror w.limits w.log at.0 n f → NodesMove w primary (Deliver number n) (Broke i fault) (slice_set fs place f)
-  broken n i fault f e g b =
+  broken : (n : ℕ) (reply : Reply) (f : FollowerState) → reply ≡ Broke number FeedMemory → BreaksMirror w.limits w.log at.0 n f → NodesMove w primary (Deliver number n) reply (slice_set fs place f)
+  broken n reply f is b =
       let after : World = with_mirror w (suc place) (brought_to w.limits.history w.log at.0 b.connection b.e None) in
-      let there : mirror_at w number ≡ Some at.0 = ap (mirror_at w) same ∙ at.1 in
       let breaks : Breaks w number n after = record {
         mirror = at.0;
         connection = b.connection;
-        is_there = there;
+        is_there = ap (mirror_at w) same ∙ at.1;
         is_linked = b.is_linked;
         some = b.some;
         e = b.e;
@@ -320,27 +273,23 @@ module _ (w : World) (primary : PrimaryState) (fs : List FollowerState) (h : Are
         to = b.to;
         after = ap (λ j. with_mirror w j (brought_to w.limits.history w.log at.0 b.connection b.e None)) (sym same);
       } in
-      let step : Step w (Deliver number n) (Broke i fault) after = subst (λ x. Step w (Deliver number n) (Broke i x) after) (sym g) (e, breaks) in
-      (after, record { step = step; limits = refl; log = refl }, put_back w primary fs h place at.0 _ f at.1 refl b.is_mirror)
+      (after, record { step = inr (is, breaks); limits = refl; log = refl }, put_back w primary fs h place at.0 _ f at.1 refl b.is_mirror)
+
+  delivered : (n : ℕ) (reply : Reply) (f : FollowerState) → IsBrought w.limits w.log at.0 number n reply f → NodesMove w primary (Deliver number n) reply (slice_set fs place f)
+  delivered n reply f (inl moves) =
+      event_moves w primary (Deliver number n) reply _ (leads (mirror_delivers w.limits.history w.log n) (keeps_deliver w.limits.history w.log n) reply f moves)
+  delivered n reply f (inr broke) = broken n reply f broke.0 broke.1
 
   pub deliver_leads : (n : ℕ) (r : Result Reply WorldFault) (f : FollowerState)
       → ((m : Mirror) → IsMirror w.limits w.log m (get_or fs place d) → IfOk r (λ reply. IsBrought w.limits w.log m number n reply f)) → IfOk r (λ reply. NodesMove w primary (Deliver number n) reply (slice_set fs place f))
-  deliver_leads n (Ok (Broke i fault)) f k = let b = k at.0 at.2 in broken n i fault f b.0 b.1 b.2
-  deliver_leads n (Ok (Committed token)) f k = let l = delivered (Committed token) n f (k at.0 at.2) in (l.after, record { step = l.outcome; limits = l.limits; log = l.log }, l.nodes)
-  deliver_leads n (Ok Opened) f k = let l = delivered Opened n f (k at.0 at.2) in (l.after, record { step = l.outcome; limits = l.limits; log = l.log }, l.nodes)
-  deliver_leads n (Ok Refused) f k = let l = delivered Refused n f (k at.0 at.2) in (l.after, record { step = l.outcome; limits = l.limits; log = l.log }, l.nodes)
-  deliver_leads n (Ok NotYet) f k = let l = delivered NotYet n f (k at.0 at.2) in (l.after, record { step = l.outcome; limits = l.limits; log = l.log }, l.nodes)
-  deliver_leads n (Ok (Sent pulled)) f k = let l = delivered (Sent pulled) n f (k at.0 at.2) in (l.after, record { step = l.outcome; limits = l.limits; log = l.log }, l.nodes)
-  deliver_leads n (Ok Idled) f k = let l = delivered Idled n f (k at.0 at.2) in (l.after, record { step = l.outcome; limits = l.limits; log = l.log }, l.nodes)
-  deliver_leads n (Ok (Delivered count)) f k = let l = delivered (Delivered count) n f (k at.0 at.2) in (l.after, record { step = l.outcome; limits = l.limits; log = l.log }, l.nodes)
-  deliver_leads n (Ok Cut) f k = let l = delivered Cut n f (k at.0 at.2) in (l.after, record { step = l.outcome; limits = l.limits; log = l.log }, l.nodes)
+  deliver_leads n (Ok reply) f k = delivered n reply f (k at.0 at.2)
   deliver_leads n (Err fault) f k = tt
 
   pub deliver_fails : (n : ℕ) (r : Result Reply WorldFault) → IfErr r (λ fault. (fault ≡ NoConnection) × ((get_or fs place d).connection ≡ None)) → IfErr r (λ fault. IsRefused w (Deliver number n) fault)
   deliver_fails n (Ok reply) k = tt
   deliver_fails n (Err fault) k =
-      let none = nothing_linked w.limits w.log at.0 _ at.2 k.1 in
-      deliver_refused w number n fault k.0 (refuses w primary fs h number place same at.0 (mirror_delivers w.limits.history w.log n) at.1 fault (refused_unlinked at.0 _ fault none k.0))
+      inl (refused_as (outcome w (Deliver number n)) fault (λ e. let both : NoConnection ≡ Memory = sym k.0 ∙ e in absurd (cc))
+      (refuses (mirror_delivers w.limits.history w.log n) fault (unlinked w.limits w.log at.0 _ _ fault at.2 k)))
 
 -- ---- the node that a mirror is behind, among the earlier ones
 
@@ -354,6 +303,9 @@ put_together fs early later place g e l = ap (λ xs. xs ++ slice_set later 0 g) 
 
 pub first_of_rest : (fs later : List FollowerState) (place : ℕ) (d : FollowerState) → ((k : ℕ) (x : FollowerState) → get_or later k x ≡ get_or fs (place + k) x) → get_or later 0 d ≡ get_or fs place d
 first_of_rest fs later place d k = k 0 d ∙ ap (λ n. get_or fs n d) (omega arith)
+
+pub get_there : (fs : List FollowerState) (place : ℕ) (d : FollowerState) → place < length fs → (f : FollowerState) → f ≡ get_or fs place d → slice_get fs place ≡ Some f
+get_there fs place d less f is = slice_get-get_or fs place d less ∙ ap Some (sym is)
 
 get_of_take : {X : Type 0} (xs : List X) (n i : ℕ) (x : X) → slice_get (take n xs) i ≡ Some x → slice_get xs i ≡ Some x
 get_of_take xs zero i x e = absurd (cc)
@@ -390,60 +342,18 @@ get_upstream (a ∷ ms) zero m e = ap upstream_of e
     upstream_of (Some b) = Some b.upstream
 get_upstream (a ∷ ms) (suc place) m e = get_upstream ms place m e
 
-module _ (w : World) (primary : PrimaryState) (fs : List FollowerState) (h : AreNodes w primary fs) (number place : ℕ) (same : number ≡ suc place) (d : FollowerState) (less : place < length fs)
-    (early : List FollowerState) (front : early ≡ take place fs) (f : FollowerState) (is : f ≡ get_or fs place d) (i : ℕ) (behind : i ≡ f.upstream) where
-  mirror_there : (m : Mirror) × (slice_get w.mirrors place ≡ Some m) × IsMirror w.limits w.log m f
-  mirror_there = subst (λ x. (m : Mirror) × (slice_get w.mirrors place ≡ Some m) × IsMirror w.limits w.log m x) (sym is) (there w primary fs h number place same d less)
-
-  same_server : i ≡ mirror_there.0.upstream
-  same_server = behind ∙ mirror_there.2.upstream
-
-  pub server_is_there : length early ≡ place → None ≡ slice_get (all_shown primary early) i → ⊥
-  server_is_there l e =
-      let u = h.shape.earlier place mirror_there.0.upstream (get_upstream w.mirrors place mirror_there.0 mirror_there.1) in
-      let v = same_server in
+-- what is asked of the node that a mirror is behind, which is one of the primary and these earlier mirrors
+module _ (w : World) (primary : PrimaryState) (fs : List FollowerState) (h : AreNodes w primary fs) (place : ℕ) (f : FollowerState) (early : List FollowerState) (front : early ≡ take place fs)
+    (i : ℕ) (behind : i ≡ f.upstream) where
+  pub server_is_there : slice_get fs place ≡ Some f → length early ≡ place → None ≡ slice_get (all_shown primary early) i → ⊥
+  server_is_there there l e =
+      let m = mirror_of w.limits w.log w.mirrors fs place f h.mirrors there in
+      let u = h.shape.earlier place m.0.upstream (get_upstream w.mirrors place m.0 m.1) in
+      let v : i ≡ m.0.upstream = behind ∙ m.2.upstream in
       always_there primary early i (omega arith) e
 
-  server : (node : NodeState) → Some node ≡ slice_get (all_shown primary early) i → IsShown w mirror_there.0.upstream node
-  server node e = subst (λ j. IsShown w j node) same_server (shown w primary fs h i node (shown_early primary fs early place front i node e))
-
-  pub serve_leads : (node : NodeState) → Some node ≡ slice_get (all_shown primary early) i → (new : List FollowerState) (g : FollowerState) → new ≡ slice_set fs place g → (r : Result Reply WorldFault)
-      → ((m : Mirror) (at : Option Position) → IsPlace w.limits w.log at → node ≡ node_where w.log at → IsMirror w.limits w.log m f → IfOk r (λ reply. Moves w.limits w.log (mirror_serves m at) reply g))
-      → IfOk r (λ reply. NodesMove w primary (Serve number) reply new)
-  serve_leads node e new g n (Ok reply) k =
-      let t = mirror_there in
-      let s = server node e in
-      serve_moves w primary number reply new
-      (subst (LeadsTo w (outcome w (Serve number)) primary reply) (sym n)
-      (leads w primary fs h number place same t.0 (λ m. mirror_serves m (place_at w m.upstream)) t.1 (keeps_serve t.0 (place_at w t.0.upstream)) reply g (k t.0 (place_at w t.0.upstream) s.1 s.0 t.2)))
-  serve_leads node e new g n (Err fault) k = tt
-
-  pub serve_fails : (node : NodeState) → Some node ≡ slice_get (all_shown primary early) i → (r : Result Reply WorldFault)
-      → ((m : Mirror) (at : Option Position) → IsPlace w.limits w.log at → node ≡ node_where w.log at → IsMirror w.limits w.log m f → IfErr r (λ fault. RefusesMove (mirror_serves m at) fault))
-      → IfErr r (λ fault. IsRefused w (Serve number) fault)
-  serve_fails node e (Ok reply) k = tt
-  serve_fails node e (Err fault) k =
-      let t = mirror_there in
-      let s = server node e in
-      serve_refused w number fault (refuses w primary fs h number place same t.0 (λ m. mirror_serves m (place_at w m.upstream)) t.1 fault (k t.0 (place_at w t.0.upstream) s.1 s.0 t.2))
-
-  pub connect_leads : (node : NodeState) → Some node ≡ slice_get (all_shown primary early) i → (new : List FollowerState) (g : FollowerState) → new ≡ slice_set fs place g → (reply : Reply)
-      → ((m : Mirror) (at : Option Position) → IsPlace w.limits w.log at → node ≡ node_where w.log at → IsMirror w.limits w.log m f → Moves w.limits w.log (mirror_connects m at) reply g)
-      → NodesMove w primary (Connect number) reply new
-  connect_leads node e new g n reply k =
-      let t = mirror_there in
-      let s = server node e in
-      connect_moves w primary number reply new
-      (subst (LeadsTo w (outcome w (Connect number)) primary reply) (sym n)
-      (leads w primary fs h number place same t.0 (λ m. mirror_connects m (place_at w m.upstream)) t.1 (keeps_connect t.0 (place_at w t.0.upstream)) reply g (k t.0 (place_at w t.0.upstream) s.1 s.0 t.2)))
-
-  pub connect_fails : (node : NodeState) → Some node ≡ slice_get (all_shown primary early) i
-      → ((m : Mirror) (at : Option Position) → IsPlace w.limits w.log at → node ≡ node_where w.log at → IsMirror w.limits w.log m f → RefusesMove (mirror_connects m at) Memory)
-      → IsRefused w (Connect number) Memory
-  connect_fails node e k =
-      let t = mirror_there in
-      let s = server node e in
-      connect_refused w number Memory (refuses w primary fs h number place same t.0 (λ m. mirror_connects m (place_at w m.upstream)) t.1 Memory (k t.0 (place_at w t.0.upstream) s.1 s.0 t.2))
+  pub server : (node : NodeState) → Some node ≡ slice_get (all_shown primary early) i → (m : Mirror) → IsMirror w.limits w.log m f → IsShown w m.upstream node
+  server node e m is = subst (λ j. IsShown w j node) (behind ∙ is.upstream) (shown w primary fs h i node (shown_early primary fs early place front i node e))
 
 get_node : (fs : List FollowerState) (place : ℕ) (d : FollowerState) → place < length fs → Some (get_or fs place d).mirror.node ≡ slice_get (map (λ f. f.mirror.node) fs) place
 get_node [] place d less = absurd (omega arith)

@@ -15,9 +15,9 @@ use Rattle.feed_note.specs.Texts.{published_text}
 use Rattle.feed_node.specs.declared.primary.CommitFault.TheVariants.{EmptyBatch}
 use Rattle.feed_node.specs.declared.session.Pulled.TheVariants.{More, UpToDate, Gone}
 use Rattle.feed_world.specs.declared.event.Event.{Event}
-use Rattle.feed_world.specs.declared.event.Event.TheVariants.{Commit as DoCommit, Connect, Serve, Idle, Deliver, Cut as DoCut}
+use Rattle.feed_world.specs.declared.event.Event.TheVariants.{Commit as DoCommit, Connect, Serve, Idle, Deliver, Cut as DoCut, Save, Restart}
 use Rattle.feed_world.specs.declared.event.Reply.{Reply}
-use Rattle.feed_world.specs.declared.event.Reply.TheVariants.{Committed, Opened, Refused, NotYet, Sent, Idled, Delivered, Cut}
+use Rattle.feed_world.specs.declared.event.Reply.TheVariants.{Committed, Opened, Refused, NotYet, Sent, Idled, Delivered, Cut, Saved, Restarted}
 use Rattle.feed_world.specs.declared.event.WorldFault.{WorldFault}
 use Rattle.feed_world.specs.declared.event.WorldFault.TheVariants.{NoNode, NoConnection, Commit as CommitRefused}
 use Rattle.feed_world.specs.Connection.{Connection, Snapshot}
@@ -99,7 +99,7 @@ abbrev position : ℕ → ℕ → Option Position
 position at low = Some (record { at = at; low = low })
 
 abbrev mirror : Option Position → ℕ → Bool → Option Connection → Mirror
-mirror p upstream afresh connection = record { place = p; upstream = upstream; afresh = afresh; connection = connection }
+mirror p upstream afresh connection = record { place = p; upstream = upstream; afresh = afresh; connection = connection; saved = None }
 
 -- a mirror whose token is no longer held, with a cut within the second snapshot
 abbrev a_log : Log
@@ -192,6 +192,33 @@ d_replies = simp (entries-inserted, entries-removed, get-entries, len-entries, e
 d_shown : shown (run_all (world 1 100 (0 ∷ [])) sent_on).1 1 ≡ codes "{\"type\":\"state\",\"id\":null,\"data\":{},\"token\":\"1\"}\n"
 unfolding digits after written_string
 d_shown = simp (entries-inserted, entries-removed, get-entries, len-entries, entries-empty)
+
+-- a mirror that is restarted from a front of what was saved, and then from all of it
+abbrev c_log : Log
+c_log = (set_team (codes "1") ∷ set_team (codes "2") ∷ []) ∷ []
+
+abbrev c_at : Option Position → World
+c_at place =
+    record {
+      limits = record { history = 1; staged = 100 };
+      log = c_log;
+      primary = record { at = 1; low = 0 };
+      mirrors = record { place = place; upstream = 0; afresh = false; connection = None; saved = Some 1 } ∷ [];
+    }
+
+c_front : run_all (world 1 100 (0 ∷ [])) (DoCommit (set_team (codes "1") ∷ set_team (codes "2") ∷ []) ∷ Connect 1 ∷ Deliver 1 9999 ∷ Save 1 ∷ Restart 1 136 ∷ [])
+    ≡ (Ok (Committed (codes "1")) ∷ Ok Opened ∷ Ok (Delivered 1) ∷ Ok (Saved 137) ∷ Ok (Restarted false) ∷ [], c_at None)
+unfolding digits after written_string
+c_front = simp (entries-inserted, entries-removed, get-entries, len-entries, entries-empty)
+
+c_all : run_all (c_at None) (Connect 1 ∷ Deliver 1 9999 ∷ Restart 1 137 ∷ Serve 1 ∷ [])
+    ≡ (Ok Opened ∷ Ok (Delivered 1) ∷ Ok (Restarted true) ∷ Err NoConnection ∷ [], c_at (position 1 1))
+unfolding digits after written_string
+c_all = simp (entries-inserted, entries-removed, get-entries, len-entries, entries-empty)
+
+no_saved : (run_all (world 1 100 (0 ∷ [])) (Save 0 ∷ [])).0 ≡ Err NoNode ∷ []
+unfolding digits
+no_saved = refl
 
 -- refusals, and a node that has published nothing
 no_node : (run_all (world 1 100 (0 ∷ [])) (Connect 2 ∷ [])).0 ≡ Err NoNode ∷ []

@@ -10,15 +10,31 @@ use Rattle.feed_world.specs.States.{ConnectionState, FollowerState, WorldState}
 
 abbrev pub connection_code : Coded ConnectionState
 connection_code =
-    code_by ((List ℕ × List ℕ) × (ℕ × Bool)) (coded× (coded× text_code text_code) (coded× coded_ℕ coded_bool))
-    (λ c. ((c.token, c.text), (c.delivered, c.over))) (λ p. record { token = p.0.0; text = p.0.1; delivered = p.1.0; over = p.1.1 }) (λ _. refl)
+    code_by ((List ℕ × List ℕ) × (ℕ × Bool))
+    (coded× (coded× text_code text_code) (coded× coded_ℕ coded_bool))
+    (λ c. ((c.token, c.text), (c.delivered, c.over)))
+    (λ p. record {
+      token = p.0.0;
+      text = p.0.1;
+      delivered = p.1.0;
+      over = p.1.1;
+    }) (λ _. refl)
 
 abbrev pub follower_code : Coded FollowerState
 follower_code =
-    code_by (MirrorState × (ℕ × Option ConnectionState)) (coded× mirror_code (coded× coded_ℕ (coded_option connection_code)))
-    (λ f. (f.mirror, (f.upstream, f.connection))) (λ p. record { mirror = p.0; upstream = p.1.0; connection = p.1.1 }) (λ _. refl)
+    code_by (MirrorState × (ℕ × (Option ConnectionState × List ℕ)))
+    (coded× mirror_code (coded× coded_ℕ (coded× (coded_option connection_code) text_code)))
+    (λ f. (f.mirror, (f.upstream, (f.connection, f.saved))))
+    (λ p. record {
+      mirror = p.0;
+      upstream = p.1.0;
+      connection = p.1.1.0;
+      saved = p.1.1.1;
+    }) (λ _. refl)
 
 abbrev pub world_code : Coded WorldState
 world_code =
-    code_by (PrimaryState × (List Commit × List FollowerState)) (coded× primary_code (coded× (coded_list commit_code) (coded_list follower_code)))
-    (λ w. (w.primary, (w.log, w.followers))) (λ p. record { primary = p.0; log = p.1.0; followers = p.1.1 }) (λ _. refl)
+    code_by (PrimaryState × (List Commit × List FollowerState))
+    (coded× primary_code (coded× (coded_list commit_code) (coded_list follower_code)))
+    (λ w. (w.primary, (w.log, w.followers)))
+    (λ p. record { primary = p.0; log = p.1.0; followers = p.1.1 }) (λ _. refl)

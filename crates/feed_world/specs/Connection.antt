@@ -1,28 +1,28 @@
--- A connection between a node and a mirror behind it: what was sent on it, and how much of that came (CLICS Contest API
--- 2023-06, event feed and reconnection).
+-- A connection between a node and a mirror behind it: what was sent on it, and how much of that
+-- came (CLICS Contest API 2023-06, event feed and reconnection).
 use Rattle.std.specs.Prelude.{◌≡◌, ℕ, ◌+◌, ◌-◌, Bool, List, [], ◌∷◌, ◌++◌, length, drop, flat_map, fold, Option, Some, None, if◌then◌else◌, nat_le}
 use Rattle.feed_text.specs.Ascii.{line_feed}
-use Rattle.feed_note.specs.Texts.{snapshot_text}
-use Rattle.feed_node.specs.Log.{token_after}
-use Rattle.feed_world.specs.Log.{Log, state_after, commit_text}
+use Rattle.feed_world.specs.Log.{Log, state_text, commit_text}
 use Rattle.feed_world.specs.Position.{Position, renewed}
 
--- what is sent at once: a snapshot of the state after this many commits, the commit of this number, or a line feed
+-- what is sent at once: a snapshot of the state after this many commits, the commit of this number,
+-- or a line feed
 pub data Part : Type 0 where
   Snapshot : ℕ → Part
   Commit : ℕ → Part
   Line_feed : Part
 
 abbrev pub part_text : Log → Part → List ℕ
-part_text log (Snapshot k) = snapshot_text (state_after log k) (token_after k)
+part_text log (Snapshot k) = state_text log k
 part_text log (Commit k) = commit_text log k
 part_text log Line_feed = line_feed ∷ []
 
 abbrev pub parts_text : Log → List Part → List ℕ
 parts_text log parts = flat_map (part_text log) parts
 
--- A connection: whether it is fresh; the number that it started at; what was sent, in order; how many bytes of that were
--- delivered; the number of the last commit that was sent, or at which it started; and whether the server sends no more.
+-- A connection: whether it is fresh; the number that it started at; what was sent, in order; how
+-- many bytes of that were delivered; the number of the last commit that was sent, or at which it
+-- started; and whether the server sends no more.
 pub record Connection : Type 0 where
   pub fresh : Bool
   pub start : ℕ
@@ -39,6 +39,11 @@ sent_text log connection = parts_text log connection.parts
 abbrev pub bytes_sent : Log → Connection → ℕ
 bytes_sent log connection = length (sent_text log connection)
 
+-- how many bytes of the text have come once this many bytes were delivered: as many, since a
+-- connection carries the text itself
+abbrev pub come_by : Log → Connection → ℕ → ℕ
+come_by log connection n = n
+
 -- a block and those after it; a line feed is no block
 abbrev pub block_onto : Part → List Part → List Part
 block_onto (Snapshot k) blocks = Snapshot k ∷ blocks
@@ -53,10 +58,14 @@ blocks_within log (part ∷ parts) n =
     then block_onto part (blocks_within log parts (n - length (part_text log part)))
     else []
 
--- the blocks that end after the first d bytes that were sent and within the first e
+-- the blocks that have come whole once n bytes were delivered
+abbrev pub blocks_come : Log → Connection → ℕ → List Part
+blocks_come log connection n = blocks_within log connection.parts (come_by log connection n)
+
+-- the blocks that the bytes after the first d bring to their end, up to the first e
 abbrev pub blocks_between : Log → Connection → ℕ → ℕ → List Part
 blocks_between log connection d e =
-    drop (length (blocks_within log connection.parts d)) (blocks_within log connection.parts e)
+    drop (length (blocks_come log connection d)) (blocks_come log connection e)
 
 -- where a mirror is after a block came whole
 abbrev pub moved : ℕ → Option Position → Part → Option Position
@@ -69,8 +78,8 @@ moved history place Line_feed = place
 abbrev pub moved_by : ℕ → Option Position → List Part → Option Position
 moved_by history place blocks = fold (moved history) place blocks
 
--- these parts go on from a number: each commit is the next one, up to the last, with any number of line feeds before,
--- between and after them
+-- these parts go on from a number: each commit is the next one, up to the last, with any number of
+-- line feeds before, between and after them
 abbrev pub GoOn : ℕ → List Part → ℕ → Type 0
 GoOn k [] last = k ≡ last
 GoOn k (Line_feed ∷ parts) last = GoOn k parts last
@@ -81,7 +90,8 @@ GoOn k (Snapshot n ∷ parts) last = ⊥
 abbrev pub first_parts : Bool → ℕ → List Part
 first_parts fresh start = if fresh then Snapshot start ∷ [] else []
 
--- what was sent is a snapshot where the connection is fresh, and then each commit after the start up to the last
+-- what was sent is a snapshot where the connection is fresh, and then each commit after the start
+-- up to the last
 pub record IsInOrder (connection : Connection) : Type 0 where
   pub more : List Part
   pub parts : connection.parts ≡ first_parts connection.fresh connection.start ++ more

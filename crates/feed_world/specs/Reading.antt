@@ -1,11 +1,10 @@
 -- What a mirror makes of what was sent to it, whatever front of it came.
 use Rattle.std.specs.Prelude.{◌≡◌, ℕ, ◌≤◌, ◌<◌, ◌^◌, Bool, false, ◌&&◌, List, ◌++◌, length, Option, Some, ◌==◌}
 use Rattle.feed_note.specs.declared.line.Line.{Line}
-use Rattle.feed_node.specs.declared.fault.FeedFault.{FeedFault}
 use Rattle.feed_node.specs.Limits.{Limits}
 use Rattle.feed_node.specs.Log.{token_after}
 use Rattle.feed_node.specs.Mirroring.{token_count}
-use Rattle.feed_node.specs.Reading.{Opening, Reads, FaultsAt, reads, keep_latest, awaits_reset}
+use Rattle.feed_node.specs.Reading.{Opening, Reads, reads, keep_latest, awaits_reset}
 use Rattle.feed_world.specs.Log.{Log, IsLog, state_after}
 use Rattle.feed_world.specs.Position.{Position, IsPlace, node_where}
 use Rattle.feed_world.specs.Connection.{Connection, IsInOrder, sent_text, blocks_within, moved_by}
@@ -14,7 +13,8 @@ use Rattle.feed_world.specs.Connection.{Connection, IsInOrder, sent_text, blocks
 abbrev pub opening_at : Log → Option Position → Bool → Opening
 opening_at log place fresh = record { before = node_where log place; fresh = fresh }
 
--- a connection that is fresh, or starts at the mirror's number; it sent, in order, what stands in the log
+-- a connection that is fresh, or starts at the mirror's number; it sent, in order, what stands in
+-- the log
 pub record IsOpened (limits : Limits) (log : Log) (place : Option Position)
     (c : Connection) : Type 0 where
   pub mirror : IsPlace limits log place
@@ -22,8 +22,8 @@ pub record IsOpened (limits : Limits) (log : Log) (place : Option Position)
   pub order : IsInOrder c
   pub sent : c.last ≤ length log
 
--- A front of what was sent has nothing bad, and the mirror that reads it is where its whole blocks bring it: it publishes
--- at each of them, and nothing else.
+-- A front of what was sent has nothing bad, and the mirror that reads it is where its whole blocks
+-- bring it: it publishes at each of them, and nothing else.
 pub record IsRead (limits : Limits) (log : Log) (place : Option Position) (c : Connection)
     (front : List ℕ) : Type 0 where
   pub notes : List Line
@@ -40,14 +40,6 @@ FrontsAreRead =
     (limits : Limits) (log : Log) (place : Option Position) (c : Connection) (front behind : List ℕ)
     → IsLog limits log → IsOpened limits log place c → front ++ behind ≡ sent_text log c
     → IsRead limits log place c front
-
--- where nothing is bad, the lines say one thing, and no fault stands
-pub record ReadingIsOne : Type 0 where
-  pub notes : (limits : Limits) (opening : Opening) (bytes : List ℕ) (notes others : List Line)
-      → Reads limits opening bytes notes → Reads limits opening bytes others → notes ≡ others
-  pub faultless : (limits : Limits) (opening : Opening) (bytes : List ℕ) (notes others : List Line)
-      (fault : FeedFault)
-      → Reads limits opening bytes notes → ¬ (FaultsAt limits opening bytes others fault)
 
 -- numbers of a log have one token each, so nodes at one token have equal tables
 abbrev pub TokensTellStates : Type 0

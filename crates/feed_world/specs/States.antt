@@ -1,9 +1,12 @@
 -- What a world in memory has, and of which world of numbers it is the state.
-use Rattle.std.specs.Prelude.{◌≡◌, ◌<◌, ℕ, zero, suc, ◌+◌, min, option_map, ◌≤◌, Bool, false, true, List, [], ◌∷◌, length, map, take, flat_map, slice_get, Option, Some, None, IfSome, Result, Ok, Err, if◌then◌else◌}
+use Rattle.std.specs.Prelude.{◌≡◌, ◌<◌, ◌⊎◌, ℕ, zero, suc, ◌+◌, min, option_map, ◌≤◌, Bool, false, true, List, [], ◌∷◌, length, map, take, flat_map, slice_get, Option, Some, None, IfSome, Result, Ok, Err, if◌then◌else◌}
 use Rattle.std.specs.Option.{option_and_then}
 use Rattle.feed_tables.specs.Tables.{no_tables, after_all}
 use Rattle.feed_node.specs.declared.fault.FeedFault.TheVariants.{Memory as FeedMemory}
 use Rattle.feed_world.specs.declared.event.Event.{Event}
+use Rattle.feed_world.specs.declared.event.Event.TheVariants.{Connect, Serve}
+use Rattle.feed_world.specs.declared.event.Asks.{Asks}
+use Rattle.feed_world.specs.declared.event.Asks.TheVariants.{ForConnection, ForCommit}
 use Rattle.feed_world.specs.declared.event.Reply.{Reply}
 use Rattle.feed_world.specs.declared.event.Reply.TheVariants.{Broke}
 use Rattle.feed_world.specs.declared.event.ShapeFault.{ShapeFault}
@@ -17,26 +20,28 @@ use Rattle.feed_node.specs.Mirroring.{MirrorState, StandsAt, new_mirror}
 use Rattle.feed_node.specs.States.{NodeState, published_token}
 use Rattle.feed_note.specs.Publishing.{Published}
 use Rattle.feed_note.specs.declared.line.Line.{Line}
-use Rattle.feed_world.specs.Connection.{Connection, sent_text, bytes_sent, blocks_within, moved_by}
+use Rattle.feed_world.specs.Connection.{Connection, sent_text, bytes_sent, come_by, blocks_come, moved_by}
 use Rattle.feed_world.specs.Log.{Log, IsLog}
 use Rattle.feed_world.specs.Position.{Position, IsPosition, IsPlace, commits_after, node_where}
 use Rattle.feed_world.specs.Reading.{IsOpened, opening_at}
-use Rattle.feed_world.specs.Step.{Move, Step, Run, RunUpTo, primary_of, mirror_delivers, brought_to, reached, is_free_reply}
-use Rattle.feed_world.specs.World.{Mirror, World, HasShape, connection_at}
+use Rattle.feed_world.specs.Step.{Move, Step, Run, RunUpTo, primary_of, mirror_connects, mirror_serves, mirror_delivers, brought_to, reached, is_free_reply}
+use Rattle.feed_world.specs.World.{Mirror, World, HasShape, connection_at, saved_text}
 
--- a connection: the token that its session has come to, the text that was sent, how many bytes of it were delivered, and
--- whether the server sends no more
+-- a connection: the token that its session has come to, the text that was sent, how many bytes of
+-- it were delivered, and whether the server sends no more
 pub record ConnectionState : Type 0 where
   pub token : List ℕ
   pub text : List ℕ
   pub delivered : ℕ
   pub over : Bool
 
--- a mirror, the number of the node that it is behind, and its connection, if there is one
+-- a mirror, the number of the node that it is behind, its connection, if there is one, and its
+-- saved text
 pub record FollowerState : Type 0 where
   pub mirror : MirrorState
   pub upstream : ℕ
   pub connection : Option ConnectionState
+  pub saved : List ℕ
 
 abbrev pub sending : List ℕ → List ℕ → ℕ → Bool → ConnectionState
 sending token text delivered over =
@@ -46,9 +51,9 @@ sending token text delivered over =
 abbrev pub delivered_after : ConnectionState → ℕ → ℕ
 delivered_after c bytes = min (c.delivered + bytes) (length c.text)
 
-abbrev pub follower_state : MirrorState → ℕ → Option ConnectionState → FollowerState
-follower_state mirror upstream connection =
-    record { mirror = mirror; upstream = upstream; connection = connection }
+abbrev pub follower_state : MirrorState → ℕ → Option ConnectionState → List ℕ → FollowerState
+follower_state mirror upstream connection saved =
+    record { mirror = mirror; upstream = upstream; connection = connection; saved = saved }
 
 -- a world: the primary, what it has committed, and the mirrors
 pub record WorldState : Type 0 where
@@ -59,9 +64,9 @@ pub record WorldState : Type 0 where
 abbrev pub world_state : PrimaryState → List Commit → List FollowerState → WorldState
 world_state primary log followers = record { primary = primary; log = log; followers = followers }
 
--- a mirror without a connection
+-- a mirror without a connection, of which nothing was saved
 abbrev pub new_follower : Limits → ℕ → FollowerState
-new_follower limits upstream = follower_state (new_mirror limits) upstream None
+new_follower limits upstream = follower_state (new_mirror limits) upstream None []
 
 -- why there is no world
 abbrev pub RefusesShape : List ℕ → ShapeFault → Type 0
@@ -76,17 +81,17 @@ pub record IsConnection (log : Log) (c : Connection) (s : ConnectionState) : Typ
   pub within : c.delivered ≤ length (sent_text log c)
   pub over : s.over ≡ c.over
 
--- The mirror has read what was delivered on this connection, and is where the blocks of that bring it from where it was.
--- One whose token was refused is on a fresh connection, and none came yet.
+-- The mirror has read what was delivered on this connection, and is where the blocks of that bring
+-- it from where it was. One whose token was refused is on a fresh connection, and none came yet.
 pub record IsReading (limits : Limits) (log : Log) (m : Mirror) (c : Connection)
     (mirror : MirrorState) : Type 0 where
   pub before : Option Position
   pub opened : IsOpened limits log before c
-  pub place : m.place ≡ moved_by limits.history before (blocks_within log c.parts c.delivered)
+  pub place : m.place ≡ moved_by limits.history before (blocks_come log c c.delivered)
   pub notes : List Line
-  pub stands : StandsAt (opening_at log before c.fresh) (take c.delivered
-      (sent_text log c)) notes mirror
-  pub afresh : m.afresh ≡ true → (c.fresh ≡ true) × (blocks_within log c.parts c.delivered ≡ [])
+  pub stands : StandsAt (opening_at log before c.fresh)
+      (take (come_by log c c.delivered) (sent_text log c)) notes mirror
+  pub afresh : m.afresh ≡ true → (c.fresh ≡ true) × (blocks_come log c c.delivered ≡ [])
 
 -- both have a connection, this one; or neither has one, and the mirror is not open
 abbrev pub AreLinked : Limits → Log → Mirror → Option Connection → FollowerState
@@ -101,7 +106,8 @@ AreLinked limits log m None f (Some s) = ⊥
 abbrev pub asks_with : Log → Mirror → Option (List ℕ)
 asks_with log m = if m.afresh then None else published_token (node_where log m.place)
 
--- the mirror shows what one at this place shows, and is behind the same node
+-- the mirror shows what one at this place shows, is behind the same node, and has the same saved
+-- text, of a state in the log
 pub record IsMirror (limits : Limits) (log : Log) (m : Mirror) (f : FollowerState) : Type 0 where
   pub place : IsPlace limits log m.place
   pub upstream : f.upstream ≡ m.upstream
@@ -109,6 +115,8 @@ pub record IsMirror (limits : Limits) (log : Log) (m : Mirror) (f : FollowerStat
   pub node : f.mirror.node ≡ node_where log m.place
   pub since : f.mirror.since ≡ asks_with log m
   pub linked : AreLinked limits log m m.connection f f.connection
+  pub in_log : IfSome m.saved (λ k. k ≤ length log)
+  pub saved : f.saved ≡ saved_text log m.saved
 
 -- the mirror made this move, and gave its reply
 abbrev pub Moves : Limits → Log → Result Move WorldFault → Reply → FollowerState → Type 0
@@ -133,10 +141,9 @@ pub record BreaksMirror (limits : Limits) (log : Log) (m : Mirror) (bytes : ℕ)
 
 -- the mirror of this number was brought these bytes; it meets no fault but a want of memory
 abbrev pub IsBrought : Limits → Log → Mirror → ℕ → ℕ → Reply → FollowerState → Type 0
-IsBrought limits log m number bytes (Broke i fault) f =
-    (i ≡ number) × (fault ≡ FeedMemory) × BreaksMirror limits log m bytes f
 IsBrought limits log m number bytes reply f =
     Moves limits log (mirror_delivers limits.history log bytes m) reply f
+    ⊎ ((reply ≡ Broke number FeedMemory) × BreaksMirror limits log m bytes f)
 
 -- each mirror is the one at its place
 abbrev pub AreMirrors : Limits → Log → List Mirror → List FollowerState → Type 0
@@ -191,34 +198,22 @@ abbrev pub BreaksForMemory : Reply → Type 0
 BreaksForMemory (Broke i fault) = fault ≡ FeedMemory
 BreaksForMemory reply = Unit {0}
 
--- ---- what all nodes have in common
+-- ---- what a mirror asks of the node that it is behind
 
--- what each node shows: the primary first, and then the mirrors in order
-abbrev pub all_shown : PrimaryState → List FollowerState → List NodeState
-all_shown primary fs = primary.node ∷ map (λ f. f.mirror.node) fs
+-- the event at which the mirror of this number asks for this
+abbrev pub event_asking : Asks → ℕ → Event
+event_asking ForConnection i = Connect i
+event_asking ForCommit i = Serve i
 
--- what the node of this number shows, where there is one
-abbrev pub shown_at : WorldState → ℕ → Option NodeState
-shown_at s i = slice_get (all_shown s.primary s.followers) i
-
--- what is published is the primary's tables after exactly the commits up to the token that is published with it
-abbrev pub FollowsLog : List Commit → Published → Type 0
-FollowsLog log p =
-    (k : ℕ) × (k ≤ length log)
-    × (p.tables ≡ after_all no_tables (flat_map (λ c. c.changes) (take k log)))
-    × (p.token ≡ token_after k)
-
--- each node shows what the primary has committed up to its token, and nodes that have published one token have equal tables
-pub record NoFalseState (s : WorldState) : Type 0 where
-  pub follow : (i : ℕ) (node : NodeState) → shown_at s i ≡ Some node
-      → IfSome node.published (FollowsLog s.log)
-  pub agree : (i j : ℕ) (one other : NodeState) (p q : Published) → shown_at s i ≡ Some one
-      → shown_at s j ≡ Some other
-      → one.published ≡ Some p → other.published ≡ Some q → p.token ≡ q.token → p.tables ≡ q.tables
+-- what comes of it, where that node is at this place
+abbrev pub mirror_asks : Asks → Mirror → Option Position → Result Move WorldFault
+mirror_asks ForConnection m server = mirror_connects m server
+mirror_asks ForCommit m server = mirror_serves m server
 
 -- ---- what a connection has carried
 
--- how many bytes were sent, how many of them were delivered, and the last token that was sent or asked with
+-- how many bytes were sent, how many of them were delivered, and the last token that was sent or
+-- asked with
 pub record Carried : Type 0 where
   pub sent : ℕ
   pub delivered : ℕ
@@ -236,7 +231,46 @@ link_at s zero = None
 link_at s (suc i) =
     option_map carried (option_and_then (λ f. f.connection) (slice_get s.followers i))
 
--- the same of a connection of numbers
+-- ---- what all nodes have in common
+
+-- what each node shows: the primary first, and then the mirrors in order
+abbrev pub all_shown : PrimaryState → List FollowerState → List NodeState
+all_shown primary fs = primary.node ∷ map (λ f. f.mirror.node) fs
+
+-- what the node of this number shows, where there is one
+abbrev pub shown_at : WorldState → ℕ → Option NodeState
+shown_at s i = slice_get (all_shown s.primary s.followers) i
+
+-- what is published is the primary's tables after exactly the commits up to the token that is
+-- published with it
+abbrev pub FollowsLog : List Commit → Published → Type 0
+FollowsLog log p =
+    (k : ℕ) × (k ≤ length log)
+    × (p.tables ≡ after_all no_tables (flat_map (λ c. c.changes) (take k log)))
+    × (p.token ≡ token_after k)
+
+-- this token is published, or a later one
+abbrev pub HasPublished : Option Published → List ℕ → Type 0
+HasPublished None token = ⊥
+HasPublished (Some p) token =
+    (k : ℕ) × (n : ℕ) × (token ≡ token_after k) × (p.token ≡ token_after n) × (k ≤ n)
+
+-- Each node shows what the primary has committed up to its token, and nodes that have published one
+-- token have equal tables. A mirror that was brought all that was sent on its connection has
+-- published the last token of that, or a later one.
+pub record NoFalseState (s : WorldState) : Type 0 where
+  pub follow : (i : ℕ) (node : NodeState) → shown_at s i ≡ Some node
+      → IfSome node.published (FollowsLog s.log)
+  pub agree : (i j : ℕ) (one other : NodeState) (p q : Published) → shown_at s i ≡ Some one
+      → shown_at s j ≡ Some other
+      → one.published ≡ Some p → other.published ≡ Some q → p.token ≡ q.token → p.tables ≡ q.tables
+  pub reach : (i : ℕ) (link : Carried) (node : NodeState) → link_at s i ≡ Some link
+      → shown_at s i ≡ Some node → link.delivered ≡ link.sent
+      → HasPublished node.published link.last
+
+-- ---- what a connection of numbers has carried
+
+-- what a connection of numbers has carried
 abbrev pub carried_on : Log → Connection → Carried
 carried_on log c = carrying (bytes_sent log c) c.delivered (token_after c.last)
 
@@ -249,6 +283,7 @@ abbrev pub HasReached : Option Position → ℕ → Type 0
 HasReached None k = ⊥
 HasReached (Some p) k = k ≤ p.at
 
--- where all that was sent on the connection was delivered, the mirror has the number of the last of it, or a later one
+-- where all that was sent on the connection was delivered, the mirror has the number of the last of
+-- it, or a later one
 abbrev pub HasReadAll : Log → Option Position → Connection → Type 0
 HasReadAll log place c = c.delivered ≡ bytes_sent log c → HasReached place c.last

@@ -1,5 +1,5 @@
 -- What each event does to a world, and the reply. An event has one reply, but where memory ran out.
-use Rattle.std.specs.Prelude.{◌≡◌, ◌≢◌, ◌⊎◌, ℕ, ◌+◌, ◌<◌, ◌≤◌, Bool, true, false, ◌&&◌, List, [], ◌∷◌, ◌++◌, length, Option, Some, None, Result, Ok, Err, min, if◌then◌else◌, nat_lt, nat_le, ◌==◌, IsSome, IsTrue}
+use Rattle.std.specs.Prelude.{◌≡◌, ◌≢◌, ◌⊎◌, ℕ, ◌+◌, ◌<◌, ◌≤◌, Bool, true, false, ◌&&◌, List, [], ◌∷◌, ◌++◌, length, Option, Some, None, option_map, is_some, Result, Ok, Err, min, if◌then◌else◌, nat_lt, nat_le, ◌==◌, IsSome, IsTrue}
 use Rattle.feed_tables.specs.declared.change.Change.{Change}
 use Rattle.feed_node.specs.declared.primary.CommitFault.{CommitFault}
 use Rattle.feed_node.specs.declared.primary.CommitFault.TheVariants.{Memory as CommitMemory}
@@ -8,15 +8,15 @@ use Rattle.feed_node.specs.declared.session.Pulled.{Pulled}
 use Rattle.feed_node.specs.declared.session.Pulled.TheVariants.{More, UpToDate, Gone}
 use Rattle.feed_node.specs.Log.{PrimaryState, token_after, early_fault, commit_fault}
 use Rattle.feed_world.specs.declared.event.Event.{Event}
-use Rattle.feed_world.specs.declared.event.Event.TheVariants.{Commit as DoCommit, Connect, Serve, Idle, Deliver, Cut as DoCut}
+use Rattle.feed_world.specs.declared.event.Event.TheVariants.{Commit as DoCommit, Connect, Serve, Idle, Deliver, Cut as DoCut, Save, Restart}
 use Rattle.feed_world.specs.declared.event.Reply.{Reply}
-use Rattle.feed_world.specs.declared.event.Reply.TheVariants.{Committed, Opened, Refused, NotYet, Sent, Idled, Delivered, Broke, Cut}
+use Rattle.feed_world.specs.declared.event.Reply.TheVariants.{Committed, Opened, Refused, NotYet, Sent, Idled, Delivered, Broke, Cut, Saved, Restarted}
 use Rattle.feed_world.specs.declared.event.WorldFault.{WorldFault}
 use Rattle.feed_world.specs.declared.event.WorldFault.TheVariants.{NoNode, NoConnection, Commit as CommitRefused, Memory}
 use Rattle.feed_world.specs.Connection.{Part, Commit, Line_feed, Connection, bytes_sent, blocks_between, moved_by, first_parts}
-use Rattle.feed_world.specs.Log.{Log}
+use Rattle.feed_world.specs.Log.{Log, state_text}
 use Rattle.feed_world.specs.Position.{Position, node_at, renewed}
-use Rattle.feed_world.specs.World.{Mirror, World, mirror_at, with_mirror, place_at}
+use Rattle.feed_world.specs.World.{Mirror, World, mirror_at, with_mirror, place_at, saved_text}
 
 -- a reply and the world after it, or why the event is refused
 abbrev pub Outcome : Type 0
@@ -53,23 +53,16 @@ commits_unless world changes None =
 abbrev pub commits : World → List Change → Outcome
 commits world changes = commits_unless world changes (commit_fault (primary_of world) changes)
 
--- ---- Connect: where the server holds the mirror's token, a connection behind it; else the token is refused. Without a
--- token, or once it was refused, a fresh connection.
+-- ---- Connect: where the server holds the mirror's token, a connection behind it; else the token
+-- is refused. Without a token, or once it was refused, a fresh connection.
 
 -- the mirror with this connection, or none
 abbrev pub linked : Mirror → Option Connection → Mirror
-linked mirror connection =
-    record {
-      place = mirror.place;
-      upstream = mirror.upstream;
-      afresh = mirror.afresh;
-      connection = connection;
-    }
+linked mirror connection = record mirror { connection = connection }
 
 -- the mirror whose token was refused
 abbrev pub refused : Mirror → Mirror
-refused mirror =
-    record { place = mirror.place; upstream = mirror.upstream; afresh = true; connection = None }
+refused mirror = record mirror { afresh = true; connection = None }
 
 -- a connection on which nothing was delivered
 abbrev pub new_connection : Bool → ℕ → Connection
@@ -103,29 +96,14 @@ abbrev pub connects : Mirror → Option Position → Move
 connects mirror None = (NotYet, linked mirror None)
 connects mirror (Some server) = connects_to mirror server mirror.place
 
--- ---- Serve: the commit after the last one, where the server holds its token; else nothing more comes
+-- ---- Serve: the commit after the last one, where the server holds its token; else nothing more
+-- comes
 
 abbrev pub with_more : Connection → Connection
-with_more c =
-    record {
-      fresh = c.fresh;
-      start = c.start;
-      parts = c.parts ++ Commit (c.last + 1) ∷ [];
-      delivered = c.delivered;
-      last = c.last + 1;
-      over = c.over;
-    }
+with_more c = record c { parts = c.parts ++ Commit (c.last + 1) ∷ []; last = c.last + 1 }
 
 abbrev pub ended : Connection → Connection
-ended c =
-    record {
-      fresh = c.fresh;
-      start = c.start;
-      parts = c.parts;
-      delivered = c.delivered;
-      last = c.last;
-      over = true;
-    }
+ended c = record c { over = true }
 
 abbrev pub serves_behind : Connection → Position → Pulled × Connection
 serves_behind c server =
@@ -144,15 +122,7 @@ serves c server = if c.over then (Gone, c) else serves_from c server
 -- ---- Idle: a line feed
 
 abbrev pub with_line_feed : Connection → Connection
-with_line_feed c =
-    record {
-      fresh = c.fresh;
-      start = c.start;
-      parts = c.parts ++ Line_feed ∷ [];
-      delivered = c.delivered;
-      last = c.last;
-      over = c.over;
-    }
+with_line_feed c = record c { parts = c.parts ++ Line_feed ∷ [] }
 
 abbrev pub idles : Connection → Reply × Connection
 idles c = if c.over then (Sent Gone, c) else (Idled, with_line_feed c)
@@ -164,22 +134,13 @@ abbrev pub reached : Log → Connection → ℕ → ℕ
 reached log c n = min (c.delivered + n) (bytes_sent log c)
 
 abbrev pub delivered_to : Connection → ℕ → Connection
-delivered_to c e =
-    record {
-      fresh = c.fresh;
-      start = c.start;
-      parts = c.parts;
-      delivered = e;
-      last = c.last;
-      over = c.over;
-    }
+delivered_to c e = record c { delivered = e }
 
 -- the mirror to which its connection brought these blocks
 abbrev pub brought : ℕ → Mirror → List Part → Option Connection → Mirror
 brought history mirror blocks connection =
-    record {
+    record mirror {
       place = moved_by history mirror.place blocks;
-      upstream = mirror.upstream;
       afresh = mirror.afresh && (length blocks == 0);
       connection = connection;
     }
@@ -198,6 +159,39 @@ delivers_up_to history log mirror c e = (
 
 abbrev pub delivers : ℕ → Log → Mirror → Connection → ℕ → Move
 delivers history log mirror c n = delivers_up_to history log mirror c (reached log c n)
+
+-- ---- Save: the mirror's saved text becomes the snapshot of what it shows, and empty where it
+-- shows nothing
+
+abbrev pub number_at : Option Position → Option ℕ
+number_at place = option_map (λ p. p.at) place
+
+abbrev pub saves : Log → Mirror → Move
+saves log mirror = (
+  Saved (length (saved_text log (number_at mirror.place))),
+  record mirror { saved = number_at mirror.place },
+)
+
+-- ---- Restart: the mirror has read the first n bytes of its saved text, or all of it, as a new one
+-- does, and has no connection
+
+-- the number of the state that they publish: that of the text where it came whole
+abbrev pub restored : Log → Option ℕ → ℕ → Option ℕ
+restored log None n = None
+restored log (Some k) n = if nat_le (length (state_text log k)) n then Some k else None
+
+-- where a node is that has published the state of this number anew
+abbrev pub anew_at : Option ℕ → Option Position
+anew_at number = option_map (λ k. record { at = k; low = k }) number
+
+abbrev pub restarts_at : Mirror → Option ℕ → Move
+restarts_at mirror number = (
+  Restarted (is_some number),
+  record mirror { place = anew_at number; afresh = false; connection = None },
+)
+
+abbrev pub restarts : Log → ℕ → Mirror → Move
+restarts log n mirror = restarts_at mirror (restored log mirror.saved n)
 
 -- ---- all events
 
@@ -229,6 +223,12 @@ mirror_delivers history log n mirror =
 abbrev pub mirror_cuts : Mirror → Result Move WorldFault
 mirror_cuts mirror = with_connection mirror.connection (λ c. (Cut, linked mirror None))
 
+abbrev pub mirror_saves : Log → Mirror → Result Move WorldFault
+mirror_saves log mirror = Ok (saves log mirror)
+
+abbrev pub mirror_restarts : Log → ℕ → Mirror → Result Move WorldFault
+mirror_restarts log n mirror = Ok (restarts log n mirror)
+
 -- the world with the mirror after its move
 abbrev pub after_move : World → ℕ → Result Move WorldFault → Outcome
 after_move world i (Err fault) = Err fault
@@ -252,8 +252,11 @@ outcome world (Serve i) =
 outcome world (Idle i) = at_node world i mirror_idles
 outcome world (Deliver i n) = at_node world i (mirror_delivers world.limits.history world.log n)
 outcome world (DoCut i) = at_node world i mirror_cuts
+outcome world (Save i) = at_node world i (mirror_saves world.log)
+outcome world (Restart i n) = at_node world i (mirror_restarts world.log n)
 
--- The connection broke for want of memory, with bytes to deliver: some of them count, and the connection is gone.
+-- The connection broke for want of memory, with bytes to deliver: some of them count, and the
+-- connection is gone.
 pub record Breaks (old : World) (i n : ℕ) (new : World) : Type 0 where
   pub mirror : Mirror
   pub connection : Connection
@@ -266,12 +269,18 @@ pub record Breaks (old : World) (i n : ℕ) (new : World) : Type 0 where
   pub after : new ≡ with_mirror old i
       (brought_to old.limits.history old.log mirror connection e None)
 
--- From the old world the event may have this reply and lead to the new one.
-abbrev pub Step : World → Event → Reply → World → Type 0
-Step old (Deliver i n) (Broke b FeedMemory) new = (b ≡ i) × Breaks old i n new
-Step old event reply new = outcome old event ≡ Ok (reply, new)
+-- the event was a delivery, and its connection broke
+abbrev pub Broken : World → Event → Reply → World → Type 0
+Broken old (Deliver i n) reply new = (reply ≡ Broke i FeedMemory) × Breaks old i n new
+Broken old event reply new = ⊥
 
--- From the old world these events may have these replies, one after another, and lead to the new one.
+-- From the old world the event may have this reply and lead to the new one: the outcome, or a
+-- delivery broke for want of memory.
+abbrev pub Step : World → Event → Reply → World → Type 0
+Step old event reply new = (outcome old event ≡ Ok (reply, new)) ⊎ Broken old event reply new
+
+-- From the old world these events may have these replies, one after another, and lead to the new
+-- one.
 abbrev pub Run : World → List Event → List Reply → World → Type 0
 Run old [] [] new = new ≡ old
 Run old (event ∷ events) (reply ∷ replies) new =
@@ -287,8 +296,8 @@ is_free_reply NotYet = true
 is_free_reply Cut = true
 is_free_reply reply = false
 
--- an event at no node or no connection takes no memory, nor do a connect that opens nothing, a pull with nothing to send,
--- and a cut
+-- an event at no node or no connection takes no memory, nor do a connect that opens nothing, a pull
+-- with nothing to send, and a cut
 abbrev pub is_free : Outcome → Bool
 is_free (Err NoNode) = true
 is_free (Err NoConnection) = true
@@ -300,17 +309,21 @@ abbrev pub TakesNone : World → Event → Type 0
 TakesNone world (DoCommit changes) = IsSome (early_fault (primary_of world) changes)
 TakesNone world event = IsTrue (is_free (outcome world event))
 
--- The event is refused in this world, for this fault. A want of memory refuses an event only where memory is taken; within
--- a delivery it breaks the connection, and refuses nothing.
-abbrev pub IsRefused : World → Event → WorldFault → Type 0
-IsRefused world (Deliver i n) Memory = ⊥
-IsRefused world event Memory = ¬ (TakesNone world event)
-IsRefused world (DoCommit changes) (CommitRefused CommitMemory) =
-    ¬ (TakesNone world (DoCommit changes))
-IsRefused world event fault = outcome world event ≡ Err fault
+-- A want of memory refuses an event only where memory is taken. Within a delivery it breaks the
+-- connection, and refuses nothing.
+abbrev pub LacksMemory : World → Event → WorldFault → Type 0
+LacksMemory world (Deliver i n) fault = ⊥
+LacksMemory world (DoCommit changes) fault =
+    ((fault ≡ Memory) ⊎ (fault ≡ CommitRefused CommitMemory))
+    × ¬ (TakesNone world (DoCommit changes))
+LacksMemory world event fault = (fault ≡ Memory) × ¬ (TakesNone world event)
 
--- The first refused event ends the run, and those before it stand. The room for the replies may be refused before the
--- first event, where there is one.
+-- The event is refused in this world, for this fault: the outcome, or a want of memory.
+abbrev pub IsRefused : World → Event → WorldFault → Type 0
+IsRefused world event fault = (outcome world event ≡ Err fault) ⊎ LacksMemory world event fault
+
+-- The first refused event ends the run, and those before it stand. The room for the replies may be
+-- refused before the first event, where there is one.
 abbrev pub RunUpTo : World → List Event → WorldFault → World → Type 0
 RunUpTo old events fault new =
     ((fault ≡ Memory) × (events ≢ []) × (new ≡ old))

@@ -3,17 +3,19 @@ use Rattle.std.specs.Prelude.{◌≡◌, ℕ, zero, suc, ◌≤◌, ◌+◌, Boo
 use Rattle.std.specs.Option.{option_and_then}
 use Rattle.feed_node.specs.Limits.{Limits}
 use Rattle.feed_node.specs.States.{NodeState}
-use Rattle.feed_world.specs.Log.{Log}
+use Rattle.feed_world.specs.Log.{Log, state_text}
 use Rattle.feed_world.specs.Position.{Position, node_where}
 use Rattle.feed_world.specs.Connection.{Connection}
 
--- a mirror: where it is, if it has published anything; the node that it connects to; whether its token was refused and
--- nothing was published since, so that its next connection is fresh; and its connection, if there is one
+-- a mirror: where it is, if it has published anything; the node that it connects to; whether its
+-- token was refused and nothing was published since, so that its next connection is fresh; its
+-- connection, if there is one; and the number of the state that is its saved text, if one is
 pub record Mirror : Type 0 where
   pub place : Option Position
   pub upstream : ℕ
   pub afresh : Bool
   pub connection : Option Connection
+  pub saved : Option ℕ
 
 -- a world: the limits of its nodes, the log, where the primary is, and the mirrors
 pub record World : Type 0 where
@@ -26,16 +28,24 @@ pub record World : Type 0 where
 abbrev pub most_nodes : ℕ
 most_nodes = 256
 
--- the primary and the mirrors are no more nodes than a world has at most, and each mirror is behind an earlier node
+-- the primary and the mirrors are no more nodes than a world has at most, and each mirror is behind
+-- an earlier node
 pub record HasShape (upstreams : List ℕ) : Type 0 where
   pub few : 1 + length upstreams ≤ most_nodes
   pub earlier : (i upstream : ℕ) → slice_get upstreams i ≡ Some upstream → upstream ≤ i
 
 abbrev pub new_mirror : ℕ → Mirror
 new_mirror upstream =
-    record { place = None; upstream = upstream; afresh = false; connection = None }
+    record {
+      place = None;
+      upstream = upstream;
+      afresh = false;
+      connection = None;
+      saved = None;
+    }
 
--- the world at the start; the mirror of number i + 1 is behind the node that stands at place i of the list
+-- the world at the start; the mirror of number i + 1 is behind the node that stands at place i of
+-- the list
 abbrev pub new_world : Limits → List ℕ → World
 new_world limits upstreams =
     record {
@@ -65,6 +75,11 @@ with_mirror world (suc i) mirror =
 abbrev pub place_at : World → ℕ → Option Position
 place_at world zero = Some world.primary
 place_at world (suc i) = option_and_then (λ mirror. mirror.place) (slice_get world.mirrors i)
+
+-- the text that is saved of the state of this number; empty without one
+abbrev pub saved_text : Log → Option ℕ → List ℕ
+saved_text log None = []
+saved_text log (Some k) = state_text log k
 
 -- what the node of this number shows
 abbrev pub node_of : World → ℕ → NodeState

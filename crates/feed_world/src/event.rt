@@ -24,6 +24,18 @@ pub enum Event {
     Deliver(usize, usize),
     /// This mirror's connection is cut.
     Cut(usize),
+    /// What this mirror shows is saved, in place of what was saved of it before.
+    Save(usize),
+    /// This mirror is restored from the first bytes that were saved of it, this many or all; its
+    /// connection is gone. Before anything was saved there are none.
+    Restart(usize, usize),
+}
+
+/// What a mirror asks of the node that it is behind.
+#[derive(Clone, Copy)]
+pub(crate) enum Asks {
+    ForConnection,
+    ForCommit,
 }
 
 /// What a world replies to an event.
@@ -47,6 +59,10 @@ pub enum Reply {
     Broke(usize, FeedFault),
     /// The connection is gone.
     Cut,
+    /// How many bytes were saved.
+    Saved(usize),
+    /// Whether the mirror has published what was saved; else it has published nothing.
+    Restarted(bool),
 }
 
 /// Why an event was refused: the first of these that holds. A refused event changes nothing.

@@ -3,13 +3,13 @@
 ghost use Rattle.std.specs.Prelude.{◌≡◌, ◌<◌, ◌≤◌, ℕ, suc, length, slice_get, option_map, IfOk, IfErr, OnErr};
 ghost use Rattle.std.specs.Option.{option_copied};
 ghost use Rattle.feed_node.specs.Log.{PrimaryState};
-ghost use Rattle.feed_world.specs.declared.event.Event.TheVariants.{Connect, Serve, Idle, Deliver, Cut as DoCut};
+ghost use Rattle.feed_world.specs.declared.event.Event.TheVariants.{Idle, Deliver, Cut as DoCut, Save, Restart};
 ghost use Rattle.feed_world.specs.declared.event.WorldFault.TheVariants.{NoNode};
-ghost use Rattle.feed_world.specs.States.{AreNodes, NodesMove, all_shown};
+ghost use Rattle.feed_world.specs.States.{AreNodes, NodesMove, all_shown, event_asking};
 ghost use Rattle.feed_world.specs.Step.{IsRefused};
 ghost use Rattle.feed_world.specs.World.{World as Numbers};
 
-use crate::event::{Reply, WorldFault};
+use crate::event::{Asks, Reply, WorldFault};
 use crate::follower::Follower;
 use feed_node::{Node, Primary};
 use std::alloc::Global;
@@ -41,51 +41,31 @@ pub(crate) fn node_among<'a>(
     }
 }
 
-/// The mirror connects to the node that it is behind.
-pub(crate) fn connect(
+/// The mirror asks the node that it is behind.
+pub(crate) fn ask(
     alloc: Global,
     primary: &Primary,
     followers: &mut [Follower],
     number: usize,
+    asks: Asks,
 ) -> Result<Reply, WorldFault>
     ensures ok { (w : Numbers) → AreNodes w primary.now followers.old
-        → IfOk result (λ reply. NodesMove w primary.now (Connect number) reply followers.new) }
+        → IfOk result (λ reply.
+        NodesMove w primary.now (event_asking asks number) reply followers.new) }
     ensures err { (w : Numbers) → AreNodes w primary.now followers.old
-        → IfErr result (λ fault. IsRefused w (Connect number) fault) }
+        → IfErr result (λ fault. IsRefused w (event_asking asks number) fault) }
     ensures unchanged { OnErr result (followers.new ≡ followers.old) }
 {
     let place = place_of(followers, number)?;
     let (earlier, later) = followers.split_at_mut(place);
     let follower = &mut later[0];
     match node_among(primary, earlier, follower.upstream()) {
-        Some(server) => Ok(follower.connect(alloc, server)?),
+        Some(server) => follower.ask(alloc, server, asks),
         None => Err(WorldFault::NoNode),
     }
 }
 
-/// The node that the mirror is behind sends its next commit.
-pub(crate) fn serve(
-    alloc: Global,
-    primary: &Primary,
-    followers: &mut [Follower],
-    number: usize,
-) -> Result<Reply, WorldFault>
-    ensures ok { (w : Numbers) → AreNodes w primary.now followers.old
-        → IfOk result (λ reply. NodesMove w primary.now (Serve number) reply followers.new) }
-    ensures err { (w : Numbers) → AreNodes w primary.now followers.old
-        → IfErr result (λ fault. IsRefused w (Serve number) fault) }
-    ensures unchanged { OnErr result (followers.new ≡ followers.old) }
-{
-    let place = place_of(followers, number)?;
-    let (earlier, later) = followers.split_at_mut(place);
-    let follower = &mut later[0];
-    match node_among(primary, earlier, follower.upstream()) {
-        Some(server) => follower.serve(alloc, server),
-        None => Err(WorldFault::NoNode),
-    }
-}
-
-/// That node has no more to send for now.
+/// The node that the mirror is behind has no more to send for now.
 pub(crate) fn idle(followers: &mut [Follower], number: usize) -> Result<Reply, WorldFault>
     ensures ok { (w : Numbers) (primary : PrimaryState) → AreNodes w primary followers.old
         → IfOk result (λ reply. NodesMove w primary (Idle number) reply followers.new) }
@@ -124,4 +104,40 @@ pub(crate) fn cut(followers: &mut [Follower], number: usize) -> Result<Reply, Wo
 {
     let place = place_of(followers, number)?;
     followers[place].cut()
+}
+
+/// What the mirror shows is saved.
+pub(crate) fn save(
+    alloc: Global,
+    followers: &mut [Follower],
+    number: usize,
+) -> Result<Reply, WorldFault>
+    ensures ok { (w : Numbers) (primary : PrimaryState) → AreNodes w primary followers.old
+        → IfOk result (λ reply. NodesMove w primary (Save number) reply followers.new) }
+    ensures err { (w : Numbers) (primary : PrimaryState) → AreNodes w primary followers.old
+        → IfErr result (λ fault. IsRefused w (Save number) fault) }
+    ensures unchanged { OnErr result (followers.new ≡ followers.old) }
+{
+    let place = place_of(followers, number)?;
+    Ok(followers[place].save(alloc)?)
+}
+
+/// The mirror is restored from the first bytes that were saved, this many or all.
+pub(crate) fn restart(
+    alloc: Global,
+    followers: &mut [Follower],
+    number: usize,
+    bytes: usize,
+) -> Result<Reply, WorldFault>
+    ensures ok { (w : Numbers) (primary : PrimaryState) → AreNodes w primary followers.old
+        → IfOk result (λ reply. NodesMove w primary (Restart number bytes) reply followers.new) }
+    ensures err { (w : Numbers) (primary : PrimaryState) → AreNodes w primary followers.old
+        → IfErr result (λ fault. IsRefused w (Restart number bytes) fault) }
+    ensures unchanged { OnErr result (followers.new ≡ followers.old) }
+{
+    let place = place_of(followers, number)?;
+    match followers[place].restart(alloc, bytes) {
+        Ok(reply) => Ok(reply),
+        Err(_) => Err(WorldFault::Memory),
+    }
 }

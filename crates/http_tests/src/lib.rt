@@ -1,21 +1,15 @@
-//! Tests of places, requests, answers, frames and of what is served, over devices in memory.
+//! Tests of devices, and of what is served and followed, over devices in memory and over sockets.
 #![tactic(auto)]
 
 #[cfg(test)]
-mod answers;
-#[cfg(test)]
 mod devices;
 #[cfg(test)]
-mod frames;
+mod followed;
 #[cfg(test)]
-mod heads;
+mod live;
+#[cfg(test)]
+mod loopback;
 #[cfg(test)]
 mod nodes;
-#[cfg(test)]
-mod places;
-#[cfg(test)]
-mod queries;
-#[cfg(test)]
-mod requests;
 #[cfg(test)]
 mod served;

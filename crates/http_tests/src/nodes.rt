@@ -1,12 +1,7 @@
-//! Nodes that are asked, and what they are to answer.
+//! Nodes that are asked, and what they are to write.
 
-use feed_http::{Framing, answer};
-use feed_node::{Limits, Mirror, Node, Primary};
-use feed_note::write_line;
-use feed_tables::{Change, Name};
+use feed_node::{Limits, Mirror, Primary};
 use std::alloc::Global;
-use std::process::Abort;
-use std::test::Fail;
 
 /// The line with which a primary begins.
 pub(crate) const FIRST_LINE: &[u8] =
@@ -20,6 +15,17 @@ pub(crate) const CLOSE_HEAD: &[u8] =
 pub(crate) const CHUNKED_HEAD: &[u8] = b"HTTP/1.1 200 OK\r\nContent-Type: application/x-ndjson\r\n\
       Transfer-Encoding: chunked\r\nConnection: close\r\n\r\n";
 
+/// What a new primary writes to a fresh mirror: 128 bytes.
+pub(crate) const CLOSE_TEXT: &[u8] = b"HTTP/1.1 200 OK\r\nContent-Type: application/x-ndjson\r\n\
+      Connection: close\r\n\r\n\
+      {\"type\":\"contest\",\"id\":null,\"data\":null,\"token\":\"0\"}\n\n";
+
+/// The same in chunks.
+pub(crate) const CHUNKED_TEXT: &[u8] = b"HTTP/1.1 200 OK\r\nContent-Type: application/x-ndjson\r\n\
+      Transfer-Encoding: chunked\r\nConnection: close\r\n\r\n\
+      35\r\n{\"type\":\"contest\",\"id\":null,\"data\":null,\"token\":\"0\"}\n\r\n\
+      1\r\n\n\r\n0\r\n\r\n";
+
 pub(crate) const LARGE_HEAD: &[u8] = b"HTTP/1.1 431 Request Header Fields Too Large\r\n\
       Content-Type: application/json\r\nContent-Length: 39\r\nConnection: close\r\n\
       \r\n{\"code\":431,\"message\":\"head too large\"}";
@@ -28,15 +34,6 @@ pub(crate) const UNREADABLE: &[u8] =
     b"HTTP/1.1 400 Bad Request\r\nContent-Type: application/json\r\n\
       Content-Length: 36\r\nConnection: close\r\n\r\n\
       {\"code\":400,\"message\":\"bad request\"}";
-
-pub(crate) const NOT_GET: &[u8] =
-    b"HTTP/1.1 405 Method Not Allowed\r\nContent-Type: application/json\r\n\
-      Allow: GET\r\nContent-Length: 43\r\nConnection: close\r\n\r\n\
-      {\"code\":405,\"message\":\"method not allowed\"}";
-
-pub(crate) const OTHER_PATH: &[u8] = b"HTTP/1.1 404 Not Found\r\nContent-Type: application/json\r\n\
-      Content-Length: 34\r\nConnection: close\r\n\r\n\
-      {\"code\":404,\"message\":\"not found\"}";
 
 pub(crate) const NOTHING_PUBLISHED: &[u8] =
     b"HTTP/1.1 503 Service Unavailable\r\nContent-Type: application/json\r\n\
@@ -48,42 +45,34 @@ pub(crate) const NOT_HELD: &[u8] = b"HTTP/1.1 400 Bad Request\r\nContent-Type: a
       {\"code\":400,\"message\":\"token not held\"}";
 
 /// A primary with no commit.
-pub(crate) fn new_primary(alloc: Global, history: usize) -> Result<Primary, Fail> {
-    Ok(Primary::new(alloc, Limits::new(history, 100)?)?)
+pub(crate) fn new_primary(alloc: Global) -> Option<Primary> {
+    Primary::new(alloc, Limits::new(1, 100).ok()?).ok()
 }
 
 /// A mirror with nothing published.
-pub(crate) fn empty_mirror(alloc: Global) -> Result<Mirror, Fail> {
-    Ok(Mirror::new(alloc, Limits::new(10, 100)?)?)
+pub(crate) fn empty_mirror(alloc: Global) -> Option<Mirror> {
+    Mirror::new(alloc, Limits::new(10, 100).ok()?).ok()
 }
 
-/// A mirror that has published empty tables at a token.
-pub(crate) fn mirror_at(alloc: Global, token: &str) -> Result<Mirror, Fail> {
-    let change = Change::Clear(Name::new(alloc, "contest")?);
-    let token = Name::new(alloc, token)?;
-    let mut line = Vec::new(alloc);
-    write_line(alloc, &change, Some(&token), &mut line)?;
+/// A mirror that has read these lines.
+pub(crate) fn mirror_of(alloc: Global, lines: &[u8]) -> Option<Mirror> {
     let mut mirror = empty_mirror(alloc)?;
     mirror.begin();
-    mirror.feed(alloc, line.as_slice())?;
+    mirror.feed(alloc, lines).ok()?;
     mirror.cut();
-    Ok(mirror)
+    Some(mirror)
 }
 
-/// The bytes of the answer to a head, with the feed in chunks where it may be.
-pub(crate) fn answered(alloc: Global, head: &[u8], node: &Node) -> Result<Vec<u8>, Fail> {
-    Ok(answer(alloc, head, node, "finals", Framing::Chunked)?.bytes)
+/// A mirror that has published empty tables at the token "x".
+pub(crate) fn mirror_at_x(alloc: Global) -> Option<Mirror> {
+    let line = b"{\"type\":\"contest\",\"id\":null,\"data\":null,\"token\":\"x\"}\n";
+    mirror_of(alloc, line)
 }
 
-/// Whether a head is answered so.
-pub(crate) fn answers(
-    rt: &impl Abort,
-    alloc: Global,
-    head: &[u8],
-    node: &Node,
-    bytes: &[u8],
-) -> Result<(), Fail> {
-    let answered = answered(alloc, head, node)?;
-    assert_eq!(rt; answered.as_slice(), bytes, "to {head:?}");
-    Ok(())
+/// Whether a mirror has published something with this token, or nothing, where it is empty.
+pub(crate) fn is_at(mirror: &Mirror, token: &str) -> bool {
+    match mirror.node().token() {
+        Some(published) => published.text() == token,
+        None => token.is_empty(),
+    }
 }

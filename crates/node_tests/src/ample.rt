@@ -28,14 +28,22 @@ enum Kind {
     Idles,
     Delivers,
     Cuts,
+    Saves,
+    Restarts,
 }
 
-use Kind::{Commits, Connects, Cuts, Delivers, Idles, Serves};
+use Kind::{Commits, Connects, Cuts, Delivers, Idles, Restarts, Saves, Serves};
 
 /// The kinds of events, each as often as it is drawn.
 const KINDS: [Kind; 16] = [
     Commits, Commits, Connects, Connects, Connects, Serves, Serves, Serves, Serves, Serves, Idles,
     Delivers, Delivers, Delivers, Delivers, Cuts,
+];
+
+/// The same where mirrors are saved and restarted.
+const RESTARTING: [Kind; 16] = [
+    Commits, Commits, Connects, Connects, Connects, Connects, Serves, Serves, Serves, Idles,
+    Delivers, Delivers, Delivers, Cuts, Saves, Restarts,
 ];
 
 /// The mirrors, each as often as it is drawn, and two numbers of no mirror.
@@ -73,9 +81,19 @@ fn draw_bytes(draws: &mut Draws) -> usize {
     draws.next() % 1_001
 }
 
-/// An event: its kind is drawn first, and then its mirror and its bytes, or its object.
-fn draw(alloc: Global, draws: &mut Draws) -> Option<Drawn> {
-    let kind = *KINDS.get(draws.next() % 16)?;
+/// Of four restarts one has a byte less than was saved, as many bytes or one more, and each other
+/// one any number from none to one more.
+fn draw_saved(draws: &mut Draws, length: usize) -> usize {
+    if draws.next() % 4 == 0 {
+        return length.saturating_add(draws.next() % 3).saturating_sub(1);
+    }
+    draws.next() % length.saturating_add(2).max(1)
+}
+
+/// An event of these kinds: its kind is drawn first, and then its mirror and its bytes, or its
+/// object.
+fn draw(alloc: Global, draws: &mut Draws, kinds: &[Kind; 16], model: &Numbers) -> Option<Drawn> {
+    let kind = *kinds.get(draws.next() % 16)?;
     if matches!(kind, Commits) {
         return draw_commit(alloc, draws);
     }
@@ -85,6 +103,12 @@ fn draw(alloc: Global, draws: &mut Draws) -> Option<Drawn> {
         Serves => (Event::Serve(number), Happening::Serve(number)),
         Idles => (Event::Idle(number), Happening::Idle(number)),
         Cuts => (Event::Cut(number), Happening::Cut(number)),
+        Saves => (Event::Save(number), Happening::Save(number)),
+        Restarts => {
+            let bytes = draw_saved(draws, model.saved(number).unwrap_or(0));
+            let event = Event::Restart(number, bytes);
+            (event, Happening::Restart(number, bytes))
+        }
         _ => {
             let bytes = draw_bytes(draws);
             let event = Event::Deliver(number, bytes);
@@ -116,6 +140,8 @@ fn answer(alloc: Global, given: &Result<Reply, WorldFault>, count: usize) -> Opt
         Ok(Reply::Idled) => Answer::Idled,
         Ok(Reply::Delivered(count)) => Answer::Delivered(*count),
         Ok(Reply::Cut) => Answer::Cut,
+        Ok(Reply::Saved(count)) => Answer::Saved(*count),
+        Ok(Reply::Restarted(published)) => Answer::Restarted(*published),
         Err(WorldFault::NoNode) => Answer::NoNode,
         Err(WorldFault::NoConnection) => Answer::NoConnection,
         Err(WorldFault::Commit(CommitFault::TooLarge)) => Answer::TooLarge,
@@ -174,17 +200,22 @@ fn place_of(answer: Answer) -> usize {
         Answer::Delivered(1) => 12,
         Answer::Delivered(_) => 13,
         Answer::Cut => 14,
+        Answer::Saved(0) => 15,
+        Answer::Saved(_) => 16,
+        Answer::Restarted(false) => 17,
+        Answer::Restarted(true) => 18,
     }
 }
 
-/// What both reply to an event that is drawn, where they agree.
+/// What both reply to an event of these kinds that is drawn, where they agree.
 fn meet(
     alloc: Global,
     draws: &mut Draws,
+    kinds: &[Kind; 16],
     world: &mut World,
     model: &mut Numbers,
 ) -> Option<Answer> {
-    let drawn = draw(alloc, draws)?;
+    let drawn = draw(alloc, draws, kinds, model)?;
     let want = model.step(alloc, drawn.happening)?;
     let reply = world.step(alloc, drawn.event);
     let is_given = answer(alloc, &reply, model.count())? == want;
@@ -199,17 +230,17 @@ fn meet(
 #[derive(Clone, Copy)]
 struct Tally {
     alike: usize,
-    replies: [usize; 15],
+    replies: [usize; 19],
 }
 
-/// Draws so many events, until the world and the model part.
-fn play(alloc: Global, count: usize) -> Option<Tally> {
+/// Draws so many events of these kinds, until the world and the model part.
+fn play(alloc: Global, kinds: &[Kind; 16], count: usize) -> Option<Tally> {
     let mut world = World::new(alloc, &[0, 0, 1], Limits::new(2, 100).ok()?).ok()?;
     let mut model = Numbers::new(alloc, &[0, 0, 1], 2, 100, OBJECTS)?;
     let mut draws = Draws { seed: 1 };
-    let mut replies = [0usize; 15];
+    let mut replies = [0usize; 19];
     for alike in 0..count {
-        let Some(answer) = meet(alloc, &mut draws, &mut world, &mut model) else {
+        let Some(answer) = meet(alloc, &mut draws, kinds, &mut world, &mut model) else {
             return Some(Tally { alike, replies });
         };
         let times = replies.get_mut(place_of(answer))?;
@@ -223,7 +254,17 @@ fn play(alloc: Global, count: usize) -> Option<Tally> {
 
 #[test]
 fn ample(rt: HostRuntime) {
-    let Some(tally) = play(rt.alloc(), 10_000) else {
+    let Some(tally) = play(rt.alloc(), &KINDS, 10_000) else {
+        assert!(rt; false, "no world");
+        return;
+    };
+    assert_eq!(rt; tally.alike, 10_000);
+    assert!(rt; tally.replies.iter().take(15).all(|times| 0 < *times));
+}
+
+#[test]
+fn ample_with_restarts(rt: HostRuntime) {
+    let Some(tally) = play(rt.alloc(), &RESTARTING, 10_000) else {
         assert!(rt; false, "no world");
         return;
     };

@@ -16,6 +16,10 @@ mod mirrors;
 #[cfg(test)]
 mod model;
 #[cfg(test)]
+mod restarts;
+#[cfg(test)]
+mod restored;
+#[cfg(test)]
 mod run;
 #[cfg(test)]
 mod sessions;

@@ -4,7 +4,7 @@ use feed_node::Limits;
 use feed_world::{World, WorldFault};
 use std::alloc::Global;
 use world_scripts::Act::{Commit, Connect, Cut, Deliver, Serve};
-use world_scripts::{ALL, Act, FOLLOWED, Script, TEAM_1, TEAM_2, Want, events};
+use world_scripts::{ALL, Act, FOLLOWED, RESTARTED, Script, TEAM_1, TEAM_2, Want, events};
 
 /// Whether the nodes have published these tokens, the primary first.
 fn ends_at(world: &World, ends: &[&str]) -> Option<bool> {
@@ -33,6 +33,7 @@ fn is_run(alloc: Global, script: &Script) -> Option<bool> {
 #[test]
 fn replies_to_each_event(rt: HostRuntime) {
     assert_eq!(rt; is_run(rt.alloc(), &FOLLOWED), Some(true));
+    assert_eq!(rt; is_run(rt.alloc(), &RESTARTED), Some(true));
 }
 
 /// A script of no event.

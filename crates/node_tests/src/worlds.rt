@@ -8,7 +8,7 @@ use crate::stage::{Course, right};
 use feed_node::{Limits, Pulled};
 use feed_world::{ShapeFault, World};
 use std::alloc::Global;
-use world_scripts::Act::{Commit, Connect, Cut, Deliver, Idle, Serve};
+use world_scripts::Act::{Commit, Connect, Cut, Deliver, Idle, Restart, Save, Serve};
 use world_scripts::{ALL, FOLLOWED, GONE, LOST, STATE, TEAM_1, TEAM_2, Want};
 
 /// What is sent by a session that has more to send, and by one that has not.
@@ -382,6 +382,10 @@ const REFUSED: [Course; 4] = [
             Step::Act(Cut(2), Want::NoNode),
             Step::Act(Cut(0), Want::NoNode),
             Step::Act(Cut(usize::MAX), Want::NoNode),
+            Step::Act(Save(2), Want::NoNode),
+            Step::Act(Save(0), Want::NoNode),
+            Step::Act(Restart(2, 1), Want::NoNode),
+            Step::Act(Restart(0, 1), Want::NoNode),
             Step::Act(Serve(1), Want::NoConnection),
             Step::Act(Idle(1), Want::NoConnection),
             Step::Act(Deliver(1, 1), Want::NoConnection),

@@ -1,10 +1,12 @@
 //! The scenarios: calls that take memory, and what they have to answer and to leave. A further one
 //! is a function, its name here, and its line in the crate's file `stdout`.
 
+mod engines;
 mod feeds;
 mod follow;
 mod http;
 mod lines;
+mod live;
 mod nodes;
 mod stores;
 mod worlds;
@@ -20,6 +22,7 @@ pub const NAMES: &[&str] = &[
     "feed_array",
     "feed_array_pieces",
     "save",
+    "restore",
     "commit",
     "open",
     "pull",
@@ -36,12 +39,16 @@ pub const NAMES: &[&str] = &[
     "place",
     "request",
     "chunk",
+    "serve_live",
     "follow_chunked",
     "follow_sized",
+    "follow_response",
+    "connection",
     "world_new",
     "world_lost",
     "world_gone",
     "world_followed",
+    "world_restarted",
 ];
 
 /// Runs a scenario; none where no scenario has the name, or something else than its calls failed.
@@ -53,6 +60,7 @@ pub fn run(name: &str, trial: &mut Trial) -> Option<Outcome> {
         "feed_array" => feeds::feed_array(trial),
         "feed_array_pieces" => feeds::feed_array_pieces(trial),
         "save" => feeds::save(trial),
+        "restore" => feeds::restore(trial),
         "commit" => nodes::commit(trial),
         "open" => nodes::open(trial),
         "pull" => nodes::pull(trial),
@@ -69,12 +77,16 @@ pub fn run(name: &str, trial: &mut Trial) -> Option<Outcome> {
         "place" => http::place(trial),
         "request" => http::request(trial),
         "chunk" => http::chunk(trial),
+        "serve_live" => live::serve_live(trial),
         "follow_chunked" => follow::follow_chunked(trial),
         "follow_sized" => follow::follow_sized(trial),
+        "follow_response" => engines::follow_response(trial),
+        "connection" => engines::connection(trial),
         "world_new" => worlds::world_new(trial),
         "world_lost" => worlds::world_lost(trial),
         "world_gone" => worlds::world_gone(trial),
         "world_followed" => worlds::world_followed(trial),
+        "world_restarted" => worlds::world_restarted(trial),
         _ => None,
     }
 }

@@ -22,6 +22,8 @@ mod objects;
 #[cfg(test)]
 mod parts;
 #[cfg(test)]
+mod patches;
+#[cfg(test)]
 mod scanning;
 #[cfg(test)]
 mod splitter;

@@ -15,6 +15,8 @@ pub enum Act {
     Idle(usize),
     Deliver(usize, usize),
     Cut(usize),
+    Save(usize),
+    Restart(usize, usize),
 }
 
 /// The changes of the first batch of some lines.
@@ -35,6 +37,8 @@ impl Act {
             Act::Idle(number) => Event::Idle(number),
             Act::Deliver(number, bytes) => Event::Deliver(number, bytes),
             Act::Cut(number) => Event::Cut(number),
+            Act::Save(number) => Event::Save(number),
+            Act::Restart(number, bytes) => Event::Restart(number, bytes),
         })
     }
 }

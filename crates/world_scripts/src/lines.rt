@@ -6,6 +6,10 @@ pub const TEAM_1: &[u8] =
 pub const TEAM_2: &[u8] =
     b"{\"type\":\"teams\",\"id\":\"2\",\"data\":{\"id\":\"2\"},\"token\":\"-\"}\n";
 
+/// Both teams in one commit.
+pub const TEAMS: &[u8] = b"{\"type\":\"teams\",\"id\":\"1\",\"data\":{\"id\":\"1\"}}\n\
+{\"type\":\"teams\",\"id\":\"2\",\"data\":{\"id\":\"2\"},\"token\":\"b\"}\n";
+
 pub const NO_TEAM_1: &[u8] = b"{\"type\":\"teams\",\"id\":\"1\",\"data\":null,\"token\":\"-\"}\n";
 
 pub const NO_TEAMS: &[u8] = b"{\"type\":\"teams\",\"id\":null,\"data\":null,\"token\":\"-\"}\n";

@@ -15,6 +15,8 @@ pub enum Want {
     Idled,
     Delivered(usize),
     Cut,
+    Saved(usize),
+    Restarted(bool),
     /// The event is refused.
     NoNode,
     NoConnection,
@@ -35,7 +37,9 @@ impl Want {
         match (reply, self) {
             (Reply::Committed(token), Want::Committed(text)) => token.text() == text,
             (Reply::Sent(pulled), Want::Sent(wanted)) => *pulled == wanted,
-            (Reply::Delivered(count), Want::Delivered(wanted)) => *count == wanted,
+            (Reply::Delivered(count), Want::Delivered(wanted))
+            | (Reply::Saved(count), Want::Saved(wanted)) => *count == wanted,
+            (Reply::Restarted(published), Want::Restarted(wanted)) => *published == wanted,
             (Reply::Opened, Want::Opened)
             | (Reply::Refused, Want::Refused)
             | (Reply::NotYet, Want::NotYet)

@@ -1,7 +1,7 @@
 //! Scripts worked by hand from the rules on worlds.
 
-use crate::act::Act::{self, Commit, Connect, Cut, Deliver, Idle, Serve};
-use crate::lines::{GROUP_1, GROUP_2, NO_TEAM_1, NO_TEAMS, STATE, TEAM_1, TEAM_2};
+use crate::act::Act::{self, Commit, Connect, Cut, Deliver, Idle, Restart, Save, Serve};
+use crate::lines::{GROUP_1, GROUP_2, NO_TEAM_1, NO_TEAMS, STATE, TEAM_1, TEAM_2, TEAMS};
 use crate::want::Want;
 use feed_node::Pulled;
 
@@ -77,6 +77,23 @@ pub const FOLLOWED: Script = Script {
         (Serve(1), Want::Sent(Pulled::UpToDate)),
         (Idle(1), Want::Idled),
         (Deliver(1, ALL), Want::Delivered(1)),
+    ],
+    ends: &["1", "1"],
+};
+
+/// A mirror is restarted from all but the last byte that was saved of it, and from all.
+pub const RESTARTED: Script = Script {
+    up: &[0],
+    history: 1,
+    lines: &[
+        (Commit(TEAMS), Want::Committed("1")),
+        (Connect(1), Want::Opened),
+        (Deliver(1, ALL), Want::Delivered(1)),
+        (Save(1), Want::Saved(137)),
+        (Restart(1, 136), Want::Restarted(false)),
+        (Connect(1), Want::Opened),
+        (Deliver(1, ALL), Want::Delivered(1)),
+        (Restart(1, 137), Want::Restarted(true)),
     ],
     ends: &["1", "1"],
 };

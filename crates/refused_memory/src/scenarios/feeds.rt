@@ -113,6 +113,26 @@ pub fn save(trial: &mut Trial) -> Option<Outcome> {
     })
 }
 
+/// A mirror is restored from that snapshot; for want of memory none is, and then one is.
+pub fn restore(trial: &mut Trial) -> Option<Outcome> {
+    let alloc = trial.alloc();
+    let limits = Limits::new(1000, 1000).ok()?;
+    trial.begin();
+    let answer = Mirror::restore(alloc, limits, SAVED);
+    trial.end();
+    Some(match answer {
+        Ok(mirror) => given(shows_both(alloc, &mirror), Outcome::Right),
+        Err(FeedFault::Memory) => {
+            let again = Mirror::restore(alloc, limits, SAVED);
+            given(
+                again.is_ok_and(|mirror| shows_both(alloc, &mirror)),
+                Outcome::Memory,
+            )
+        }
+        Err(_) => Outcome::Wrong,
+    })
+}
+
 /// A mirror on its first connection.
 fn opened(alloc: Global) -> Option<Mirror> {
     let mut mirror = Mirror::new(alloc, Limits::new(1000, 1000).ok()?).ok()?;

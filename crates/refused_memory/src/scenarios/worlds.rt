@@ -6,7 +6,7 @@ use feed_node::{Commit, CommitFault, FeedFault, Limits, Pulled};
 use feed_tables::{Change, Tables};
 use feed_world::{Event, Reply, ShapeFault, World, WorldFault};
 use std::alloc::{AllocError, Global};
-use world_scripts::{Act, FOLLOWED, GONE, LOST, STATE, Script, Want, events};
+use world_scripts::{Act, FOLLOWED, GONE, LOST, RESTARTED, STATE, Script, Want, events};
 
 /// A world of three nodes.
 pub fn world_new(trial: &mut Trial) -> Option<Outcome> {
@@ -30,6 +30,10 @@ pub fn world_gone(trial: &mut Trial) -> Option<Outcome> {
 
 pub fn world_followed(trial: &mut Trial) -> Option<Outcome> {
     play(trial, FOLLOWED)
+}
+
+pub fn world_restarted(trial: &mut Trial) -> Option<Outcome> {
+    play(trial, RESTARTED)
 }
 
 /// How the events of a script went.

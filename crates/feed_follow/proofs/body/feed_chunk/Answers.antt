@@ -32,7 +32,8 @@ returns-in_default-clause-ok c =
 
 pub returns-in_default-clause-place : goal.returns-in_default-clause-place
 returns-in_default-clause-place c =
-    place_stays c.args.at c.in-Some.to (get_or c.args.bytes.now 0 0) c.requires.place (sym c.after_byte.ensures ∙ c.in-Some.is)
+    place_stays c.args.at c.in-Some.to (get_or c.args.bytes.now 0 0) c.requires.place
+    (sym c.after_byte.ensures ∙ c.in-Some.is)
 
 pub returns-in_err-feed_payload-clause-err : goal.returns-in_err-feed_payload-clause-err
 returns-in_err-feed_payload-clause-err c =
@@ -41,9 +42,13 @@ returns-in_err-feed_payload-clause-err c =
     let bytes = c.args.bytes.now in
     let few : length (take len bytes) ≤ c.in-InBytes.left = omega (arith, length-take len bytes) in
     rw (p.1, p.2)
-    (subst (λ at. StopsInChunks at bytes c.args.mirror.now c.feed_payload.new.mirror c.in_err-feed_payload.field-0.0) (sym c.in-InBytes.is)
-    (subst (λ t. StopsInChunks (InBytes c.in-InBytes.left) t c.args.mirror.now c.feed_payload.new.mirror c.in_err-feed_payload.field-0.0) (take-append-drop len bytes)
-    (stops_in_data c.in-InBytes.left (take len bytes) (drop len bytes) c.args.mirror.now c.feed_payload.new.mirror c.in_err-feed_payload.field-0.0 few c.in_err-feed_payload.ensures.err)))
+    (subst (λ at. StopsInChunks at bytes c.args.mirror.now c.feed_payload.new.mirror
+    c.in_err-feed_payload.field-0.0) (sym c.in-InBytes.is)
+    (subst (λ t. StopsInChunks (InBytes c.in-InBytes.left) t c.args.mirror.now
+    c.feed_payload.new.mirror c.in_err-feed_payload.field-0.0) (take-append-drop len bytes)
+    (stops_in_data c.in-InBytes.left (take len bytes) (drop len bytes) c.args.mirror.now
+    c.feed_payload.new.mirror c.in_err-feed_payload.field-0.0 few
+    c.in_err-feed_payload.ensures.err)))
 
 pub returns-then-left-len-clause-ok : goal.returns-then-left-len-clause-ok
 returns-then-left-len-clause-ok c =
@@ -52,8 +57,10 @@ returns-then-left-len-clause-ok c =
     let left = c.in-InBytes.left in
     let some : 0 < left = subst IsPlace c.in-InBytes.is c.requires.place in
     let full : left ≡ length bytes = omega (arith, length-take len c.args.bytes.now) in
-    subst (λ at. FeedsChunks at bytes c.args.mirror.now BytesEnd c.feed_payload.new.mirror) (sym c.in-InBytes.is)
-    (feeds_data left bytes BytesEnd c.args.mirror.now c.feed_payload.new.mirror (all_run bytes left full some) c.in_ok-feed_payload.ensures.ok)
+    subst (λ at. FeedsChunks at bytes c.args.mirror.now BytesEnd c.feed_payload.new.mirror)
+    (sym c.in-InBytes.is)
+    (feeds_data left bytes BytesEnd c.args.mirror.now c.feed_payload.new.mirror
+    (all_run bytes left full some) c.in_ok-feed_payload.ensures.ok)
 
 pub returns-else-left-len-clause-ok : goal.returns-else-left-len-clause-ok
 returns-else-left-len-clause-ok c =
@@ -63,6 +70,7 @@ returns-else-left-len-clause-ok c =
     let fits : len ≤ left = c.len_within-len.ensures.fits in
     let short : length bytes ≡ len = omega (arith, length-take len c.args.bytes.now) in
     let less : 0 < left - len = omega arith in
-    subst (λ at. FeedsChunks at bytes c.args.mirror.now (InBytes (left - len)) c.feed_payload.new.mirror) (sym c.in-InBytes.is)
+    subst (λ at. FeedsChunks at bytes c.args.mirror.now
+    (InBytes (left - len)) c.feed_payload.new.mirror) (sym c.in-InBytes.is)
     (feeds_data left bytes (InBytes (left - len)) c.args.mirror.now c.feed_payload.new.mirror
     (some_run bytes left (left - len) (omega arith) less) c.in_ok-feed_payload.ensures.ok)

@@ -13,8 +13,10 @@ pub fields-preserved : goal.fields-preserved
 fields-preserved c =
     let fields = c.args.fields.now in
     let i = c.fields.field-index in
-    c.fields.invariant ∙ more_coding fields i _ c.fields.is_chunked c.as_bytes.result.now c.fields-test.true c.as_bytes.ensures.value
-    ∙ ap (λ (r : Result Bool FollowFault). and_then r (λ next. by_codings next (rest_of fields (i + 1)))) (sym c.in_ok-is_chunked.ensures.value)
+    c.fields.invariant ∙ more_coding fields i _ c.fields.is_chunked c.as_bytes.result.now
+    c.fields-test.true c.as_bytes.ensures.value
+    ∙ ap (λ (r : Result Bool FollowFault). and_then r
+    (λ next. by_codings next (rest_of fields (i + 1)))) (sym c.in_ok-is_chunked.ensures.value)
 
 pub returns-in_err-is_chunked-clause-value : goal.returns-in_err-is_chunked-clause-value
 returns-in_err-is_chunked-clause-value c =
@@ -24,15 +26,20 @@ returns-in_err-is_chunked-clause-value c =
     rw (p.1, p.2)
     (sym (framing_is (map header_parts fields)
     ∙ ap (λ (r : Result Bool FollowFault). and_then r (framed_by (map header_parts fields)))
-    (c.fields.invariant ∙ more_coding fields i _ c.fields.is_chunked c.as_bytes.result.now c.fields-test.true c.as_bytes.ensures.value
-    ∙ ap (λ (r : Result Bool FollowFault). and_then r (λ next. by_codings next (rest_of fields (i + 1)))) (sym c.in_err-is_chunked.ensures.value))))
+    (c.fields.invariant ∙ more_coding fields i _ c.fields.is_chunked c.as_bytes.result.now
+    c.fields-test.true c.as_bytes.ensures.value
+    ∙ ap (λ (r : Result Bool FollowFault). and_then r
+    (λ next. by_codings next (rest_of fields (i + 1))))
+    (sym c.in_err-is_chunked.ensures.value))))
 
 pub returns-then-is_chunked-clause-value : goal.returns-then-is_chunked-clause-value
 returns-then-is_chunked-clause-value c =
     let fields = c.args.fields.now in
     sym (framing_is (map header_parts fields)
     ∙ ap (λ (r : Result Bool FollowFault). and_then r (framed_by (map header_parts fields)))
-    (c.fields.invariant ∙ ap (by_codings c.fields.is_chunked) (no_rest fields c.fields.field-index c.fields-test.false) ∙ ap (λ (b : Bool). by_codings b []) c.if-is_chunked.true))
+    (c.fields.invariant ∙ ap (by_codings c.fields.is_chunked)
+    (no_rest fields c.fields.field-index c.fields-test.false)
+    ∙ ap (λ (b : Bool). by_codings b []) c.if-is_chunked.true))
 
 pub returns-else-is_chunked-clause-value : goal.returns-else-is_chunked-clause-value
 returns-else-is_chunked-clause-value c =
@@ -40,4 +47,6 @@ returns-else-is_chunked-clause-value c =
     c.framing_by_length.ensures.value
     ∙ sym (framing_is (map header_parts fields)
     ∙ ap (λ (r : Result Bool FollowFault). and_then r (framed_by (map header_parts fields)))
-    (c.fields.invariant ∙ ap (by_codings c.fields.is_chunked) (no_rest fields c.fields.field-index c.fields-test.false) ∙ ap (λ (b : Bool). by_codings b []) c.if-is_chunked.false))
+    (c.fields.invariant ∙ ap (by_codings c.fields.is_chunked)
+    (no_rest fields c.fields.field-index c.fields-test.false)
+    ∙ ap (λ (b : Bool). by_codings b []) c.if-is_chunked.false))

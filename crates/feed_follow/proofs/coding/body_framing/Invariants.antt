@@ -5,4 +5,5 @@ use Rattle.feed_follow.proofs.CodingLemmas.{by_codings}
 use Rattle.feed_follow.proofs.coding.body_framing.Given as goal
 
 abbrev pub invariant-fields : goal.invariant-fields
-invariant-fields l = by_codings false (map header_parts l.fields) ≡ by_codings l.is_chunked (map header_parts (drop l.field-index l.fields))
+invariant-fields l = by_codings false (map header_parts l.fields) ≡ by_codings l.is_chunked
+    (map header_parts (drop l.field-index l.fields))

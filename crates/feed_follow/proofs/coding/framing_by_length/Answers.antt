@@ -20,11 +20,15 @@ fields-preserved c =
     elim c.if-is_word.branch [
       | then-is_word+in_ok-framing w ↦
           rw w.framing-is
-          (c.fields.invariant ∙ more_length fields i _ c.fields.framing c.as_bytes.result.now within c.as_bytes.ensures.value (sym c.is_word.ensures ∙ w.if-is_word.true)
-          ∙ ap (λ (r : Result BodyFraming FollowFault). and_then r (λ next. lengths_of next (rest_of fields (i + 1)))) (sym w.in_ok-framing.ensures.value))
+          (c.fields.invariant ∙ more_length fields i _ c.fields.framing c.as_bytes.result.now within
+          c.as_bytes.ensures.value (sym c.is_word.ensures ∙ w.if-is_word.true)
+          ∙ ap (λ (r : Result BodyFraming FollowFault). and_then r
+          (λ next. lengths_of next (rest_of fields (i + 1))))
+          (sym w.in_ok-framing.ensures.value))
       | else-is_word w ↦
           rw w.framing-is
-          (c.fields.invariant ∙ other_field fields i _ c.fields.framing c.as_bytes.result.now within c.as_bytes.ensures.value (sym c.is_word.ensures ∙ w.if-is_word.false))
+          (c.fields.invariant ∙ other_field fields i _ c.fields.framing c.as_bytes.result.now within
+          c.as_bytes.ensures.value (sym c.is_word.ensures ∙ w.if-is_word.false))
     ]
 
 pub returns-in_err-framing-clause-value : goal.returns-in_err-framing-clause-value
@@ -34,8 +38,10 @@ returns-in_err-framing-clause-value c =
     let i = c.fields.field-index in
     rw (p.1, p.2)
     (sym (by_all (values_of (codes "content-length") (map header_parts fields)) ∙ c.fields.invariant
-    ∙ more_length fields i _ c.fields.framing c.as_bytes.result.now c.fields-test.true c.as_bytes.ensures.value (sym c.is_word.ensures ∙ c.if-is_word.true)
-    ∙ ap (λ (r : Result BodyFraming FollowFault). and_then r (λ next. lengths_of next (rest_of fields (i + 1)))) (sym c.in_err-framing.ensures.value)))
+    ∙ more_length fields i _ c.fields.framing c.as_bytes.result.now c.fields-test.true
+    c.as_bytes.ensures.value (sym c.is_word.ensures ∙ c.if-is_word.true)
+    ∙ ap (λ (r : Result BodyFraming FollowFault). and_then r
+    (λ next. lengths_of next (rest_of fields (i + 1)))) (sym c.in_err-framing.ensures.value)))
 
 pub returns-clause-value : goal.returns-clause-value
 returns-clause-value c =

@@ -11,37 +11,56 @@ unfinished-requires c =
     let bytes = c.args.bytes.now in
     let len = c.in-Ok-Complete.len in
     let (h, holds) = rw c.in-Ok-Complete.field-0-is at c.in-Ok-Complete.ensures.complete in
-    let other : ¬ (IsHeadSize (take len bytes) (length c.parse.new.self.headers.now)) = c.if-not-is_head_size.ensures.other (search rules) in
-    other_size bytes h (drop len bytes) holds.reads (λ size. other (sized_from bytes c.parse.new.self.headers.now h len holds.reads holds.len_is holds.fields size))
+    let other : ¬ (IsHeadSize (take len bytes) (length c.parse.new.self.headers.now)) =
+    c.if-not-is_head_size.ensures.other (search rules) in
+    other_size bytes h (drop len bytes) holds.reads
+    (λ size. other (sized_from bytes c.parse.new.self.headers.now h len holds.reads holds.len_is
+    holds.fields size))
 
-pub returns-in_err-says-in-Ok-Complete-clause-err : goal.returns-in_err-says-in-Ok-Complete-clause-err
+pub returns-in_err-says-in-Ok-Complete-clause-err :
+    goal.returns-in_err-says-in-Ok-Complete-clause-err
 returns-in_err-says-in-Ok-Complete-clause-err c =
     let p = err_from_is_err_and c.from_residual.result c.from_residual.ensures.1 in
     let bytes = c.args.bytes.now in
     let len = c.in-Ok-Complete.len in
     let (h, holds) = rw c.in-Ok-Complete.field-0-is at c.in-Ok-Complete.ensures.complete in
-    let fits : IsHeadSize (take len bytes) (length c.parse.new.self.headers.now) = c.if-not-is_head_size.ensures.size (search rules) in
-    let code : c.unwrap_or.result ≡ status_code h = c.unwrap_or.ensures ∙ ap (λ o. unwrap_or o 0) holds.code in
+    let fits : IsHeadSize (take len bytes) (length c.parse.new.self.headers.now) =
+    c.if-not-is_head_size.ensures.size (search rules) in
+    let code : c.unwrap_or.result ≡ status_code h = c.unwrap_or.ensures
+    ∙ ap (λ o. unwrap_or o 0) holds.code in
     rw (p.1, p.2) (record {
       of_head = c.in_err-says-in-Ok-Complete.ensures.faults;
       stands = inr (
         h,
         drop len bytes,
-        record { reads = holds.reads; size = sized_to bytes c.parse.new.self.headers.now h len holds.reads holds.len_is holds.fields fits },
-        sym (verdict_is c.args.had_token c.unwrap_or.result c.parse.new.self.headers.now h code holds.fields) ∙ sym c.in_err-says-in-Ok-Complete.ensures.says,
+        record {
+          reads = holds.reads;
+          size = sized_to bytes c.parse.new.self.headers.now h len
+              holds.reads holds.len_is holds.fields fits;
+        },
+        sym (verdict_is c.args.had_token c.unwrap_or.result c.parse.new.self.headers.now h code
+            holds.fields) ∙ sym c.in_err-says-in-Ok-Complete.ensures.says,
       );
     })
 
-pub returns-in_ok-says-in-Ok-Complete-clause-whole : goal.returns-in_ok-says-in-Ok-Complete-clause-whole
+pub returns-in_ok-says-in-Ok-Complete-clause-whole :
+    goal.returns-in_ok-says-in-Ok-Complete-clause-whole
 returns-in_ok-says-in-Ok-Complete-clause-whole c =
     let bytes = c.args.bytes.now in
     let len = c.in-Ok-Complete.len in
     let (h, holds) = rw c.in-Ok-Complete.field-0-is at c.in-Ok-Complete.ensures.complete in
-    let fits : IsHeadSize (take len bytes) (length c.parse.new.self.headers.now) = c.if-not-is_head_size.ensures.size (search rules) in
-    let code : c.unwrap_or.result ≡ status_code h = c.unwrap_or.ensures ∙ ap (λ o. unwrap_or o 0) holds.code in
+    let fits : IsHeadSize (take len bytes) (length c.parse.new.self.headers.now) =
+    c.if-not-is_head_size.ensures.size (search rules) in
+    let code : c.unwrap_or.result ≡ status_code h = c.unwrap_or.ensures
+    ∙ ap (λ o. unwrap_or o 0) holds.code in
     record {
       head = h;
       fits = len_fits bytes h len holds.reads holds.len_is;
-      begins = record { reads = holds.reads; size = sized_to bytes c.parse.new.self.headers.now h len holds.reads holds.len_is holds.fields fits };
-      says = sym (verdict_is c.args.had_token c.unwrap_or.result c.parse.new.self.headers.now h code holds.fields) ∙ sym c.in_ok-says-in-Ok-Complete.ensures.says;
+      begins = record {
+        reads = holds.reads;
+        size = sized_to bytes c.parse.new.self.headers.now h
+            len holds.reads holds.len_is holds.fields fits;
+      };
+      says = sym (verdict_is c.args.had_token c.unwrap_or.result c.parse.new.self.headers.now h code
+          holds.fields) ∙ sym c.in_ok-says-in-Ok-Complete.ensures.says;
     }

@@ -5,9 +5,11 @@ use Rattle.feed_follow.proofs.laws.chunk_laws.Goals as goal
 
 pub returns : goal.returns
 returns c = record {
-  fronts = λ text payload to reads. is_front to text payload (stands_on LineStart to text payload [] [] reads starts);
+  fronts = λ text payload to reads. is_front to text payload
+      (stands_on LineStart to text payload [] [] reads starts);
   read = λ text payload front. front_reads text payload front;
   whole = λ text payload body. body_run text payload body;
   refused = λ at b text payload other reads none. refused_byte at b text payload other reads none;
-  once = λ text payload other to too reads also. sym (runs_bring LineStart to text payload reads) ∙ runs_bring LineStart too text other also;
+  once = λ text payload other to too reads also. sym (runs_bring LineStart to text payload reads)
+      ∙ runs_bring LineStart too text other also;
 }

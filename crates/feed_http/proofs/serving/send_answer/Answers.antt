@@ -1,7 +1,7 @@
 use Rattle.std.proofs.Common.{ℕ, List, sym, subst}
 use Rattle.std.specs.Io.KnownBytes.{Appends}
 use Rattle.feed_http.specs.Device.{AppendsFront}
-use Rattle.feed_http.specs.Answered.{parts_of}
+use Rattle.feed_answer.specs.Answered.{parts_of}
 use Rattle.feed_http.specs.Serving.{SendsAnswer}
 use Rattle.feed_http.specs.Sending.{WroteAnswer}
 use Rattle.feed_http.proofs.ServingLemmas.{on_err, wrote_answer, wrote_session, sends_session}

@@ -1,42 +1,42 @@
 use Rattle.std.proofs.Common.{◌≡◌, refl, sym, ap, ◌∙◌, [], ◌∷◌, ◌++◌, arith, subst, length-append}
 use Rattle.std.specs.Io.KnownBytes.{Appends}
 use Rattle.std.proofs.KnownBytes.{Appends-nil}
-use Rattle.feed_http.specs.Framed.{frame}
+use Rattle.feed_answer.specs.Framed.{frame}
 use Rattle.feed_http.specs.Device.{AppendsFront}
-use Rattle.feed_http.specs.Serving.{Sends, up_to_date, lost, commit_text}
+use Rattle.feed_http.specs.Serving.{commit_text}
+use Rattle.feed_http.specs.Sessions.{next}
 use Rattle.feed_http.specs.Sending.{Sent, sent_none, sent_one}
-use Rattle.feed_http.proofs.ServingLemmas.{sends_behind, next_moves, ahead_falls, pulls_more, pulls_up_to_date, pulls_gone, on_err, wrote_these, wrote_into, wrote_one, ahead}
-use Rattle.std.proofs.Common.{append-nil}
+use Rattle.feed_http.proofs.ServingLemmas.{next_moves, ahead_falls, pulls_more, pulls_up_to_date, pulls_gone, on_err, wrote_these, wrote_into, wrote_one, ahead}
 use Rattle.feed_http.proofs.serving.send_commits.Goals as goal
 
 pub commits-init : goal.commits-init
 commits-init g c = record { run = ([], sent_none _, refl, Appends-nil _); quiet = refl }
 
-pub returns-in_err-pull_next-clause-front : goal.returns-in_err-pull_next-clause-front
-returns-in_err-pull_next-clause-front g c =
+pub returns-in_err-pull_next-clause-part : goal.returns-in_err-pull_next-clause-part
+returns-in_err-pull_next-clause-part g c =
     let (sent, run, count, wrote) = c.commits.invariant.run in
-    on_err c.from_residual.result _ (wrote_these c.args.node.now.shown c.args.session.now c.commits.session sent c.args.framing _ _ c.pull_next.ensures.consistent run wrote)
+    on_err c.from_residual.result _ (wrote_these c.args.node.now.shown c.args.session.now c.commits.session sent c.args.framing _ _ run wrote)
 
-pub returns-in_err-write_framed-in-More-clause-front : goal.returns-in_err-write_framed-in-More-clause-front
-returns-in_err-write_framed-in-More-clause-front g c =
+pub returns-in_err-write_framed-in-More-clause-part : goal.returns-in_err-write_framed-in-More-clause-part
+returns-in_err-write_framed-in-More-clause-part g c =
     let (sent, run, count, wrote) = c.commits.invariant.run in
     let (commit, is_next, token_is, text_is) = pulls_more _ _ _ _ _ _ c.in_ok-pull_next.ensures.ok c.in-More.is in
     let text : c.as_slice.result.now ≡ commit_text commit = c.as_slice.ensures.value ∙ text_is ∙ ap (λ t. t ++ commit_text commit) c.new-text.ensures.items in
     on_err c.from_residual-in_err-write_framed-in-More.result _
-    (wrote_into c.args.node.now.shown c.args.session.now c.commits.session sent commit c.args.framing _ _ _ c.pull_next.ensures.consistent run is_next wrote
+    (wrote_into c.args.node.now.shown c.args.session.now c.commits.session sent commit c.args.framing _ _ _ run is_next wrote
     (subst (λ t. AppendsFront (g.W.FeedWrite.contents c.commits.writer) (g.W.FeedWrite.contents c.write_framed.new.writer) (frame c.args.framing t)) text c.in_err-write_framed-in-More.ensures.front))
 
 pub returns-in-UpToDate-clause-ok : goal.returns-in-UpToDate-clause-ok
 returns-in-UpToDate-clause-ok g c =
     let (sent, run, count, wrote) = c.commits.invariant.run in
-    let none = pulls_up_to_date _ _ _ _ _ _ c.in_ok-pull_next.ensures.ok c.in-UpToDate.is in
-    (sent, subst (λ l. Sends c.args.node.now.shown c.args.session.now l _) (append-nil sent) (sends_behind c.args.node.now.shown c.args.session.now c.commits.session sent [] _ run (up_to_date c.commits.session none)), count, wrote)
+    let (none, same) = pulls_up_to_date _ _ _ _ _ _ c.in_ok-pull_next.ensures.ok c.in-UpToDate.is in
+    (sent, subst (Sent c.args.node.now.shown c.args.session.now sent) (sym same) run, ap (next c.args.node.now.shown) same ∙ none, count, wrote)
 
 pub returns-in-Gone-clause-ok : goal.returns-in-Gone-clause-ok
 returns-in-Gone-clause-ok g c =
     let (sent, run, count, wrote) = c.commits.invariant.run in
-    let none = pulls_gone _ _ _ _ _ _ c.in_ok-pull_next.ensures.ok c.in-Gone.is in
-    (sent, subst (λ l. Sends c.args.node.now.shown c.args.session.now l _) (append-nil sent) (sends_behind c.args.node.now.shown c.args.session.now c.commits.session sent [] _ run (lost c.commits.session none)), count, wrote)
+    let (none, same) = pulls_gone _ _ _ _ _ _ c.in_ok-pull_next.ensures.ok c.in-Gone.is in
+    (sent, subst (Sent c.args.node.now.shown c.args.session.now sent) (sym same) run, ap (next c.args.node.now.shown) same ∙ none, count, wrote)
 
 pub commits-smaller : goal.commits-smaller
 commits-smaller g c =

@@ -3,7 +3,8 @@ use Rattle.std.proofs.Common.{◌≡◌, List, length}
 use Rattle.std.specs.Io.KnownBytes.{Appends}
 use Rattle.feed_node.specs.declared.commit.Commit.{Commit}
 use Rattle.feed_http.specs.Device.{counted}
-use Rattle.feed_http.specs.Sending.{Sent, commit_frames}
+use Rattle.feed_http.specs.Serving.{commit_frames}
+use Rattle.feed_http.specs.Sending.{Sent}
 use Rattle.feed_http.proofs.ServingLemmas.{ahead}
 use Rattle.feed_http.proofs.serving.send_commits.Given as goal
 

@@ -2,14 +2,13 @@
 use Rattle.std.proofs.Common.{◌≡◌, length}
 use Rattle.feed_world.specs.States.{IsWorld}
 use Rattle.feed_world.specs.World.{World}
-use Rattle.feed_play.specs.Told.{Prints, Grows}
+use Rattle.feed_play.specs.Told.{Prints}
 use Rattle.feed_play.specs.Player.{PlaysUpTo}
 use Rattle.feed_play.specs.Lines.{all_lines}
 use Rattle.feed_play.proofs.player.play.Given as goal
 
 abbrev pub invariant-lines : goal.invariant-lines
 invariant-lines l = record {
-  grows : Grows l.initial.out.items l.out.items;
   all : all_lines l.lines ≡ all_lines l.initial.lines;
   played : (w : World) × IsWorld w l.world × Prints l.initial.out.items l.out.items (λ told. PlaysUpTo l.fn.script told w l.lines);
 }

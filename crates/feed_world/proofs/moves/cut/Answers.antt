@@ -1,18 +1,22 @@
+use Rattle.std.proofs.Common.{refl, inl}
 use Rattle.std.proofs.lemmas.Result.{err_from_is_err_and}
+use Rattle.feed_world.specs.declared.event.Event.TheVariants.{Cut as DoCut}
 use Rattle.feed_world.specs.Step.{mirror_cuts}
-use Rattle.feed_world.proofs.Moved.{nobody, cut_leads, cut_fails}
+use Rattle.feed_world.proofs.Moved.{nobody, move_leads, move_fails, keeps_cut}
+use Rattle.feed_world.proofs.Moved.{refused_unlinked}
 use Rattle.feed_world.proofs.moves.cut.Goals as goal
 
 pub returns-in_err-place-clause-err : goal.returns-in_err-place-clause-err
 returns-in_err-place-clause-err c w primary h =
     let p = err_from_is_err_and c.from_residual.result c.from_residual.ensures.1 in
-    rw (p.1, p.2, c.in_err-place.ensures.err.0) (nobody w primary _ h c.args.number mirror_cuts c.in_err-place.ensures.err.1)
+    rw (p.1, p.2, c.in_err-place.ensures.err.0) (inl (nobody w primary _ h c.args.number mirror_cuts c.in_err-place.ensures.err.1))
 
 pub returns-clause-ok : goal.returns-clause-ok
 returns-clause-ok c w primary h =
-    cut_leads w primary _ h c.args.number c.in_ok-place.place c.in_ok-place.ensures.ok.0 c.index-followers-place.result c.in_ok-place.ensures.ok.1 c.cut.result c.cut.new.self
-    (λ m k. c.cut.ensures.ok w.limits w.log m k)
+    move_leads w primary _ h c.args.number c.in_ok-place.place c.in_ok-place.ensures.ok.0 c.index-followers-place.result c.in_ok-place.ensures.ok.1
+    (DoCut c.args.number) mirror_cuts refl keeps_cut c.cut.result c.cut.new.self (λ m k. c.cut.ensures.ok w.limits w.log m k)
 
 pub returns-clause-err : goal.returns-clause-err
 returns-clause-err c w primary h =
-    cut_fails w primary _ h c.args.number c.in_ok-place.place c.in_ok-place.ensures.ok.0 c.index-followers-place.result c.in_ok-place.ensures.ok.1 c.cut.result c.cut.ensures.err
+    move_fails w primary _ h c.args.number c.in_ok-place.place c.in_ok-place.ensures.ok.0 c.index-followers-place.result c.in_ok-place.ensures.ok.1
+    mirror_cuts c.cut.result (λ m k. refused_unlinked w.limits w.log m _ _ c.cut.result k c.cut.ensures.err)

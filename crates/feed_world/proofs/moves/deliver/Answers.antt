@@ -1,3 +1,4 @@
+use Rattle.std.proofs.Common.{inl}
 use Rattle.std.proofs.lemmas.Result.{err_from_is_err_and}
 use Rattle.feed_world.specs.Step.{mirror_delivers}
 use Rattle.feed_world.proofs.Moved.{nobody, deliver_leads, deliver_fails}
@@ -6,7 +7,7 @@ use Rattle.feed_world.proofs.moves.deliver.Goals as goal
 pub returns-in_err-place-clause-err : goal.returns-in_err-place-clause-err
 returns-in_err-place-clause-err c w primary h =
     let p = err_from_is_err_and c.from_residual.result c.from_residual.ensures.1 in
-    rw (p.1, p.2, c.in_err-place.ensures.err.0) (nobody w primary _ h c.args.number (mirror_delivers w.limits.history w.log c.args.bytes) c.in_err-place.ensures.err.1)
+    rw (p.1, p.2, c.in_err-place.ensures.err.0) (inl (nobody w primary _ h c.args.number (mirror_delivers w.limits.history w.log c.args.bytes) c.in_err-place.ensures.err.1))
 
 pub returns-clause-ok : goal.returns-clause-ok
 returns-clause-ok c w primary h =

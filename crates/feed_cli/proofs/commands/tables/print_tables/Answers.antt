@@ -8,17 +8,17 @@ returns-clause-ok g c =
     let shown = c.feed_all-fed.new.mirror.node.published in
     let limits : c.begin.new.self.limits ≡ c.args.options.limits = c.begin.ensures.limits ∙ ap (λ m. m.limits) c.in_ok-mirror.ensures in
     printed_ok c.args.options.limits _ _ c.as_slice.result.now c.in_ok-text.text.items c.feed_all-fed.result c.outcome.result shown c.is_some.result
-    (c.feed_all-fed.ensures.fed (search rules)) limits c.as_slice.ensures.value c.in_ok-text.ensures (search rules) (c.is_some.ensures ∙ is_some_kept _ c.token.result ∙ ap is_some (c.token.ensures ∙ ap published_token c.node.ensures.node)) c.outcome.ensures
+    (c.feed_all-fed.ensures.fed (search rules)) limits c.as_slice.ensures.value c.in_ok-text.ensures.text (search rules) (c.is_some.ensures ∙ is_some_kept _ c.token.result ∙ ap is_some (c.token.ensures ∙ ap published_token c.node.ensures.node)) c.outcome.ensures
 
 pub returns-clause-err : goal.returns-clause-err
 returns-clause-err g c =
     let shown = c.feed_all-fed.new.mirror.node.published in
     let limits : c.begin.new.self.limits ≡ c.args.options.limits = c.begin.ensures.limits ∙ ap (λ m. m.limits) c.in_ok-mirror.ensures in
     printed_err c.args.options.limits _ _ c.as_slice.result.now c.in_ok-text.text.items c.feed_all-fed.result c.outcome.result shown c.is_some.result
-    (c.feed_all-fed.ensures.fed (search rules)) limits c.as_slice.ensures.value c.in_ok-text.ensures (search rules) (c.is_some.ensures ∙ is_some_kept _ c.token.result ∙ ap is_some (c.token.ensures ∙ ap published_token c.node.ensures.node)) c.outcome.ensures
+    (c.feed_all-fed.ensures.fed (search rules)) limits c.as_slice.ensures.value c.in_ok-text.ensures.text (search rules) (c.is_some.ensures ∙ is_some_kept _ c.token.result ∙ ap is_some (c.token.ensures ∙ ap published_token c.node.ensures.node)) c.outcome.ensures
 
 pub returns-in-Err-clause-err : goal.returns-in-Err-clause-err
 returns-in-Err-clause-err g c =
     let limits : c.begin.new.self.limits ≡ c.args.options.limits = c.begin.ensures.limits ∙ ap (λ m. m.limits) c.in_ok-mirror.ensures in
     front_of c.args.options.limits _ _ c.as_slice.result.now c.in_ok-text.text.items c.feed_all-fed.result c.feed_all-fed.new.mirror.node.published
-    (c.feed_all-fed.ensures.fed (search rules)) limits c.as_slice.ensures.value c.in_ok-text.ensures c.in-Err.ensures.front
+    (c.feed_all-fed.ensures.fed (search rules)) limits c.as_slice.ensures.value c.in_ok-text.ensures.text c.in-Err.ensures.front

@@ -1,0 +1,47 @@
+#!/usr/bin/env python3
+"""bench/following.py [NOTIFICATIONS]: times a `Follower` on a generated feed, beside a mirror that is fed the same bytes.
+
+Needs the toolchain (rt). The program bench/following/main.rattle is proved and built in a temporary copy of the crates below it, as
+bench/lines.py builds its own. It reads the feed and makes the response before it looks at the clock. The best of three counts."""
+import shutil
+import subprocess
+import sys
+import tempfile
+from functools import partial
+from pathlib import Path
+
+from lines import TOP, best, built
+
+ROWS = {
+    "`Mirror::feed`": "mirror",
+    "to the end of the connection": "end",
+    "by length": "length",
+    "chunks of 65,536": "65536",
+    "chunks of 200": "200",
+    "a head of 8,192 bytes, one by one": "head",
+}
+
+
+def told(program, word, feed):
+    """The seconds that the program tells."""
+    with open(feed, "rb") as source:
+        text = subprocess.run([program, word], stdin=source, capture_output=True, text=True, check=True).stdout
+    return int(text.split()[1]) / 1e6
+
+
+def main():
+    if not shutil.which("rt"):
+        sys.exit("following.py: missing: the toolchain (rt)")
+    count = int(sys.argv[1]) if len(sys.argv) > 1 else 200_000
+    with tempfile.TemporaryDirectory(prefix="tunygarop-following-") as name:
+        folder = Path(name)
+        program, feed = built(folder, "following", "feed_follow"), folder / "feed.ndjson"
+        with open(feed, "wb") as sink:
+            subprocess.run([sys.executable, TOP / "bench/feed.py", str(count)], stdout=sink, check=True)
+        found = best({row: partial(told, program, word, feed) for row, word in ROWS.items()})
+        print(f"{feed.stat().st_size / 1e6:.0f} MB\n\n| | seconds |\n|---|---|")
+        for row, seconds in found.items():
+            print(f"| {row} | {seconds:.3f} |")
+
+
+main()

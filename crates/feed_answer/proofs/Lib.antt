@@ -1,0 +1,9 @@
+pub mod AskedLemmas
+pub mod FollowedLemmas
+pub mod FrameLemmas
+pub mod FrontLemmas
+pub mod OpeningLemmas
+pub mod OurHeads
+pub mod RefusalTexts
+pub mod RequestLemmas
+pub mod TextLemmas

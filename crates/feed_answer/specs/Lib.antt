@@ -1,0 +1,15 @@
+pub mod Answer
+pub mod Answered
+pub mod Asked
+pub mod AskedFor
+pub mod Carried
+pub mod FollowLaws
+pub mod FrameLaws
+pub mod Framed
+pub mod HeadRead
+pub mod Heads
+pub mod Laws
+pub mod Opening
+pub mod Place
+pub mod RequestText
+pub mod Served

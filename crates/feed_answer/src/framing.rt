@@ -1,0 +1,71 @@
+//! How the body of an answer is framed.
+ghost use Rattle.std.specs.Prelude.{◌≡◌, ◌++◌, [], IsOk, OnOk, OnErr};
+ghost use Rattle.feed_note.specs.Written.{Begins};
+ghost use Rattle.feed_answer.specs.Framed as framed;
+
+use std::alloc::{AllocError, Global};
+
+/// How the body of an answer is framed: to the end of the connection, or in chunks (RFC 9112,
+/// sections 6.3 and 7.1).
+#[derive(Clone, Copy, Debug, PartialEq, Eq)]
+pub enum Framing {
+    Close,
+    Chunked,
+}
+
+/// Appends the bytes as they stand in a body. Of no bytes nothing is appended: an empty chunk would
+/// end the body. For want of memory nothing is appended, either.
+pub fn frame(
+    alloc: Global,
+    framing: Framing,
+    bytes: &[u8],
+    out: &mut Vec<u8>,
+) -> Result<(), AllocError>
+    ensures ok { OnOk result (out.new.items ≡ out.old.items ++ framed.frame framing bytes.now) }
+    ensures err { OnErr result (out.new.items ≡ out.old.items) }
+    // No bytes take no memory.
+    ensures free { bytes.now ≡ [] → framing ≡ Framing.Chunked → IsOk result }
+{
+    match framing {
+        Framing::Close => out.extend_from_slice(bytes),
+        Framing::Chunked if bytes.is_empty() => Ok(()),
+        Framing::Chunked => append_chunk(alloc, bytes, out),
+    }
+}
+
+/// Appends the end of a body. For want of memory nothing is appended.
+pub fn frame_end(framing: Framing, out: &mut Vec<u8>) -> Result<(), AllocError>
+    ensures ok { OnOk result (out.new.items ≡ out.old.items ++ framed.frame_end framing) }
+    ensures err { OnErr result (out.new.items ≡ out.old.items) }
+    ensures free { framing ≡ Framing.Close → IsOk result }
+{
+    match framing {
+        Framing::Close => Ok(()),
+        Framing::Chunked => out.extend_from_slice(b"0\r\n\r\n"),
+    }
+}
+
+fn append_chunk(alloc: Global, bytes: &[u8], out: &mut Vec<u8>) -> Result<(), AllocError>
+    ensures ok { OnOk result (out.new.items ≡ out.old.items ++ framed.chunk_text bytes.now) }
+    ensures err { OnErr result (out.new.items ≡ out.old.items) }
+{
+    let start = out.len();
+    let appended = append_parts(alloc, bytes, out);
+    if appended.is_err() {
+        out.truncate(start);
+    }
+    appended
+}
+
+// Leaves a part of the chunk where memory runs out.
+fn append_parts(alloc: Global, bytes: &[u8], out: &mut Vec<u8>) -> Result<(), AllocError>
+    ensures ok { OnOk result (out.new.items ≡ out.old.items ++ framed.chunk_text bytes.now) }
+    ensures kept { Begins out.old.items out.new.items }
+{
+    let len = bytes.len();
+    let size = format!(in alloc; "{len:x}")?;
+    out.extend_from_slice(size.as_bytes())?;
+    out.extend_from_slice(b"\r\n")?;
+    out.extend_from_slice(bytes)?;
+    out.extend_from_slice(b"\r\n")
+}

@@ -1,0 +1,29 @@
+//! Laws of the definitions.
+ghost use Rattle.feed_answer.specs.FrameLaws.{FramesCarry, FramesEnd};
+ghost use Rattle.feed_answer.specs.Laws.{AskedOnce, RequestIsRead, RequestIsAnswered};
+ghost use Rattle.feed_answer.specs.FollowLaws.{HeadsAreRead, ResponsesAreFollowed, WholeCarriesAll, FrontsCarryMore, EndsAreFollowed, RefusalsAreFollowed};
+
+use feed_follow::follow_laws;
+
+/// Bytes ask for one thing; and a request that is written here is read as it was meant, and is
+/// answered as opening a session at its token decides; and what is framed carries what was framed.
+pub fn answer_laws()
+    ensures asked { AskedOnce }
+    ensures request { RequestIsRead }
+    ensures answered { RequestIsAnswered }
+    ensures frames { FramesCarry }
+    ensures ends { FramesEnd }
+{}
+
+/// What a server writes is followed: each front of it stands in one way, with a front of the texts
+/// that it carries, or as the refusal that it is.
+pub fn followed_laws()
+    ensures heads { HeadsAreRead }
+    ensures responses { ResponsesAreFollowed }
+    ensures whole { WholeCarriesAll }
+    ensures monotone { FrontsCarryMore }
+    ensures ends { EndsAreFollowed }
+    ensures refusals { RefusalsAreFollowed }
+{
+    follow_laws();
+}

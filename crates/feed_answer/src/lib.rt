@@ -1,0 +1,22 @@
+//! What a client asks for and what a server answers: the texts of requests and answers, and how
+//! the bytes of an answer are framed.
+#![tactic(auto)]
+
+mod answering;
+mod asked;
+mod framing;
+mod heads;
+mod laws;
+mod opening;
+mod place;
+mod refusal;
+mod request;
+mod request_target;
+
+pub use answering::{Answered, answer};
+pub use feed_follow::{HEAD_BYTES, HEAD_FIELDS, HEAD_LINES};
+pub use framing::{Framing, frame, frame_end};
+pub use heads::{HeadRead, look_at_request};
+pub use laws::{answer_laws, followed_laws};
+pub use place::{Place, PlaceFault};
+pub use request::request_text;

@@ -1,0 +1,107 @@
+use Rattle.std.proofs.Common.{◌≡◌, refl, sym, ◌∙◌, [], ◌++◌, length, arith, inr, subst, length-append, eqb-true}
+use Rattle.std.proofs.KnownBytes.{Appends-nil}
+use Rattle.std.proofs.lemmas.Result.{err_from_is_err_and}
+use Rattle.feed_http.specs.Live.{intake_of, none_sent, turn_taken}
+use Rattle.feed_http.specs.Sending.{Sent, WroteCommits}
+use Rattle.feed_http.specs.Serving.{commit_frames}
+use Rattle.feed_http.proofs.LiveLemmas.{stopped, cut_short, sent_on, frames_on, all_lost, all_new, lost_late, held_on, accepts_limits, fewer_left, none_left, refused_so}
+use Rattle.feed_http.proofs.live.send_live.Goals as goal
+
+pub turns-init : goal.turns-init
+turns-init g c = record { run = ([], none_sent, refl, Appends-nil _); quiet = refl; held = λ h. inr h; limits = refl; fewer = omega arith }
+
+pub returns-in_err-sent-clause-part : goal.returns-in_err-sent-clause-part
+returns-in_err-sent-clause-part g c =
+    let (sent, run, count, wrote) = c.turns.invariant.run in
+    let node_is : c.node.result.now.shown ≡ c.turns.primary.node = c.node.ensures.node in
+    let part = subst (λ n. WroteCommits n c.turns.session c.args.framing (g.W.FeedWrite.contents c.turns.writer) (g.W.FeedWrite.contents c.send_commits.new.writer)) node_is c.in_err-sent.ensures.part in
+    stopped c.from_residual.result _
+    (cut_short c.args.turn (intake_of c.args.primary.now c.args.input.now.items) c.args.session.now sent (intake_of c.turns.primary c.turns.input.items) c.turns.session c.args.framing _ _ _ run wrote part)
+
+pub returns-then-gone-clause-ok : goal.returns-then-gone-clause-ok
+returns-then-gone-clause-ok g c =
+    let (sent, run, count, wrote) = c.turns.invariant.run in
+    let (more, sends, all, many, appended) = c.in_ok-sent.ensures.ok in
+    let node_is : c.node.result.now.shown ≡ c.turns.primary.node = c.node.ensures.node in
+    let goes_on = subst (λ n. Sent n c.turns.session more c.send_commits.new.session) node_is sends in (
+      sent ++ more,
+      sent_on c.args.turn (intake_of c.args.primary.now c.args.input.now.items) c.args.session.now sent (intake_of c.turns.primary c.turns.input.items) c.turns.session c.send_commits.new.session more run goes_on,
+      all_lost c.node.result.now.shown c.turns.primary.node c.send_commits.new.session c.in_ok-sent.gone node_is c.if-gone.true all,
+      omega (arith, length-append sent more, count, many, c.saturating_add-count.ensures),
+      frames_on c.args.framing sent more _ _ _ wrote appended,
+    )
+
+pub returns-then-gone-clause-gone : goal.returns-then-gone-clause-gone
+returns-then-gone-clause-gone g c = λ is held.
+    let (more, sends, all, many, appended) = c.in_ok-sent.ensures.ok in
+    let node_is : c.node.result.now.shown ≡ c.turns.primary.node = c.node.ensures.node in
+    let goes_on = subst (λ n. Sent n c.turns.session more c.send_commits.new.session) node_is sends in
+    lost_late c.args.turn (intake_of c.args.primary.now c.args.input.now.items) (intake_of c.turns.primary c.turns.input.items) c.turns.session c.send_commits.new.session more c.node.ensures.consistent goes_on
+    (all_lost c.node.result.now.shown c.turns.primary.node c.send_commits.new.session c.in_ok-sent.gone node_is c.if-gone.true all)
+    (c.turns.invariant.held held)
+
+pub returns-then-is_empty-clause-ok : goal.returns-then-is_empty-clause-ok
+returns-then-is_empty-clause-ok g c =
+    let (sent, run, count, wrote) = c.turns.invariant.run in
+    let (more, sends, all, many, appended) = c.in_ok-sent.ensures.ok in
+    let node_is : c.node.result.now.shown ≡ c.turns.primary.node = c.node.ensures.node in
+    let goes_on = subst (λ n. Sent n c.turns.session more c.send_commits.new.session) node_is sends in
+    let none : c.turns.input.len ≡ 0 = eqb-true c.turns.input.len 0 (sym c.is_empty.ensures ∙ c.if-is_empty.true) in
+    let empty : length c.turns.input.items ≡ 0 = sym c.turns.input.ok.0 ∙ none in (
+      sent ++ more,
+      sent_on c.args.turn (intake_of c.args.primary.now c.args.input.now.items) c.args.session.now sent (intake_of c.turns.primary c.turns.input.items) c.turns.session c.send_commits.new.session more run goes_on,
+      (all_new c.node.result.now.shown c.turns.primary.node c.send_commits.new.session c.in_ok-sent.gone node_is c.if-gone.false all, none_left c.turns.primary c.turns.input.items empty),
+      omega (arith, length-append sent more, count, many, c.saturating_add-count.ensures),
+      frames_on c.args.framing sent more _ _ _ wrote appended,
+    )
+
+pub turns-preserved : goal.turns-preserved
+turns-preserved g c =
+    let (sent, run, count, wrote) = c.turns.invariant.run in
+    let (more, sends, all, many, appended) = c.in_ok-sent.ensures.ok in
+    let start = intake_of c.args.primary.now c.args.input.now.items in
+    let before = intake_of c.turns.primary c.turns.input.items in
+    let now = intake_of c.take_turn.new.primary c.take_turn.new.input.items in
+    let node_is : c.node.result.now.shown ≡ c.turns.primary.node = c.node.ensures.node in
+    let goes_on = subst (λ n. Sent n c.turns.session more c.send_commits.new.session) node_is sends in
+    let new = all_new c.node.result.now.shown c.turns.primary.node c.send_commits.new.session c.in_ok-sent.gone node_is c.if-gone.false all in
+    let takes = c.in_ok-take_turn.ensures.ok in
+    let left = fewer_left c.args.turn before now takes in
+    record {
+      run = (
+        sent ++ more,
+        turn_taken (sent ++ more) before now c.send_commits.new.session
+            (sent_on c.args.turn start c.args.session.now sent before c.turns.session c.send_commits.new.session more run goes_on) new takes,
+        omega (arith, length-append sent more, count, many, c.saturating_add-count.ensures),
+        frames_on c.args.framing sent more _ _ _ wrote appended,
+      );
+      quiet = c.in_ok-sent.ensures.quiet ∙ c.turns.invariant.quiet;
+      held = λ h. held_on c.args.turn start before now c.turns.session c.send_commits.new.session more c.turns.invariant.limits c.turns.invariant.fewer c.node.ensures.consistent goes_on new takes (c.turns.invariant.held h);
+      limits = accepts_limits c.turns.primary _ c.take_turn.new.primary takes.accepted ∙ c.turns.invariant.limits;
+      fewer = omega (arith, left, c.turns.invariant.fewer);
+    }
+
+pub returns-in_err-take_turn-clause-commit_in : goal.returns-in_err-take_turn-clause-commit_in
+returns-in_err-take_turn-clause-commit_in g c =
+    let (sent, run, count, wrote) = c.turns.invariant.run in
+    let (more, sends, all, many, appended) = c.in_ok-sent.ensures.ok in
+    let start = intake_of c.args.primary.now c.args.input.now.items in
+    let before = intake_of c.turns.primary c.turns.input.items in
+    let now = intake_of c.take_turn.new.primary c.take_turn.new.input.items in
+    let node_is : c.node.result.now.shown ≡ c.turns.primary.node = c.node.ensures.node in
+    let goes_on = subst (λ n. Sent n c.turns.session more c.send_commits.new.session) node_is sends in
+    let new = all_new c.node.result.now.shown c.turns.primary.node c.send_commits.new.session c.in_ok-sent.gone node_is c.if-gone.false all in
+    let p = err_from_is_err_and c.from_residual-in_err-take_turn.result c.from_residual-in_err-take_turn.ensures.1 in
+    rw (p.1, p.2) (λ why e. (
+      commit_frames c.args.framing (sent ++ more),
+      record {
+        sent = sent ++ more;
+        before = before;
+        token = c.send_commits.new.session;
+        has_sent = sent_on c.args.turn start c.args.session.now sent before c.turns.session c.send_commits.new.session more run goes_on;
+        nothing_new = new;
+        refuses = refused_so c.args.turn before now c.in_err-take_turn.field-0.0 why c.in_err-take_turn.ensures.err e;
+        text_is = refl;
+      },
+      frames_on c.args.framing sent more _ _ _ wrote appended,
+    ))

@@ -1,0 +1,14 @@
+-- What a patch makes of tables.
+use Rattle.std.specs.Prelude.{ℕ, List}
+use Rattle.std.specs.FinMap.{len}
+use Rattle.feed_tables.specs.Map.{map_over, map_less}
+use Rattle.feed_tables.specs.Tables.{Contents}
+use Rattle.feed_tables.specs.declared.patch.Patch.{Patch}
+
+-- what the tables hold after a patch: types are taken away, and then tables are put in
+abbrev pub over : Contents → Patch → Contents
+over base patch = map_over patch.tables (map_less patch.gone base)
+
+-- how many types there are after a patch that weren't there
+abbrev pub adds : Contents → Patch → ℕ
+adds base patch = len (map_less base (over base patch))

@@ -1,0 +1,53 @@
+-- The items of a tree by their names, and what a node is seen as.
+use Rattle.std.specs.Prelude.{◌≡◌, ℕ, Bool, true, false, Option, Some, None, min, List, [], ◌∷◌, ◌++◌, length, fold}
+use Rattle.std.specs.declared.alloc.Global.{Global}
+use Rattle.std.specs.declared.boxed.Box.{Box}
+use Rattle.std.specs.FinMap.{find, put}
+use Rattle.feed_tables.specs.Bytes.{byte_order, without}
+use Rattle.feed_tables.specs.declared.tree.Fork.{Fork as ForkOf}
+use Rattle.feed_tables.specs.declared.tree.Node.{Node}
+use Rattle.feed_tables.specs.declared.tree.Node.TheVariants.{Leaf, Fork}
+
+-- the items of a fork with their names, in order
+abbrev pub parts : {V : Type 0} → ForkOf V → List (List ℕ × V)
+parts fork = fork.left ++ (fork.id, fork.item) ∷ fork.right
+
+-- the items with their names, in the order of the tree
+abbrev pub entries_of : {V : Type 0} → Node V → List (List ℕ × V)
+entries_of Leaf = []
+entries_of (Fork fork) = parts fork.value
+
+-- how many items are counted
+abbrev pub count_of : {V : Type 0} → List (List ℕ × V) → ℕ
+count_of entries = min (length entries) 18446744073709551615
+
+-- the fork with the count of its items
+abbrev pub counted : {V : Type 0} → ForkOf V → ForkOf V
+counted fork = record fork { count = count_of (parts fork) }
+
+-- the fork with another item
+abbrev pub with_item : {V : Type 0} → ForkOf V → V → ForkOf V
+with_item fork item = record fork { item = item }
+
+-- the stored count is right
+abbrev pub IsCounted : {V : Type 0} → Node V → Type 0
+IsCounted Leaf = Unit {0}
+IsCounted (Fork fork) = fork.value.count ≡ count_of (parts fork.value)
+
+-- an item took the place of the one under a name; where there is none, nothing changed
+abbrev pub Swaps : {V : Type 0} → List ℕ → List (List ℕ × V) → List (List ℕ × V) → V → V → Bool → Type 0
+Swaps id es fs old new true = (find byte_order id es ≡ Some new) × (fs ≡ put byte_order id old es)
+Swaps id es fs old new false = (find byte_order id es ≡ None) × (fs ≡ es) × (new ≡ old)
+
+-- the first item was taken out; where there is none, nothing changed
+abbrev pub FirstTaken : {V : Type 0} → List (List ℕ × V) → List (List ℕ × V) → Option (Box (ForkOf V) Global) → Type 0
+FirstTaken es fs None = (es ≡ []) × (fs ≡ [])
+FirstTaken es fs (Some node) = es ≡ (node.value.id, node.value.item) ∷ fs
+
+-- each item put under its name
+abbrev pub put_all : {V : Type 0} → List (List ℕ × V) → List (List ℕ × V) → List (List ℕ × V)
+put_all es fs = fold (λ gs e. put byte_order e.0 e.1 gs) fs es
+
+-- each name taken out
+abbrev pub without_all : {V W : Type 0} → List (List ℕ × V) → List (List ℕ × W) → List (List ℕ × W)
+without_all es fs = fold (λ gs e. without e.0 gs) fs es

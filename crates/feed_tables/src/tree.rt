@@ -1,0 +1,295 @@
+//! Items by name: a search tree whose nodes have one owner. Only a new node takes memory; putting a node in, taking one
+//! away and moving all of them into another tree take none.
+
+ghost use Rattle.std.specs.Prelude.{◌≡◌, ◌+◌, ◌≤◌, ◌∷◌, ◌++◌, [], true, false, min, fold, length, IfOk, IfSome, IsNone, Some, None, IsTrue, ◌↔◌};
+ghost use Rattle.std.specs.Option.{option_copied};
+ghost use Rattle.std.specs.FinMap.{put, find};
+ghost use Rattle.feed_tables.specs.Bytes.{byte_order, IsInOrder, without};
+ghost use Rattle.feed_tables.specs.Tree.{parts, with_item, Swaps, FirstTaken, put_all, without_all};
+
+use crate::name::Name;
+use std::alloc::{AllocError, Global};
+use std::cmp::Ordering;
+use std::marker::Model;
+use std::mem;
+
+mod balance;
+mod walks;
+
+#[cycle(owned_tree)]
+#[derive(Drop)]
+pub struct Tree<V> {
+    node: Node<V>,
+}
+
+#[cycle(owned_tree)]
+#[derive(Drop)]
+enum Node<V> {
+    Leaf,
+    Fork(Box<Fork<V>>),
+}
+
+/// A name with its item, and what comes before and after it.
+#[cycle(owned_tree)]
+#[derive(Drop)]
+pub struct Fork<V> {
+    left: Tree<V>,
+    id: Name,
+    item: V,
+    // How many items there are, or `usize::MAX` where they are more.
+    count: usize,
+    right: Tree<V>,
+}
+
+impl<V> Model for Tree<V> {
+    ghost use Rattle.std.specs.Prelude.{List, ℕ, length};
+    ghost use Rattle.std.specs.Coded.{coded_ℕ, coded_list, coded×};
+
+    ghost Value = { List (List ℕ × V) };
+
+    ghost coded = { coded_list (coded× (coded_list coded_ℕ) V.code) };
+
+    ghost use Rattle.feed_tables.specs.Tree.{entries_of, IsCounted};
+
+    ghost view = { λ a. entries_of a.node };
+
+    ghost invariant = { λ a. IsCounted a.node };
+
+    ghost size = { length };
+
+    ghost use Rattle.feed_tables.specs.TreeFalls.{depth_le-length};
+
+    ghost size_decreases = { λ a h. depth_le-length a.node };
+}
+
+impl<V: Drop> Tree<V> {
+    pub fn new() -> Tree<V>
+        ensures { result ≡ [] }
+    {
+        Tree { node: Node::Leaf }
+    }
+
+    /// How many items there are, or `usize::MAX` where they are more.
+    pub fn count(&self) -> usize
+        ensures { result ≡ min (length self.now) usize.MAX }
+    {
+        match &self.node {
+            Node::Leaf => 0,
+            Node::Fork(fork) => fork.count,
+        }
+    }
+
+    /// The item of a name.
+    pub fn get(&self, id: &str) -> Option<&V>
+        requires { IsInOrder self.now }
+        ensures { option_copied result ≡ find byte_order id.now self.now }
+    {
+        match &self.node {
+            Node::Leaf => None,
+            Node::Fork(fork) => match fork.id.text().cmp(id) {
+                Ordering::Less => fork.right.get(id),
+                Ordering::Equal => Some(&fork.item),
+                Ordering::Greater => fork.left.get(id),
+            },
+        }
+    }
+
+    /// Exchanges the item of a name with this one, and answers whether there is one.
+    pub fn swap(&mut self, id: &str, item: &mut V) -> bool
+        requires { IsInOrder self.old }
+        ensures swapped { Swaps id.now self.old self.new item.old item.new result }
+    {
+        let Node::Fork(fork) = &mut self.node else {
+            return false;
+        };
+        match id.cmp(fork.id.text()) {
+            Ordering::Less => return fork.left.swap(id, item),
+            Ordering::Greater => return fork.right.swap(id, item),
+            Ordering::Equal => {}
+        }
+        mem::swap(&mut fork.item, item);
+        true
+    }
+
+    /// Puts a node's item under its name, in the place of the one that is there, and answers how many items more there
+    /// are: one, or none. It takes no memory, and what stands before and after the node is let go.
+    pub fn insert(&mut self, node: Box<Fork<V>>) -> usize
+        requires { IsInOrder self.old }
+        ensures put { self.new ≡ put byte_order node.value.id node.value.item self.old }
+        ensures added { length self.new ≡ length self.old + result }
+    {
+        match &mut self.node {
+            Node::Leaf => {
+                *self = single(node);
+                1
+            }
+            Node::Fork(fork) => match node.id.text().cmp(fork.id.text()) {
+                Ordering::Less => {
+                    let added = fork.left.insert(node);
+                    fork.more_left(added);
+                    added
+                }
+                Ordering::Equal => {
+                    fork.take_item(node);
+                    0
+                }
+                Ordering::Greater => {
+                    let added = fork.right.insert(node);
+                    fork.more_right(added);
+                    added
+                }
+            },
+        }
+    }
+
+    /// Takes the item of this name away, where there is one.
+    pub fn remove(&mut self, id: &str)
+        requires { IsInOrder self.old }
+        ensures { self.new ≡ without id.now self.old }
+    {
+        match &mut self.node {
+            Node::Leaf => {}
+            Node::Fork(fork) => match id.cmp(fork.id.text()) {
+                Ordering::Less => {
+                    fork.left.remove(id);
+                    fork.weigh();
+                }
+                Ordering::Equal => {
+                    let left = mem::replace(&mut fork.left, Tree::new());
+                    let right = mem::replace(&mut fork.right, Tree::new());
+                    *self = joined(left, right);
+                }
+                Ordering::Greater => {
+                    fork.right.remove(id);
+                    fork.weigh();
+                }
+            },
+        }
+    }
+
+    /// Takes the first node out.
+    pub fn take_first(&mut self) -> Option<Box<Fork<V>>>
+        ensures { FirstTaken self.old self.new result }
+    {
+        match mem::replace(&mut self.node, Node::Leaf) {
+            Node::Leaf => None,
+            Node::Fork(mut fork) => match fork.left.take_first() {
+                None => {
+                    *self = mem::replace(&mut fork.right, Tree::new());
+                    Some(fork)
+                }
+                Some(first) => {
+                    fork.weigh();
+                    self.node = Node::Fork(fork);
+                    Some(first)
+                }
+            },
+        }
+    }
+
+    /// Puts all items into another tree. It takes no memory.
+    pub fn put_into(self, other: &mut Tree<V>)
+        requires { IsInOrder other.old }
+        ensures put { other.new ≡ put_all self other.old }
+        ensures in_order { IsInOrder other.new }
+    {
+        match self.node {
+            Node::Leaf => {}
+            Node::Fork(mut fork) => {
+                let left = mem::replace(&mut fork.left, Tree::new());
+                let right = mem::replace(&mut fork.right, Tree::new());
+                left.put_into(other);
+                let _added = other.insert(fork);
+                right.put_into(other);
+            }
+        }
+    }
+
+    /// Takes the items of these names out of another tree.
+    pub fn take_from<W: Drop>(self, other: &mut Tree<W>)
+        requires { IsInOrder other.old }
+        ensures taken { other.new ≡ without_all self other.old }
+        ensures in_order { IsInOrder other.new }
+    {
+        match self.node {
+            Node::Leaf => {}
+            Node::Fork(mut fork) => {
+                let left = mem::replace(&mut fork.left, Tree::new());
+                let right = mem::replace(&mut fork.right, Tree::new());
+                left.take_from(other);
+                other.remove(fork.id.text());
+                right.take_from(other);
+            }
+        }
+    }
+}
+
+impl<V: Drop> Fork<V> {
+    /// A node of its own.
+    pub fn new(alloc: Global, id: Name, item: V) -> Result<Box<Fork<V>>, AllocError>
+        ensures { IfOk result (λ node. (node.value.id ≡ id) × (node.value.item ≡ item)) }
+    {
+        let node = Box::new(
+            alloc,
+            Fork {
+                left: Tree::new(),
+                id,
+                item,
+                count: 1,
+                right: Tree::new(),
+            },
+        )?;
+        Ok(node)
+    }
+
+    /// Its name.
+    pub fn name(&self) -> &str
+        ensures { result.now ≡ self.now.id }
+    {
+        self.id.text()
+    }
+
+    /// Its name and its item.
+    pub fn into_parts(self: Box<Fork<V>>) -> (Name, V)
+        ensures { result ≡ (self.value.id, self.value.item) }
+    {
+        let Fork { id, item, .. } = Box::into_inner(self);
+        (id, item)
+    }
+
+    // Has the item of another node in place of its own.
+    fn take_item(&mut self, mut node: Box<Fork<V>>)
+        ensures { self.new ≡ with_item self.old node.value.item }
+    {
+        mem::swap(&mut self.item, &mut node.item);
+    }
+}
+
+// The tree of this node alone.
+fn single<V: Drop>(mut node: Box<Fork<V>>) -> Tree<V>
+    ensures { result ≡ (node.value.id, node.value.item) ∷ [] }
+{
+    node.left = Tree::new();
+    node.right = Tree::new();
+    node.count = 1;
+    Tree {
+        node: Node::Fork(node),
+    }
+}
+
+// The items of both, the left ones first.
+fn joined<V: Drop>(left: Tree<V>, mut right: Tree<V>) -> Tree<V>
+    ensures { result ≡ left ++ right }
+{
+    match right.take_first() {
+        None => left,
+        Some(mut node) => {
+            node.left = left;
+            node.right = right;
+            node.weigh();
+            Tree {
+                node: Node::Fork(node),
+            }
+        }
+    }
+}

@@ -1,0 +1,158 @@
+//! Patches: what changes that are staged on tables make of them.
+
+use crate::changes::Step::{Clear, Empty, Remove, Set, Single};
+use crate::changes::{Step, are_steps, change};
+use feed_tables::{Change, Patch, Tables};
+use std::alloc::Global;
+
+/// Tables, changes that are staged on them, the snapshot after them, its size, and how many types
+/// come to the tables.
+const ROWS: [(&[Step], &[Step], &[Step], usize, usize); 9] = [
+    (&[], &[], &[Clear("contest")], 0, 0),
+    (
+        &[],
+        &[Single("state", "{}")],
+        &[Single("state", "{}")],
+        1,
+        1,
+    ),
+    (&BASE, &[], &BASE_LISTED, 6, 0),
+    // Some objects of a collection, a new type, and a type that goes.
+    (
+        &BASE,
+        &[Remove("teams", "1"), Single("awards", "{}"), Clear("state")],
+        &[
+            Single("awards", "{}"),
+            Empty("groups"),
+            Set("groups", "1", "{}"),
+            Empty("teams"),
+            Set("teams", "2", "{}"),
+        ],
+        5,
+        1,
+    ),
+    // A type that goes and comes back has nothing of what it had.
+    (
+        &BASE,
+        &[Clear("teams"), Set("teams", "3", "{}"), Clear("groups")],
+        &[
+            Single("state", "{}"),
+            Empty("teams"),
+            Set("teams", "3", "{}"),
+        ],
+        3,
+        0,
+    ),
+    // An object that is set twice, and one that is there, count once.
+    (
+        &BASE,
+        &[
+            Set("teams", "1", r#"{"n":1}"#),
+            Set("teams", "3", "{}"),
+            Set("teams", "3", r#"{"n":3}"#),
+        ],
+        &[
+            Empty("groups"),
+            Set("groups", "1", "{}"),
+            Single("state", "{}"),
+            Empty("teams"),
+            Set("teams", "1", r#"{"n":1}"#),
+            Set("teams", "2", "{}"),
+            Set("teams", "3", r#"{"n":3}"#),
+        ],
+        7,
+        0,
+    ),
+    // A collection that is emptied, object by object and at once.
+    (
+        &BASE,
+        &[Remove("teams", "1"), Remove("teams", "2"), Empty("groups")],
+        &[Empty("groups"), Single("state", "{}"), Empty("teams")],
+        3,
+        0,
+    ),
+    // What isn't there can't be taken out.
+    (
+        &BASE,
+        &[
+            Remove("state", "1"),
+            Remove("runs", "1"),
+            Clear("runs"),
+            Remove("teams", "3"),
+        ],
+        &BASE_LISTED,
+        6,
+        0,
+    ),
+    // A type that comes and goes.
+    (
+        &BASE,
+        &[Set("runs", "1", "{}"), Clear("runs")],
+        &BASE_LISTED,
+        6,
+        0,
+    ),
+];
+
+const BASE: [Step; 4] = [
+    Set("teams", "2", "{}"),
+    Set("groups", "1", "{}"),
+    Single("state", "{}"),
+    Set("teams", "1", "{}"),
+];
+
+const BASE_LISTED: [Step; 6] = [
+    Empty("groups"),
+    Set("groups", "1", "{}"),
+    Single("state", "{}"),
+    Empty("teams"),
+    Set("teams", "1", "{}"),
+    Set("teams", "2", "{}"),
+];
+
+fn tables(alloc: Global, steps: &[Step]) -> Option<Tables> {
+    let mut tables = Tables::new(alloc);
+    for step in steps {
+        tables.apply(alloc, &change(alloc, *step)?).ok()?;
+    }
+    Some(tables)
+}
+
+fn staged(alloc: Global, base: &Tables, steps: &[Step]) -> Option<Patch> {
+    let mut patch = Patch::new();
+    for step in steps {
+        patch.apply(alloc, base, &change(alloc, *step)?).ok()?;
+    }
+    Some(patch)
+}
+
+/// The size that a patch says, how many types it says to add, and the snapshot of the tables on
+/// which it was put, where they have the size that it said.
+fn put(alloc: Global, base: &[Step], steps: &[Step]) -> Option<(usize, usize, Vec<Change>)> {
+    let mut tables = tables(alloc, base)?;
+    let patch = staged(alloc, &tables, steps)?;
+    let (size, adds) = (patch.size_over(&tables), patch.adds(&tables));
+    tables.grow(alloc, adds).ok()?;
+    if tables.room() < adds {
+        return None;
+    }
+    patch.put(&mut tables);
+    if tables.size() != size {
+        return None;
+    }
+    Some((size, adds, tables.snapshot(alloc).ok()?))
+}
+
+#[test]
+fn makes_staged_changes(rt: HostRuntime) {
+    for (row, (base, steps, want, size, adds)) in ROWS.iter().enumerate() {
+        let made = put(rt.alloc(), base, steps);
+        let is_right = match made {
+            Some((said, added, snapshot)) => {
+                said == *size && added == *adds && are_steps(&snapshot, want)
+            }
+            None => false,
+        };
+        assert_eq!(rt; is_right, true, "row {row}");
+    }
+}
