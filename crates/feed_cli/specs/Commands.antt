@@ -10,20 +10,21 @@ use Rattle.feed_cli.specs.Tables.{PrintedSome, TablesFail}
 use Rattle.feed_cli.specs.Words.{Asks}
 use Rattle.feed_cli.specs.declared.fault.Fault.{Fault}
 use Rattle.feed_cli.specs.declared.fault.Fault.TheVariants as fault
-use Rattle.feed_cli.specs.declared.words.Request.{Request}
+use Rattle.feed_cli.specs.declared.words.Local.{Local}
+use Rattle.feed_cli.specs.declared.words.Local.TheVariants as local
 use Rattle.feed_cli.specs.declared.words.Request.TheVariants as request
 
 -- the command did what was asked for
-abbrev pub Succeeds : Request → Streams → Type 0
-Succeeds (request.Tables options) s = PrintedSome options.limits s
-Succeeds request.Check s = CountsPrinted s
-Succeeds request.Play s = Played s
+abbrev pub Succeeds : Local → Streams → Type 0
+Succeeds (local.Tables options) s = PrintedSome options.limits s
+Succeeds local.Check s = CountsPrinted s
+Succeeds local.Play s = Played s
 
 -- the command failed like this
-abbrev pub Fails : Request → Fault → Streams → Type 0
-Fails (request.Tables options) why s = TablesFail options.limits why s
-Fails request.Check why s = CheckFails why s
-Fails request.Play why s = PlayFails why s
+abbrev pub Fails : Local → Fault → Streams → Type 0
+Fails (local.Tables options) why s = TablesFail options.limits why s
+Fails local.Check why s = CheckFails why s
+Fails local.Play why s = PlayFails why s
 
 -- where the fault is a device's, that one failed
 abbrev pub IsDeviceFault : Fault → Streams → Type 0
@@ -33,14 +34,14 @@ IsDeviceFault why s = Unit {0}
 
 -- the words ask for a command, and it did what was asked for
 pub record HasSucceeded (words : List Text) (s : Streams) : Type 0 where
-  pub asked : Request
-  pub asks : Asks words asked
+  pub asked : Local
+  pub asks : Asks words (request.Local asked)
   pub done : Succeeds asked s
 
 -- the words ask for a command, it failed, and this is the status that tells it
 pub record HasFailed (words : List Text) (status : ℕ) (s : Streams) : Type 0 where
-  pub asked : Request
-  pub asks : Asks words asked
+  pub asked : Local
+  pub asks : Asks words (request.Local asked)
   pub why : Fault
   pub failed : Fails asked why s
   pub device : IsDeviceFault why s

@@ -9,7 +9,7 @@ mod play;
 mod tables;
 
 use crate::fault::{Fault, FeedStop};
-use crate::words::{PROGRAM, Request, parse_words};
+use crate::words::{Local, PROGRAM, Request, parse_words};
 use check::print_counts;
 use clap::error::ErrorKind;
 use feed_http::device::{FeedRead, FeedWrite, write_all};
@@ -18,6 +18,9 @@ use std::alloc::Global;
 use std::fmt;
 use std::fmt::Write;
 use tables::print_tables;
+
+/// The status for words that ask for no command that is run here.
+const REFUSED: u8 = 1;
 
 /// A device that text is printed to.
 #[derive(Drop)]
@@ -86,7 +89,7 @@ fn answer_words<W: FeedWrite, E: FeedWrite>(error: clap::Error, out: &mut W, err
     }
     if error.use_stderr() {
         let _ = print(err, &error);
-        return 1;
+        return REFUSED;
     }
     match print(out, &error) {
         Ok(()) => 0,
@@ -94,10 +97,10 @@ fn answer_words<W: FeedWrite, E: FeedWrite>(error: clap::Error, out: &mut W, err
     }
 }
 
-/// Does what was asked for. Where a device failed, its count of failures tells so.
+/// Does what a command is asked for that opens no connection. Where a device failed, its count of failures tells so.
 pub fn perform<R: FeedRead, W: FeedWrite>(
     alloc: Global,
-    request: Request,
+    request: Local,
     input: &mut R,
     out: &mut W,
 ) -> Result<(), Fault>
@@ -113,16 +116,17 @@ pub fn perform<R: FeedRead, W: FeedWrite>(
         IfErr result (λ why. IsDeviceFault why streams) }
 {
     match request {
-        Request::Tables(options) => print_tables(alloc, options, input, out),
-        Request::Check => print_counts(alloc, input, out),
-        Request::Play => print_played(alloc, input, out),
+        Local::Tables(options) => print_tables(alloc, options, input, out),
+        Local::Check => print_counts(alloc, input, out),
+        Local::Play => print_played(alloc, input, out),
     }
 }
 
-/// Runs the command that the words ask for, and answers the status that the program ends with: 0, or
-/// the first of these that applies: 1 for words that ask for no command, 5 for want of memory, 4 for a
-/// device that failed or an input that did not end, 2 for a faulty input, 3 where nothing was
-/// published.
+/// Runs the command that the words ask for, where it opens no connection, and answers the status that
+/// the program ends with: 0, or the first of these that applies: 1 for words that ask for no such
+/// command, 5 for want of memory, 4 for a device that failed or an input that did not end, 2 for a
+/// faulty input, 3 where nothing was published. At the words of a command that opens connections
+/// nothing is read or told, and the status is 1.
 pub fn run<'a, R: FeedRead, W: FeedWrite, E: FeedWrite>(
     alloc: Global,
     words: &'a [&'a str],
@@ -149,7 +153,8 @@ pub fn run<'a, R: FeedRead, W: FeedWrite, E: FeedWrite>(
         ⊎ HasFailed (map (λ word. word.now) words.entry.now) result streams }
 {
     let request = match parse_words(alloc, words) {
-        Ok(request) => request,
+        Ok(Request::Local(request)) => request,
+        Ok(_) => return REFUSED,
         Err(error) => return answer_words(error, out, err),
     };
     match perform(alloc, request, input, out) {

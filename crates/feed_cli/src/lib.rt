@@ -10,4 +10,6 @@ pub use commands::{perform, run};
 pub use fault::{Fault, FeedStop};
 pub use feed_http::{device, memory, stream};
 pub use feed_play::{PlayCause, PlayFault, play};
-pub use words::{Request, TablesOptions, parse_words};
+pub use words::{
+    Local, PROGRAM, PullOptions, RelayOptions, Request, ServeOptions, TablesOptions, parse_words,
+};

@@ -1,19 +1,21 @@
 //! The command line: its words, and what they ask for.
-ghost use Rattle.std.specs.Prelude.{◌≡◌, false, map, IfOk, IfSome};
-ghost use Rattle.clap.specs.Matches.{found_of};
-ghost use Rattle.clap.specs.Words.{app_of, rule_of, rows_of, subcommand_rows_of};
-ghost use Rattle.feed_cli.specs.Words.{history, staged, verbose, command_line, AsksTables, AsksBy, AsksAt, Asks};
+ghost use Rattle.std.specs.Prelude.{◌≡◌, map, IfOk};
+ghost use Rattle.feed_cli.specs.Words.{Asks};
 
+mod asked;
+mod options;
+mod program;
+
+use asked::request_entered;
+use clap::Error;
 use clap::error::ErrorKind;
-use clap::{Arg, ArgAction, ArgMatches, Command, Error, value_parser};
-use feed_node::{Limits, MOST_CHANGES, MOST_COMMITS};
-use std::alloc::{AllocError, Global};
+use feed_http::Framing;
+use feed_node::Limits;
+use program::program;
+use std::alloc::Global;
 
 /// The name of the program.
 pub const PROGRAM: &str = "tunygarop";
-
-/// The version of the program.
-const VERSION: &str = "0.1.0";
 
 /// How `tables` feeds its mirror, and what it tells.
 #[derive(Clone, Copy)]
@@ -24,9 +26,59 @@ pub struct TablesOptions {
     pub verbose: bool,
 }
 
-/// What a command line asks for.
+/// What `serve` serves, where, and to how many.
 #[derive(Clone, Copy)]
-pub enum Request {
+pub struct ServeOptions<'a> {
+    /// The port of 127.0.0.1 that connections come to, 1 to 65,535.
+    pub port: u16,
+    /// The contest whose feed is served. Any text will do.
+    pub contest: &'a str,
+    /// How many connections are served, 1 to 1,000,000.
+    pub count: u64,
+    /// How many batches are committed each time that a reader is up to date, 1 to 1,000,000;
+    /// without it all are committed before the first connection.
+    pub turn: Option<usize>,
+    /// How the answers are framed.
+    pub framing: Framing,
+    /// The primary's limits.
+    pub limits: Limits,
+}
+
+/// What `pull` follows, and how far.
+#[derive(Clone, Copy)]
+pub struct PullOptions<'a> {
+    /// The server's address or name.
+    pub host: &'a str,
+    /// The server's port, 1 to 65,535.
+    pub port: u16,
+    /// What stands before `/contests` in the path of the feed.
+    pub base: &'a str,
+    /// The contest whose feed is followed.
+    pub contest: &'a str,
+    /// The most reads of one connection, 1 to 1,000,000.
+    pub turns: u64,
+    /// Whether the mirror is first restored from standard input.
+    pub resume: bool,
+    /// The mirror's limits.
+    pub limits: Limits,
+}
+
+/// What `relay` follows, and to how many it serves that.
+#[derive(Clone, Copy)]
+pub struct RelayOptions<'a> {
+    /// What is followed in each round.
+    pub pull: PullOptions<'a>,
+    /// The port of 127.0.0.1 that connections come to, 1 to 65,535.
+    pub listen: u16,
+    /// How many rounds are made, with a connection each, 1 to 1,000,000.
+    pub count: u64,
+    /// How the answers are framed.
+    pub framing: Framing,
+}
+
+/// A command that reads standard input alone.
+#[derive(Clone, Copy)]
+pub enum Local {
     /// The snapshot of what the feed on standard input publishes to a mirror.
     Tables(TablesOptions),
     /// What the lines of the feed on standard input are, counted.
@@ -35,119 +87,41 @@ pub enum Request {
     Play,
 }
 
-impl Request {
+impl Local {
     /// The name of the command.
     pub(crate) fn name(&self) -> &'static str {
         match self {
-            Request::Tables(_) => "tables",
-            Request::Check => "check",
-            Request::Play => "play",
+            Local::Tables(_) => "tables",
+            Local::Check => "check",
+            Local::Play => "play",
         }
     }
 }
 
-/// `--history N`.
-fn history_option<'a>(alloc: Global) -> Arg<'a>
-    ensures rule { rule_of result ≡ history }
-    ensures local { result.global ≡ false }
-{
-    Arg::new(alloc, "history")
-        .long("history")
-        .value_name("N")
-        .help("How many commits are kept, 1 to 65536")
-        .value_parser(value_parser!(u64).range(1..=MOST_COMMITS as i64))
-        .default_value("1000")
-}
-
-/// `--staged N`.
-fn staged_option<'a>(alloc: Global) -> Arg<'a>
-    ensures rule { rule_of result ≡ staged }
-    ensures local { result.global ≡ false }
-{
-    Arg::new(alloc, "staged")
-        .long("staged")
-        .value_name("N")
-        .help(
-            "How many changes may wait for a token, and the greatest size of the tables, 1 to 1000000",
-        )
-        .value_parser(value_parser!(u64).range(1..=MOST_CHANGES as i64))
-        .default_value("1000000")
-}
-
-/// `--verbose`.
-fn verbose_option<'a>(alloc: Global) -> Arg<'a>
-    ensures rule { rule_of result ≡ verbose }
-    ensures local { result.global ≡ false }
-{
-    Arg::new(alloc, "verbose")
-        .long("verbose")
-        .help("Tell the number of the faulty line, too")
-        .action(ArgAction::SetTrue)
-}
-
-/// The command line.
-fn program<'a>(alloc: Global) -> Result<Command<'a>, AllocError>
-    ensures { IfOk result (λ command. app_of command ≡ command_line) }
-{
-    let tables = Command::new(alloc, "tables")
-        .about("Prints the tables that the event feed on standard input has published")
-        .arg(history_option(alloc))?
-        .arg(staged_option(alloc))?
-        .arg(verbose_option(alloc))?;
-    let check = Command::new(alloc, "check").about(
-        "Counts the lines of the event feed on standard input, or names the first that can't be read",
-    );
-    let play = Command::new(alloc, "play").about(
-        "Plays the script of events on standard input in a world of nodes, and prints what is replied",
-    );
-    Command::new(alloc, PROGRAM)
-        .about("Mirrors the event feed of a programming contest (CLICS Contest API 2023-06)")
-        .version(VERSION)
-        .subcommand_required(true)
-        .subcommand(tables)?
-        .subcommand(check)?
-        .subcommand(play)
-}
-
-/// What the options ask for; none where a limit is out of its range, which its parser has refused.
-fn tables_options(matches: &ArgMatches<'_>) -> Option<TablesOptions>
-    ensures { IfSome result (λ options. AsksTables (rows_of (found_of matches.now)) options) }
-{
-    let history = matches.get_one::<u64>("history")?;
-    let staged = matches.get_one::<u64>("staged")?;
-    let limits = Limits::new(history as usize, staged as usize).ok()?;
-    let verbose = matches.get_flag("verbose");
-    Some(TablesOptions { limits, verbose })
-}
-
-/// What the command of this name asks for.
-fn request_named(name: &str, matches: &ArgMatches<'_>) -> Option<Request>
-    ensures { IfSome result (λ request. AsksBy name.now (rows_of (found_of matches.now)) request) }
-{
-    match name {
-        "tables" => Some(Request::Tables(tables_options(matches)?)),
-        "check" => Some(Request::Check),
-        "play" => Some(Request::Play),
-        _ => None,
-    }
-}
-
-/// What the command asks for that was entered.
-fn request_entered(matches: &ArgMatches<'_>) -> Option<Request>
-    ensures { IfSome result (λ request. AsksAt (subcommand_rows_of matches.now) request) }
-{
-    let (name, options) = matches.subcommand()?;
-    request_named(name, options)
+/// What a command line asks for.
+#[derive(Clone, Copy)]
+pub enum Request<'a> {
+    /// A command that opens no connection.
+    Local(Local),
+    /// The feed on standard input, served by a primary.
+    Serve(ServeOptions<'a>),
+    /// The snapshot of what a server's feed publishes to a mirror.
+    Pull(PullOptions<'a>),
+    /// A server's feed, followed by a mirror and served by it.
+    Relay(RelayOptions<'a>),
 }
 
 /// What the words ask for; the first of them is the program's name.
-pub fn parse_words<'a>(alloc: Global, words: &'a [&'a str]) -> Result<Request, Error>
+pub fn parse_words<'a>(alloc: Global, words: &'a [&'a str]) -> Result<Request<'a>, Error>
     ensures { IfOk result (λ request. Asks (map (λ word. word.now) words.entry.now) request) }
 {
     let mut program = program(alloc)?;
     let matches = program.try_get_matches_from_mut(words)?;
     match request_entered(&matches) {
         Some(request) => Ok(request),
-        None => Err(program.error(ErrorKind::ValueValidation, "no such command, or bad limits")?),
+        None => Err(program.error(
+            ErrorKind::ValueValidation,
+            "no such command, or a number out of its range",
+        )?),
     }
 }

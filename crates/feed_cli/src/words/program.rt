@@ -1,0 +1,133 @@
+//! The commands, as the command line declares them.
+ghost use Rattle.std.specs.Prelude.{◌≡◌, false, IfOk};
+ghost use Rattle.clap.specs.Words.{app_of, fields_of, new_app, rule_of, with_rule, with_subcommand};
+ghost use Rattle.feed_cli.specs.Words as words;
+
+use super::options;
+use super::PROGRAM;
+use clap::{Arg, Command};
+use std::alloc::{AllocError, Global};
+
+/// The version of the program.
+const VERSION: &str = "0.1.0";
+
+/// A command without options.
+fn command<'a>(alloc: Global, name: &'a str, about: &'a str) -> Command<'a>
+    ensures app { app_of result ≡ new_app name.entry.now }
+    ensures local { (fields_of result).has_globals ≡ false }
+{
+    Command::new(alloc, name).about(about)
+}
+
+/// A command with one more option.
+fn with<'a>(command: Command<'a>, option: Arg<'a>) -> Result<Command<'a>, AllocError>
+    requires local { (fields_of command.entry).has_globals ≡ false }
+    requires option { option.entry.global ≡ false }
+    ensures app { IfOk result (λ c. app_of c ≡ with_rule (app_of command.entry) (rule_of option.entry)) }
+    ensures local { IfOk result (λ c. (fields_of c).has_globals ≡ false) }
+{
+    command.arg(option)
+}
+
+/// A command with the limits of its node.
+fn with_limits<'a>(alloc: Global, command: Command<'a>) -> Result<Command<'a>, AllocError>
+    requires local { (fields_of command.entry).has_globals ≡ false }
+    ensures app { IfOk result (λ c. app_of c ≡ words.with_limits (app_of command.entry)) }
+    ensures local { IfOk result (λ c. (fields_of c).has_globals ≡ false) }
+{
+    with(with(command, options::history(alloc))?, options::staged(alloc))
+}
+
+/// `tables`.
+fn tables<'a>(alloc: Global) -> Result<Command<'a>, AllocError>
+    ensures app { IfOk result (λ c. app_of c ≡ words.tables) }
+    ensures local { IfOk result (λ c. (fields_of c).has_globals ≡ false) }
+{
+    let about = "Prints the tables that the event feed on standard input has published";
+    let limited = with_limits(alloc, command(alloc, "tables", about))?;
+    with(limited, options::verbose(alloc))
+}
+
+/// `serve`.
+fn serve<'a>(alloc: Global) -> Result<Command<'a>, AllocError>
+    ensures app { IfOk result (λ c. app_of c ≡ words.serve) }
+    ensures local { IfOk result (λ c. (fields_of c).has_globals ≡ false) }
+{
+    let about = "Serves the event feed on standard input at a port of 127.0.0.1, as a primary";
+    let serve = command(alloc, "serve", about);
+    let serve = with(serve, options::port(alloc, "The port of 127.0.0.1 that the feed is served at"))?;
+    let serve = with(serve, options::contest(alloc))?;
+    let serve = with(serve, options::count(alloc))?;
+    let serve = with(serve, options::turn(alloc))?;
+    let serve = with(serve, options::chunked(alloc))?;
+    with_limits(alloc, serve)
+}
+
+/// A command with the options of `pull`.
+fn with_pull<'a>(alloc: Global, command: Command<'a>) -> Result<Command<'a>, AllocError>
+    requires local { (fields_of command.entry).has_globals ≡ false }
+    ensures app { IfOk result (λ c. app_of c ≡ words.with_pull (app_of command.entry)) }
+    ensures local { IfOk result (λ c. (fields_of c).has_globals ≡ false) }
+{
+    let pull = with(command, options::host(alloc))?;
+    let pull = with(pull, options::port(alloc, "The port of the server that is followed"))?;
+    let pull = with(pull, options::contest(alloc))?;
+    let pull = with(pull, options::base(alloc))?;
+    let pull = with(pull, options::turns(alloc))?;
+    let pull = with(pull, options::resume(alloc))?;
+    with_limits(alloc, pull)
+}
+
+/// `pull`.
+fn pull<'a>(alloc: Global) -> Result<Command<'a>, AllocError>
+    ensures app { IfOk result (λ c. app_of c ≡ words.pull) }
+    ensures local { IfOk result (λ c. (fields_of c).has_globals ≡ false) }
+{
+    let about = "Follows a server's event feed on one connection, and prints the tables that it has published";
+    with_pull(alloc, command(alloc, "pull", about))
+}
+
+/// `relay`.
+fn relay<'a>(alloc: Global) -> Result<Command<'a>, AllocError>
+    ensures app { IfOk result (λ c. app_of c ≡ words.relay) }
+    ensures local { IfOk result (λ c. (fields_of c).has_globals ≡ false) }
+{
+    let about = "Follows a server's event feed and serves it at a port of 127.0.0.1, in turns, and prints the tables at the end";
+    let relay = with_pull(alloc, command(alloc, "relay", about))?;
+    let relay = with(relay, options::listen(alloc))?;
+    let relay = with(relay, options::count(alloc))?;
+    with(relay, options::chunked(alloc))
+}
+
+/// A command with one more command below it.
+fn with_command<'a>(above: Command<'a>, below: Command<'a>) -> Result<Command<'a>, AllocError>
+    requires local { (fields_of below.entry).has_globals ≡ false }
+    ensures { IfOk result (λ c. app_of c ≡ with_subcommand (app_of above.entry) (app_of below.entry).top) }
+{
+    above.subcommand(below)
+}
+
+/// The program, with the commands that open no connection.
+fn local_program<'a>(alloc: Global) -> Result<Command<'a>, AllocError>
+    ensures { IfOk result (λ c. app_of c ≡ words.local_program) }
+{
+    let program = Command::new(alloc, PROGRAM)
+        .about("Mirrors the event feed of a programming contest (CLICS Contest API 2023-06)")
+        .version(VERSION)
+        .subcommand_required(true);
+    let check = "Counts the lines of the event feed on standard input, or names the first that can't be read";
+    let play = "Plays the script of events on standard input in a world of nodes, and prints what is replied";
+    let program = with_command(program, tables(alloc)?)?;
+    let program = with_command(program, command(alloc, "check", check))?;
+    with_command(program, command(alloc, "play", play))
+}
+
+/// The command line.
+pub(super) fn program<'a>(alloc: Global) -> Result<Command<'a>, AllocError>
+    ensures { IfOk result (λ c. app_of c ≡ words.command_line) }
+{
+    let program = local_program(alloc)?;
+    let program = with_command(program, serve(alloc)?)?;
+    let program = with_command(program, pull(alloc)?)?;
+    with_command(program, relay(alloc)?)
+}
