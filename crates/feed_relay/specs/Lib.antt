@@ -1,0 +1,2 @@
+pub mod Dialing
+pub mod Fault
