@@ -6,78 +6,23 @@ ghost use Rattle.feed_cli.specs.Streams.{streams_of};
 
 mod check;
 mod play;
+pub mod pull;
+pub mod relay;
+pub mod serve;
 mod tables;
 
-use crate::fault::{Fault, FeedStop};
+use crate::fault::Fault;
+use crate::telling::{print, tell};
 use crate::words::{Local, PROGRAM, Request, parse_words};
 use check::print_counts;
 use clap::error::ErrorKind;
-use feed_http::device::{FeedRead, FeedWrite, write_all};
+use feed_http::device::{FeedRead, FeedWrite};
 use play::print_played;
 use std::alloc::Global;
-use std::fmt;
-use std::fmt::Write;
 use tables::print_tables;
 
 /// The status for words that ask for no command that is run here.
 const REFUSED: u8 = 1;
-
-/// A device that text is printed to.
-#[derive(Drop)]
-struct Printer<'a, W> {
-    device: &'a mut W,
-}
-
-impl<W: FeedWrite> Write for Printer<'_, W> {
-    ghost use Rattle.std.specs.Io.KnownBytes.{Appends};
-
-    ghost write_str_gives = { λ p text q.
-        Appends (W.contents p.device.now) (W.contents q.device.now) text };
-
-    fn write_str(&mut self, text: &str) -> fmt::Result {
-        match write_all(self.device, text.as_bytes()) {
-            Ok(()) => Ok(()),
-            Err(_) => Err(fmt::Error),
-        }
-    }
-}
-
-/// Prints a text to a device.
-fn print<W: FeedWrite, T: fmt::Display + Drop>(device: &mut W, text: T) -> Result<(), Fault>
-    ensures { IfErr result (λ fault. fault ≡ Fault.Write) }
-{
-    match (Printer { device }).write(text) {
-        Ok(()) => Ok(()),
-        Err(_) => Err(Fault::Write),
-    }
-}
-
-/// Prints a fault, and on a second line where in the feed it is, where that was asked for.
-fn print_fault<E: FeedWrite>(name: &str, fault: Fault, err: &mut E) -> Result<(), Fault>
-    ensures { IfErr result (λ failed. failed ≡ Fault.Write) }
-{
-    print(err, format_args!("{name}: {fault}\n"))?;
-    match fault {
-        Fault::Feed(
-            FeedStop {
-                line: Some(line),
-                ..
-            },
-        ) => print(err, format_args!("{name}: line {line}\n")),
-        _ => Ok(()),
-    }
-}
-
-/// Tells a fault, and answers the status of the program. Where it can't be told, a device has failed
-/// too.
-fn tell<E: FeedWrite>(name: &str, fault: Fault, err: &mut E) -> u8
-    ensures { IsToldStatus fault result }
-{
-    match print_fault(name, fault, err) {
-        Ok(()) => fault.status(),
-        Err(failed) => fault.status().max(failed.status()),
-    }
-}
 
 /// Prints what clap answers to words that ask for no command: help, or why they are refused.
 fn answer_words<W: FeedWrite, E: FeedWrite>(error: clap::Error, out: &mut W, err: &mut E) -> u8

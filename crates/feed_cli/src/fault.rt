@@ -2,9 +2,11 @@
 ghost use Rattle.std.specs.Prelude.{◌≡◌};
 
 use crate::input::InputFault;
-use feed_node::FeedFault;
+use feed_http::{EngineFault, PlaceFault};
+use feed_node::{CommitFault, FeedFault};
 use feed_note::{LineStop, SurveyFault};
 use feed_play::PlayFault;
+use feed_relay::NetworkFault;
 use std::alloc::AllocError;
 use thiserror::Error;
 
@@ -44,9 +46,21 @@ pub enum Fault {
     /// The input, a script, was not played to its end.
     #[error("{0}")]
     Play(PlayFault),
-    /// The input has ended, and nothing was published.
+    /// The input, or what was followed, has ended, and nothing was published.
     #[error("nothing published")]
     Unpublished,
+    /// The server that is to be followed can't be named like this. It is no want of memory.
+    #[error("{0}")]
+    Place(PlaceFault),
+    /// A line of the input can't be read. It is no want of memory.
+    #[error("{0}")]
+    Batch(LineStop),
+    /// A batch of the input was refused. It is no want of memory.
+    #[error("{0}")]
+    Commit(CommitFault),
+    /// A connection was not made, or failed. It is no want of memory.
+    #[error("{0}")]
+    Network(NetworkFault),
 }
 
 impl Fault {
@@ -60,8 +74,22 @@ impl Fault {
             Fault::Memory => 5,
             Fault::Read | Fault::Write | Fault::Turns => 4,
             Fault::Play(fault) if fault.is_want_of_memory() => 5,
+            Fault::Network(NetworkFault::Engine(EngineFault::Commit(_))) => 2,
+            Fault::Network(NetworkFault::Engine(EngineFault::Follow(_))) => 2,
+            Fault::Network(_) => 4,
             Fault::TooLong | Fault::Feed(_) | Fault::Survey(_) | Fault::Play(_) => 2,
+            Fault::Batch(_) | Fault::Commit(_) => 2,
             Fault::Unpublished => 3,
+            Fault::Place(_) => 1,
+        }
+    }
+
+    /// Whether it is one connection's, after which a command goes on that serves several.
+    pub fn is_of_a_connection(self) -> bool {
+        match self {
+            Fault::Network(NetworkFault::Connect) => true,
+            Fault::Network(NetworkFault::Engine(fault)) => !matches!(fault, EngineFault::Commit(_)),
+            _ => false,
         }
     }
 
@@ -93,6 +121,39 @@ impl Fault {
         match fault.stop {
             LineStop::Memory => Fault::Memory,
             _ => Fault::Survey(fault),
+        }
+    }
+
+    /// The fault of a command whose server can't be named like this.
+    pub fn of_place(fault: PlaceFault) -> Fault {
+        match fault {
+            PlaceFault::Memory => Fault::Memory,
+            _ => Fault::Place(fault),
+        }
+    }
+
+    /// The fault of a command whose input has no batches up to a line that can't be read.
+    pub fn of_batches(stop: LineStop) -> Fault {
+        match stop {
+            LineStop::Memory => Fault::Memory,
+            _ => Fault::Batch(stop),
+        }
+    }
+
+    /// The fault of a command whose input has a batch that was refused.
+    pub fn of_commit(fault: CommitFault) -> Fault {
+        match fault {
+            CommitFault::Memory => Fault::Memory,
+            _ => Fault::Commit(fault),
+        }
+    }
+
+    /// The fault of a command whose connection was not made, or failed.
+    pub fn of_network(fault: NetworkFault) -> Fault {
+        if fault.is_want_of_memory() {
+            Fault::Memory
+        } else {
+            Fault::Network(fault)
         }
     }
 }

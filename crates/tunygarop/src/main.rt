@@ -1,8 +1,16 @@
-//! The program: its arguments and standard streams, for the commands of `feed_cli`.
+//! The program: its arguments, standard streams and sockets, for the commands of `feed_cli`.
 #![tactic(auto)]
 
-use feed_cli::run;
+mod pull;
+mod relay;
+mod serve;
+mod sockets;
+
 use feed_cli::stream::Stream;
+use feed_cli::{Fault, Request, parse_words, run, tell};
+use pull::pull;
+use relay::relay;
+use serve::serve;
 use std::io::ErrorKind;
 use std::process::ExitCode;
 use std::{env, io};
@@ -13,15 +21,37 @@ const REFUSED: u8 = 1;
 /// The status for want of memory.
 const WANT_OF_MEMORY: u8 = 5;
 
-/// Runs the command that the program's arguments ask for, over the standard streams.
+/// Tells why the command of this name failed, where it did, and answers the status.
+fn ended(rt: &HostRuntime, name: &str, ended: Result<(), Fault>) -> u8 {
+    match ended {
+        Ok(()) => 0,
+        Err(fault) => tell(name, fault, &mut Stream::new(rt.stderr())),
+    }
+}
+
+/// Runs the command that these words ask for: one that opens connections here, and any other one by
+/// `run`, over the standard streams.
+fn status_of<'a>(rt: &HostRuntime, words: &'a [&'a str]) -> u8 {
+    match parse_words(rt.alloc(), words) {
+        Ok(Request::Serve(options)) => ended(rt, "serve", serve(rt, &options)),
+        Ok(Request::Pull(options)) => ended(rt, "pull", pull(rt, &options)),
+        Ok(Request::Relay(options)) => ended(rt, "relay", relay(rt, &options)),
+        _ => run(
+            rt.alloc(),
+            words,
+            &mut Stream::new(rt.stdin()),
+            &mut Stream::new(rt.stdout()),
+            &mut Stream::new(rt.stderr()),
+        ),
+    }
+}
+
+/// Runs the command that the program's arguments ask for.
 fn status(rt: &HostRuntime) -> io::Result<u8> {
     let alloc = rt.alloc();
     let arguments: Vec<String> = env::args(rt)?.collect(alloc)?;
     let words: Vec<&str> = arguments.iter().map(|word| word.as_str()).collect(alloc)?;
-    let mut input = Stream::new(rt.stdin());
-    let mut out = Stream::new(rt.stdout());
-    let mut err = Stream::new(rt.stderr());
-    Ok(run(alloc, &words, &mut input, &mut out, &mut err))
+    Ok(status_of(rt, &words))
 }
 
 fn main(rt: HostRuntime) -> ExitCode {

@@ -1,0 +1,95 @@
+//! A feed, served by a primary.
+
+use crate::fault::Fault;
+use crate::input::{INPUT_BYTES, read_all};
+use crate::listen::Listen;
+use crate::telling::Teller;
+use crate::words::ServeOptions;
+use feed_http::device::{FeedRead, FeedWrite};
+use feed_http::serve_live;
+use feed_node::Primary;
+use feed_relay::{ENGINE_TURNS, NetworkFault, commit_all, feed_batches};
+use feed_tables::Change;
+use std::alloc::Global;
+use std::collections::VecDeque;
+
+/// A primary, and the batches that it is to commit while it serves.
+#[derive(Drop)]
+pub struct Source {
+    primary: Primary,
+    waiting: VecDeque<Vec<Change>>,
+}
+
+/// A primary for the batches of the input, at most 67,108,864 bytes: all of them are committed,
+/// unless they are to be committed in turns.
+pub fn start_source<R: FeedRead>(
+    alloc: Global,
+    options: &ServeOptions<'_>,
+    input: &mut R,
+) -> Result<Source, Fault> {
+    let mut feed = Vec::new(alloc);
+    if let Err(fault) = read_all(input, &mut feed, INPUT_BYTES) {
+        return Err(Fault::of_input(fault));
+    }
+    let mut waiting = match feed_batches(alloc, feed.as_slice()) {
+        Ok(waiting) => waiting,
+        Err(stop) => return Err(Fault::of_batches(stop)),
+    };
+    let mut primary = Primary::new(alloc, options.limits)?;
+    if options.turn.is_none() {
+        if let Err(fault) = commit_all(alloc, &mut primary, &mut waiting) {
+            return Err(Fault::of_commit(fault));
+        }
+    }
+    Ok(Source { primary, waiting })
+}
+
+/// Serves one connection.
+fn serve_next<L: Listen>(
+    alloc: Global,
+    options: &ServeOptions<'_>,
+    source: &mut Source,
+    listener: &mut L,
+) -> Result<(), NetworkFault> {
+    let Some((reader, writer)) = listener.accept() else {
+        return Err(NetworkFault::Accept);
+    };
+    let mut reader = reader;
+    let mut writer = writer;
+    let served = serve_live(
+        alloc,
+        &mut reader,
+        &mut writer,
+        &mut source.primary,
+        &mut source.waiting,
+        options.turn.unwrap_or(1).max(1),
+        options.contest,
+        options.framing,
+        ENGINE_TURNS,
+    );
+    match served {
+        Ok(_) => Ok(()),
+        Err(fault) => Err(NetworkFault::Engine(fault)),
+    }
+}
+
+/// Serves one connection after another. A connection's fault is told, and serving goes on.
+pub fn serve_all<L: Listen, E: FeedWrite>(
+    alloc: Global,
+    options: &ServeOptions<'_>,
+    source: &mut Source,
+    listener: &mut L,
+    err: &mut E,
+) -> Result<(), Fault> {
+    let mut teller = Teller::new("serve", err);
+    'connections: for _ in 0..options.count {
+        if let Err(fault) = serve_next(alloc, options, source, listener) {
+            let fault = Fault::of_network(fault);
+            if !fault.is_of_a_connection() {
+                return Err(fault);
+            }
+            teller.tell(fault);
+        }
+    }
+    teller.outcome()
+}
