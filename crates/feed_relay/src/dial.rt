@@ -7,14 +7,17 @@ use feed_http::{FeedRead, FeedWrite, Followed};
 
 /// What opens connections to servers.
 pub trait Dial {
-    /// A connection, which is closed where it is dropped.
-    type Conn: FeedRead + FeedWrite + Drop;
+    /// What a server sends is read from.
+    type Reader: FeedRead + Drop;
+
+    /// What a server is sent is written to.
+    type Writer: FeedWrite + Drop;
 
     // How many calls opened none. The count stays at `u64::MAX`.
     ghost misses: { Self → ℕ };
 
     /// Opens a connection to the place of this number, counted from 0.
-    fn dial(&mut self, place: usize) -> Option<Self::Conn>
+    fn dial(&mut self, place: usize) -> Option<(Self::Reader, Self::Writer)>
         ensures misses { misses self.new ≡ misses_after (misses self.old) result };
 }
 

@@ -8,18 +8,19 @@ use std::alloc::Global;
 
 /// Asks a place for what a mirror lacks, and follows the response, in at most so many reads
 /// (`turns`).
-pub fn pull_once<C: FeedRead + FeedWrite>(
+pub fn pull_once<R: FeedRead, W: FeedWrite>(
     alloc: Global,
     place: &Place,
     mirror: &mut Mirror,
     turns: u64,
-    conn: &mut C,
+    reader: &mut R,
+    writer: &mut W,
 ) -> Result<Followed, EngineFault> {
-    ask(alloc, conn, place, mirror)?;
-    follow(alloc, conn, mirror, turns)
+    ask(alloc, writer, place, mirror)?;
+    follow(alloc, reader, mirror, turns)
 }
 
-/// The same on a connection that is dialed for it.
+/// The same on a connection that is dialed for it, and then closed.
 fn pull_dialed<D: Dial>(
     alloc: Global,
     dial: &mut D,
@@ -27,10 +28,12 @@ fn pull_dialed<D: Dial>(
     mirror: &mut Mirror,
     turns: u64,
 ) -> Result<Followed, NetworkFault> {
-    let Some(mut conn) = dial.dial(0) else {
+    let Some((reader, writer)) = dial.dial(0) else {
         return Err(NetworkFault::Connect);
     };
-    match pull_once(alloc, place, mirror, turns, &mut conn) {
+    let mut reader = reader;
+    let mut writer = writer;
+    match pull_once(alloc, place, mirror, turns, &mut reader, &mut writer) {
         Ok(followed) => Ok(followed),
         Err(fault) => Err(NetworkFault::Engine(fault)),
     }

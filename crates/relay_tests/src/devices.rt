@@ -6,51 +6,10 @@ use feed_relay::{Accept, Dial, NetworkFault};
 use std::alloc::Global;
 use std::collections::VecDeque;
 
-/// A connection to a server that gives a response, whatever it is asked.
-#[derive(Drop)]
-pub(crate) struct Conn {
-    pub(crate) reader: MemReader,
-    pub(crate) writer: MemWriter,
-}
-
-impl FeedRead for Conn {
-    ghost use Rattle.std.specs.Prelude.{Some};
-
-    ghost remaining = { λ c. Some c.reader.left };
-
-    ghost reads = { λ c. c.reader.reads };
-
-    ghost failures = { λ c. c.reader.failures };
-
-    fn read_some(&mut self, buf: &mut [u8]) -> Result<usize, Failed> {
-        self.reader.read_some(buf)
-    }
-}
-
-impl FeedWrite for Conn {
-    ghost use Rattle.std.specs.Prelude.{Some};
-
-    ghost contents = { λ c. Some c.writer.written };
-
-    ghost failures = { λ c. c.writer.failures };
-
-    fn write_some(&mut self, bytes: &[u8]) -> Result<usize, Failed> {
-        self.writer.write_some(bytes)
-    }
-}
-
-/// A connection whose response comes in pieces of seven bytes.
-pub(crate) fn connection(alloc: Global, response: &[u8]) -> Option<Conn> {
-    Some(Conn {
-        reader: MemReader::new(response.to_vec(alloc).ok()?, 7),
-        writer: MemWriter::new(alloc, 5),
-    })
-}
-
 /// Connections that are dialed one after another; behind the last one nobody answers.
 #[derive(Drop)]
 pub(crate) struct Server {
-    conns: VecDeque<Conn>,
+    conns: VecDeque<(MemReader, MemWriter)>,
     misses: u64,
 }
 
@@ -59,18 +18,21 @@ impl Server {
     pub(crate) fn new(alloc: Global, responses: &[&[u8]]) -> Option<Server> {
         let mut conns = VecDeque::new(alloc);
         for response in responses {
-            conns.push_back(connection(alloc, response)?).ok()?;
+            let reader = MemReader::new(response.to_vec(alloc).ok()?, 7);
+            conns.push_back((reader, MemWriter::new(alloc, 5))).ok()?;
         }
         Some(Server { conns, misses: 0 })
     }
 }
 
 impl Dial for Server {
-    type Conn = Conn;
+    type Reader = MemReader;
+
+    type Writer = MemWriter;
 
     ghost misses = { λ s. s.misses };
 
-    fn dial(&mut self, _place: usize) -> Option<Conn> {
+    fn dial(&mut self, _place: usize) -> Option<(MemReader, MemWriter)> {
         let conn = self.conns.pop_front();
         if conn.is_none() {
             self.misses = self.misses.saturating_add(1);

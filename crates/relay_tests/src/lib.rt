@@ -4,4 +4,6 @@
 #[cfg(test)]
 mod devices;
 #[cfg(test)]
+mod loopback;
+#[cfg(test)]
 mod rounds;
