@@ -35,19 +35,30 @@ fn without_brackets(host: &str) -> &str {
 }
 
 impl Dial for Server<'_> {
-    type Conn = Stream<TcpStream>;
+    type Reader = Stream<TcpStream>;
+
+    type Writer = Stream<TcpStream>;
 
     ghost misses = { λ s. s.misses };
 
-    fn dial(&mut self, _place: usize) -> Option<Stream<TcpStream>> {
-        match TcpStream::connect(self.rt, (self.host, self.port)) {
-            Ok(socket) => Some(Stream::new(socket)),
-            Err(_) => {
-                self.misses = self.misses.saturating_add(1);
-                None
-            }
+    fn dial(&mut self, _place: usize) -> Option<(Stream<TcpStream>, Stream<TcpStream>)> {
+        let opened = match TcpStream::connect(self.rt, (self.host, self.port)) {
+            Ok(socket) => both_ways(socket),
+            Err(_) => None,
+        };
+        if opened.is_none() {
+            self.misses = self.misses.saturating_add(1);
         }
+        opened
     }
+}
+
+/// A connection, to read from and to write to. What is written goes out at once, where the system
+/// allows that.
+fn both_ways(socket: TcpStream) -> Option<(Stream<TcpStream>, Stream<TcpStream>)> {
+    let reader = socket.try_clone().ok()?;
+    let _ = socket.set_nodelay(true);
+    Some((Stream::new(reader), Stream::new(socket)))
 }
 
 /// A port of 127.0.0.1 that followers connect to.
@@ -68,14 +79,6 @@ impl Port {
             Err(_) => Err(Fault::of_network(NetworkFault::Bind)),
         }
     }
-
-    /// The next connection, to read from and to write to. What is written goes out at once.
-    fn next(&self) -> Option<(TcpStream, TcpStream)> {
-        let (reader, _) = self.listener.accept().ok()?;
-        let writer = reader.try_clone().ok()?;
-        let _ = writer.set_nodelay(true);
-        Some((reader, writer))
-    }
 }
 
 impl Listen for Port {
@@ -86,12 +89,13 @@ impl Listen for Port {
     ghost misses = { λ p. p.misses };
 
     fn accept(&mut self) -> Option<(Stream<TcpStream>, Stream<TcpStream>)> {
-        match self.next() {
-            Some((reader, writer)) => Some((Stream::new(reader), Stream::new(writer))),
-            None => {
-                self.misses = self.misses.saturating_add(1);
-                None
-            }
+        let accepted = match self.listener.accept() {
+            Ok((socket, _)) => both_ways(socket),
+            Err(_) => None,
+        };
+        if accepted.is_none() {
+            self.misses = self.misses.saturating_add(1);
         }
+        accepted
     }
 }
