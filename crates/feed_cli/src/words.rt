@@ -3,15 +3,15 @@ ghost use Rattle.std.specs.Prelude.{◌≡◌, map, IfOk};
 ghost use Rattle.feed_cli.specs.Words.{Asks};
 
 mod asked;
+mod line;
 mod options;
-mod program;
 
 use asked::request_entered;
 use clap::Error;
 use clap::error::ErrorKind;
 use feed_http::Framing;
 use feed_node::Limits;
-use program::program;
+use line::command_line;
 use std::alloc::Global;
 
 /// The name of the program.
@@ -115,7 +115,7 @@ pub enum Request<'a> {
 pub fn parse_words<'a>(alloc: Global, words: &'a [&'a str]) -> Result<Request<'a>, Error>
     ensures { IfOk result (λ request. Asks (map (λ word. word.now) words.entry.now) request) }
 {
-    let mut program = program(alloc)?;
+    let mut program = command_line(alloc)?;
     let matches = program.try_get_matches_from_mut(words)?;
     match request_entered(&matches) {
         Some(request) => Ok(request),

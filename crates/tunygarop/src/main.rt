@@ -8,9 +8,9 @@ mod sockets;
 
 use feed_cli::stream::Stream;
 use feed_cli::{Fault, Request, parse_words, run, tell};
-use pull::pull;
-use relay::relay;
-use serve::serve;
+use pull::pull_feed;
+use relay::relay_feed;
+use serve::serve_feed;
 use std::io::ErrorKind;
 use std::process::ExitCode;
 use std::{env, io};
@@ -33,9 +33,9 @@ fn ended(rt: &HostRuntime, name: &str, ended: Result<(), Fault>) -> u8 {
 /// `run`, over the standard streams.
 fn status_of<'a>(rt: &HostRuntime, words: &'a [&'a str]) -> u8 {
     match parse_words(rt.alloc(), words) {
-        Ok(Request::Serve(options)) => ended(rt, "serve", serve(rt, &options)),
-        Ok(Request::Pull(options)) => ended(rt, "pull", pull(rt, &options)),
-        Ok(Request::Relay(options)) => ended(rt, "relay", relay(rt, &options)),
+        Ok(Request::Serve(options)) => ended(rt, "serve", serve_feed(rt, &options)),
+        Ok(Request::Pull(options)) => ended(rt, "pull", pull_feed(rt, &options)),
+        Ok(Request::Relay(options)) => ended(rt, "relay", relay_feed(rt, &options)),
         _ => run(
             rt.alloc(),
             words,

@@ -5,7 +5,7 @@ use feed_cli::stream::Stream;
 use feed_cli::{Fault, RelayOptions, place_of, print_relayed, start_mirror};
 
 /// Follows a server's feed and serves it, in turns, and prints the tables at the end.
-pub(crate) fn relay(rt: &HostRuntime, options: &RelayOptions<'_>) -> Result<(), Fault> {
+pub(crate) fn relay_feed(rt: &HostRuntime, options: &RelayOptions<'_>) -> Result<(), Fault> {
     let place = place_of(rt.alloc(), &options.pull)?;
     let mut mirror = start_mirror(rt.alloc(), &options.pull, &mut Stream::new(rt.stdin()))?;
     let mut port = Port::bind(rt, options.listen)?;

@@ -123,7 +123,7 @@ fn local_program<'a>(alloc: Global) -> Result<Command<'a>, AllocError>
 }
 
 /// The command line.
-pub(super) fn program<'a>(alloc: Global) -> Result<Command<'a>, AllocError>
+pub(super) fn command_line<'a>(alloc: Global) -> Result<Command<'a>, AllocError>
     ensures { IfOk result (λ c. app_of c ≡ words.command_line) }
 {
     let program = local_program(alloc)?;

@@ -2,7 +2,7 @@ use Rattle.std.proofs.Common.{sym, ◌≡◌, ◌∙◌, List, Some, option_map}
 use Rattle.std.proofs.lemmas.Option.{IfSome_then}
 use Rattle.clap.specs.Words.{Row, Text, found_of, rows_of, subcommand_name_of, subcommand_rows_of}
 use Rattle.feed_cli.proofs.WordsLemmas.{mapped, pair_of}
-use Rattle.feed_cli.proofs.words.request_entered.Goals as goal
+use Rattle.feed_cli.proofs.words.asked.request_entered.Goals as goal
 
 pub returns : goal.returns
 returns c =
