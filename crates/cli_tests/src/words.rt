@@ -11,6 +11,9 @@ Commands:
   tables  Prints the tables that the event feed on standard input has published
   check   Counts the lines of the event feed on standard input, or names the first that can't be read
   play    Plays the script of events on standard input in a world of nodes, and prints what is replied
+  serve   Serves the event feed on standard input at a port of 127.0.0.1, as a primary
+  pull    Follows a server's event feed on one connection, and prints the tables that it has published
+  relay   Follows a server's event feed and serves it at a port of 127.0.0.1, in turns, and prints the tables at the end
   help    Print this message or the help of the given subcommand(s)
 
 Options:
@@ -19,7 +22,7 @@ Options:
 ";
 
 const NO_COMMAND: &str = "error: 'tunygarop' requires a subcommand but one was not provided
-  [subcommands: tables, check, play, help]
+  [subcommands: tables, check, play, serve, pull, relay, help]
 
 Usage: tunygarop <COMMAND>
 
@@ -143,4 +146,41 @@ For more information, try '--help'.
 #[test]
 fn answers_words(rt: HostRuntime) -> Result<(), Fail> {
     all_pass(&rt, &WORDS, &SMALL)
+}
+
+/// Words of the commands that open connections, which are run elsewhere.
+const REMOTE: [Case; 3] = [
+    Case {
+        words: &[
+            "tunygarop", "serve", "--port", "80", "--contest", "c", "--count", "1",
+        ],
+        input: ONE_TEAM,
+        status: 1,
+        out: "",
+        err: "",
+    },
+    Case {
+        words: &[
+            "tunygarop", "pull", "--host", "h", "--port", "80", "--contest", "c",
+        ],
+        input: ONE_TEAM,
+        status: 1,
+        out: "",
+        err: "",
+    },
+    Case {
+        words: &[
+            "tunygarop", "relay", "--host", "h", "--port", "80", "--contest", "c", "--listen", "81",
+            "--count", "1",
+        ],
+        input: ONE_TEAM,
+        status: 1,
+        out: "",
+        err: "",
+    },
+];
+
+#[test]
+fn runs_no_command_that_opens_connections(rt: HostRuntime) -> Result<(), Fail> {
+    all_pass(&rt, &REMOTE, &SMALL)
 }

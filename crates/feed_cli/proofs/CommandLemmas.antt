@@ -19,3 +19,4 @@ device_by (Err (fault.Feed why)) s reads writes = tt
 device_by (Err (fault.Survey why)) s reads writes = tt
 device_by (Err (fault.Play why)) s reads writes = tt
 device_by (Err fault.Unpublished) s reads writes = tt
+device_by (Err (fault.Remote why)) s reads writes = tt

@@ -59,6 +59,7 @@ CountFails fault.Turns old new = ⊥
 CountFails (fault.Feed why) old new = ⊥
 CountFails (fault.Play why) old new = ⊥
 CountFails fault.Unpublished old new = ⊥
+CountFails (fault.Remote why) old new = ⊥
 
 -- the input was counted, and the counts were printed
 pub record CountsPrinted (s : Streams) : Type 0 where

@@ -1,11 +1,22 @@
 -- Why a command fails, for the fault of what it calls, and the statuses that the program ends with.
-use Rattle.std.specs.Prelude.{◌≡◌, ◌⊎◌, ℕ, max, Option, if◌then◌else◌}
+use Rattle.std.specs.Prelude.{◌≡◌, ◌⊎◌, ℕ, Bool, true, false, max, Option, if◌then◌else◌}
+use Rattle.feed_answer.specs.declared.place.PlaceFault.{PlaceFault}
+use Rattle.feed_answer.specs.declared.place.PlaceFault.TheVariants as place
+use Rattle.feed_http.specs.declared.fault.EngineFault.{EngineFault}
+use Rattle.feed_http.specs.declared.fault.EngineFault.TheVariants as engine
+use Rattle.feed_node.specs.declared.primary.CommitFault.{CommitFault}
+use Rattle.feed_node.specs.declared.primary.CommitFault.TheVariants as commit
 use Rattle.feed_node.specs.declared.fault.FeedFault.{FeedFault}
 use Rattle.feed_node.specs.declared.fault.FeedFault.TheVariants as feed
 use Rattle.feed_note.specs.declared.counts.SurveyFault.{SurveyFault}
 use Rattle.feed_note.specs.declared.stop.LineStop.{LineStop}
 use Rattle.feed_note.specs.declared.stop.LineStop.TheVariants as stop
 use Rattle.feed_play.specs.Fault.{is_memory}
+use Rattle.feed_relay.specs.Fault.{is_memory as is_network_memory}
+use Rattle.feed_relay.specs.declared.fault.NetworkFault.{NetworkFault}
+use Rattle.feed_relay.specs.declared.fault.NetworkFault.TheVariants as network
+use Rattle.feed_cli.specs.declared.fault.RemoteFault.{RemoteFault}
+use Rattle.feed_cli.specs.declared.fault.RemoteFault.TheVariants as remote
 use Rattle.feed_cli.specs.declared.fault.Fault.{Fault}
 use Rattle.feed_cli.specs.declared.fault.Fault.TheVariants as fault
 use Rattle.feed_cli.specs.declared.input.InputFault.{InputFault}
@@ -28,6 +39,54 @@ fault_at other why = fault.Survey why
 abbrev pub fault_of_survey : SurveyFault → Fault
 fault_of_survey why = fault_at why.stop why
 
+abbrev pub fault_of_place : PlaceFault → Fault
+fault_of_place place.Memory = fault.Memory
+fault_of_place why = fault.Remote (remote.Place why)
+
+abbrev pub fault_of_batches : LineStop → Fault
+fault_of_batches stop.Memory = fault.Memory
+fault_of_batches why = fault.Remote (remote.Batch why)
+
+abbrev pub fault_of_commit : CommitFault → Fault
+fault_of_commit commit.Memory = fault.Memory
+fault_of_commit why = fault.Remote (remote.Commit why)
+
+abbrev pub fault_of_network : NetworkFault → Fault
+fault_of_network why =
+    if is_network_memory why then fault.Memory else fault.Remote (remote.Network why)
+
+-- a refused batch and a faulty response are faults of what came in, all else is a device's
+abbrev pub status_of_engine : EngineFault → ℕ
+status_of_engine (engine.Commit why) = 2
+status_of_engine (engine.Follow why) = 2
+status_of_engine why = 4
+
+abbrev pub status_of_network : NetworkFault → ℕ
+status_of_network (network.Engine why) = status_of_engine why
+status_of_network why = 4
+
+-- 1 for a server that can't be named so, 2 for a faulty input or response, 4 for a device's fault
+abbrev pub status_of_remote : RemoteFault → ℕ
+status_of_remote (remote.Place why) = 1
+status_of_remote (remote.Batch why) = 2
+status_of_remote (remote.Commit why) = 2
+status_of_remote (remote.Network why) = status_of_network why
+
+-- only a refused batch is more than one connection's fault
+abbrev pub is_engine_connections : EngineFault → Bool
+is_engine_connections (engine.Commit why) = false
+is_engine_connections why = true
+
+-- a fault of one connection, after which others can be made
+abbrev pub is_of_a_connection : RemoteFault → Bool
+is_of_a_connection (remote.Network network.Connect) = true
+is_of_a_connection (remote.Network (network.Engine why)) = is_engine_connections why
+is_of_a_connection why = false
+
+abbrev pub is_one_connections : Fault → Bool
+is_one_connections (fault.Remote why) = is_of_a_connection why
+is_one_connections why = false
+
 -- 5 for want of memory, 4 for a device's fault, 2 for a faulty input, 3 where nothing is published
 abbrev pub status_of : Fault → ℕ
 status_of fault.Memory = 5
@@ -39,6 +98,7 @@ status_of (fault.Feed why) = 2
 status_of (fault.Survey why) = 2
 status_of (fault.Play why) = if is_memory why.cause then 5 else 2
 status_of fault.Unpublished = 3
+status_of (fault.Remote why) = status_of_remote why
 
 -- the status after a fault was told; where it could not be, a device has failed too
 abbrev pub IsToldStatus : Fault → ℕ → Type 0

@@ -65,3 +65,4 @@ PlayFails fault.Turns s = ⊥
 PlayFails (fault.Feed why) s = ⊥
 PlayFails (fault.Survey why) s = ⊥
 PlayFails fault.Unpublished s = ⊥
+PlayFails (fault.Remote why) s = ⊥

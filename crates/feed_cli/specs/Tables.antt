@@ -78,6 +78,7 @@ IsFed limits (Err fault.TooLong) old new shown = ⊥
 IsFed limits (Err (fault.Survey why)) old new shown = ⊥
 IsFed limits (Err (fault.Play why)) old new shown = ⊥
 IsFed limits (Err fault.Unpublished) old new shown = ⊥
+IsFed limits (Err (fault.Remote why)) old new shown = ⊥
 
 -- the input was read like that, and the snapshot of what is published was printed
 pub record Printed (limits : Limits) (ended : Result (Unit {0}) Fault) (s : Streams) : Type 0 where
@@ -119,3 +120,4 @@ TablesFail limits fault.Unpublished s = PrintedNone limits s
 TablesFail limits fault.TooLong s = ⊥
 TablesFail limits (fault.Survey why) s = ⊥
 TablesFail limits (fault.Play why) s = ⊥
+TablesFail limits (fault.Remote why) s = ⊥

@@ -49,22 +49,64 @@ pub enum Fault {
     /// The input, or what was followed, has ended, and nothing was published.
     #[error("nothing published")]
     Unpublished,
-    /// The server that is to be followed can't be named like this. It is no want of memory.
+    /// A command failed that opens connections. It is no want of memory.
+    #[error("{0}")]
+    Remote(RemoteFault),
+}
+
+/// Why a command fails that opens connections.
+#[derive(Clone, Copy, Debug, PartialEq, Eq, Error)]
+pub enum RemoteFault {
+    /// The server that is to be followed can't be named like this.
     #[error("{0}")]
     Place(PlaceFault),
-    /// A line of the input can't be read. It is no want of memory.
+    /// A line of the input can't be read.
     #[error("{0}")]
     Batch(LineStop),
-    /// A batch of the input was refused. It is no want of memory.
+    /// A batch of the input was refused.
     #[error("{0}")]
     Commit(CommitFault),
-    /// A connection was not made, or failed. It is no want of memory.
+    /// A connection was not made, or failed.
     #[error("{0}")]
     Network(NetworkFault),
 }
 
+impl RemoteFault {
+    ghost use Rattle.feed_cli.specs.Fault.{status_of_remote, is_of_a_connection};
+
+    /// The status that a program with this fault ends with.
+    fn status(self) -> u8
+        ensures { result ≡ status_of_remote self }
+    {
+        match self {
+            RemoteFault::Place(_) => 1,
+            RemoteFault::Batch(_) | RemoteFault::Commit(_) => 2,
+            RemoteFault::Network(NetworkFault::Engine(fault)) => match fault {
+                EngineFault::Commit(_) | EngineFault::Follow(_) => 2,
+                _ => 4,
+            },
+            RemoteFault::Network(_) => 4,
+        }
+    }
+
+    /// Whether it is one connection's, after which a command goes on that serves several.
+    fn is_of_a_connection(self) -> bool
+        ensures { result ≡ is_of_a_connection self }
+    {
+        match self {
+            RemoteFault::Network(fault) => match fault {
+                NetworkFault::Bind | NetworkFault::Accept => false,
+                NetworkFault::Engine(EngineFault::Commit(_)) => false,
+                _ => true,
+            },
+            _ => false,
+        }
+    }
+}
+
 impl Fault {
     ghost use Rattle.feed_cli.specs.Fault.{status_of, fault_of_input, fault_of_feed, fault_of_survey};
+    ghost use Rattle.feed_cli.specs.Fault.{fault_of_place, fault_of_batches, fault_of_commit, fault_of_network, is_one_connections};
 
     /// The status that a program with this fault ends with.
     pub fn status(self) -> u8
@@ -74,21 +116,18 @@ impl Fault {
             Fault::Memory => 5,
             Fault::Read | Fault::Write | Fault::Turns => 4,
             Fault::Play(fault) if fault.is_want_of_memory() => 5,
-            Fault::Network(NetworkFault::Engine(EngineFault::Commit(_))) => 2,
-            Fault::Network(NetworkFault::Engine(EngineFault::Follow(_))) => 2,
-            Fault::Network(_) => 4,
             Fault::TooLong | Fault::Feed(_) | Fault::Survey(_) | Fault::Play(_) => 2,
-            Fault::Batch(_) | Fault::Commit(_) => 2,
             Fault::Unpublished => 3,
-            Fault::Place(_) => 1,
+            Fault::Remote(fault) => fault.status(),
         }
     }
 
     /// Whether it is one connection's, after which a command goes on that serves several.
-    pub fn is_of_a_connection(self) -> bool {
+    pub fn is_of_a_connection(self) -> bool
+        ensures { result ≡ is_one_connections self }
+    {
         match self {
-            Fault::Network(NetworkFault::Connect) => true,
-            Fault::Network(NetworkFault::Engine(fault)) => !matches!(fault, EngineFault::Commit(_)),
+            Fault::Remote(fault) => fault.is_of_a_connection(),
             _ => false,
         }
     }
@@ -125,35 +164,43 @@ impl Fault {
     }
 
     /// The fault of a command whose server can't be named like this.
-    pub fn of_place(fault: PlaceFault) -> Fault {
+    pub fn of_place(fault: PlaceFault) -> Fault
+        ensures { result ≡ fault_of_place fault }
+    {
         match fault {
             PlaceFault::Memory => Fault::Memory,
-            _ => Fault::Place(fault),
+            _ => Fault::Remote(RemoteFault::Place(fault)),
         }
     }
 
     /// The fault of a command whose input has no batches up to a line that can't be read.
-    pub fn of_batches(stop: LineStop) -> Fault {
+    pub fn of_batches(stop: LineStop) -> Fault
+        ensures { result ≡ fault_of_batches stop }
+    {
         match stop {
             LineStop::Memory => Fault::Memory,
-            _ => Fault::Batch(stop),
+            _ => Fault::Remote(RemoteFault::Batch(stop)),
         }
     }
 
     /// The fault of a command whose input has a batch that was refused.
-    pub fn of_commit(fault: CommitFault) -> Fault {
+    pub fn of_commit(fault: CommitFault) -> Fault
+        ensures { result ≡ fault_of_commit fault }
+    {
         match fault {
             CommitFault::Memory => Fault::Memory,
-            _ => Fault::Commit(fault),
+            _ => Fault::Remote(RemoteFault::Commit(fault)),
         }
     }
 
     /// The fault of a command whose connection was not made, or failed.
-    pub fn of_network(fault: NetworkFault) -> Fault {
+    pub fn of_network(fault: NetworkFault) -> Fault
+        ensures { result ≡ fault_of_network fault }
+    {
         if fault.is_want_of_memory() {
             Fault::Memory
         } else {
-            Fault::Network(fault)
+            Fault::Remote(RemoteFault::Network(fault))
         }
     }
 }

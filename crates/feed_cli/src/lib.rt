@@ -13,7 +13,7 @@ pub use commands::pull::{place_of, print_pulled, pull_outcome, start_mirror};
 pub use commands::relay::print_relayed;
 pub use commands::serve::{Source, serve_all, start_source};
 pub use commands::{perform, run};
-pub use fault::{Fault, FeedStop};
+pub use fault::{Fault, FeedStop, RemoteFault};
 pub use feed_http::{device, memory, stream};
 pub use feed_play::{PlayCause, PlayFault, play};
 pub use feed_relay::{Dial, NetworkFault};
