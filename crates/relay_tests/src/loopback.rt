@@ -1,9 +1,9 @@
 //! A relay whose followers, and whose server, are sockets.
 
 use crate::devices::Server;
-use crate::rounds::{CLOSE_TEXT, FRESH, OPENED, empty_mirror};
+use crate::nodes::{CLOSE_TEXT, FRESH, empty_mirror, finals, told};
 use feed_http::stream::Stream;
-use feed_http::{Followed, Framing, Place};
+use feed_http::{Followed, Framing};
 use feed_relay::{Accept, Dial, NetworkFault, Round, relay_round};
 use std::io::{Read, Write};
 use std::net::{SocketAddr, TcpListener, TcpStream};
@@ -80,7 +80,7 @@ fn follower(rt: &HostRuntime, address: SocketAddr) -> Option<TcpStream> {
 /// Two rounds: in the first a server answers, in the second none does.
 fn rounds(rt: &HostRuntime) -> Option<bool> {
     let alloc = rt.alloc();
-    let place = Place::new(alloc, "h", "", "finals").ok()?;
+    let place = finals(alloc)?;
     let listener = TcpListener::bind(rt, "127.0.0.1:0").ok()?;
     let address = listener.local_addr().ok()?;
     let closed = TcpListener::bind(rt, "127.0.0.1:0")
@@ -127,12 +127,12 @@ fn rounds(rt: &HostRuntime) -> Option<bool> {
     let is_first = first
         == Round {
             pulled: Ok(Followed::Ended),
-            served: Ok(OPENED),
+            served: Ok(told(200)),
         };
     let is_second = second
         == Round {
             pulled: Err(NetworkFault::Connect),
-            served: Ok(OPENED),
+            served: Ok(told(200)),
         };
     Some(is_first && is_second && text.as_slice() == CLOSE_TEXT && again.as_slice() == CLOSE_TEXT)
 }
