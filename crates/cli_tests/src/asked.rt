@@ -15,13 +15,30 @@ fn asked_to_serve<'a>(alloc: Global, words: &'a [&'a str]) -> Option<ServeOption
 fn serves_as_asked(alloc: Global) -> Option<bool> {
     let least = asked_to_serve(
         alloc,
-        &["t", "serve", "--count", "7", "--port", "65535", "--contest", "c"],
+        &[
+            "t",
+            "serve",
+            "--count",
+            "7",
+            "--port",
+            "65535",
+            "--contest",
+            "c",
+        ],
     )?;
     let most = asked_to_serve(
         alloc,
         &[
-            "t", "serve", "--port=1", "--contest=", "--count=1000000", "--turn", "1000000",
-            "--chunked", "--history=2", "--staged=3",
+            "t",
+            "serve",
+            "--port=1",
+            "--contest=",
+            "--count=1000000",
+            "--turn",
+            "1000000",
+            "--chunked",
+            "--history=2",
+            "--staged=3",
         ],
     )?;
     Some(
@@ -63,8 +80,19 @@ fn pulls_as_asked(alloc: Global) -> Option<bool> {
     let most = asked_to_pull(
         alloc,
         &[
-            "t", "pull", "--resume", "--base", "/b", "--turns", "5", "--host", "h", "--port", "8",
-            "--contest", "c",
+            "t",
+            "pull",
+            "--resume",
+            "--base",
+            "/b",
+            "--turns",
+            "5",
+            "--host",
+            "h",
+            "--port",
+            "8",
+            "--contest",
+            "c",
         ],
     )?;
     Some(
@@ -97,8 +125,20 @@ fn relays_as_asked(alloc: Global) -> Option<bool> {
     let asked = asked_to_relay(
         alloc,
         &[
-            "t", "relay", "--host", "h", "--port", "8", "--contest", "c", "--resume", "--listen",
-            "9", "--count", "2", "--chunked",
+            "t",
+            "relay",
+            "--host",
+            "h",
+            "--port",
+            "8",
+            "--contest",
+            "c",
+            "--resume",
+            "--listen",
+            "9",
+            "--count",
+            "2",
+            "--chunked",
         ],
     )?;
     Some(

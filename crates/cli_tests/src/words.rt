@@ -152,7 +152,14 @@ fn answers_words(rt: HostRuntime) -> Result<(), Fail> {
 const REMOTE: [Case; 3] = [
     Case {
         words: &[
-            "tunygarop", "serve", "--port", "80", "--contest", "c", "--count", "1",
+            "tunygarop",
+            "serve",
+            "--port",
+            "80",
+            "--contest",
+            "c",
+            "--count",
+            "1",
         ],
         input: ONE_TEAM,
         status: 1,
@@ -161,7 +168,14 @@ const REMOTE: [Case; 3] = [
     },
     Case {
         words: &[
-            "tunygarop", "pull", "--host", "h", "--port", "80", "--contest", "c",
+            "tunygarop",
+            "pull",
+            "--host",
+            "h",
+            "--port",
+            "80",
+            "--contest",
+            "c",
         ],
         input: ONE_TEAM,
         status: 1,
@@ -170,8 +184,18 @@ const REMOTE: [Case; 3] = [
     },
     Case {
         words: &[
-            "tunygarop", "relay", "--host", "h", "--port", "80", "--contest", "c", "--listen", "81",
-            "--count", "1",
+            "tunygarop",
+            "relay",
+            "--host",
+            "h",
+            "--port",
+            "80",
+            "--contest",
+            "c",
+            "--listen",
+            "81",
+            "--count",
+            "1",
         ],
         input: ONE_TEAM,
         status: 1,

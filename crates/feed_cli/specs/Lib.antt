@@ -2,6 +2,8 @@ pub mod Check
 pub mod Commands
 pub mod Fault
 pub mod Play
+pub mod Pull
+pub mod Serve
 pub mod Streams
 pub mod Tables
 pub mod Words

@@ -28,7 +28,10 @@ impl<W: FeedWrite> Write for Printer<'_, W> {
 }
 
 /// Prints a text to a device.
-pub(crate) fn print<W: FeedWrite, T: fmt::Display + Drop>(device: &mut W, text: T) -> Result<(), Fault>
+pub(crate) fn print<W: FeedWrite, T: fmt::Display + Drop>(
+    device: &mut W,
+    text: T,
+) -> Result<(), Fault>
     ensures { IfErr result (λ fault. fault ≡ Fault.Write) }
 {
     match (Printer { device }).write(text) {

@@ -10,5 +10,12 @@ pub(crate) fn pull_feed(rt: &HostRuntime, options: &PullOptions<'_>) -> Result<(
     let mut mirror = start_mirror(rt.alloc(), options, &mut Stream::new(rt.stdin()))?;
     let mut server = Server::new(rt, options.host, options.port);
     let mut out = Stream::new(rt.stdout());
-    print_pulled(rt.alloc(), options, &place, &mut mirror, &mut server, &mut out)
+    print_pulled(
+        rt.alloc(),
+        options,
+        &place,
+        &mut mirror,
+        &mut server,
+        &mut out,
+    )
 }

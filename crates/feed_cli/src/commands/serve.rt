@@ -1,4 +1,8 @@
 //! A feed, served by a primary.
+ghost use Rattle.std.specs.Prelude.{IfOk, IfErr, IsErrOf};
+ghost use Rattle.feed_cli.specs.Serve.{Starts, FailsToServe};
+ghost use Rattle.feed_http.specs.Device.{HasFailed};
+ghost use Rattle.feed_http.specs.Live.{intake_of};
 
 use crate::fault::Fault;
 use crate::input::{INPUT_BYTES, read_all};
@@ -26,7 +30,15 @@ pub fn start_source<R: FeedRead>(
     alloc: Global,
     options: &ServeOptions<'_>,
     input: &mut R,
-) -> Result<Source, Fault> {
+) -> Result<Source, Fault>
+    ensures ok { IfOk result (λ source. Starts options.now.turn options.now.limits
+        (R.remaining input.old) (R.remaining input.new)
+        (intake_of source.primary source.waiting.items)) }
+    ensures err { IfErr result (λ why. FailsToServe options.now.turn options.now.limits why
+        (R.remaining input.old) (R.remaining input.new)) }
+    ensures read { IsErrOf result Fault.Read
+        → HasFailed (R.failures input.old) (R.failures input.new) }
+{
     let mut feed = Vec::new(alloc);
     if let Err(fault) = read_all(input, &mut feed, INPUT_BYTES) {
         return Err(Fault::of_input(fault));

@@ -1,10 +1,9 @@
 //! The commands, as the command line declares them.
-ghost use Rattle.std.specs.Prelude.{◌≡◌, false, IfOk};
-ghost use Rattle.clap.specs.Words.{app_of, fields_of, new_app, rule_of, with_rule, with_subcommand};
+ghost use Rattle.std.specs.Prelude.{◌≡◌, true, false, IfOk};
+ghost use Rattle.clap.specs.Words.{app_of, new_app, rule_of, with_rule, with_subcommand};
 ghost use Rattle.feed_cli.specs.Words as words;
 
-use super::options;
-use super::PROGRAM;
+use super::{PROGRAM, options};
 use clap::{Arg, Command};
 use std::alloc::{AllocError, Global};
 
@@ -13,35 +12,32 @@ const VERSION: &str = "0.1.0";
 
 /// A command without options.
 fn command<'a>(alloc: Global, name: &'a str, about: &'a str) -> Command<'a>
-    ensures app { app_of result ≡ new_app name.entry.now }
-    ensures local { (fields_of result).has_globals ≡ false }
+    ensures { app_of result ≡ new_app name.entry.now }
 {
     Command::new(alloc, name).about(about)
 }
 
 /// A command with one more option.
 fn with<'a>(command: Command<'a>, option: Arg<'a>) -> Result<Command<'a>, AllocError>
-    requires local { (fields_of command.entry).has_globals ≡ false }
-    requires option { option.entry.global ≡ false }
-    ensures app { IfOk result (λ c. app_of c ≡ with_rule (app_of command.entry) (rule_of option.entry)) }
-    ensures local { IfOk result (λ c. (fields_of c).has_globals ≡ false) }
+    requires { option.entry.global ≡ false }
+    ensures { IfOk result (λ c. app_of c ≡ with_rule (app_of command.entry) (rule_of option.entry)) }
 {
     command.arg(option)
 }
 
 /// A command with the limits of its node.
 fn with_limits<'a>(alloc: Global, command: Command<'a>) -> Result<Command<'a>, AllocError>
-    requires local { (fields_of command.entry).has_globals ≡ false }
-    ensures app { IfOk result (λ c. app_of c ≡ words.with_limits (app_of command.entry)) }
-    ensures local { IfOk result (λ c. (fields_of c).has_globals ≡ false) }
+    ensures { IfOk result (λ c. app_of c ≡ words.with_limits (app_of command.entry)) }
 {
-    with(with(command, options::history(alloc))?, options::staged(alloc))
+    with(
+        with(command, options::history(alloc))?,
+        options::staged(alloc),
+    )
 }
 
 /// `tables`.
 fn tables<'a>(alloc: Global) -> Result<Command<'a>, AllocError>
-    ensures app { IfOk result (λ c. app_of c ≡ words.tables) }
-    ensures local { IfOk result (λ c. (fields_of c).has_globals ≡ false) }
+    ensures { IfOk result (λ c. app_of c ≡ words.tables) }
 {
     let about = "Prints the tables that the event feed on standard input has published";
     let limited = with_limits(alloc, command(alloc, "tables", about))?;
@@ -50,12 +46,14 @@ fn tables<'a>(alloc: Global) -> Result<Command<'a>, AllocError>
 
 /// `serve`.
 fn serve<'a>(alloc: Global) -> Result<Command<'a>, AllocError>
-    ensures app { IfOk result (λ c. app_of c ≡ words.serve) }
-    ensures local { IfOk result (λ c. (fields_of c).has_globals ≡ false) }
+    ensures { IfOk result (λ c. app_of c ≡ words.serve) }
 {
     let about = "Serves the event feed on standard input at a port of 127.0.0.1, as a primary";
     let serve = command(alloc, "serve", about);
-    let serve = with(serve, options::port(alloc, "The port of 127.0.0.1 that the feed is served at"))?;
+    let serve = with(
+        serve,
+        options::port(alloc, "The port of 127.0.0.1 that the feed is served at"),
+    )?;
     let serve = with(serve, options::contest(alloc))?;
     let serve = with(serve, options::count(alloc))?;
     let serve = with(serve, options::turn(alloc))?;
@@ -65,12 +63,13 @@ fn serve<'a>(alloc: Global) -> Result<Command<'a>, AllocError>
 
 /// A command with the options of `pull`.
 fn with_pull<'a>(alloc: Global, command: Command<'a>) -> Result<Command<'a>, AllocError>
-    requires local { (fields_of command.entry).has_globals ≡ false }
-    ensures app { IfOk result (λ c. app_of c ≡ words.with_pull (app_of command.entry)) }
-    ensures local { IfOk result (λ c. (fields_of c).has_globals ≡ false) }
+    ensures { IfOk result (λ c. app_of c ≡ words.with_pull (app_of command.entry)) }
 {
     let pull = with(command, options::host(alloc))?;
-    let pull = with(pull, options::port(alloc, "The port of the server that is followed"))?;
+    let pull = with(
+        pull,
+        options::port(alloc, "The port of the server that is followed"),
+    )?;
     let pull = with(pull, options::contest(alloc))?;
     let pull = with(pull, options::base(alloc))?;
     let pull = with(pull, options::turns(alloc))?;
@@ -80,19 +79,19 @@ fn with_pull<'a>(alloc: Global, command: Command<'a>) -> Result<Command<'a>, All
 
 /// `pull`.
 fn pull<'a>(alloc: Global) -> Result<Command<'a>, AllocError>
-    ensures app { IfOk result (λ c. app_of c ≡ words.pull) }
-    ensures local { IfOk result (λ c. (fields_of c).has_globals ≡ false) }
+    ensures { IfOk result (λ c. app_of c ≡ words.pull) }
 {
-    let about = "Follows a server's event feed on one connection, and prints the tables that it has published";
+    let about =
+        "Follows a server's event feed on one connection, and prints the tables that it has published";
     with_pull(alloc, command(alloc, "pull", about))
 }
 
 /// `relay`.
 fn relay<'a>(alloc: Global) -> Result<Command<'a>, AllocError>
-    ensures app { IfOk result (λ c. app_of c ≡ words.relay) }
-    ensures local { IfOk result (λ c. (fields_of c).has_globals ≡ false) }
+    ensures { IfOk result (λ c. app_of c ≡ words.relay) }
 {
-    let about = "Follows a server's event feed and serves it at a port of 127.0.0.1, in turns, and prints the tables at the end";
+    let about =
+        "Follows a server's event feed and serves it at a port of 127.0.0.1, in turns, and prints the tables at the end";
     let relay = with_pull(alloc, command(alloc, "relay", about))?;
     let relay = with(relay, options::listen(alloc))?;
     let relay = with(relay, options::count(alloc))?;
@@ -101,7 +100,7 @@ fn relay<'a>(alloc: Global) -> Result<Command<'a>, AllocError>
 
 /// A command with one more command below it.
 fn with_command<'a>(above: Command<'a>, below: Command<'a>) -> Result<Command<'a>, AllocError>
-    requires local { (fields_of below.entry).has_globals ≡ false }
+    requires plain { (app_of below.entry).top.is_plain ≡ true }
     ensures { IfOk result (λ c. app_of c ≡ with_subcommand (app_of above.entry) (app_of below.entry).top) }
 {
     above.subcommand(below)
@@ -115,8 +114,10 @@ fn local_program<'a>(alloc: Global) -> Result<Command<'a>, AllocError>
         .about("Mirrors the event feed of a programming contest (CLICS Contest API 2023-06)")
         .version(VERSION)
         .subcommand_required(true);
-    let check = "Counts the lines of the event feed on standard input, or names the first that can't be read";
-    let play = "Plays the script of events on standard input in a world of nodes, and prints what is replied";
+    let check =
+        "Counts the lines of the event feed on standard input, or names the first that can't be read";
+    let play =
+        "Plays the script of events on standard input in a world of nodes, and prints what is replied";
     let program = with_command(program, tables(alloc)?)?;
     let program = with_command(program, command(alloc, "check", check))?;
     with_command(program, command(alloc, "play", play))

@@ -38,9 +38,7 @@ fn flag<'a>(alloc: Global, name: &'a str) -> Arg<'a>
     ensures rule { rule_of result ≡ words.flag name.entry.now }
     ensures local { result.global ≡ false }
 {
-    Arg::new(alloc, name)
-        .long(name)
-        .action(ArgAction::SetTrue)
+    Arg::new(alloc, name).long(name).action(ArgAction::SetTrue)
 }
 
 /// `--history N`.
@@ -167,5 +165,7 @@ pub(crate) fn resume<'a>(alloc: Global) -> Arg<'a>
     ensures rule { rule_of result ≡ words.resume }
     ensures local { result.global ≡ false }
 {
-    flag(alloc, "resume").help("Begin from the tables on standard input, as this command prints them")
+    flag(alloc, "resume").help(
+        "Begin from the tables on standard input, as this command prints them",
+    )
 }
