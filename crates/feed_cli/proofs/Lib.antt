@@ -1,5 +1,6 @@
 mod CheckLemmas
 mod CommandLemmas
 mod PlayLemmas
+mod PullLemmas
 mod TablesLemmas
 mod WordsLemmas

@@ -74,7 +74,8 @@ fn limits(matches: &ArgMatches<'_>) -> Option<Limits>
 {
     let history = matches.get_one::<u64>("history")?;
     let staged = matches.get_one::<u64>("staged")?;
-    Limits::new(history as usize, staged as usize).ok()
+    let limits = Limits::new(history as usize, staged as usize).ok()?;
+    Some(limits)
 }
 
 /// What the options of `tables` ask for.

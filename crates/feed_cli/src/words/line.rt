@@ -100,7 +100,7 @@ fn relay<'a>(alloc: Global) -> Result<Command<'a>, AllocError>
 
 /// A command with one more command below it.
 fn with_command<'a>(above: Command<'a>, below: Command<'a>) -> Result<Command<'a>, AllocError>
-    requires plain { (app_of below.entry).top.is_plain ≡ true }
+    requires { (app_of below.entry).top.is_plain ≡ true }
     ensures { IfOk result (λ c. app_of c ≡ with_subcommand (app_of above.entry) (app_of below.entry).top) }
 {
     above.subcommand(below)

@@ -4,7 +4,8 @@ ghost use Rattle.clap.specs.Words.{rule_of};
 ghost use Rattle.feed_cli.specs.Words.{most_port, most_rounds, number_in, with_default, needed, text_option, flag};
 ghost use Rattle.feed_cli.specs.Words as words;
 
-use clap::{Arg, ArgAction, value_parser};
+use clap::builder::ValueParser;
+use clap::{Arg, ArgAction};
 use feed_node::{MOST_CHANGES, MOST_COMMITS};
 use std::alloc::Global;
 
@@ -15,14 +16,14 @@ pub(crate) const MOST_PORT: u64 = 65_535;
 pub(crate) const MOST_ROUNDS: u64 = 1_000_000;
 
 /// `--NAME VALUE`, with a number from 1 to the most.
-fn number<'a>(alloc: Global, name: &'a str, value: &'a str, most: u32) -> Arg<'a>
+fn number<'a>(alloc: Global, name: &'a str, value: &'a str, most: u64) -> Arg<'a>
     ensures rule { rule_of result ≡ number_in name.entry.now most }
     ensures local { result.global ≡ false }
 {
     Arg::new(alloc, name)
         .long(name)
         .value_name(value)
-        .value_parser(value_parser!(u64).range(1..=i64::from(most)))
+        .value_parser(ValueParser::unsigned(1, most))
 }
 
 /// `--NAME VALUE`, with any text.
@@ -46,7 +47,7 @@ pub(crate) fn history<'a>(alloc: Global) -> Arg<'a>
     ensures rule { rule_of result ≡ words.history }
     ensures local { result.global ≡ false }
 {
-    number(alloc, "history", "N", MOST_COMMITS as u32)
+    number(alloc, "history", "N", MOST_COMMITS as u64)
         .help("How many commits are kept, 1 to 65536")
         .default_value("1000")
 }
@@ -56,7 +57,7 @@ pub(crate) fn staged<'a>(alloc: Global) -> Arg<'a>
     ensures rule { rule_of result ≡ words.staged }
     ensures local { result.global ≡ false }
 {
-    number(alloc, "staged", "N", MOST_CHANGES as u32)
+    number(alloc, "staged", "N", MOST_CHANGES as u64)
         .help(
             "How many changes may wait for a token, and the greatest size of the tables, 1 to 1000000",
         )
@@ -76,7 +77,7 @@ pub(crate) fn port<'a>(alloc: Global, help: &'a str) -> Arg<'a>
     ensures rule { rule_of result ≡ words.port }
     ensures local { result.global ≡ false }
 {
-    number(alloc, "port", "P", MOST_PORT as u32)
+    number(alloc, "port", "P", MOST_PORT)
         .help(help)
         .required(true)
 }
@@ -86,7 +87,7 @@ pub(crate) fn listen<'a>(alloc: Global) -> Arg<'a>
     ensures rule { rule_of result ≡ words.listen }
     ensures local { result.global ≡ false }
 {
-    number(alloc, "listen", "Q", MOST_PORT as u32)
+    number(alloc, "listen", "Q", MOST_PORT)
         .help("The port of 127.0.0.1 that the feed is served at")
         .required(true)
 }
@@ -106,7 +107,7 @@ pub(crate) fn count<'a>(alloc: Global) -> Arg<'a>
     ensures rule { rule_of result ≡ words.count }
     ensures local { result.global ≡ false }
 {
-    number(alloc, "count", "N", MOST_ROUNDS as u32)
+    number(alloc, "count", "N", MOST_ROUNDS)
         .help("How many connections are served, 1 to 1000000")
         .required(true)
 }
@@ -116,7 +117,7 @@ pub(crate) fn turn<'a>(alloc: Global) -> Arg<'a>
     ensures rule { rule_of result ≡ words.turn }
     ensures local { result.global ≡ false }
 {
-    number(alloc, "turn", "K", MOST_ROUNDS as u32).help(
+    number(alloc, "turn", "K", MOST_ROUNDS).help(
         "How many batches are committed each time that a reader is up to date, 1 to 1000000; \
           without it all are committed first",
     )
@@ -155,7 +156,7 @@ pub(crate) fn turns<'a>(alloc: Global) -> Arg<'a>
     ensures rule { rule_of result ≡ words.turns }
     ensures local { result.global ≡ false }
 {
-    number(alloc, "turns", "T", MOST_ROUNDS as u32)
+    number(alloc, "turns", "T", MOST_ROUNDS)
         .help("The most reads of one connection, 1 to 1000000")
         .default_value("1000000")
 }

@@ -7,8 +7,7 @@ pub returns-clause-rule : goal.returns-clause-rule
 returns-clause-rule c =
     let name = c.args.name.now in
     let most = c.args.most in
-    let made : c.range.result ≡ vp.Unsigned 1 most = rw (c.value_parser.ensures, c.new-2.ensures.end, c.new-2.ensures.start) at c.range.ensures in
-    let (parser, given, converts) = c.value_parser-2.ensures.given in
-    let is : c.value_parser-2.result.value_parser ≡ Some (vp.Unsigned 1 most) = given ∙ ap Some (converts ∙ made) in
+    let (parser, given, converts) = c.value_parser.ensures.given in
+    let is : c.value_parser.result.value_parser ≡ Some (vp.Unsigned 1 most) = given ∙ ap Some (converts ∙ c.unsigned.ensures) in
     let before : rule_of c.value_name.result ≡ record (new_rule name) { long = Some name; value_names = 1 } = search rules in
-    ap rule_of c.value_parser-2.ensures.others ∙ ap₂ (λ (r : Rule) p. record r { parser = p }) before is
+    ap rule_of c.value_parser.ensures.others ∙ ap₂ (λ (r : Rule) p. record r { parser = p }) before is
