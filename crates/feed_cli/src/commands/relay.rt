@@ -20,6 +20,18 @@ struct Followers<'a, L, E> {
     teller: Teller<'a, E>,
 }
 
+impl<L: Listen, E: FeedWrite> Followers<'_, L, E> {
+    /// Tells a fault that doesn't end the rounds.
+    fn tell(&mut self, fault: Fault) {
+        self.teller.tell(fault);
+    }
+
+    /// What the rounds come to that were all made.
+    fn outcome(&self) -> Result<(), Fault> {
+        self.teller.outcome()
+    }
+}
+
 impl<L: Listen, E: FeedWrite> Accept for Followers<'_, L, E> {
     type Reader = L::Reader;
 
@@ -32,7 +44,7 @@ impl<L: Listen, E: FeedWrite> Accept for Followers<'_, L, E> {
         pulled: &Result<Followed, NetworkFault>,
     ) -> Option<(L::Reader, L::Writer)> {
         if let Err(fault) = pull_outcome(pulled) {
-            self.teller.tell(fault);
+            self.tell(fault);
         }
         self.listener.accept()
     }
@@ -69,9 +81,9 @@ pub fn print_relayed<D: Dial, L: Listen, W: FeedWrite, E: FeedWrite>(
             if !fault.is_of_a_connection() {
                 return Err(fault);
             }
-            followers.teller.tell(fault);
+            followers.tell(fault);
         }
     }
     print_snapshot(alloc, mirror, out)?;
-    followers.teller.outcome()
+    followers.outcome()
 }

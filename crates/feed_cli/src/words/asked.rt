@@ -132,7 +132,9 @@ fn pull_options<'a>(matches: &ArgMatches<'a>) -> Option<PullOptions<'a>>
 fn relay_options<'a>(matches: &ArgMatches<'a>) -> Option<RelayOptions<'a>>
     ensures { IfSome result (λ options. AsksRelay (rows_of (found_of matches.now)) options) }
 {
-    let pull = pull_options(matches)?;
+    let Some(pull) = pull_options(matches) else {
+        return None;
+    };
     let listen = port(matches, "listen")?;
     let count = number(matches, "count", MOST_ROUNDS)?;
     Some(RelayOptions {
@@ -151,9 +153,18 @@ fn request_named<'a>(name: &str, matches: &ArgMatches<'a>) -> Option<Request<'a>
         "tables" => Some(Request::Local(Local::Tables(tables_options(matches)?))),
         "check" => Some(Request::Local(Local::Check)),
         "play" => Some(Request::Local(Local::Play)),
-        "serve" => Some(Request::Serve(serve_options(matches)?)),
-        "pull" => Some(Request::Pull(pull_options(matches)?)),
-        "relay" => Some(Request::Relay(relay_options(matches)?)),
+        "serve" => match serve_options(matches) {
+            Some(options) => Some(Request::Serve(options)),
+            None => None,
+        },
+        "pull" => match pull_options(matches) {
+            Some(options) => Some(Request::Pull(options)),
+            None => None,
+        },
+        "relay" => match relay_options(matches) {
+            Some(options) => Some(Request::Relay(options)),
+            None => None,
+        },
         _ => None,
     }
 }

@@ -18,7 +18,7 @@ fn command<'a>(alloc: Global, name: &'a str, about: &'a str) -> Command<'a>
 }
 
 /// A command with one more option.
-fn with<'a>(command: Command<'a>, option: Arg<'a>) -> Result<Command<'a>, AllocError>
+fn add_option<'a>(command: Command<'a>, option: Arg<'a>) -> Result<Command<'a>, AllocError>
     requires { option.entry.global ≡ false }
     ensures { IfOk result (λ c. app_of c ≡ with_rule (app_of command.entry) (rule_of option.entry)) }
 {
@@ -29,8 +29,8 @@ fn with<'a>(command: Command<'a>, option: Arg<'a>) -> Result<Command<'a>, AllocE
 fn with_limits<'a>(alloc: Global, command: Command<'a>) -> Result<Command<'a>, AllocError>
     ensures { IfOk result (λ c. app_of c ≡ words.with_limits (app_of command.entry)) }
 {
-    with(
-        with(command, options::history(alloc))?,
+    add_option(
+        add_option(command, options::history(alloc))?,
         options::staged(alloc),
     )
 }
@@ -41,7 +41,7 @@ fn tables<'a>(alloc: Global) -> Result<Command<'a>, AllocError>
 {
     let about = "Prints the tables that the event feed on standard input has published";
     let limited = with_limits(alloc, command(alloc, "tables", about))?;
-    with(limited, options::verbose(alloc))
+    add_option(limited, options::verbose(alloc))
 }
 
 /// `serve`.
@@ -50,14 +50,14 @@ fn serve<'a>(alloc: Global) -> Result<Command<'a>, AllocError>
 {
     let about = "Serves the event feed on standard input at a port of 127.0.0.1, as a primary";
     let serve = command(alloc, "serve", about);
-    let serve = with(
+    let serve = add_option(
         serve,
         options::port(alloc, "The port of 127.0.0.1 that the feed is served at"),
     )?;
-    let serve = with(serve, options::contest(alloc))?;
-    let serve = with(serve, options::count(alloc))?;
-    let serve = with(serve, options::turn(alloc))?;
-    let serve = with(serve, options::chunked(alloc))?;
+    let serve = add_option(serve, options::contest(alloc))?;
+    let serve = add_option(serve, options::count(alloc))?;
+    let serve = add_option(serve, options::turn(alloc))?;
+    let serve = add_option(serve, options::chunked(alloc))?;
     with_limits(alloc, serve)
 }
 
@@ -65,15 +65,15 @@ fn serve<'a>(alloc: Global) -> Result<Command<'a>, AllocError>
 fn with_pull<'a>(alloc: Global, command: Command<'a>) -> Result<Command<'a>, AllocError>
     ensures { IfOk result (λ c. app_of c ≡ words.with_pull (app_of command.entry)) }
 {
-    let pull = with(command, options::host(alloc))?;
-    let pull = with(
+    let pull = add_option(command, options::host(alloc))?;
+    let pull = add_option(
         pull,
         options::port(alloc, "The port of the server that is followed"),
     )?;
-    let pull = with(pull, options::contest(alloc))?;
-    let pull = with(pull, options::base(alloc))?;
-    let pull = with(pull, options::turns(alloc))?;
-    let pull = with(pull, options::resume(alloc))?;
+    let pull = add_option(pull, options::contest(alloc))?;
+    let pull = add_option(pull, options::base(alloc))?;
+    let pull = add_option(pull, options::turns(alloc))?;
+    let pull = add_option(pull, options::resume(alloc))?;
     with_limits(alloc, pull)
 }
 
@@ -93,9 +93,9 @@ fn relay<'a>(alloc: Global) -> Result<Command<'a>, AllocError>
     let about =
         "Follows a server's event feed and serves it at a port of 127.0.0.1, in turns, and prints the tables at the end";
     let relay = with_pull(alloc, command(alloc, "relay", about))?;
-    let relay = with(relay, options::listen(alloc))?;
-    let relay = with(relay, options::count(alloc))?;
-    with(relay, options::chunked(alloc))
+    let relay = add_option(relay, options::listen(alloc))?;
+    let relay = add_option(relay, options::count(alloc))?;
+    add_option(relay, options::chunked(alloc))
 }
 
 /// A command with one more command below it.
