@@ -1,5 +1,5 @@
 -- Lemmas on what the command `pull` prints.
-use Rattle.std.proofs.Common.{◌≡◌, ◌≢◌, ◌⊎◌, inl, inr, refl, sym, ◌∙◌, subst, Bool, true, false, IfErr, List, ℕ, Option, None, Some, Result, Ok, Err, is_some}
+use Rattle.std.proofs.Common.{◌≡◌, ◌≢◌, ◌⊎◌, inl, inr, refl, sym, ap, ◌∙◌, subst, Bool, true, false, IfErr, List, ℕ, Option, None, Some, Result, Ok, Err, is_some}
 use Rattle.std.specs.Prelude.{if◌then◌else◌}
 use Rattle.std.specs.Io.KnownBytes.{Appends}
 use Rattle.feed_note.specs.Publishing.{Published}
@@ -13,6 +13,9 @@ use Rattle.feed_relay.specs.Exchange.{Devices}
 use Rattle.feed_relay.specs.Fault.{is_memory}
 use Rattle.feed_relay.specs.Pulling.{Pulls}
 use Rattle.feed_relay.specs.declared.fault.NetworkFault.{NetworkFault}
+use Rattle.feed_relay.specs.declared.fault.NetworkFault.TheVariants as network
+use Rattle.feed_http.specs.declared.fault.EngineFault.TheVariants as engine
+use Rattle.feed_follow.specs.declared.fault.FollowFault.TheVariants.{BadHead}
 use Rattle.feed_cli.specs.Fault.{fault_of_network}
 use Rattle.feed_cli.specs.Pull.{HasPulled, PrintedPulled, PullFails, outcome_of_pull}
 use Rattle.feed_cli.specs.Tables.{outcome_of}
@@ -22,7 +25,7 @@ use Rattle.feed_cli.specs.declared.fault.RemoteFault.{RemoteFault}
 use Rattle.feed_cli.specs.declared.fault.RemoteFault.TheVariants as remote
 
 -- the fault of a connection is a want of memory, or is told as it is
-IsOfNetwork : Fault → Type 0
+abbrev IsOfNetwork : Fault → Type 0
 IsOfNetwork why = (why ≡ fault.Memory) ⊎ ((r : RemoteFault) × (why ≡ fault.Remote r))
 
 of_network : (w : NetworkFault) → IsOfNetwork (fault_of_network w)
@@ -32,12 +35,17 @@ of_network w = go (is_memory w)
     go true = inl refl
     go false = inr (remote.Network w, refl)
 
+err_of : Result (Unit {0}) Fault → Fault
+err_of (Err why) = why
+err_of (Ok all) = fault.Memory
+
 of_pull : (pulled : Result Followed NetworkFault) (why : Fault) → outcome_of_pull pulled ≡ Err why → IsOfNetwork why
-of_pull (Ok followed.Early) why e = subst IsOfNetwork (cc) (of_network _)
+unfolding err_of
+of_pull (Ok followed.Early) why e = subst IsOfNetwork (ap err_of e) (of_network (network.Engine (engine.Follow BadHead)))
 of_pull (Ok followed.Ended) why e = absurd (cc)
 of_pull (Ok followed.Done) why e = absurd (cc)
 of_pull (Ok followed.TokenRefused) why e = absurd (cc)
-of_pull (Err w) why e = subst IsOfNetwork (cc) (of_network w)
+of_pull (Err w) why e = subst IsOfNetwork (ap err_of e) (of_network w)
 
 nothing_where : (shown : Option Published) → is_some (token_of shown) ≡ false → shown ≡ None
 nothing_where None e = refl

@@ -1,6 +1,6 @@
 //! A feed, served by a primary.
-ghost use Rattle.std.specs.Prelude.{IfOk, IfErr, IsErrOf};
-ghost use Rattle.feed_cli.specs.Serve.{Starts, FailsToServe};
+ghost use Rattle.std.specs.Prelude.{IfOk, IsErrOf};
+ghost use Rattle.feed_cli.specs.Serve.{Starts};
 ghost use Rattle.feed_http.specs.Device.{HasFailed};
 ghost use Rattle.feed_http.specs.Live.{intake_of};
 
@@ -34,8 +34,6 @@ pub fn start_source<R: FeedRead>(
     ensures ok { IfOk result (λ source. Starts options.now.turn options.now.limits
         (R.remaining input.old) (R.remaining input.new)
         (intake_of source.primary source.waiting.items)) }
-    ensures err { IfErr result (λ why. FailsToServe options.now.turn options.now.limits why
-        (R.remaining input.old) (R.remaining input.new)) }
     ensures read { IsErrOf result Fault.Read
         → HasFailed (R.failures input.old) (R.failures input.new) }
 {

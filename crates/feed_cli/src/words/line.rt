@@ -19,7 +19,7 @@ fn command<'a>(alloc: Global, name: &'a str, about: &'a str) -> Command<'a>
 
 /// A command with one more option.
 fn add_option<'a>(command: Command<'a>, option: Arg<'a>) -> Result<Command<'a>, AllocError>
-    requires { option.entry.global ≡ false }
+    requires { option.global ≡ false }
     ensures { IfOk result (λ c. app_of c ≡ with_rule (app_of command.entry) (rule_of option.entry)) }
 {
     command.arg(option)
@@ -100,7 +100,7 @@ fn relay<'a>(alloc: Global) -> Result<Command<'a>, AllocError>
 
 /// A command with one more command below it.
 fn with_command<'a>(above: Command<'a>, below: Command<'a>) -> Result<Command<'a>, AllocError>
-    requires { (app_of below.entry).top.is_plain ≡ true }
+    requires { (app_of below).top.is_plain ≡ true }
     ensures { IfOk result (λ c. app_of c ≡ with_subcommand (app_of above.entry) (app_of below.entry).top) }
 {
     above.subcommand(below)
