@@ -98,11 +98,18 @@ resume = flag (codes "resume")
 abbrev pub with_limits : App → App
 with_limits command = with_rule (with_rule command history) staged
 
+-- a command with the options that say what is followed
+abbrev pub with_place : App → App
+with_place command = with_rule (with_rule (with_rule command host) port) contest
+
 -- a command with the options of `pull`
 abbrev pub with_pull : App → App
 with_pull command =
-    let place = with_rule (with_rule (with_rule command host) port) contest in
-    with_limits (with_rule (with_rule (with_rule place base) turns) resume)
+    with_limits (with_rule (with_rule (with_rule (with_place command) base) turns) resume)
+
+-- a command with the options that `serve` needs
+abbrev pub with_served : App → App
+with_served command = with_rule (with_rule (with_rule command port) contest) count
 
 abbrev pub tables : App
 tables = with_rule (with_limits (new_app (codes "tables"))) verbose
@@ -114,9 +121,7 @@ abbrev pub play : App
 play = new_app (codes "play")
 
 abbrev pub serve : App
-serve =
-    let served = with_rule (with_rule (with_rule (new_app (codes "serve")) port) contest) count in
-    with_limits (with_rule (with_rule served turn) chunked)
+serve = with_limits (with_rule (with_rule (with_served (new_app (codes "serve"))) turn) chunked)
 
 abbrev pub pull : App
 pull = with_pull (new_app (codes "pull"))

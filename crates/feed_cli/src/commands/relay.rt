@@ -15,12 +15,12 @@ use std::alloc::Global;
 
 /// Followers that are waited for once it was told why a pull failed.
 #[derive(Drop)]
-struct Followers<'a, L, E> {
-    listener: &'a mut L,
-    teller: Teller<'a, E>,
+struct Followers<'l, 'e, L, E> {
+    listener: &'l mut L,
+    teller: Teller<'e, E>,
 }
 
-impl<L: Listen, E: FeedWrite> Followers<'_, L, E> {
+impl<L: Listen, E: FeedWrite> Followers<'_, '_, L, E> {
     /// Tells a fault that doesn't end the rounds.
     fn tell(&mut self, fault: Fault) {
         self.teller.tell(fault);
@@ -32,7 +32,7 @@ impl<L: Listen, E: FeedWrite> Followers<'_, L, E> {
     }
 }
 
-impl<L: Listen, E: FeedWrite> Accept for Followers<'_, L, E> {
+impl<L: Listen, E: FeedWrite> Accept for Followers<'_, '_, L, E> {
     type Reader = L::Reader;
 
     type Writer = L::Writer;
@@ -44,7 +44,7 @@ impl<L: Listen, E: FeedWrite> Accept for Followers<'_, L, E> {
         pulled: &Result<Followed, NetworkFault>,
     ) -> Option<(L::Reader, L::Writer)> {
         if let Err(fault) = pull_outcome(pulled) {
-            self.tell(fault);
+            self.teller.tell(fault);
         }
         self.listener.accept()
     }

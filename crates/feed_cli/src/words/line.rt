@@ -44,33 +44,42 @@ fn tables<'a>(alloc: Global) -> Result<Command<'a>, AllocError>
     add_option(limited, options::verbose(alloc))
 }
 
+/// A command with the options that `serve` needs.
+fn with_served<'a>(alloc: Global, command: Command<'a>) -> Result<Command<'a>, AllocError>
+    ensures { IfOk result (λ c. app_of c ≡ words.with_served (app_of command.entry)) }
+{
+    let help = "The port of 127.0.0.1 that the feed is served at";
+    let served = add_option(command, options::port(alloc, help))?;
+    let served = add_option(served, options::contest(alloc))?;
+    add_option(served, options::count(alloc))
+}
+
 /// `serve`.
 fn serve<'a>(alloc: Global) -> Result<Command<'a>, AllocError>
     ensures { IfOk result (λ c. app_of c ≡ words.serve) }
 {
     let about = "Serves the event feed on standard input at a port of 127.0.0.1, as a primary";
-    let serve = command(alloc, "serve", about);
-    let serve = add_option(
-        serve,
-        options::port(alloc, "The port of 127.0.0.1 that the feed is served at"),
-    )?;
-    let serve = add_option(serve, options::contest(alloc))?;
-    let serve = add_option(serve, options::count(alloc))?;
+    let serve = with_served(alloc, command(alloc, "serve", about))?;
     let serve = add_option(serve, options::turn(alloc))?;
     let serve = add_option(serve, options::chunked(alloc))?;
     with_limits(alloc, serve)
+}
+
+/// A command with the options that say what is followed.
+fn with_place<'a>(alloc: Global, command: Command<'a>) -> Result<Command<'a>, AllocError>
+    ensures { IfOk result (λ c. app_of c ≡ words.with_place (app_of command.entry)) }
+{
+    let help = "The port of the server that is followed";
+    let placed = add_option(command, options::host(alloc))?;
+    let placed = add_option(placed, options::port(alloc, help))?;
+    add_option(placed, options::contest(alloc))
 }
 
 /// A command with the options of `pull`.
 fn with_pull<'a>(alloc: Global, command: Command<'a>) -> Result<Command<'a>, AllocError>
     ensures { IfOk result (λ c. app_of c ≡ words.with_pull (app_of command.entry)) }
 {
-    let pull = add_option(command, options::host(alloc))?;
-    let pull = add_option(
-        pull,
-        options::port(alloc, "The port of the server that is followed"),
-    )?;
-    let pull = add_option(pull, options::contest(alloc))?;
+    let pull = with_place(alloc, command)?;
     let pull = add_option(pull, options::base(alloc))?;
     let pull = add_option(pull, options::turns(alloc))?;
     let pull = add_option(pull, options::resume(alloc))?;
