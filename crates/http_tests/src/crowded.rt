@@ -1,6 +1,7 @@
 //! What is followed over sockets of a snapshot that their buffers do not hold, by one thread: each
-//! time that the server's end takes no more, some of what came to the client's end is read and kept,
-//! and what was kept is followed before the rest.
+//! time that the server's end takes no more, some of what came to the client's end is read, and kept
+//! for the mirror that follows.
+ghost use Rattle.std.specs.Prelude.{◌<◌, ◌≤◌, length, IfSome};
 
 use crate::loopback::{connect, long_feed};
 use crate::nodes::{empty_mirror, is_at, mirror_of};
@@ -13,49 +14,55 @@ use std::alloc::Global;
 use std::net::{TcpListener, TcpStream};
 use std::time::Duration;
 
+/// A client's end, and what was read of it.
+#[derive(Drop)]
+struct Client<'a> {
+    stream: Stream<&'a TcpStream>,
+    kept: Vec<u8>,
+}
+
+impl Client<'_> {
+    /// Reads some of what came, and keeps it.
+    fn keep_some(&mut self) -> Option<()> {
+        let mut piece = [0; 4096];
+        let count = self.stream.read_some(&mut piece).ok()?;
+        self.kept.extend_from_slice(&piece[..count]).ok()
+    }
+}
+
 /// A server's end, and the client's end that the same thread reads.
 #[derive(Drop)]
 struct Crowded<'a> {
     server: Stream<&'a TcpStream>,
-    client: Stream<&'a TcpStream>,
-    /// What was read of the client's end.
-    kept: Vec<u8>,
+    client: Client<'a>,
     failures: u64,
 }
 
-impl<'a> Crowded<'a> {
-    fn new(alloc: Global, server: &'a TcpStream, client: &'a TcpStream) -> Crowded<'a> {
-        Crowded {
-            server: Stream::new(server),
-            client: Stream::new(client),
-            kept: Vec::new(alloc),
-            failures: 0,
+/// Writes some of the bytes, in place of which pieces of what was written before may have to be
+/// read first.
+fn write_or_keep(
+    server: &mut Stream<&TcpStream>,
+    client: &mut Client<'_>,
+    bytes: &[u8],
+) -> Option<usize>
+    requires { 0 < length bytes.now }
+    ensures some { IfSome result (λ n. 0 < n) }
+    ensures bound { IfSome result (λ n. n ≤ length bytes.now) }
+{
+    for _ in 0..10_000u32 {
+        match server.write_some(bytes) {
+            Ok(count) => return Some(count),
+            Err(Failed) => client.keep_some()?,
         }
     }
-
-    /// Reads some of what came to the client, and keeps it.
-    fn keep_some(&mut self) -> Option<()> {
-        let mut piece = [0; 65_536];
-        let count = self.client.read_some(&mut piece).ok()?;
-        self.kept.extend_from_slice(&piece[..count]).ok()
-    }
-
-    fn write_or_keep(&mut self, bytes: &[u8]) -> Option<usize> {
-        for _ in 0..10_000u32 {
-            match self.server.write_some(bytes) {
-                Ok(count) => return Some(count),
-                Err(Failed) => self.keep_some()?,
-            }
-        }
-        None
-    }
+    None
 }
 
 impl FeedWrite for Crowded<'_> {
     ghost failures = { λ w. w.failures };
 
     fn write_some(&mut self, bytes: &[u8]) -> Result<usize, Failed> {
-        match self.write_or_keep(bytes) {
+        match write_or_keep(&mut self.server, &mut self.client, bytes) {
             Some(count) => Ok(count),
             None => {
                 self.failures = self.failures.saturating_add(1);
@@ -105,8 +112,15 @@ fn serve(
     let (server, _) = listener.accept().ok()?;
     server.peek(&mut [0]).ok()?;
     server.set_nonblocking(true).ok()?;
-    let mut writer = Crowded::new(alloc, &server, client);
     let mut reader = Stream::new(&server);
+    let mut writer = Crowded {
+        server: Stream::new(&server),
+        client: Client {
+            stream: Stream::new(client),
+            kept: Vec::new(alloc),
+        },
+        failures: 0,
+    };
     let served = serve_node(
         alloc,
         &mut reader,
@@ -117,7 +131,8 @@ fn serve(
         1000,
     )
     .ok()?;
-    let Crowded { kept, .. } = writer;
+    let Crowded { client, .. } = writer;
+    let Client { kept, .. } = client;
     if served == OPENED { Some(kept) } else { None }
 }
 
@@ -137,8 +152,8 @@ fn follow_behind(
     follow(alloc, &mut reader, mirror, 100_000).ok()
 }
 
-/// Whether a new mirror that follows a node over sockets, which do not hold what is served, ends so,
-/// and then is at the token "x".
+/// Whether a new mirror that follows a node over sockets, which do not hold all that is served, ends
+/// so, and then is at the token "x".
 fn is_followed(rt: &HostRuntime, node: &Node, framing: Framing, end: Followed) -> Option<bool> {
     let listener = TcpListener::bind(rt, "127.0.0.1:0").ok()?;
     let mut mirror = empty_mirror(rt.alloc())?;
