@@ -165,9 +165,9 @@ fn is_followed(rt: &HostRuntime, node: &Node, framing: Framing, end: Followed) -
     Some(is_crowded && followed == end && is_at(&mirror, "x"))
 }
 
-/// 50 objects of 320,000 bytes.
+/// 50 objects of 160,000 bytes: twice what the sockets of one machine were seen to hold.
 fn large_mirror(alloc: Global) -> Option<Mirror> {
-    let feed = long_feed(alloc, 320)?;
+    let feed = long_feed(alloc, 160)?;
     mirror_of(alloc, feed.as_slice())
 }
 
