@@ -22,13 +22,11 @@ fn asked(alloc: Global, query: &[u8], node: &Node) -> Option<Want> {
     head.extend_from_slice(query).ok()?;
     head.extend_from_slice(b" HTTP/1.1\r\n\r\n").ok()?;
     let bytes = answered(alloc, head.as_slice(), node)?;
-    match bytes.as_slice() {
-        NOT_HELD => Some(Want::Other),
-        text => match text.strip_prefix(CHUNKED_HEAD)? {
-            [] => Some(Want::Rest),
-            _ => Some(Want::All),
-        },
+    if bytes.as_slice() == NOT_HELD {
+        return Some(Want::Other);
     }
+    let rest = bytes.as_slice().strip_prefix(CHUNKED_HEAD)?;
+    Some(if rest.is_empty() { Want::Rest } else { Want::All })
 }
 
 /// Asks a node at a token with each query of a table.

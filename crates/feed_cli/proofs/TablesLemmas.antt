@@ -1,6 +1,7 @@
 -- Lemmas on what a mirror shows that was fed an input.
 use Rattle.std.proofs.Common.{◌≡◌, ◌≢◌, ℕ, ◌<◌, ◌≤◌, ◌+◌, length, arith, refl, sym, ap, ◌∙◌, subst, length-append, append_assoc, Bool, true, false, true≢false, OnOk, IfErr, List, [], ◌++◌, take, Option, None, Some, Result, Ok, Err, is_some, option_map}
 use Rattle.std.proofs.lemmas.List.{append-nil, length-take-le}
+use Rattle.std.specs.Prelude.{IsErrOf}
 use Rattle.std.specs.Io.KnownBytes.{Appends, Consumes, Keeps}
 use Rattle.std.proofs.KnownBytes.{Consumes-nil, Consumes-trans, Consumes-kept}
 use Rattle.feed_note.specs.declared.line.Line.{Line}
@@ -201,3 +202,14 @@ pub printed_err : (limits given : Limits) (s : Streams) (text all : List ℕ) (e
 unfolding done_by
 printed_err limits given s text all ended result shown is_published fed e_limits same is printed told e =
     subst (λ r. IfErr r (λ why. TablesFail limits why s)) (sym e) (err_by limits s ended (done_by limits s text all ended shown is_published (subst (λ l. IsFed l ended s.input_old s.input_new shown) e_limits fed) same is printed told))
+
+-- what is told is what came of the feeding, but for nothing published
+pub came_of_feeding : (fed : Result (Unit {0}) Fault) (is_published : Bool) (why : Fault) → why ≢ fault.Unpublished
+    → IsErrOf (outcome_of fed is_published) why → IsErrOf fed why
+came_of_feeding (Ok all) true why other e = absurd (cc)
+came_of_feeding (Ok all) false why other e = absurd (other (cc))
+came_of_feeding (Err fault) is_published why other e = e
+
+pub feeding_writes_nothing : (limits : Limits) (fed : Result (Unit {0}) Fault) (old new : Option (List ℕ)) (shown : Option Published)
+    → (fed ≢ Err fault.Memory → IsFed limits fed old new shown) → IsErrOf fed fault.Write → ⊥
+feeding_writes_nothing limits fed old new shown h is = subst (λ f. IsFed limits f old new shown) is (h (λ m. absurd (cc)))

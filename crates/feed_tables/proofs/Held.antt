@@ -1,5 +1,5 @@
 -- Types that are all held by contents, with the same objects.
-use Rattle.std.proofs.Common.{true, false, cond, ◌≡◌, ℕ, List, [], ◌∷◌, ◌++◌, Option, None, Some, sym, ap, ◌∙◌, refl}
+use Rattle.std.proofs.Common.{true, false, cond, ◌≡◌, ℕ, List, [], ◌∷◌, ◌++◌, None, Some, sym, ap, ◌∙◌, refl}
 use Rattle.std.specs.Ordering.{eq_by_cmp}
 use Rattle.std.specs.FinMap.{find, get, get-entries, entries, entries_sorted}
 use Rattle.feed_tables.specs.Bytes.{byte_order, IsInOrder}

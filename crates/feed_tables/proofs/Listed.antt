@@ -1,9 +1,9 @@
 -- What a listing has: one change for each type and object, within the limits where its tables were made so.
-use Rattle.std.proofs.Common.{◌≡◌, refl, sym, ap, ◌∙◌, subst, ℕ, ◌+◌, true, false, cond, arith, max, List, [], ◌∷◌, length, Option, Some, None, length-append, flat_map, sum_by}
+use Rattle.std.proofs.Common.{◌≡◌, refl, sym, ap, ◌∙◌, subst, ℕ, ◌+◌, true, false, cond, arith, max, List, [], ◌∷◌, length, Option, Some, None, length-append, flat_map}
 use Rattle.std.specs.Prelude.{IfSome}
 use Rattle.std.specs.List.{AllByRecursion}
 use Rattle.std.specs.Ordering.{eq_by_cmp}
-use Rattle.std.specs.FinMap.{FinMap, get, insert, remove, entries, entries_sorted, find, empty, from_sorted, entries-from_sorted, entries-insert, get-entries, same_entries_map, len-entries, len-empty, values}
+use Rattle.std.specs.FinMap.{FinMap, get, insert, remove, entries, entries_sorted, find, empty, from_sorted, entries-from_sorted, entries-insert, get-entries, same_entries_map, len-entries, len-empty}
 use Rattle.std.proofs.lemmas.List.Elements.{recursion_from_All}
 use Rattle.feed_text.specs.Objects.{IsObjectText}
 use Rattle.feed_tables.specs.Bytes.{byte_order, without}
@@ -11,7 +11,7 @@ use Rattle.feed_tables.specs.Changes.{IsChange, sets}
 use Rattle.feed_tables.specs.Listings.{ListingHasSize}
 use Rattle.feed_tables.specs.Names.{IsName}
 use Rattle.feed_tables.specs.Objects.{AreObjects}
-use Rattle.feed_tables.specs.Tables.{Contents, no_objects, no_tables, objects_or_none, without_id, after, after_all, listed, or_clear, listing, size, object_count, IsTable, AreTypes}
+use Rattle.feed_tables.specs.Tables.{Contents, no_objects, no_tables, objects_or_none, without_id, after, after_all, listed, or_clear, listing, object_count, IsTable, AreTypes}
 use Rattle.feed_tables.specs.declared.change.Change.{Change}
 use Rattle.feed_tables.specs.declared.change.Change.TheVariants.{Set, Remove, Empty, Single, Clear}
 use Rattle.feed_tables.specs.declared.tables.Table.{Table}

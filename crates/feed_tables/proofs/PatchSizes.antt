@@ -1,19 +1,17 @@
 -- Sizes of contents without some types, and with some put in.
-use Rattle.std.proofs.Common.{Bool, true, false, cond, not, min, T, Less, ◌≡◌, ℕ, ◌+◌, ◌-◌, ◌<◌, List, [], ◌∷◌, ◌++◌, Option, None, Some, fold, length, sym, ap, ◌∙◌, refl, arith}
+use Rattle.std.proofs.Common.{Bool, true, false, cond, not, min, T, Less, ◌≡◌, ℕ, ◌+◌, ◌-◌, ◌<◌, List, [], ◌∷◌, ◌++◌, Option, None, Some, fold, sym, ap, ◌∙◌, refl, arith}
 use Rattle.std.specs.Option.{is_some}
 use Rattle.std.specs.Ordering.{is_eq, eq_by_cmp}
-use Rattle.std.specs.declared.cmp.Ordering.{Ordering}
-use Rattle.std.specs.FinMap.{FinMap, get, insert, remove, entries, entries_sorted, from_sorted, entries-from_sorted, get-from_sorted, get-insert, get-remove, get_tied, find, len}
+use Rattle.std.specs.FinMap.{FinMap, get, insert, remove, entries, entries_sorted, from_sorted, entries-from_sorted, get-from_sorted, get-insert, get-remove, get_tied, find}
 use Rattle.std.specs.FinMap.Entries.{below_all, find-where_key, is_sorted-where_key}
 use Rattle.std.proofs.lemmas.List.Elements.{filter-append}
 use Rattle.feed_tables.specs.Bytes.{byte_order, IsInOrder}
 use Rattle.feed_tables.specs.Map.{map_over, map_less}
-use Rattle.feed_tables.specs.Tables.{Contents, object_count, size}
+use Rattle.feed_tables.specs.Tables.{Contents, size}
 use Rattle.feed_tables.specs.Walks.{weight, sized, size_in, is_besides, besides}
 use Rattle.feed_tables.specs.declared.tables.Table.{Table}
 use Rattle.feed_tables.proofs.AtFork.{total}
 use Rattle.feed_tables.proofs.Entries.{first, second, less, later}
-use Rattle.feed_tables.proofs.Maps.{len-from_sorted}
 use Rattle.feed_tables.proofs.MapsOver.{get-map_less, same_gets}
 use Rattle.feed_tables.proofs.Sizes.{size-insert, size-remove, size_is}
 

@@ -1,5 +1,5 @@
 -- Sizes of contents, before and after a type changes.
-use Rattle.std.proofs.Common.{cond, not, ◌≡◌, ℕ, ◌+◌, List, [], ◌∷◌, None, Some, map, sum_by, length, sym, ap, ◌∙◌, refl, arith}
+use Rattle.std.proofs.Common.{cond, not, ◌≡◌, ℕ, ◌+◌, List, [], ◌∷◌, None, Some, sym, ap, ◌∙◌, refl, arith}
 use Rattle.std.specs.Ordering.{is_eq}
 use Rattle.std.specs.declared.cmp.Ordering.TheVariants.{Less, Equal, Greater}
 use Rattle.std.specs.FinMap.{find, put, empty, get, insert, remove, entries, entries_sorted, get-entries, entries-insert, entries-from_sorted, from_sorted, same_entries_map, len-entries}

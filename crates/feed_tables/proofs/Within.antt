@@ -1,5 +1,5 @@
 -- What tables and their listings hold is within the limits.
-use Rattle.std.proofs.Common.{◌≡◌, ℕ, Bool, true, false, cond, List, [], ◌∷◌, ◌++◌, flat_map, Less, Equal, Greater, Result, Ok, Err, OnOk, OnErr, rules, sym, subst, arith, codes}
+use Rattle.std.proofs.Common.{◌≡◌, ℕ, Bool, true, false, cond, List, [], ◌∷◌, flat_map, Less, Equal, Greater, Result, Ok, Err, OnOk, OnErr, rules, sym, subst, arith, codes}
 use Rattle.std.specs.List.{All, AllByRecursion, filter}
 use Rattle.std.proofs.lemmas.Str.{IsUtf8-from_ascii}
 use Rattle.std.proofs.lemmas.List.Elements.{All-from_recursion}

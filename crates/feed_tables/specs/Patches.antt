@@ -1,5 +1,5 @@
 -- What a patch makes of tables.
-use Rattle.std.specs.Prelude.{ℕ, List}
+use Rattle.std.specs.Prelude.{ℕ}
 use Rattle.std.specs.FinMap.{len}
 use Rattle.feed_tables.specs.Map.{map_over, map_less}
 use Rattle.feed_tables.specs.Tables.{Contents}

@@ -18,11 +18,19 @@ use std::alloc::{AllocError, Global};
 /// What becomes of some types of tables. It has what changes are to make of them, and not the
 /// others: its types are taken away, or have a table of its own, which shares with the tables what
 /// no change has touched. Each brings the memory that it needs among the tables.
-#[derive(Drop)]
 pub struct Patch {
     gone: Map<()>,
     // These are put in after the others are taken away.
     tables: Map<Table>,
+}
+
+// Written out: a caller's proof has one call where a value is dropped.
+impl Drop for Patch {
+    fn drop(self) {
+        let Patch { gone, tables } = self;
+        drop(gone);
+        drop(tables);
+    }
 }
 
 impl Patch {

@@ -1,6 +1,7 @@
-use Rattle.std.proofs.Common.{rules, ◌≡◌, ap, ◌∙◌, is_some}
+use Rattle.std.proofs.Common.{rules, ◌≡◌, sym, ap, ◌∙◌, is_some}
 use Rattle.feed_node.specs.States.{published_token}
-use Rattle.feed_cli.proofs.TablesLemmas.{front_of, is_some_kept, printed_ok, printed_err}
+use Rattle.feed_cli.proofs.TablesLemmas.{front_of, is_some_kept, printed_ok, printed_err, came_of_feeding, feeding_writes_nothing}
+use Rattle.feed_cli.specs.declared.fault.Fault.TheVariants as fault
 use Rattle.feed_cli.proofs.commands.tables.print_tables.Goals as goal
 
 pub returns-clause-ok : goal.returns-clause-ok
@@ -22,3 +23,15 @@ returns-in-Err-clause-err g c =
     let limits : c.begin.new.self.limits ≡ c.args.options.limits = c.begin.ensures.limits ∙ ap (λ m. m.limits) c.in_ok-mirror.ensures in
     front_of c.args.options.limits _ _ c.as_slice.result.now c.in_ok-text.text.items c.feed_all-fed.result c.feed_all-fed.new.mirror.node.published
     (c.feed_all-fed.ensures.fed (search rules)) limits c.as_slice.ensures.value c.in_ok-text.ensures.text c.in-Err.ensures.front
+
+pub returns-clause-turns : goal.returns-clause-turns
+returns-clause-turns g c = λ told.
+    c.feed_all-fed.ensures.turns (came_of_feeding c.feed_all-fed.result c.is_some.result fault.Turns (λ e. absurd (cc)) (sym c.outcome.ensures ∙ told))
+
+pub returns-clause-read : goal.returns-clause-read
+returns-clause-read g c = λ told.
+    c.feed_all-fed.ensures.failed (came_of_feeding c.feed_all-fed.result c.is_some.result fault.Read (λ e. absurd (cc)) (sym c.outcome.ensures ∙ told))
+
+pub returns-clause-write : goal.returns-clause-write
+returns-clause-write g c = λ told.
+    absurd (feeding_writes_nothing _ c.feed_all-fed.result _ _ _ c.feed_all-fed.ensures.fed (came_of_feeding c.feed_all-fed.result c.is_some.result fault.Write (λ e. absurd (cc)) (sym c.outcome.ensures ∙ told)))

@@ -1,5 +1,4 @@
-use Rattle.std.proofs.Common.{◌≡◌, sym, ap, ◌∙◌}
-use Rattle.feed_tables.proofs.Patching.{exchanged_twice, exchanged_none, set_in, left_patch}
+use Rattle.feed_tables.proofs.Patching.{exchanged_twice, set_in, left_patch}
 use Rattle.feed_tables.proofs.patch.Patch.set.Goals as goal
 
 pub returns-then-swap-clause-ok : goal.returns-then-swap-clause-ok

@@ -1,7 +1,7 @@
-use Rattle.std.proofs.Common.{◌≡◌, ◌<◌, refl, sym, ap, ◌∙◌, min, arith}
+use Rattle.std.proofs.Common.{◌≡◌, ◌<◌, refl, ap, ◌∙◌, min, arith}
 use Rattle.std.specs.FinMap.{entries}
-use Rattle.feed_tables.specs.Map.{map_over, map_less}
-use Rattle.feed_tables.specs.Tables.{Contents, Tables, size}
+use Rattle.feed_tables.specs.Map.{map_less}
+use Rattle.feed_tables.specs.Tables.{Contents}
 use Rattle.feed_tables.specs.Walks.{size_in}
 use Rattle.feed_tables.proofs.Patching.{less_none}
 use Rattle.feed_tables.proofs.PatchSizes.{size_less, size_moved, size_kept}

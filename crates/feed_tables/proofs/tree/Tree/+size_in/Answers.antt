@@ -1,4 +1,4 @@
-use Rattle.std.proofs.Common.{sym, ap, ◌∙◌, ℕ, List, ◌≡◌, min}
+use Rattle.std.proofs.Common.{ap, ◌∙◌, ℕ, List, min}
 use Rattle.std.specs.FinMap.{get}
 use Rattle.feed_tables.specs.Map.{map_less}
 use Rattle.feed_tables.specs.Walks.{weight}
