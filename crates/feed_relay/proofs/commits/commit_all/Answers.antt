@@ -11,9 +11,3 @@ batches-preserved c =
     takes_next c.args.primary.now c.batches.primary c.commit.new.self c.args.input.now.items
     c.batches.input.items c.pop_front.new.self.items c.in-Some.batch c.batches.invariant
     c.in-Some.ensures.items c.in_ok-commit.ensures.accepted c.in_ok-commit.ensures.ok
-
-pub batches-preserved-in_ok-commit : goal.batches-preserved-in_ok-commit
-batches-preserved-in_ok-commit c =
-    takes_next c.args.primary.now c.batches.primary c.commit.new.self c.args.input.now.items
-    c.batches.input.items c.pop_front.new.self.items c.in-Some.batch c.batches.invariant
-    c.in-Some.ensures.items c.in_ok-commit.ensures.accepted c.in_ok-commit.ensures.ok
