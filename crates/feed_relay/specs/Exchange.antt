@@ -1,0 +1,51 @@
+-- What the reader and the writer of one connection tell, before and after.
+use Rattle.std.specs.Prelude.{ℕ, List, Option}
+
+-- the bytes that are left to read and those that were written, where they are known, how many reads
+-- were made, and how many reads and writes failed
+pub record Exchange : Type 0 where
+  pub source : Option (List ℕ)
+  pub left : Option (List ℕ)
+  pub reads_old : ℕ
+  pub reads_new : ℕ
+  pub failed_reads_old : ℕ
+  pub failed_reads_new : ℕ
+  pub written_old : Option (List ℕ)
+  pub written_new : Option (List ℕ)
+  pub failed_writes_old : ℕ
+  pub failed_writes_new : ℕ
+
+-- what readers and writers of these types tell: the bytes that are left, the reads made and failed,
+-- the bytes written and the writes failed
+pub record Devices (R W : Type 0) : Type 0 where
+  pub remaining : R → Option (List ℕ)
+  pub reads : R → ℕ
+  pub failed_reads : R → ℕ
+  pub contents : W → Option (List ℕ)
+  pub failed_writes : W → ℕ
+
+module _ {R W : Type 0} where
+  -- what they tell of this reader and this writer, before and after
+  abbrev pub exchange : Devices R W → R → R → W → W → Exchange
+  exchange devices reader_old reader_new writer_old writer_new = record {
+    source = devices.remaining reader_old;
+    left = devices.remaining reader_new;
+    reads_old = devices.reads reader_old;
+    reads_new = devices.reads reader_new;
+    failed_reads_old = devices.failed_reads reader_old;
+    failed_reads_new = devices.failed_reads reader_new;
+    written_old = devices.contents writer_old;
+    written_new = devices.contents writer_new;
+    failed_writes_old = devices.failed_writes writer_old;
+    failed_writes_new = devices.failed_writes writer_new;
+  }
+
+  abbrev pub devices_of : (R → Option (List ℕ)) → (R → ℕ) → (R → ℕ) → (W → Option (List ℕ))
+      → (W → ℕ) → Devices R W
+  devices_of remaining reads failed_reads contents failed_writes = record {
+    remaining = remaining;
+    reads = reads;
+    failed_reads = failed_reads;
+    contents = contents;
+    failed_writes = failed_writes;
+  }

@@ -1,0 +1,5 @@
+pub mod Dialing
+pub mod Exchange
+pub mod Fault
+pub mod Pulling
+pub mod Round

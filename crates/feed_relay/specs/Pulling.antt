@@ -1,0 +1,86 @@
+-- How a mirror pulls what it lacks from a server (CLICS Contest API 2023-06, reconnection).
+use Rattle.std.specs.Prelude.{◌≡◌, ◌≢◌, ◌⊎◌, ℕ, List, Result, Ok, Err}
+use Rattle.std.specs.Io.KnownBytes.{Appends}
+use Rattle.feed_node.specs.Mirroring.{MirrorState}
+use Rattle.feed_follow.specs.declared.fault.FollowFault.TheVariants.{Closed}
+use Rattle.feed_follow.specs.Standing.{Standing}
+use Rattle.feed_answer.specs.Place.{Place}
+use Rattle.feed_answer.specs.RequestText.{request_text}
+use Rattle.feed_http.specs.declared.fault.EngineFault.{EngineFault}
+use Rattle.feed_http.specs.declared.fault.EngineFault.TheVariants.{Read, Write, Turns, Commit, Follow, Memory}
+use Rattle.feed_http.specs.declared.fault.Followed.{Followed}
+use Rattle.feed_http.specs.declared.fault.Followed.TheVariants.{TokenRefused}
+use Rattle.feed_http.specs.Device.{HasFailed, AppendsFront, RoseBy, RoseAtMost}
+use Rattle.feed_http.specs.Following.{EndsAs, WasFollowed, BrokeOff, MetFault}
+use Rattle.feed_relay.specs.declared.fault.NetworkFault.{NetworkFault}
+use Rattle.feed_relay.specs.declared.fault.NetworkFault.TheVariants.{Connect, Bind, Accept, Engine}
+use Rattle.feed_relay.specs.Exchange.{Exchange, Devices, exchange}
+
+-- ---- on one connection
+
+-- the request was written; where asking failed, a front of it
+abbrev pub HasAsked : List ℕ → Exchange → Result Followed EngineFault → Type 0
+HasAsked request spoken (Err Write) = AppendsFront spoken.written_old spoken.written_new request
+HasAsked request spoken (Err Memory) = AppendsFront spoken.written_old spoken.written_new request
+HasAsked request spoken pulled = Appends spoken.written_old spoken.written_new request
+
+-- nothing was read, and the mirror is what it was
+abbrev pub IsUnanswered : Exchange → MirrorState → MirrorState → Type 0
+IsUnanswered spoken start mirror = (spoken.left ≡ spoken.source) × (mirror ≡ start)
+
+-- what was read, in at most so many reads (`turns`), leaves this of the mirror
+abbrev pub IsFollowed : ℕ → Exchange → MirrorState → Result Followed EngineFault → MirrorState
+    → Type 0
+IsFollowed turns spoken start (Ok followed) mirror =
+    (standing : Standing) × EndsAs standing spoken.left followed
+    × WasFollowed spoken.source spoken.left start standing mirror
+IsFollowed turns spoken start (Err Write) mirror =
+    IsUnanswered spoken start mirror
+    × HasFailed spoken.failed_writes_old spoken.failed_writes_new
+IsFollowed turns spoken start (Err Memory) mirror = IsUnanswered spoken start mirror
+IsFollowed turns spoken start (Err Read) mirror =
+    BrokeOff spoken.source spoken.left start mirror
+    × HasFailed spoken.failed_reads_old spoken.failed_reads_new
+IsFollowed turns spoken start (Err Turns) mirror =
+    BrokeOff spoken.source spoken.left start mirror
+    × RoseBy spoken.reads_old spoken.reads_new turns
+IsFollowed turns spoken start (Err (Follow fault)) mirror =
+    (fault ≢ Closed) × MetFault spoken.source spoken.left start mirror fault
+IsFollowed turns spoken start (Err (Commit why)) mirror = ⊥
+
+-- the place was asked for what a mirror lacks, and what was read of the response, in at most so
+-- many reads, leaves this of the mirror
+pub record PullsOnce (place : Place) (turns : ℕ) (spoken : Exchange) (start : MirrorState)
+    (pulled : Result Followed EngineFault) (mirror : MirrorState) : Type 0 where
+  pub asked : HasAsked (request_text place start.since) spoken pulled
+  pub came : IsFollowed turns spoken start pulled mirror
+  pub reads : RoseAtMost spoken.reads_old spoken.reads_new turns
+
+-- ---- on dialed connections
+
+module _ {R W : Type 0} where
+  -- what comes of it on some connection, on which no more is sent or read then
+  abbrev pub Speaks : Devices R W → Place → ℕ → MirrorState → Result Followed EngineFault
+      → MirrorState → Type 0
+  Speaks devices place turns start pulled mirror =
+      (reader : R) × (left : R) × (writer : W) × (written : W)
+      × PullsOnce place turns (exchange devices reader left writer written) start pulled mirror
+
+  -- a connection is dialed, and that comes of it; where there is none, the mirror is what it was
+  abbrev pub Tries : Devices R W → Place → ℕ → MirrorState → Result Followed NetworkFault
+      → MirrorState → Type 0
+  Tries devices place turns start (Ok followed) mirror =
+      Speaks devices place turns start (Ok followed) mirror
+  Tries devices place turns start (Err (Engine fault)) mirror =
+      Speaks devices place turns start (Err fault) mirror
+  Tries devices place turns start (Err Connect) mirror = mirror ≡ start
+  Tries devices place turns start (Err Bind) mirror = ⊥
+  Tries devices place turns start (Err Accept) mirror = ⊥
+
+  -- a pull is one try, or, where the token was refused, another one
+  abbrev pub Pulls : Devices R W → Place → ℕ → MirrorState → Result Followed NetworkFault
+      → MirrorState → Type 0
+  Pulls devices place turns start pulled mirror =
+      Tries devices place turns start pulled mirror
+      ⊎ ((refused : MirrorState) × Tries devices place turns start (Ok TokenRefused) refused
+      × Tries devices place turns refused pulled mirror)

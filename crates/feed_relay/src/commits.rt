@@ -1,0 +1,57 @@
+//! The batches of a feed, and a primary that commits them.
+ghost use Rattle.std.specs.Prelude.{◌≡◌, ◌≢◌, ℕ, List, [], length, map, IfOk, IfErr, OnOk};
+ghost use Rattle.feed_note.specs.Batches.{batch_changes};
+ghost use Rattle.feed_note.specs.Counts.{AreRead, StopsAt};
+ghost use Rattle.feed_note.specs.declared.line.Line.{Line as Note};
+ghost use Rattle.feed_http.specs.Live.{Accepts, RefusesInTurn, intake_of};
+
+use feed_node::{CommitFault, Primary};
+use feed_note::{LineStop, batches};
+use feed_tables::{Change, Changes};
+use std::alloc::{AllocError, Global};
+use std::collections::VecDeque;
+
+/// The batches of a feed, each as its changes, the first one in front. The lines behind the last
+/// token belong to no batch. The fault is that of the first line that can't be read.
+pub fn feed_batches(alloc: Global, bytes: &[u8]) -> Result<VecDeque<Vec<Change>>, LineStop>
+    ensures ok { IfOk result (λ all. (notes : List Note) × AreRead bytes.now notes
+        × (map (λ batch. batch.items) all.items ≡ batch_changes notes)) }
+    ensures err { IfErr result (λ stop.
+        stop ≢ LineStop.Memory → (line : ℕ) × StopsAt bytes.now line stop) }
+{
+    let all = batches(alloc, bytes)?;
+    let queue = queue_of(alloc, all)?;
+    Ok(queue)
+}
+
+/// These batches, the first one in front.
+fn queue_of(alloc: Global, all: Vec<Changes>) -> Result<VecDeque<Vec<Change>>, AllocError>
+    ensures { IfOk result (λ queue. map (λ batch. batch.items) queue.items ≡ all.items) }
+{
+    let mut queue = VecDeque::new(alloc);
+    let mut rest = all;
+    'rest: while let Some(batch) = rest.pop() {
+        queue.push_front(batch.into_vec())?;
+    }
+    Ok(queue)
+}
+
+/// Commits all that waits, from the front on. The first refused batch is taken, too, and ends it:
+/// the primary has then accepted those before, and those behind still wait.
+pub fn commit_all(
+    alloc: Global,
+    primary: &mut Primary,
+    input: &mut VecDeque<Vec<Change>>,
+) -> Result<(), CommitFault>
+    ensures accepted { OnOk result (Accepts primary.old
+        (map (λ batch. batch.items) input.old.items) primary.new) }
+    ensures all { OnOk result (input.new.items ≡ []) }
+    ensures err { IfErr result (λ fault. RefusesInTurn (length input.old.items)
+        (intake_of primary.old input.old.items) fault
+        (intake_of primary.new input.new.items)) }
+{
+    'batches: while let Some(batch) = input.pop_front() {
+        primary.commit(alloc, batch)?;
+    }
+    Ok(())
+}

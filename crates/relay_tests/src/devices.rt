@@ -1,0 +1,97 @@
+//! Connections over memory.
+
+use feed_http::device::Failed;
+use feed_http::{FeedRead, FeedWrite, Followed, MemReader, MemWriter};
+use feed_relay::{Accept, Dial, NetworkFault};
+use std::alloc::Global;
+use std::collections::VecDeque;
+
+/// Connections that are dialed one after another; behind the last one nobody answers.
+#[derive(Drop)]
+pub(crate) struct Server {
+    conns: VecDeque<(MemReader, MemWriter)>,
+    misses: u64,
+}
+
+impl Server {
+    /// One that gives these responses, one after another.
+    pub(crate) fn new(alloc: Global, responses: &[&[u8]]) -> Option<Server> {
+        let mut conns = VecDeque::new(alloc);
+        for response in responses {
+            let reader = MemReader::new(response.to_vec(alloc).ok()?, 7);
+            conns.push_back((reader, MemWriter::new(alloc, 5))).ok()?;
+        }
+        Some(Server { conns, misses: 0 })
+    }
+}
+
+impl Dial for Server {
+    type Reader = MemReader;
+
+    type Writer = MemWriter;
+
+    ghost misses = { λ s. s.misses };
+
+    fn dial(&mut self, _place: usize) -> Option<(MemReader, MemWriter)> {
+        let conn = self.conns.pop_front();
+        if conn.is_none() {
+            self.misses = self.misses.saturating_add(1);
+        }
+        conn
+    }
+}
+
+/// A writer that is lent, so that what it took can be seen then.
+#[derive(Drop)]
+pub(crate) struct Lent<'a> {
+    writer: &'a mut MemWriter,
+}
+
+impl FeedWrite for Lent<'_> {
+    ghost use Rattle.std.specs.Prelude.{Some};
+
+    ghost contents = { λ l. Some l.writer.now.written };
+
+    ghost failures = { λ l. l.writer.now.failures };
+
+    fn write_some(&mut self, bytes: &[u8]) -> Result<usize, Failed> {
+        self.writer.write_some(bytes)
+    }
+}
+
+/// One follower, at most.
+#[derive(Drop)]
+pub(crate) struct Follower<'a> {
+    conn: Option<(MemReader, Lent<'a>)>,
+    /// What was pulled before it came.
+    pub(crate) told: Option<Result<Followed, NetworkFault>>,
+    misses: u64,
+}
+
+impl<'a> Follower<'a> {
+    pub(crate) fn new(alloc: Global, head: &[u8], writer: &'a mut MemWriter) -> Option<Self> {
+        let reader = MemReader::new(head.to_vec(alloc).ok()?, 9);
+        Some(Follower {
+            conn: Some((reader, Lent { writer })),
+            told: None,
+            misses: 0,
+        })
+    }
+}
+
+impl<'a> Accept for Follower<'a> {
+    type Reader = MemReader;
+
+    type Writer = Lent<'a>;
+
+    ghost misses = { λ f. f.misses };
+
+    fn accept(&mut self, pulled: &Result<Followed, NetworkFault>) -> Option<(MemReader, Lent<'a>)> {
+        self.told = Some(*pulled);
+        let conn = self.conn.take();
+        if conn.is_none() {
+            self.misses = self.misses.saturating_add(1);
+        }
+        conn
+    }
+}
