@@ -178,6 +178,11 @@ pub fn serve_live<R: FeedRead, W: FeedWrite>(
         × Appends (W.contents writer.old) (W.contents writer.new) text) }
     ensures gone { IfOk result (λ served. served.gone ≡ true →
         IsLongTurn turn (intake_of primary.old input.old.items)) }
+    // After a 200 no batch is left, unless the token was lost; without one all are.
+    ensures all_taken { IfOk result (λ served. served.status ≡ 200 → served.gone ≡ false →
+        input.new.items ≡ []) }
+    ensures none_taken { IfOk result (λ served. served.status ≢ 200 →
+        intake_of primary.new input.new.items ≡ intake_of primary.old input.old.items) }
     ensures faults { IfErr result (λ fault. (fault ≡ Fault.Read) ⊎
         ((fault ≡ Fault.Write) ⊎ ((fault ≡ Fault.Turns) ⊎
         (((why : Why) × (fault ≡ Fault.Commit why)) ⊎ (fault ≡ Fault.Memory))))) }

@@ -36,7 +36,7 @@ pub(crate) fn write_bytes<W: FeedWrite>(writer: &mut W, bytes: &[u8]) -> Result<
     }
 }
 
-/// Frames a text, and writes it.
+/// Frames a text, and writes it. What ends with the connection is framed as it is.
 fn write_framed<W: FeedWrite>(
     alloc: Global,
     writer: &mut W,
@@ -52,9 +52,14 @@ fn write_framed<W: FeedWrite>(
         (W.failures writer.new) }
     ensures quiet { OnOk result (W.failures writer.new ≡ W.failures writer.old) }
 {
-    let mut out = Vec::new(alloc);
-    frame(alloc, framing, text, &mut out)?;
-    write_bytes(writer, out.as_slice())
+    match framing {
+        Framing::Close => write_bytes(writer, text),
+        Framing::Chunked => {
+            let mut out = Vec::new(alloc);
+            frame(alloc, framing, text, &mut out)?;
+            write_bytes(writer, out.as_slice())
+        }
+    }
 }
 
 /// Sends the commits after a session's token, and answers how many there were, and whether the

@@ -29,7 +29,8 @@ abbrev pub IsUnanswered : Exchange → MirrorState → MirrorState → Type 0
 IsUnanswered spoken start mirror = (spoken.left ≡ spoken.source) × (mirror ≡ start)
 
 -- what was read, in at most so many reads (`turns`), leaves this of the mirror
-abbrev pub IsFollowed : ℕ → Exchange → MirrorState → Result Followed EngineFault → MirrorState → Type 0
+abbrev pub IsFollowed : ℕ → Exchange → MirrorState → Result Followed EngineFault → MirrorState
+    → Type 0
 IsFollowed turns spoken start (Ok followed) mirror =
     (standing : Standing) × EndsAs standing spoken.left followed
     × WasFollowed spoken.source spoken.left start standing mirror
@@ -47,8 +48,8 @@ IsFollowed turns spoken start (Err (Follow fault)) mirror =
     (fault ≢ Closed) × MetFault spoken.source spoken.left start mirror fault
 IsFollowed turns spoken start (Err (Commit why)) mirror = ⊥
 
--- the place was asked for what a mirror lacks, and what was read of the response, in at most so many
--- reads, leaves this of the mirror
+-- the place was asked for what a mirror lacks, and what was read of the response, in at most so
+-- many reads, leaves this of the mirror
 pub record PullsOnce (place : Place) (turns : ℕ) (spoken : Exchange) (start : MirrorState)
     (pulled : Result Followed EngineFault) (mirror : MirrorState) : Type 0 where
   pub asked : HasAsked (request_text place start.since) spoken pulled

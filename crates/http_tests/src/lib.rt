@@ -2,6 +2,8 @@
 #![tactic(auto)]
 
 #[cfg(test)]
+mod crowded;
+#[cfg(test)]
 mod devices;
 #[cfg(test)]
 mod followed;
@@ -11,5 +13,7 @@ mod live;
 mod loopback;
 #[cfg(test)]
 mod nodes;
+#[cfg(test)]
+mod reached;
 #[cfg(test)]
 mod served;

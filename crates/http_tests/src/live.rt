@@ -42,7 +42,7 @@ struct Case {
     left: usize,
 }
 
-fn served(commits: u64, gone: bool) -> Result<Served, EngineFault> {
+pub(crate) fn served(commits: u64, gone: bool) -> Result<Served, EngineFault> {
     Ok(Served {
         status: 200,
         commits,
@@ -50,7 +50,7 @@ fn served(commits: u64, gone: bool) -> Result<Served, EngineFault> {
     })
 }
 
-fn waiting(alloc: Global, waits: &[u8]) -> Option<VecDeque<Vec<Change>>> {
+pub(crate) fn waiting(alloc: Global, waits: &[u8]) -> Option<VecDeque<Vec<Change>>> {
     let mut input = VecDeque::new(alloc);
     for kind in waits {
         let batch = if *kind == b's' {
@@ -63,7 +63,7 @@ fn waiting(alloc: Global, waits: &[u8]) -> Option<VecDeque<Vec<Change>>> {
     Some(input)
 }
 
-fn new_primary(alloc: Global, history: usize) -> Option<Primary> {
+pub(crate) fn new_primary(alloc: Global, history: usize) -> Option<Primary> {
     Primary::new(alloc, Limits::new(history, 100).ok()?).ok()
 }
 

@@ -10,7 +10,11 @@ use std::alloc::Global;
 use std::net::{TcpListener, TcpStream};
 
 /// A client that has asked for what a mirror lacks.
-fn connect(rt: &HostRuntime, listener: &TcpListener, mirror: &Mirror) -> Option<TcpStream> {
+pub(crate) fn connect(
+    rt: &HostRuntime,
+    listener: &TcpListener,
+    mirror: &Mirror,
+) -> Option<TcpStream> {
     let client = TcpStream::connect(rt, listener.local_addr().ok()?).ok()?;
     let place = Place::new(rt.alloc(), "127.0.0.1", "", "finals").ok()?;
     ask(rt.alloc(), &mut Stream::new(&client), &place, mirror).ok()?;
@@ -61,16 +65,23 @@ fn follows_over_a_socket(rt: HostRuntime) {
     assert!(rt; chunked == Some(true), "chunked");
 }
 
-/// A feed of 50 objects of 1,000 bytes, at the token "x".
-fn long_feed(alloc: Global) -> Option<Vec<u8>> {
+/// Appends the line of an object with so many times 1,000 bytes.
+fn append_line(feed: &mut Vec<u8>, id: u8, thousands: usize) -> Option<()> {
+    feed.extend_from_slice(b"{\"type\":\"t\",\"id\":\"").ok()?;
+    feed.extend_from_slice(&[b'0' + id / 10 % 10, b'0' + id % 10])
+        .ok()?;
+    feed.extend_from_slice(b"\",\"data\":{\"a\":\"").ok()?;
+    for _ in 0..thousands {
+        feed.extend_from_slice(&[b'x'; 1000]).ok()?;
+    }
+    feed.extend_from_slice(b"\"}}\n").ok()
+}
+
+/// A feed of 50 objects of so many times 1,000 bytes, at the token "x".
+pub(crate) fn long_feed(alloc: Global, thousands: usize) -> Option<Vec<u8>> {
     let mut feed = Vec::new(alloc);
     for id in 10..60u8 {
-        feed.extend_from_slice(b"{\"type\":\"t\",\"id\":\"").ok()?;
-        feed.extend_from_slice(&[b'0' + id / 10, b'0' + id % 10])
-            .ok()?;
-        feed.extend_from_slice(b"\",\"data\":{\"a\":\"").ok()?;
-        feed.extend_from_slice(&[b'x'; 1000]).ok()?;
-        feed.extend_from_slice(b"\"}}\n").ok()?;
+        append_line(&mut feed, id, thousands)?;
     }
     let last = b"{\"type\":\"s\",\"id\":null,\"data\":{},\"token\":\"x\"}\n";
     feed.extend_from_slice(last).ok()?;
@@ -78,13 +89,12 @@ fn long_feed(alloc: Global) -> Option<Vec<u8>> {
 }
 
 fn mirror_is_followed(rt: &HostRuntime, framing: Framing, end: Followed) -> Option<bool> {
-    let feed = long_feed(rt.alloc())?;
+    let feed = long_feed(rt.alloc(), 1)?;
     let mirror = mirror_of(rt.alloc(), feed.as_slice())?;
     is_followed(rt, mirror.node(), framing, end, "x")
 }
 
-/// All that is served lies in the sockets' buffers before any of it is read, since one thread does
-/// both: so the snapshot is no larger than these are.
+/// All that is served lies in the sockets' buffers before any of it is read.
 #[test]
 fn follows_a_snapshot_over_a_socket(rt: HostRuntime) {
     let close = mirror_is_followed(&rt, Framing::Close, Followed::Ended);

@@ -131,7 +131,8 @@ const CASES: &[Case] = &[
     Case(
         "x",
         &[
-            b"HTTP/1.1 200 OK\r\n\r\n{\"type\":\"t\",\"id\":null,\"data\":[],\"token\":\"0\"}\n{\"type\":\"t\",\"i",
+            b"HTTP/1.1 200 OK\r\n\r\n{\"type\":\"t\",\"id\":null,\"data\":[],\"token\":\"0\"}\n\
+          {\"type\":\"t\",\"i",
         ],
         Ok(Followed::Ended),
         "0",

@@ -67,9 +67,8 @@ pub fn serve_live(trial: &mut Trial) -> Option<Outcome> {
 
 fn waiting(alloc: Global) -> Option<VecDeque<Vec<Change>>> {
     let mut input = VecDeque::new(alloc);
-    let mut all = batches(alloc, BATCHES).ok()?;
-    while let Some(batch) = all.pop() {
-        input.push_front(batch.into_vec()).ok()?;
+    for batch in batches(alloc, BATCHES).ok()? {
+        input.push_back(batch.into_vec()).ok()?;
     }
     Some(input)
 }

@@ -1,0 +1,83 @@
+-- A session is opened at status 200, and at no other.
+use Rattle.std.proofs.Common.{arith, ◌≡◌, ◌≢◌, refl, sym, ◌∙◌, subst, ℕ, Bool, false, List, [], ◌∷◌}
+use Rattle.std.specs.Prelude.{Option, Some, None, Result, Ok, Err, Vec, IfOk}
+use Rattle.std.specs.Io.KnownBytes.{Appends}
+use Rattle.feed_tables.specs.declared.change.Change.{Change}
+use Rattle.feed_node.specs.declared.commit.Commit.{Commit}
+use Rattle.feed_node.specs.declared.session.OpenFault.{OpenFault}
+use Rattle.feed_node.specs.declared.session.OpenFault.TheVariants.{NotYet, NotHeld, Memory}
+use Rattle.feed_node.specs.Log.{PrimaryState}
+use Rattle.feed_node.specs.States.{NodeState}
+use Rattle.feed_answer.specs.declared.framing.Framing.{Framing}
+use Rattle.feed_answer.specs.Answered.{AnswerParts, AnswersTo, answer_to, answer_opened}
+use Rattle.feed_answer.specs.Asked.{Asked, refused, feed, framing_for}
+use Rattle.feed_answer.specs.Opening.{Started, opens}
+use Rattle.feed_http.specs.declared.fault.EngineFault.{EngineFault}
+use Rattle.feed_http.specs.declared.fault.Served.{Served}
+use Rattle.feed_http.specs.Live.{Intake, intake_of, IsOver, SendsLiveTo, SendsLive}
+
+-- with this status a session was opened, or none was
+abbrev pub OpenedAt : ℕ → Option (List ℕ) → Type 0
+OpenedAt status None = status ≢ 200
+OpenedAt status (Some token) = status ≡ 200
+
+opened_so : (framing : Framing) (o : Result Started OpenFault)
+    → OpenedAt (answer_opened framing o).status (answer_opened framing o).session
+opened_so framing (Ok started) = refl
+opened_so framing (Err NotYet) = λ e. absurd (omega arith)
+opened_so framing (Err NotHeld) = λ e. absurd (omega arith)
+opened_so framing (Err Memory) = λ e. absurd (omega arith)
+
+answered_so : (asked : Asked) (node : NodeState) (framing : Framing)
+    → OpenedAt (answer_to asked node framing).status (answer_to asked node framing).session
+answered_so (refused refusal) node framing = λ e. absurd (grind arith)
+answered_so (feed minor since) node framing =
+    opened_so (framing_for minor framing) (opens node since)
+
+pub opened_at : (head contest : List ℕ) (node : NodeState) (framing : Framing) (answer : AnswerParts)
+    → AnswersTo head contest node framing answer → OpenedAt answer.status answer.session
+opened_at head contest node framing answer a =
+    subst (λ x. OpenedAt x.status x.session) (sym a.answer_is)
+    (answered_so a.asked node framing)
+
+-- ---- what that says of the batches
+
+none_wait : {A : Type 0} (primary : PrimaryState) (input : List (Vec Change A))
+    → (intake_of primary input).batches ≡ [] → input ≡ []
+none_wait primary [] e = refl
+none_wait primary (x ∷ input) e = absurd (cc)
+
+ends_empty : (turn : ℕ) (start now : Intake) (status : ℕ) (o : Option (List ℕ))
+    (sent : List Commit) (gone : Bool) → OpenedAt status o → SendsLiveTo turn start o sent gone now
+    → status ≡ 200 → gone ≡ false → now.batches ≡ []
+ends_empty turn start now status None sent gone none sends is kept = absurd (none is)
+ends_empty turn start now status (Some opened) sent gone there (token, run, over) is kept =
+    (subst (IsOver now token) kept over).1
+
+stays : (turn : ℕ) (start now : Intake) (status : ℕ) (o : Option (List ℕ))
+    (sent : List Commit) (gone : Bool) → OpenedAt status o → SendsLiveTo turn start o sent gone now
+    → status ≢ 200 → now ≡ start
+stays turn start now status None sent gone none (_, _, same) other = same
+stays turn start now status (Some opened) sent gone there sends other = absurd (other there)
+
+module _ {A : Type 0} (turn : ℕ) (start : Intake) (primary : PrimaryState)
+    (input : List (Vec Change A)) (answer : AnswerParts) (old new : Option (List ℕ))
+    (opened : OpenedAt answer.status answer.session) where
+  pub all_taken : (result : Result Served EngineFault)
+      → IfOk result (λ served. (text : List ℕ)
+      × SendsLive turn start answer text served (intake_of primary input) × Appends old new text)
+      → IfOk result (λ served. served.status ≡ 200 → served.gone ≡ false → input ≡ [])
+  all_taken (Err _) h = tt
+  all_taken (Ok served) (text, sends, wrote) = λ is kept.
+      none_wait primary input
+      (ends_empty turn start (intake_of primary input) answer.status answer.session sends.sent
+      sends.gone opened sends.sends (sym sends.tells.status ∙ is) (sym sends.tells.gone_is ∙ kept))
+
+  pub none_taken : (result : Result Served EngineFault)
+      → IfOk result (λ served. (text : List ℕ)
+      × SendsLive turn start answer text served (intake_of primary input) × Appends old new text)
+      → IfOk result (λ served. served.status ≢ 200 → intake_of primary input ≡ start)
+  none_taken (Err _) h = tt
+  none_taken (Ok served) (text, sends, wrote) = λ other.
+      stays turn start (intake_of primary input) answer.status answer.session sends.sent sends.gone
+      opened sends.sends (λ is. other (sends.tells.status ∙ is))
