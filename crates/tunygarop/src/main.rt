@@ -29,21 +29,33 @@ fn ended(rt: &HostRuntime, name: &str, ended: Result<(), Fault>) -> u8 {
     }
 }
 
-/// Runs the command that these words ask for: one that opens connections here, and any other one by
-/// `run`, over the standard streams.
-fn status_of<'a>(rt: &HostRuntime, words: &'a [&'a str]) -> u8 {
-    match parse_words(rt.alloc(), words) {
-        Ok(Request::Serve(options)) => ended(rt, "serve", serve_feed(rt, &options)),
-        Ok(Request::Pull(options)) => ended(rt, "pull", pull_feed(rt, &options)),
-        Ok(Request::Relay(options)) => ended(rt, "relay", relay_feed(rt, &options)),
-        _ => run(
-            rt.alloc(),
-            words,
-            &mut Stream::new(rt.stdin()),
-            &mut Stream::new(rt.stdout()),
-            &mut Stream::new(rt.stderr()),
-        ),
+/// Runs a command that opens no connection, or tells what is wrong with the words.
+fn run_local(rt: &HostRuntime, words: &[&str]) -> u8 {
+    run(
+        rt.alloc(),
+        words,
+        &mut Stream::new(rt.stdin()),
+        &mut Stream::new(rt.stdout()),
+        &mut Stream::new(rt.stderr()),
+    )
+}
+
+/// Runs a command that opens connections, or any other one that these words ask for.
+fn run_request(rt: &HostRuntime, words: &[&str], request: &Request<'_>) -> u8 {
+    match request {
+        Request::Serve(options) => ended(rt, "serve", serve_feed(rt, options)),
+        Request::Pull(options) => ended(rt, "pull", pull_feed(rt, options)),
+        Request::Relay(options) => ended(rt, "relay", relay_feed(rt, options)),
+        Request::Local(_) => run_local(rt, words),
     }
+}
+
+/// Runs the command that these words ask for.
+fn status_of<'a>(rt: &HostRuntime, words: &'a [&'a str]) -> u8 {
+    let Ok(request) = parse_words(rt.alloc(), words) else {
+        return run_local(rt, words);
+    };
+    run_request(rt, words, &request)
 }
 
 /// Runs the command that the program's arguments ask for.
