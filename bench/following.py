@@ -10,7 +10,7 @@ import tempfile
 from functools import partial
 from pathlib import Path
 
-from lines import TOP, best, built
+from lines import TOP, answered, best, built
 
 ROWS = {
     "`Mirror::feed`": "mirror",
@@ -24,9 +24,7 @@ ROWS = {
 
 def told(program, word, feed):
     """The seconds that the program tells."""
-    with open(feed, "rb") as source:
-        text = subprocess.run([program, word], stdin=source, capture_output=True, text=True, check=True).stdout
-    return int(text.split()[1]) / 1e6
+    return answered(program, word, feed)[1]
 
 
 def main():

@@ -62,14 +62,20 @@ def generated(size, folder):
     return feed
 
 
-def told(program, word, feed, lines):
-    """The seconds that the program tells."""
+def answered(program, word, feed):
+    """The count and the seconds that the program tells."""
     with open(feed, "rb") as source:
         text = subprocess.run([program, word], stdin=source, capture_output=True, text=True, check=True).stdout
-    count, time_taken = text.split()
-    if int(count) != lines:
+    count, microseconds = text.split()
+    return int(count), int(microseconds) / 1e6
+
+
+def told(program, word, feed, lines):
+    """The seconds that the program tells."""
+    count, seconds = answered(program, word, feed)
+    if count != lines:
         sys.exit(f"lines.py: {word} found {count} lines of {lines}")
-    return int(time_taken) / 1e6
+    return seconds
 
 
 def process(words, feed):
