@@ -6,14 +6,17 @@ use std::alloc::Global;
 
 /// What `serve` is asked for.
 fn asked_to_serve<'a>(alloc: Global, words: &'a [&'a str]) -> Option<ServeOptions<'a>> {
-    match parse_words(alloc, words).ok()? {
+    let Ok(request) = parse_words(alloc, words) else {
+        return None;
+    };
+    match request {
         Request::Serve(options) => Some(options),
         _ => None,
     }
 }
 
 fn serves_as_asked(alloc: Global) -> Option<bool> {
-    let least = asked_to_serve(
+    let Some(least) = asked_to_serve(
         alloc,
         &[
             "t",
@@ -25,8 +28,10 @@ fn serves_as_asked(alloc: Global) -> Option<bool> {
             "--contest",
             "c",
         ],
-    )?;
-    let most = asked_to_serve(
+    ) else {
+        return None;
+    };
+    let Some(most) = asked_to_serve(
         alloc,
         &[
             "t",
@@ -40,7 +45,9 @@ fn serves_as_asked(alloc: Global) -> Option<bool> {
             "--history=2",
             "--staged=3",
         ],
-    )?;
+    ) else {
+        return None;
+    };
     Some(
         least.port == 65_535
             && least.contest == "c"
@@ -66,18 +73,23 @@ fn reads_words_of_serve(rt: HostRuntime) {
 
 /// What `pull` is asked for.
 fn asked_to_pull<'a>(alloc: Global, words: &'a [&'a str]) -> Option<PullOptions<'a>> {
-    match parse_words(alloc, words).ok()? {
+    let Ok(request) = parse_words(alloc, words) else {
+        return None;
+    };
+    match request {
         Request::Pull(options) => Some(options),
         _ => None,
     }
 }
 
 fn pulls_as_asked(alloc: Global) -> Option<bool> {
-    let least = asked_to_pull(
+    let Some(least) = asked_to_pull(
         alloc,
         &["t", "pull", "--host", "h", "--port", "8", "--contest", "c"],
-    )?;
-    let most = asked_to_pull(
+    ) else {
+        return None;
+    };
+    let Some(most) = asked_to_pull(
         alloc,
         &[
             "t",
@@ -94,7 +106,9 @@ fn pulls_as_asked(alloc: Global) -> Option<bool> {
             "--contest",
             "c",
         ],
-    )?;
+    ) else {
+        return None;
+    };
     Some(
         least.host == "h"
             && least.port == 8
@@ -115,14 +129,17 @@ fn reads_words_of_pull(rt: HostRuntime) {
 
 /// What `relay` is asked for.
 fn asked_to_relay<'a>(alloc: Global, words: &'a [&'a str]) -> Option<RelayOptions<'a>> {
-    match parse_words(alloc, words).ok()? {
+    let Ok(request) = parse_words(alloc, words) else {
+        return None;
+    };
+    match request {
         Request::Relay(options) => Some(options),
         _ => None,
     }
 }
 
 fn relays_as_asked(alloc: Global) -> Option<bool> {
-    let asked = asked_to_relay(
+    let Some(asked) = asked_to_relay(
         alloc,
         &[
             "t",
@@ -140,7 +157,9 @@ fn relays_as_asked(alloc: Global) -> Option<bool> {
             "2",
             "--chunked",
         ],
-    )?;
+    ) else {
+        return None;
+    };
     Some(
         asked.pull.host == "h"
             && asked.pull.port == 8
