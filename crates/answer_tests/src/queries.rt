@@ -26,7 +26,11 @@ fn asked(alloc: Global, query: &[u8], node: &Node) -> Option<Want> {
         return Some(Want::Other);
     }
     let rest = bytes.as_slice().strip_prefix(CHUNKED_HEAD)?;
-    Some(if rest.is_empty() { Want::Rest } else { Want::All })
+    Some(if rest.is_empty() {
+        Want::Rest
+    } else {
+        Want::All
+    })
 }
 
 /// Asks a node at a token with each query of a table.
