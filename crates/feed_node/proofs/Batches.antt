@@ -1,5 +1,5 @@
 -- The lines of a batch, taken one after another: none publishes but the last, which publishes all.
-use Rattle.std.proofs.Common.{◌≡◌, refl, sym, ap, ◌∙◌, subst, ℕ, zero, suc, ◌+◌, ◌<◌, ◌≤◌, Bool, true, false, ◌||◌, arith, List, [], ◌∷◌, ◌++◌, length, take, append_assoc, append-nil, length-append, Option, Some, None}
+use Rattle.std.proofs.Common.{◌≡◌, refl, sym, ap, ◌∙◌, subst, ℕ, zero, suc, ◌+◌, ◌<◌, ◌≤◌, Bool, true, false, ◌&&◌, ◌||◌, arith, List, [], ◌∷◌, ◌++◌, length, take, append_assoc, append-nil, length-append, Option, Some, None}
 use Rattle.std.specs.Prelude.{if◌then◌else◌, ◌≢◌}
 use Rattle.std.specs.List.{AllByRecursion}
 use Rattle.feed_text.specs.Limits.{line_bytes}
@@ -13,14 +13,13 @@ use Rattle.feed_note.specs.Lines.{ended}
 use Rattle.feed_note.specs.Texts.{batch_text}
 use Rattle.feed_note.specs.Written.{written, written_line, WrittenLineMeans}
 use Rattle.feed_node.specs.declared.fault.FeedFault.{FeedFault}
-use Rattle.feed_node.specs.declared.fault.FeedFault.TheVariants.{TokenAgain, StageFull}
+use Rattle.feed_node.specs.declared.fault.FeedFault.TheVariants.{StageFull}
 use Rattle.feed_node.specs.Limits.{Limits}
-use Rattle.feed_node.specs.Mirroring.{token_count}
 use Rattle.feed_node.specs.Reading.{is_again}
 use Rattle.feed_node.specs.Sent.{PublishesNothing}
 use Rattle.feed_node.specs.States.{published_tables}
-use Rattle.feed_node.specs.Staging.{Standing, staging, publication, publishing, with_changes, step, steps, AllTaken}
-use Rattle.feed_node.proofs.Going.{not_below, token_count-append}
+use Rattle.feed_node.specs.Staging.{Standing, staging, with_changes, then_token, publishes, times_published, step, steps, AllTaken}
+use Rattle.feed_node.proofs.Going.{not_below}
 use Rattle.feed_node.proofs.TextLines.{AreShort}
 
 -- the lines of a batch
@@ -59,26 +58,24 @@ batch_is_short means (c ∷ d ∷ cs) token h n =
 
 -- ---- taking lines
 
-fits_by : (a b c : Bool) → a ≡ false → b ≡ false → c ≡ false
-    → ◌≡◌ {A = Option FeedFault}
-    (if a then Some TokenAgain else (if b || c then Some StageFull else None)) None
-fits_by true b c p q r = absurd (cc)
-fits_by false true c p q r = absurd (cc)
-fits_by false false true p q r = absurd (cc)
-fits_by false false false p q r = refl
+fits_by : (a b c : Bool) → a ≡ false → c ≡ false
+    → ◌≡◌ {A = Option FeedFault} (if a || (b && c) then Some StageFull else None) None
+fits_by true b c p r = absurd (cc)
+fits_by false b true p r = absurd (cc)
+fits_by false true false p r = refl
+fits_by false false false p r = refl
 
 pub taken_batch : WrittenLineMeans → (limits : Limits) (s : Standing) (cs : List Change)
     (token : List ℕ) → AllByRecursion IsChange cs → IsName token
-    → is_again s.node.shown s.afresh (Some token) ≡ false
     → length (s.changes ++ cs) ≤ limits.staged
-    → size (published_tables (publication (staging s cs) token)) ≤ limits.staged
+    → size (published_tables (step s (Note cs (Some token))).node.shown) ≤ limits.staged
     → AllTaken limits s (batch_lines cs token) (batch_notes cs token)
-taken_batch means limits s [] token h n new few small = tt
-taken_batch means limits s (c ∷ []) token h n new few small =
+taken_batch means limits s [] token h n few small = tt
+taken_batch means limits s (c ∷ []) token h n few small =
     let l = means c (Some token) h.0 n in
-    let fits = fits_by _ _ _ new (not_below _ _ few) (not_below _ _ small) in
+    let fits = fits_by _ (publishes s (Note (c ∷ []) (Some token))) _ (not_below _ _ few) (not_below _ _ small) in
     (record { short = l.size; means = l.means; fits = fits }, tt)
-taken_batch means limits s (c ∷ d ∷ cs) token h n new few small =
+taken_batch means limits s (c ∷ d ∷ cs) token h n few small =
     let l = means c None h.0 tt in
     let whole : (s.changes ++ c ∷ []) ++ d ∷ cs ≡ s.changes ++ c ∷ d ∷ cs =
     append_assoc s.changes (c ∷ []) (d ∷ cs) in
@@ -86,36 +83,35 @@ taken_batch means limits s (c ∷ d ∷ cs) token h n new few small =
     let less : length (s.changes ++ c ∷ []) ≤ limits.staged =
     let a = length-append (s.changes ++ c ∷ []) (d ∷ cs) in
     omega arith in
-    let fits = fits_by false _ false refl (not_below _ _ less) refl in
-    let still : size (published_tables (publication (staging (staging s (c ∷ [])) (d ∷ cs)) token))
+    let fits = fits_by _ false _ (not_below _ _ less) refl in
+    let still : size (published_tables (step (staging s (c ∷ [])) (Note (d ∷ cs) (Some token))).node.shown)
     ≤ limits.staged =
-    subst (λ waiting. size (published_tables (publication (with_changes s waiting) token))
+    subst (λ waiting. size (published_tables (then_token (Some token) (with_changes s waiting)).node.shown)
     ≤ limits.staged) (sym whole) small in (
       record { short = l.size; means = l.means; fits = fits },
-      taken_batch means limits (staging s (c ∷ [])) (d ∷ cs) token h.1 n new (omega arith) still,
+      taken_batch means limits (staging s (c ∷ [])) (d ∷ cs) token h.1 n (omega arith) still,
     )
 
--- after the last line all is published
+-- the last line does what one line that said all would
 pub steps_batch : (s : Standing) (cs : List Change) (token : List ℕ) → cs ≢ []
-    → steps s (batch_notes cs token) ≡ publishing (staging s cs) token
+    → steps s (batch_notes cs token) ≡ step s (Note cs (Some token))
 steps_batch s [] token some = absurd (some refl)
 steps_batch s (c ∷ []) token some = refl
 steps_batch s (c ∷ d ∷ cs) token some =
     steps_batch (staging s (c ∷ [])) (d ∷ cs) token (λ e. cc)
-    ∙ ap (λ waiting. publishing (with_changes s waiting) token)
+    ∙ ap (λ waiting. then_token (Some token) (with_changes s waiting))
     (append_assoc s.changes (c ∷ []) (d ∷ cs))
 
 -- ---- tokens
 
-pub count_batch : (cs : List Change) (token : List ℕ) → cs ≢ []
-    → token_count (batch_notes cs token) ≡ 1
-count_batch [] token some = absurd (some refl)
-count_batch (c ∷ []) token some = refl
-count_batch (c ∷ d ∷ cs) token some =
-    let first : token_count (batch_notes (c ∷ d ∷ cs) token)
-    ≡ 0 + token_count (batch_notes (d ∷ cs) token) =
-    token_count-append (Note (c ∷ []) None ∷ []) (batch_notes (d ∷ cs) token) in
-    let later = count_batch (d ∷ cs) token (λ e. cc) in
+pub count_batch : (s : Standing) (cs : List Change) (token : List ℕ) → cs ≢ []
+    → times_published s (batch_notes cs token) ≡ times_published s (Note cs (Some token) ∷ [])
+count_batch s [] token some = absurd (some refl)
+count_batch s (c ∷ []) token some = refl
+count_batch s (c ∷ d ∷ cs) token some =
+    let later : times_published (staging s (c ∷ [])) (batch_notes (d ∷ cs) token)
+    ≡ times_published s (Note (c ∷ d ∷ cs) (Some token) ∷ []) =
+    count_batch (staging s (c ∷ [])) (d ∷ cs) token (λ e. cc) in
     omega arith
 
 -- before the last line nothing is published
@@ -126,9 +122,6 @@ part_of_batch s (c ∷ cs) token zero h = record { node = refl; afresh = refl; c
 part_of_batch s (c ∷ []) token (suc j) h = absurd (omega arith)
 part_of_batch s (c ∷ d ∷ cs) token (suc j) h =
     let later = part_of_batch (staging s (c ∷ [])) (d ∷ cs) token j (omega arith) in
-    let first : token_count (take (suc j) (batch_notes (c ∷ d ∷ cs) token))
-    ≡ 0 + token_count (take j (batch_notes (d ∷ cs) token)) =
-    token_count-append (Note (c ∷ []) None ∷ []) (take j (batch_notes (d ∷ cs) token)) in
     let none = later.count in
     record { node = later.node; afresh = later.afresh; count = omega arith }
 

@@ -14,4 +14,5 @@ pub mod Restored
 pub mod Saving
 pub mod Sending
 pub mod SentOnce
+pub mod Starting
 pub mod TextLines

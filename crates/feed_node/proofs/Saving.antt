@@ -6,7 +6,7 @@ use Rattle.feed_note.specs.Lines.{lines, rest}
 use Rattle.feed_note.specs.Publishing.{Published}
 use Rattle.feed_note.specs.Texts.{snapshot_text}
 use Rattle.feed_node.specs.declared.fault.FeedFault.{FeedFault}
-use Rattle.feed_node.specs.declared.fault.FeedFault.TheVariants.{NotOpen, LongLine, Line as BadLine, TokenAgain, StageFull, Memory}
+use Rattle.feed_node.specs.declared.fault.FeedFault.TheVariants.{NotOpen, LongLine, Line as BadLine, StageFull, Memory}
 use Rattle.feed_node.specs.Limits.{Limits}
 use Rattle.feed_node.specs.Mirroring.{MirrorState, first_opening, IsRestored, FailsToRestore}
 use Rattle.feed_node.specs.Reading.{Reads, FaultsAt, reads, keep_latest, awaits_reset}
@@ -66,12 +66,12 @@ module _ (read : StepsRead) (good : TakenAreGood) (one : ReadingIsOne) (limits :
       (taken_is_read text notes takes) in
       let after : steps begun notes ≡ standing_after limits.history first_opening notes =
       ap (λ s. steps s notes) opened ∙ read limits.history first_opening notes in
-      let node : keep_latest limits.history (reads first_opening notes) ≡ t.node.shown =
+      let node : keep_latest limits.history (reads limits.history first_opening notes) ≡ t.node.shown =
       sym (ap (λ s. s.node.shown) after) ∙ shown in
       let awaits : awaits_reset first_opening notes ≡ t.afresh =
       sym (ap (λ s. s.afresh) after) ∙ afresh in
       r.state
-      ∙ ap (λ ns. cut_at limits (keep_latest limits.history (reads first_opening ns))
+      ∙ ap (λ ns. cut_at limits (keep_latest limits.history (reads limits.history first_opening ns))
       (awaits_reset first_opening ns)) same
       ∙ (λ i. cut_at limits (node i) (awaits i))
 
@@ -88,7 +88,6 @@ module _ (read : StepsRead) (good : TakenAreGood) (one : ReadingIsOne) (limits :
   no_fault text notes NotOpen takes f = absurd (never text notes NotOpen takes f)
   no_fault text notes LongLine takes f = absurd (never text notes LongLine takes f)
   no_fault text notes (BadLine why) takes f = absurd (never text notes (BadLine why) takes f)
-  no_fault text notes TokenAgain takes f = absurd (never text notes TokenAgain takes f)
   no_fault text notes StageFull takes f = absurd (never text notes StageFull takes f)
 
   -- ---- nothing was published
@@ -117,7 +116,7 @@ module _ (read : StepsRead) (good : TakenAreGood) (one : ReadingIsOne) (limits :
   -- ---- or this was
 
   module _ (p : Published) (s : PublishesAtEnd limits begun (snapshot_text p.tables p.token)
-      (renewed_on begun.node p)) where
+      (renewed_on begun.node p) 1) where
     abbrev text : List ℕ
     text = snapshot_text p.tables p.token
 

@@ -1,17 +1,18 @@
--- The text of a batch, and of a snapshot on a fresh connection, publishes once, at its end.
-use Rattle.std.proofs.Common.{◌≡◌, refl, sym, ap, ◌∙◌, subst, ℕ, ◌+◌, ◌<◌, ◌≤◌, false, arith, List, [], ◌∷◌, ◌++◌, length, take, append-nil, length-append}
+-- The text of a batch, and of a snapshot on a fresh connection, publishes at its end.
+use Rattle.std.proofs.Common.{◌≡◌, refl, sym, ap, ◌∙◌, subst, ℕ, ◌+◌, ◌<◌, ◌≤◌, false, arith, List, [], ◌∷◌, ◌++◌, Some, length, take, append-nil, length-append}
 use Rattle.std.specs.Prelude.{◌≢◌}
 use Rattle.feed_text.specs.Limits.{line_bytes}
 use Rattle.feed_tables.specs.declared.change.Change.{Change}
 use Rattle.feed_tables.specs.Listings.{ListingRestores, ListingHasSize}
 use Rattle.feed_tables.specs.Tables.{listing, size}
 use Rattle.feed_note.specs.declared.line.Line.{Line}
+use Rattle.feed_note.specs.declared.line.Line.TheVariants.{Note}
 use Rattle.feed_note.specs.Lines.{lines, rest, ended, LinesCut, LinesAreTheOnlyCut}
 use Rattle.feed_note.specs.Texts.{batch_text, snapshot_text}
 use Rattle.feed_note.specs.Written.{WrittenLineMeans}
 use Rattle.feed_node.specs.Limits.{Limits}
 use Rattle.feed_node.specs.Sent.{TakesText, TextsGoOn, PublishesNothing, PublishesAtEnd, FitsBatch, BatchesPublishAtEnd, fresh_on, renewed_on, SnapshotsPublishAtEnd}
-use Rattle.feed_node.specs.Staging.{Standing, staging, publishing, AllTaken}
+use Rattle.feed_node.specs.Staging.{Standing, step, times_published, AllTaken}
 use Rattle.feed_node.specs.States.{reset_to}
 use Rattle.feed_node.proofs.Batches.{batch_lines, batch_notes, ended-batch, length-batch_lines, batch_is_short, taken_batch, steps_batch, count_batch, part_of_batch, taken-append, taken-take}
 use Rattle.feed_node.proofs.TextLines.{AreShort, unbroken, lines_of, lines_behind, front_lines}
@@ -39,7 +40,7 @@ module _ (cut : LinesCut) (only_cut : LinesAreTheOnlyCut) (means : WrittenLineMe
   short_lines = batch_is_short means cs token f.within f.name
 
   taken_lines : AllTaken limits s ls (batch_notes cs token)
-  taken_lines = taken_batch means limits s cs token f.within f.name f.new f.few f.small
+  taken_lines = taken_batch means limits s cs token f.within f.name f.few f.small
 
   text_is : ended ls ++ [] ≡ batch_text cs token
   text_is = append-nil (ended ls) ∙ ended-batch cs token
@@ -68,7 +69,8 @@ module _ (cut : LinesCut) (only_cut : LinesAreTheOnlyCut) (means : WrittenLineMe
         part_of_batch s cs token g.j fewer,
       )
 
-  batch_publishes : PublishesAtEnd limits s (batch_text cs token) (publishing (staging s cs) token)
+  batch_publishes : PublishesAtEnd limits s (batch_text cs token) (step s (Note cs (Some token)))
+      (times_published s (Note cs (Some token) ∷ []))
   batch_publishes =
       record {
         notes = batch_notes cs token;
@@ -80,7 +82,7 @@ module _ (cut : LinesCut) (only_cut : LinesAreTheOnlyCut) (means : WrittenLineMe
         };
         ended = whole_lines.1;
         leads_to = steps_batch s cs token f.some;
-        once = count_batch cs token f.some;
+        counted = count_batch s cs token f.some;
         before = front_of_batch;
       }
 
@@ -101,15 +103,14 @@ snapshot_publishes cut only_cut means restores sized limits node p sendable one 
       some = some;
       within = sendable.within;
       name = sendable.token;
-      new = refl;
       few = omega arith;
       small = subst (λ t. size t ≤ limits.staged) (sym tables) small;
     } in
-    let leads : publishing (staging (fresh_on node) cs) p.token ≡ renewed_on node p =
+    let leads : step (fresh_on node) (Note cs (Some p.token)) ≡ renewed_on node p =
     (λ i. record {
       node = record { shown = reset_to (tables i) p.token; history = node.history };
       afresh = false;
       changes = [];
     }) in
-    subst (PublishesAtEnd limits (fresh_on node) (snapshot_text p.tables p.token)) leads
+    subst (λ t. PublishesAtEnd limits (fresh_on node) (snapshot_text p.tables p.token) t 1) leads
     (batch_publishes cut only_cut means limits (fresh_on node) cs p.token fits)

@@ -21,9 +21,6 @@ pub enum FeedFault {
     /// A line means nothing.
     #[error(transparent)]
     Line(LineFault),
-    /// A token that is held comes again, and is not the first one of a fresh connection.
-    #[error("token again")]
-    TokenAgain,
     /// More changes wait for a token than the limits allow, or the tables that a line would publish
     /// are too large.
     #[error("stage full")]

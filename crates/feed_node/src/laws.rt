@@ -2,16 +2,18 @@
 
 ghost use Rattle.feed_node.specs.Saved.{SavedTextsRestore};
 ghost use Rattle.feed_node.specs.Sent.{TextsGoOn, BatchesPublishAtEnd, SnapshotsPublishAtEnd};
+ghost use Rattle.feed_node.specs.Serving.{HeldTokensStand};
 ghost use Rattle.feed_node.specs.Steps.{StepsRead, TakenAreGood, ReadingIsOne, BatchesAreOfFeed};
 
 use feed_note::{line_laws, written_lines_law};
 use feed_tables::table_laws;
 
 /// What stands on an open connection after lines is what one line after the other leaves, and lines
-/// that are taken one after the other are good.
+/// that are taken one after the other are good. A held token stands at its own place.
 pub fn node_laws()
     ensures read { StepsRead }
     ensures good { TakenAreGood }
+    ensures held { HeldTokensStand }
 {}
 
 /// Where nothing is bad, a text has one reading, and no fault stands. A text behind whole lines is
