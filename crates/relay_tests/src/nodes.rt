@@ -68,6 +68,16 @@ pub(crate) fn is_at(mirror: &Mirror, token: &str) -> bool {
 pub(crate) fn written(alloc: Global, node: &Node, framing: Framing) -> Option<Vec<u8>> {
     let mut reader = MemReader::new(FRESH.to_vec(alloc).ok()?, 100);
     let mut writer = MemWriter::new(alloc, 100);
-    serve_node(alloc, &mut reader, &mut writer, node, "finals", framing, 9).ok()?;
+    serve_node(
+        alloc,
+        &mut reader,
+        &mut writer,
+        node,
+        "finals",
+        framing,
+        9,
+        0,
+    )
+    .ok()?;
     writer.written().to_vec(alloc).ok()
 }

@@ -78,6 +78,7 @@ fn connect(
         "finals",
         Framing::Close,
         9,
+        0,
     )?;
     let mut response = MemReader::new(served.written().to_vec(alloc)?, 4096);
     follow(alloc, &mut response, mirror, 9)

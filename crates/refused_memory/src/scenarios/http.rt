@@ -31,12 +31,12 @@ fn answers(trial: &mut Trial, head: &[u8], bytes: &[u8]) -> Option<Outcome> {
     let alloc = trial.alloc();
     let primary = Primary::new(alloc, Limits::new(1, 10).ok()?).ok()?;
     trial.begin();
-    let answered = answer(alloc, head, primary.node(), "finals", Framing::Chunked);
+    let answered = answer(alloc, head, primary.node(), "finals", Framing::Chunked, 0);
     trial.end();
     Some(match answered {
         Ok(answered) => given(answered.bytes.as_slice() == bytes, Outcome::Right),
         Err(_) => {
-            let again = answer(alloc, head, primary.node(), "finals", Framing::Chunked);
+            let again = answer(alloc, head, primary.node(), "finals", Framing::Chunked, 0);
             let is_same = again.is_ok_and(|answered| answered.bytes.as_slice() == bytes);
             given(is_same, Outcome::Memory)
         }

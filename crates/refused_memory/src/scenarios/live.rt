@@ -46,6 +46,7 @@ pub fn serve_live(trial: &mut Trial) -> Option<Outcome> {
         "finals",
         Framing::Chunked,
         9,
+        0,
     );
     trial.end();
     let taken = 3usize.saturating_sub(input.len());

@@ -57,7 +57,7 @@ pub fn commit(trial: &mut Trial) -> Option<Outcome> {
 pub fn pull(trial: &mut Trial) -> Option<Outcome> {
     let alloc = trial.alloc();
     let primary = primary(alloc)?;
-    let (mut session, sent) = primary.node().open(alloc, Some("2")).ok()?;
+    let (mut session, sent) = primary.node().open(alloc, Some("2"), 0).ok()?;
     let mut out = Vec::new(alloc);
     trial.begin();
     let answer = session.pull(alloc, primary.node(), &mut out);
@@ -80,7 +80,7 @@ pub fn open(trial: &mut Trial) -> Option<Outcome> {
     let alloc = trial.alloc();
     let primary = primary(alloc)?;
     trial.begin();
-    let answer = primary.node().open(alloc, None);
+    let answer = primary.node().open(alloc, None, 0);
     trial.end();
     let stands = stands_at_four(alloc, &primary);
     Some(match answer {
@@ -112,7 +112,7 @@ fn fifth(alloc: Global) -> Option<Vec<Change>> {
 fn stands_at_four(alloc: Global, primary: &Primary) -> bool {
     let node = primary.node();
     let held = node.holds("2") && node.holds("3") && node.holds("4") && !node.holds("5");
-    let sent = node.open(alloc, None);
+    let sent = node.open(alloc, None, 0);
     held && !node.holds("1") && sent.is_ok_and(|opened| opened.1.as_slice() == SNAPSHOT)
 }
 
