@@ -3,7 +3,7 @@ use Rattle.std.specs.Str.Parse.{ParsesUnsigned, ExplainsUnsignedError, HasUnsign
 use Rattle.clap.specs.Words.{found_of, one_text}
 use Rattle.clap.proofs.WalkLemmas.{one_text-rows}
 use Rattle.feed_cli.proofs.WordsLemmas.{number_read}
-use Rattle.feed_cli.proofs.words.asked.number.Goals as goal
+use Rattle.feed_cli.proofs.words.asked.number_up_to.Goals as goal
 
 pub returns-then-number-most : goal.returns-then-number-most
 returns-then-number-most c =
@@ -13,6 +13,5 @@ returns-then-number-most c =
     record {
       said = ap (option_map number) (sym (one_text-rows found name))
           ∙ number_read _ (λ bs r. ParsesUnsigned 64 10 bs r × ExplainsUnsignedError 10 bs r × HasUnsignedDigitsIfOk bs r) (one_text found name) c.get_one.result c.in_ok-number.number (λ u x g. g.0) c.get_one.ensures.none c.get_one.ensures.value (search rules);
-      least = search rules;
       greatest = search rules;
     }
