@@ -110,7 +110,7 @@ impl Desk {
     }
 
     fn opens(&mut self, of: Of, since: Option<&str>, want: Result<&str, OpenFault>) -> bool {
-        match self.node(of).open(self.alloc, since, 0) {
+        match self.node(of).open(self.alloc, since) {
             Ok((session, text)) => {
                 self.session = Some(session);
                 want.is_ok_and(|want| text.as_slice() == want.as_bytes())
