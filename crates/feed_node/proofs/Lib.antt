@@ -4,12 +4,11 @@ pub mod FeedBatches
 pub mod Going
 pub mod Keeping
 pub mod Latest
-pub mod Marked
 pub mod Mirrored
+pub mod Numbered
 pub mod Numbering
 pub mod OneReading
 pub mod Onward
-pub mod Placing
 pub mod Restored
 pub mod Saving
 pub mod Sending
