@@ -9,6 +9,7 @@ pub mod Numbered
 pub mod Numbering
 pub mod OneReading
 pub mod Onward
+pub mod Placing
 pub mod Restored
 pub mod Saving
 pub mod Sending
