@@ -193,6 +193,35 @@ d_shown : shown (run_all (world 1 100 (0 ∷ [])) sent_on).1 1 ≡ codes "{\"typ
 unfolding digits after written_string
 d_shown = simp (entries-inserted, entries-removed, get-entries, len-entries, entries-empty)
 
+-- a mirror that was cut between two commits, and is sent again what it holds
+abbrev e_log : Log
+e_log = (Set (codes "t") (codes "1") (codes "{}") ∷ []) ∷ (Remove (codes "t") (codes "1") ∷ []) ∷ []
+
+abbrev e_cut : World
+e_cut = record { limits = record { history = 4; staged = 100 }; log = e_log; primary = record { at = 2; low = 0 }; mirrors = mirror (position 2 0) 0 false None ∷ [] }
+
+-- its next connection begins at 0
+abbrev sent_again : List Event
+sent_again = Connect 1 9 ∷ DoCommit (Single (codes "s") (codes "{}") ∷ []) ∷ Serve 1 ∷ Deliver 1 9999 ∷ []
+
+e_front : run_all (world 4 100 (0 ∷ [])) (Connect 1 0 ∷ Deliver 1 9999 ∷ DoCommit (Set (codes "t") (codes "1") (codes "{}") ∷ []) ∷ DoCommit (Remove (codes "t") (codes "1") ∷ [])
+    ∷ Serve 1 ∷ Serve 1 ∷ Deliver 1 9999 ∷ DoCut 1 ∷ [])
+    ≡ (Ok Opened ∷ Ok (Delivered 1) ∷ Ok (Committed (codes "1")) ∷ Ok (Committed (codes "2")) ∷ Ok (Sent More) ∷ Ok (Sent More) ∷ Ok (Delivered 2) ∷ Ok Cut ∷ [], e_cut)
+unfolding digits after written_string
+e_front = simp (entries-inserted, entries-removed, get-entries, len-entries, entries-empty)
+
+e_again : (run_all e_cut sent_again).0 ≡ Ok Opened ∷ Ok (Committed (codes "3")) ∷ Ok (Sent More) ∷ Ok (Delivered 0) ∷ []
+unfolding digits after written_string
+e_again = simp (entries-inserted, entries-removed, get-entries, len-entries, entries-empty)
+
+e_shown : shown (run_all e_cut sent_again).1 1 ≡ codes "{\"type\":\"t\",\"id\":null,\"data\":[],\"token\":\"2\"}\n"
+unfolding digits after written_string
+e_shown = simp (entries-inserted, entries-removed, get-entries, len-entries, entries-empty)
+
+e_last : (run_all (run_all e_cut sent_again).1 (Serve 1 ∷ Serve 1 ∷ Deliver 1 9999 ∷ [])).0 ≡ Ok (Sent More) ∷ Ok (Sent More) ∷ Ok (Delivered 1) ∷ []
+unfolding digits after written_string
+e_last = simp (entries-inserted, entries-removed, get-entries, len-entries, entries-empty)
+
 -- a mirror that is restarted from a front of what was saved, and then from all of it
 abbrev c_log : Log
 c_log = (set_team (codes "1") ∷ set_team (codes "2") ∷ []) ∷ []
