@@ -4,8 +4,8 @@ pub mod FeedBatches
 pub mod Going
 pub mod Keeping
 pub mod Latest
-pub mod Marked
 pub mod Mirrored
+pub mod Numbered
 pub mod Numbering
 pub mod OneReading
 pub mod Onward

@@ -2,8 +2,8 @@ pub mod Codes
 pub mod Followed
 pub mod Limits
 pub mod Log
-pub mod Marks
 pub mod Mirroring
+pub mod Numbered
 pub mod Reading
 pub mod Saved
 pub mod Sent

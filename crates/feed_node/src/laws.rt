@@ -3,15 +3,17 @@
 ghost use Rattle.feed_node.specs.Saved.{SavedTextsRestore};
 ghost use Rattle.feed_node.specs.Sent.{TextsGoOn, BatchesPublishAtEnd, SnapshotsPublishAtEnd};
 ghost use Rattle.feed_node.specs.Serving.{HeldTokensStand};
-ghost use Rattle.feed_node.specs.Steps.{StepsRead, TakenAreGood, ReadingIsOne, BatchesAreOfFeed};
+ghost use Rattle.feed_node.specs.Steps.{StepsRead, StepsCount, TakenAreGood, ReadingIsOne, BatchesAreOfFeed};
 
 use feed_note::{line_laws, written_lines_law};
 use feed_tables::table_laws;
 
-/// What stands on an open connection after lines is what one line after the other leaves, and lines
-/// that are taken one after the other are good. A held token stands at its own place.
+/// What stands on an open connection after lines is what one line after the other leaves, they
+/// publish as often as one after the other does, and lines that are taken one after the other are
+/// good. A held token stands at its own place.
 pub fn node_laws()
     ensures read { StepsRead }
+    ensures counted { StepsCount }
     ensures good { TakenAreGood }
     ensures held { HeldTokensStand }
 {}

@@ -53,11 +53,17 @@ event_of_one event_of numbers = option_map (λ i. action.Event (event_of i)) (on
 abbrev pub event_of_two : (ℕ → ℕ → Event) → List ℕ → Option Action
 event_of_two event_of numbers = option_map (λ p. action.Event (event_of p.0 p.1)) (two_of numbers)
 
+-- a connect has one number or two: without the second nothing is to be sent again
+abbrev pub connect_of : List ℕ → Option Action
+connect_of (i ∷ []) = Some (action.Event (event.Connect i 0))
+connect_of (i ∷ back ∷ []) = Some (action.Event (event.Connect i back))
+connect_of numbers = None
+
 -- what a name asks for, with these numbers
 abbrev pub asked_by : List ℕ → List ℕ → Option Action
 asked_by name numbers =
     if bytes_eq name (codes "commit") then option_map action.Commit (one_of numbers)
-    else (if bytes_eq name (codes "connect") then event_of_one event.Connect numbers
+    else (if bytes_eq name (codes "connect") then connect_of numbers
     else (if bytes_eq name (codes "serve") then event_of_one event.Serve numbers
     else (if bytes_eq name (codes "idle") then event_of_one event.Idle numbers
     else (if bytes_eq name (codes "deliver") then event_of_two event.Deliver numbers

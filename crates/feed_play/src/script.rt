@@ -145,7 +145,7 @@ fn action_named(name: &[u8], number: usize) -> Option<Action>
     if is(name, "commit") {
         Some(Action::Commit(number))
     } else if is(name, "connect") {
-        Some(Action::Event(Event::Connect(number)))
+        Some(Action::Event(Event::Connect(number, 0)))
     } else if is(name, "serve") {
         Some(Action::Event(Event::Serve(number)))
     } else if is(name, "idle") {
@@ -161,19 +161,29 @@ fn action_named(name: &[u8], number: usize) -> Option<Action>
     }
 }
 
+/// What this name asks for with two numbers.
+fn action_of_two(name: &[u8], first: usize, second: usize) -> Option<Action>
+    ensures { result ≡ asked_by name.now (first ∷ second ∷ []) }
+{
+    if is(name, "connect") {
+        Some(Action::Event(Event::Connect(first, second)))
+    } else if is(name, "deliver") {
+        Some(Action::Event(Event::Deliver(first, second)))
+    } else if is(name, "restart") {
+        Some(Action::Event(Event::Restart(first, second)))
+    } else {
+        None
+    }
+}
+
 /// What a line of a script asks for that is not the first.
 pub fn read_action(line: &[u8]) -> Option<Action>
     ensures { result ≡ action_in line.now }
 {
     let (name, numbers) = split_word(line);
     let numbers = numbers?;
-    if is(name, "deliver") {
-        let (mirror, bytes) = read_two(numbers)?;
-        return Some(Action::Event(Event::Deliver(mirror, bytes)));
-    }
-    if is(name, "restart") {
-        let (mirror, bytes) = read_two(numbers)?;
-        return Some(Action::Event(Event::Restart(mirror, bytes)));
+    if let Some((first, second)) = read_two(numbers) {
+        return action_of_two(name, first, second);
     }
     let number = read_one(numbers)?;
     action_named(name, number)

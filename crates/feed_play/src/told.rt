@@ -57,7 +57,7 @@ pub fn print_shown(alloc: Global, node: &Node, out: &mut Vec<u8>) -> Result<(), 
         ≡ out.old.items ++ shown_text node.now.shown.published) }
     ensures err { OnErr result (out.new.items ≡ out.old.items) }
 {
-    match node.open(alloc, None) {
+    match node.open(alloc, None, 0) {
         Ok((_, text)) => out.extend_from_slice(text.as_slice()),
         Err(OpenFault::NotYet) => out.extend_from_slice(b"nothing\n"),
         Err(OpenFault::NotHeld | OpenFault::Memory) => Err(AllocError),

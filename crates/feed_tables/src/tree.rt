@@ -257,6 +257,13 @@ impl<V: Drop> Fork<V> {
         (id, item)
     }
 
+    /// Has this item in place of its own.
+    pub fn set_item(&mut self, item: V)
+        ensures { self.new ≡ with_item self.old item }
+    {
+        self.item = item;
+    }
+
     // Has the item of another node in place of its own.
     fn take_item(&mut self, mut node: Box<Fork<V>>)
         ensures { self.new ≡ with_item self.old node.value.item }

@@ -19,18 +19,18 @@ act w asks m = mirror_asks asks m (place_at w m.upstream)
 
 is_event : (w : World) (number : ℕ) (asks : Asks)
     → at_node w number (act w asks) ≡ outcome w (event_asking asks number)
-is_event w number ForConnection = refl
+is_event w number (ForConnection back) = refl
 is_event w number ForCommit = refl
 
 keeps : (w : World) (asks : Asks) → Keeps (act w asks)
-keeps w ForConnection = keeps_connect w
+keeps w (ForConnection back) = keeps_connect w back
 keeps w ForCommit = keeps_serve w
 
 is_refused : (w : World) (number : ℕ) (asks : Asks) (fault : WorldFault)
     → (at_node w number (act w asks) ≡ Err fault) ⊎ ((fault ≡ Memory)
     × ¬ (IsTrue (is_free (at_node w number (act w asks)))))
     → IsRefused w (event_asking asks number) fault
-is_refused w number ForConnection fault k = k
+is_refused w number (ForConnection back) fault k = k
 is_refused w number ForCommit fault k = k
 
 pub asked_nobody : (w : World) (primary : PrimaryState) (fs : List FollowerState)

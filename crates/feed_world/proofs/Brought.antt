@@ -3,13 +3,13 @@ use Rattle.std.proofs.Common.{◌≡◌, refl, sym, ap, ◌∙◌, subst, ℕ, z
 use Rattle.std.specs.Prelude.{if◌then◌else◌, ◌==◌}
 use Rattle.feed_note.specs.declared.line.Line.{Line}
 use Rattle.feed_node.specs.declared.fault.FeedFault.{FeedFault}
-use Rattle.feed_node.specs.declared.fault.FeedFault.TheVariants.{NotOpen, LongLine, Line as BadLine, TokenAgain, StageFull, Memory as FeedMemory}
+use Rattle.feed_node.specs.declared.fault.FeedFault.TheVariants.{NotOpen, LongLine, Line as BadLine, StageFull, Memory as FeedMemory}
 use Rattle.feed_node.specs.Limits.{Limits}
-use Rattle.feed_node.specs.Mirroring.{MirrorState, StandsAt, Fed, Faulted, HasLost, HasStopped, token_count}
+use Rattle.feed_node.specs.Mirroring.{MirrorState, StandsAt, Fed, Faulted, HasLost, HasStopped, publications}
 use Rattle.feed_node.specs.Reading.{Opening, Reads, FaultsAt, reads, keep_latest, awaits_reset}
 use Rattle.feed_node.specs.States.{published_token}
 use Rattle.feed_world.specs.declared.event.Reply.TheVariants.{Delivered, Broke}
-use Rattle.feed_world.specs.Connection.{Part, Snapshot, Commit, Line_feed, Connection, part_text, sent_text, blocks_within, blocks_between, moved_by, GoOn, first_parts}
+use Rattle.feed_world.specs.Connection.{Part, Snapshot, Commit, Line_feed, Connection, part_text, sent_text, blocks_within, blocks_between, moved_by, count_new, GoOn, first_parts}
 use Rattle.feed_world.specs.Log.{Log, IsLog}
 use Rattle.feed_world.specs.Position.{Position, node_where, renewed, IsPosition, IsPlace}
 use Rattle.feed_node.specs.Steps.{ReadingIsOne}
@@ -18,8 +18,8 @@ use Rattle.feed_world.specs.States.{ConnectionState, FollowerState, IsConnection
 use Rattle.feed_world.specs.Step.{reached, delivers, with_connection, mirror_delivers, brought_to}
 use Rattle.feed_world.specs.World.{Mirror}
 use Rattle.feed_world.proofs.Commits.{renewed_is_position}
-use Rattle.feed_world.proofs.Fronts.{not_zero, token_count-append}
-use Rattle.feed_world.proofs.Growth.{goes_up, fewer_blocks, deliveries_compose}
+use Rattle.feed_world.proofs.Fronts.{not_zero}
+use Rattle.feed_world.proofs.Growth.{goes_up, fewer_blocks, deliveries_compose, news_compose}
 
 -- ---- places
 
@@ -29,36 +29,39 @@ module _ (limits : Limits) (log : Log) where
   choose_place place true bs h k = k
   choose_place place false bs h k = h
 
-  place_since : (parts : List Part) (p : Position) (last n : ℕ) → IsPosition limits log p → GoOn p.at parts last → last ≤ length log
+  place_since : (parts : List Part) (p : Position) (k last n : ℕ) → IsPosition limits log p → k ≤ p.at → GoOn k parts last → last ≤ length log
       → IsPlace limits log (moved_by limits.history (Some p) (blocks_within log parts n))
-  place_since [] p last n h g within = h
-  place_since (Line_feed ∷ parts) p last n h g within =
-      choose_place (Some p) (nat_le 1 n) (blocks_within log parts (n - 1)) h (place_since parts p last (n - 1) h g within)
-  place_since (Commit k ∷ parts) p last n h g within =
-      let up = goes_up (p.at + 1) parts last g.1 in
-      let next : suc p.at ≤ length log = omega arith in
-      let same : suc p.at ≡ k = let f = g.0 in omega arith in
-      let one : p.at + 1 ≡ suc p.at = omega arith in
-      let q = renewed limits.history (suc p.at) p.low in
-      let later = blocks_within log parts (n - length (part_text log (Commit k))) in
-      let there = place_since parts q last (n - length (part_text log (Commit k))) (renewed_is_position limits log p h next) (subst (λ j. GoOn j parts last) one g.1) within in
-      choose_place (Some p) (nat_le (length (part_text log (Commit k))) n) (Commit k ∷ later) h
-      (subst (λ j. IsPlace limits log (moved_by limits.history (Some p) (Commit j ∷ later))) same there)
-  place_since (Snapshot k ∷ parts) p last n h g within = absurd g
+  place_since [] p k last n h to g within = h
+  place_since (Line_feed ∷ parts) p k last n h to g within =
+      choose_place (Some p) (nat_le 1 n) (blocks_within log parts (n - 1)) h (place_since parts p k last (n - 1) h to g within)
+  place_since (Commit j ∷ parts) p k last n h to g within =
+      let m = n - length (part_text log (Commit j)) in
+      choose_place (Some p) (nat_le (length (part_text log (Commit j))) n) (Commit j ∷ blocks_within log parts m) h
+      (place_since parts (if nat_lt p.at j then renewed limits.history j p.low else p) (k + 1) last m (by (nat_lt p.at j) refl).0 (by (nat_lt p.at j) refl).1 g.1 within)
+    where
+      by : (b : Bool) → nat_lt p.at j ≡ b → IsPosition limits log (if b then renewed limits.history j p.low else p) × (k + 1 ≤ (if b then renewed limits.history j p.low else p).at)
+      by true is =
+          let less = ltb-true p.at j is in
+          let up = goes_up (k + 1) parts last g.1 in
+          let next : suc p.at ≤ length log = omega (arith, g.0) in
+          let same : suc p.at ≡ j = omega (arith, g.0) in
+          (subst (λ i. IsPosition limits log (renewed limits.history i p.low)) same (renewed_is_position limits log p h next), omega (arith, g.0))
+      by false is = let less = ltb-false p.at j is in (h, omega (arith, g.0))
+  place_since (Snapshot j ∷ parts) p k last n h to g within = absurd g
 
   place_either : (fresh : Bool) (place : Option Position) (start : ℕ) (more : List Part) (last n : ℕ) → IsPlace limits log place
-      → (fresh ≡ false → (own : Position) × (place ≡ Some own) × (own.at ≡ start))
+      → (fresh ≡ false → (own : Position) × (place ≡ Some own) × (own.low ≤ start) × (start ≤ own.at))
       → GoOn start more last → last ≤ length log → IsPlace limits log (moved_by limits.history place (blocks_within log (first_parts fresh start ++ more) n))
   place_either true place start more last n h at g within =
       let up = goes_up start more last g in
       let p : Position = record { at = start; low = start } in
       let here : IsPosition limits log p = record { order = omega arith; kept = omega arith; in_log = omega arith } in
       let l = length (part_text log (Snapshot start)) in
-      choose_place place (nat_le l n) (Snapshot start ∷ blocks_within log more (n - l)) h (place_since more p last (n - l) here g within)
+      choose_place place (nat_le l n) (Snapshot start ∷ blocks_within log more (n - l)) h (place_since more p start last (n - l) here (omega arith) g within)
   place_either false place start more last n h at g within =
       let own = at refl in
       subst (λ q. IsPlace limits log (moved_by limits.history q (blocks_within log more n))) (sym own.1)
-      (place_since more own.0 last n (subst (IsPlace limits log) own.1 h) (subst (λ k. GoOn k more last) (sym own.2) g) within)
+      (place_since more own.0 start last n (subst (IsPlace limits log) own.1 h) own.3 g within)
 
   -- the blocks of a connection lead from one position to another
   place_after : (place : Option Position) (c : Connection) (n : ℕ) → IsOpened limits log place c → IsPlace limits log (moved_by limits.history place (blocks_within log c.parts n))
@@ -104,9 +107,9 @@ asks_after token true false xs (y ∷ ys) less h old = let k = h refl in let f :
 
 -- what these lines leave, which are those of the first n bytes that were sent
 record ReadsTo (limits : Limits) (log : Log) (place : Option Position) (c : Connection) (notes : List Line) (n : ℕ) : Type 0 where
-  shows : keep_latest limits.history (reads (opening_at log place c.fresh) notes) ≡ node_where log (moved_by limits.history place (blocks_within log c.parts n))
+  shows : keep_latest limits.history (reads limits.history (opening_at log place c.fresh) notes) ≡ node_where log (moved_by limits.history place (blocks_within log c.parts n))
   awaits : awaits_reset (opening_at log place c.fresh) notes ≡ (c.fresh && (length (blocks_within log c.parts n) == 0))
-  count : token_count notes ≡ length (blocks_within log c.parts n)
+  count : publications limits.history (opening_at log place c.fresh) notes ≡ count_new limits.history place (blocks_within log c.parts n)
 
 -- the first n bytes that were sent, no fewer than were delivered, have nothing bad, and their lines say this
 record IsFrontRead (limits : Limits) (log : Log) (place : Option Position) (c : Connection) (n : ℕ) (notes : List Line) : Type 0 where
@@ -120,12 +123,12 @@ record IsFrontRead (limits : Limits) (log : Log) (place : Option Position) (c : 
 -- where the mirror is then, and what it shows and asks with
 record IsBroughtTo (limits : Limits) (log : Log) (m : Mirror) (place : Option Position) (c : Connection) (n : ℕ) (notes : List Line) : Type 0 where
   within : IsPlace limits log (brought_to limits.history log m c n None).place
-  node : keep_latest limits.history (reads (opening_at log place c.fresh) notes) ≡ node_where log (brought_to limits.history log m c n None).place
-  since : (if awaits_reset (opening_at log place c.fresh) notes then None else published_token (reads (opening_at log place c.fresh) notes))
+  node : keep_latest limits.history (reads limits.history (opening_at log place c.fresh) notes) ≡ node_where log (brought_to limits.history log m c n None).place
+  since : (if awaits_reset (opening_at log place c.fresh) notes then None else published_token (reads limits.history (opening_at log place c.fresh) notes))
       ≡ asks_with log (brought_to limits.history log m c n None)
   afresh : (brought_to limits.history log m c n None).afresh ≡ true → (c.fresh ≡ true) × (blocks_within log c.parts n ≡ [])
   moves : (brought_to limits.history log m c n None).place ≡ moved_by limits.history place (blocks_within log c.parts n)
-  count : token_count notes ≡ length (blocks_within log c.parts n)
+  count : publications limits.history (opening_at log place c.fresh) notes ≡ count_new limits.history place (blocks_within log c.parts n)
 
 module _ (fronts : FrontsAreRead) (one : ReadingIsOne) (limits : Limits) (log : Log) (is_log : IsLog limits log) where
   -- the token of a mirror that was here, after these blocks
@@ -155,6 +158,7 @@ module _ (fronts : FrontsAreRead) (one : ReadingIsOne) (limits : Limits) (log : 
   asked_before m c f h r within =
       let old = read_before m c f h r within in
       (λ i. if sym old.awaits i then None else published_token (sym old.shows i))
+      ∙ ap (λ l. if awaits_reset (opening_at log r.before c.fresh) r.notes then None else published_token (reads l.history (opening_at log r.before c.fresh) r.notes)) (sym h.bounds)
       ∙ sym (ap (λ s. s.since) r.stands.state) ∙ h.since ∙ ap (λ q. if m.afresh then None else published_token (node_where log q)) r.place
 
   brings : (m : Mirror) (c : Connection) (f : FollowerState) → IsMirror limits log m f → (r : IsReading limits log m c f.mirror) → c.delivered ≤ length (sent_text log c)
@@ -253,19 +257,19 @@ module _ (fronts : FrontsAreRead) (one : ReadingIsOne) (limits : Limits) (log : 
           nothing_bad = subst (λ l. Reads l opening (take e text) notes) bounds stands.nothing_bad;
           further = reaches.0;
         }) in
-        let more = token_count-append r.notes fed.more in
         let before = old.count in
         let after = b.count in
-        let counted = fed.counted in
-        let left = length-drop (length (blocks_within log c.parts d)) (blocks_within log c.parts e) in
-        let same : count ≡ length (blocks_between log c d e) = omega arith in (
+        let counted = subst (λ l. publications l.history opening notes ≡ publications l.history opening r.notes + count) h.bounds fed.counted in
+        let news = news_compose log limits.history r.before c.parts d e reaches.0 in
+        let here = ap (λ place. count_new limits.history place (blocks_between log c d e)) r.place in
+        let same : count ≡ count_new limits.history m.place (blocks_between log c d e) = omega arith in (
           ap Delivered same,
           record {
             place = b.within;
             upstream = h.upstream;
             bounds = bounds;
-            node = ap (λ s. s.node) stands.state ∙ ap (λ l. keep_latest l.history (reads opening notes)) bounds ∙ b.node;
-            since = ap (λ s. s.since) stands.state ∙ b.since;
+            node = ap (λ s. s.node) stands.state ∙ ap (λ l. keep_latest l.history (reads l.history opening notes)) bounds ∙ b.node;
+            since = ap (λ s. s.since) stands.state ∙ ap (λ l. if awaits_reset opening notes then None else published_token (reads l.history opening notes)) bounds ∙ b.since;
             linked = (
               record { text = k.text; token = k.token; delivered = λ i. min (k.delivered i + bytes) (length (k.text i)); within = reaches.1; over = k.over },
               record {
@@ -330,8 +334,8 @@ module _ (fronts : FrontsAreRead) (one : ReadingIsOne) (limits : Limits) (log : 
             place = b.within;
             upstream = h.upstream;
             bounds = ap (λ s. s.limits) l.state ∙ h.bounds;
-            node = ap (λ s. s.node) l.state ∙ ap (λ b. keep_latest b.history (reads opening l.notes)) h.bounds ∙ b.node;
-            since = ap (λ s. s.since) l.state ∙ b.since;
+            node = ap (λ s. s.node) l.state ∙ ap (λ b. keep_latest b.history (reads b.history opening l.notes)) h.bounds ∙ b.node;
+            since = ap (λ s. s.since) l.state ∙ ap (λ b. if awaits_reset opening l.notes then None else published_token (reads b.history opening l.notes)) h.bounds ∙ b.since;
             linked = ap (λ s. s.connection) l.state;
             in_log = h.in_log;
             saved = h.saved;
@@ -353,7 +357,6 @@ module _ (fronts : FrontsAreRead) (one : ReadingIsOne) (limits : Limits) (log : 
     stopped NotOpen never there l = absurd (faultless NotOpen l.0 l.1)
     stopped LongLine never there l = absurd (faultless LongLine l.0 l.1)
     stopped (BadLine fault) never there l = absurd (faultless (BadLine fault) l.0 l.1)
-    stopped TokenAgain never there l = absurd (faultless TokenAgain l.0 l.1)
     stopped StageFull never there l = absurd (faultless StageFull l.0 l.1)
 
   pub brings_all : f.connection ≡ Some s → (count : ℕ) → Feeds f.mirror piece new count → (after : ConnectionState) → after ≡ past s bytes

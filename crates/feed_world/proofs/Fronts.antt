@@ -1,29 +1,29 @@
 -- Whatever front of what was sent came, its lines are taken one after another, and each whole block moves the mirror on.
-use Rattle.std.proofs.Common.{◌≡◌, refl, sym, ap, ◌∙◌, subst, ℕ, suc, ◌+◌, ◌-◌, ◌<◌, ◌≤◌, ◌^◌, Bool, true, false, ◌&&◌, cond, arith, List, [], ◌∷◌, ◌++◌, length, Option, Some, None, is_some, nat_le, nat_lt, ltb-true, ◌||◌, leb-true, leb-false, eqb-true, length-append}
+use Rattle.std.proofs.Common.{◌≡◌, refl, sym, ap, ◌∙◌, subst, ℕ, suc, ◌+◌, ◌-◌, ◌<◌, ◌≤◌, ◌^◌, Bool, true, false, not, ◌&&◌, arith, List, [], ◌∷◌, ◌++◌, length, Option, Some, None, nat_le, nat_lt, ltb-true, ltb-false, ◌||◌, leb-true, leb-false, eqb-true, length-append}
 use Rattle.std.specs.Prelude.{if◌then◌else◌, ◌==◌, ◌≢◌}
-use Rattle.std.proofs.lemmas.List.Sums.{fold-append, sum_by-append}
+use Rattle.std.proofs.lemmas.Bool.{le-leb}
+use Rattle.std.proofs.lemmas.List.Sums.{fold-append}
 use Rattle.feed_tables.specs.Listings.{ListingIsWithin}
 use Rattle.feed_tables.specs.Tables.{size}
 use Rattle.feed_note.specs.declared.line.Line.{Line}
 use Rattle.feed_note.specs.declared.line.Line.TheVariants.{Note, KeepAlive}
 use Rattle.feed_note.specs.Lines.{lines, rest}
-use Rattle.feed_note.specs.Notes.{token_in}
 use Rattle.feed_node.specs.declared.fault.FeedFault.{FeedFault}
 use Rattle.feed_node.specs.declared.fault.FeedFault.TheVariants.{StageFull}
 use Rattle.feed_node.specs.Limits.{Limits}
 use Rattle.feed_node.specs.Log.{token_after, tokens_from}
-use Rattle.feed_node.specs.Mirroring.{token_count}
 use Rattle.feed_node.specs.Sent.{TakesText, TextsGoOn, PublishesNothing, PublishesAtEnd, BatchesPublishAtEnd, SnapshotsPublishAtEnd, fresh_on, renewed_on}
-use Rattle.feed_node.specs.States.{Node}
-use Rattle.feed_node.specs.Staging.{Standing, step, steps, AllTaken}
-use Rattle.feed_node.specs.Steps.{StepsRead, TakenAreGood, standing_after}
-use Rattle.feed_world.specs.Connection.{Part, Snapshot, Commit, Line_feed, part_text, parts_text, block_onto, blocks_within, moved_by, GoOn, first_parts}
+use Rattle.feed_node.specs.States.{Node, holds_token, published_tables}
+use Rattle.feed_node.specs.Staging.{Standing, staging, publishing, step, steps, times_published, AllTaken}
+use Rattle.feed_node.specs.Steps.{StepsRead, StepsCount, TakenAreGood, standing_after}
+use Rattle.feed_world.specs.Connection.{Part, Snapshot, Commit, Line_feed, part_text, parts_text, block_onto, blocks_within, moved, moved_by, count_new, GoOn, first_parts}
 use Rattle.feed_world.specs.Log.{Log, changes_of_commit, IsLog}
-use Rattle.feed_world.specs.Position.{Position, commits_after, node_where, renewed, IsPosition, IsPlace}
+use Rattle.feed_world.specs.Position.{Position, commits_after, node_where, renewed, node_at, IsPosition, IsPlace}
 use Rattle.feed_world.specs.Reading.{opening_at, FrontsAreRead}
 use Rattle.feed_world.proofs.Commits.{state_one_more, token_is_name, next_not_held, next_position, renewed_is_position, latest_at, state_at, state_is_small, state_is_sendable}
 use Rattle.feed_world.proofs.Growth.{goes_up}
 use Rattle.feed_world.proofs.Lists.{cuts_of_one}
+use Rattle.feed_world.proofs.Served.{holds}
 
 -- a mirror at a place, with nothing staged
 abbrev standing : ℕ → Log → Option Position → Bool → Standing
@@ -40,16 +40,19 @@ not_zero n = by (suc n == 0) refl
     by true e = let same : suc n ≡ 0 = eqb-true (suc n) 0 e in absurd (omega arith)
     by false e = e
 
-pub token_count-append : (ns ms : List Line) → token_count (ns ++ ms) ≡ token_count ns + token_count ms
-token_count-append ns ms = sum_by-append (λ note. cond (is_some (token_in note)) 1 0) ns ms
+times-append : (s : Standing) (ns ms : List Line) → times_published s (ns ++ ms) ≡ times_published s ns + times_published (steps s ns) ms
+times-append s [] ms = omega arith
+times-append s (n ∷ ns) ms =
+    let later = times-append (step s n) ns ms in
+    omega arith
 
--- the lines of one part are taken, and before its end nothing is published
-record IsTakenPart (limits : Limits) (log : Log) (s : Standing) (part : Part) (t : Standing) : Type 0 where
+-- the lines of one part are taken and publish this many times, and before its end nothing is published
+record IsTakenPart (limits : Limits) (log : Log) (s : Standing) (part : Part) (t : Standing) (many : ℕ) : Type 0 where
   notes : List Line
   takes : TakesText limits s (part_text log part) notes
   ended : rest (part_text log part) ≡ []
   leads_to : steps s notes ≡ t
-  count : token_count notes ≡ length (block_onto part [])
+  count : times_published s notes ≡ many
   before : (front behind : List ℕ) → front ++ behind ≡ part_text log part → behind ≢ [] → (some : List Line) × TakesText limits s front some × PublishesNothing s some
 
 -- a front of these parts was taken
@@ -58,13 +61,13 @@ record IsTakenFront (limits : Limits) (log : Log) (place : Option Position) (afr
   takes : TakesText limits (standing limits.history log place afresh) front notes
   shown : (steps (standing limits.history log place afresh) notes).node.shown ≡ node_where log (moved_by limits.history place (blocks_within log parts (length front)))
   anew : (steps (standing limits.history log place afresh) notes).afresh ≡ (afresh && (length (blocks_within log parts (length front)) == 0))
-  count : token_count notes ≡ length (blocks_within log parts (length front))
+  count : times_published (standing limits.history log place afresh) notes ≡ count_new limits.history place (blocks_within log parts (length front))
 
 -- what a part and those after it have in common with those after it
-record Moves (history : ℕ) (from : Option Position) (afresh : Bool) (part : Part) (next : Option Position) (next_afresh : Bool) : Type 0 where
+record Moves (history : ℕ) (from : Option Position) (afresh : Bool) (part : Part) (next : Option Position) (next_afresh : Bool) (many : ℕ) : Type 0 where
   place : (bs : List Part) → moved_by history next bs ≡ moved_by history from (block_onto part bs)
   anew : (bs : List Part) → (next_afresh && (length bs == 0)) ≡ (afresh && (length (block_onto part bs) == 0))
-  count : (bs : List Part) → length (block_onto part []) + length bs ≡ length (block_onto part bs)
+  count : (bs : List Part) → many + count_new history next bs ≡ count_new history from (block_onto part bs)
 
 -- no bytes have no lines
 no_lines : (limits : Limits) (s : Standing) → TakesText limits s [] []
@@ -72,12 +75,12 @@ unfolding lines rest
 no_lines limits s = record { taken = tt; short = omega arith }
 
 module _ (goes_on : TextsGoOn) (limits : Limits) (log : Log) where
-  whole_part : (place next : Option Position) (afresh next_afresh : Bool) (part : Part) (parts : List Part) (front : List ℕ)
-      → IsTakenPart limits log (standing limits.history log place afresh) part (standing limits.history log next next_afresh)
-      → Moves limits.history place afresh part next next_afresh
+  whole_part : (place next : Option Position) (afresh next_afresh : Bool) (many : ℕ) (part : Part) (parts : List Part) (front : List ℕ)
+      → IsTakenPart limits log (standing limits.history log place afresh) part (standing limits.history log next next_afresh) many
+      → Moves limits.history place afresh part next next_afresh many
       → nat_le (length (part_text log part)) (length front) ≡ true
       → (m : List ℕ) → front ≡ part_text log part ++ m → IsTakenFront limits log next next_afresh parts m → IsTakenFront limits log place afresh (part ∷ parts) front
-  whole_part place next afresh next_afresh part parts front t moves is m front_is g =
+  whole_part place next afresh next_afresh many part parts front t moves is m front_is g =
       let s = standing limits.history log place afresh in
       let l : length front ≡ length (part_text log part) + length m = ap length front_is ∙ length-append (part_text log part) m in
       let left : length front - length (part_text log part) ≡ length m = omega arith in
@@ -92,14 +95,15 @@ module _ (goes_on : TextsGoOn) (limits : Limits) (log : Log) where
             (goes_on limits s (part_text log part) m t.notes g.notes t.ended t.takes (subst (λ z. TakesText limits z m g.notes) (sym t.leads_to) g.takes));
         shown = ap (λ z. z.node.shown) stepped ∙ g.shown ∙ ap (node_where log) (moves.place bs ∙ ap (moved_by limits.history place) (sym blocks));
         anew = ap (λ z. z.afresh) stepped ∙ g.anew ∙ moves.anew bs ∙ ap (λ ps. afresh && (length ps == 0)) (sym blocks);
-        count = token_count-append t.notes g.notes ∙ (λ i. t.count i + g.count i) ∙ moves.count bs ∙ ap length (sym blocks);
+        count = times-append s t.notes g.notes ∙ ap (λ z. times_published s t.notes + times_published z g.notes) t.leads_to
+            ∙ (λ i. t.count i + g.count i) ∙ moves.count bs ∙ ap (count_new limits.history place) (sym blocks);
       }
 
-  part_of_part : (place next : Option Position) (afresh next_afresh : Bool) (part : Part) (parts : List Part) (front : List ℕ)
-      → IsTakenPart limits log (standing limits.history log place afresh) part (standing limits.history log next next_afresh)
+  part_of_part : (place next : Option Position) (afresh next_afresh : Bool) (many : ℕ) (part : Part) (parts : List Part) (front : List ℕ)
+      → IsTakenPart limits log (standing limits.history log place afresh) part (standing limits.history log next next_afresh) many
       → nat_le (length (part_text log part)) (length front) ≡ false
       → (m : List ℕ) → part_text log part ≡ front ++ m → IsTakenFront limits log place afresh (part ∷ parts) front
-  part_of_part place next afresh next_afresh part parts front t is m text_is =
+  part_of_part place next afresh next_afresh many part parts front t is m text_is =
       let less = leb-false _ _ is in
       let same = ap length text_is ∙ length-append front m in
       let f = t.before front m (sym text_is) (λ e. let none = ap length e in absurd (omega (arith, less, same, none))) in
@@ -111,25 +115,25 @@ module _ (goes_on : TextsGoOn) (limits : Limits) (log : Log) where
         takes = f.1;
         shown = ap (λ n. n.shown) none.node ∙ ap (λ ps. node_where log (moved_by limits.history place ps)) (sym blocks);
         anew = none.afresh ∙ sym (and_true afresh) ∙ ap (λ ps. afresh && (length ps == 0)) (sym blocks);
-        count = none.count ∙ ap length (sym blocks);
+        count = none.count ∙ ap (count_new limits.history place) (sym blocks);
       }
 
   -- one part, and then those after it
-  one_part : (place next : Option Position) (afresh next_afresh : Bool) (part : Part) (parts : List Part)
-      → IsTakenPart limits log (standing limits.history log place afresh) part (standing limits.history log next next_afresh)
-      → Moves limits.history place afresh part next next_afresh
+  one_part : (place next : Option Position) (afresh next_afresh : Bool) (many : ℕ) (part : Part) (parts : List Part)
+      → IsTakenPart limits log (standing limits.history log place afresh) part (standing limits.history log next next_afresh) many
+      → Moves limits.history place afresh part next next_afresh many
       → ((front behind : List ℕ) → front ++ behind ≡ parts_text log parts → IsTakenFront limits log next next_afresh parts front)
       → (front behind : List ℕ) → front ++ behind ≡ parts_text log (part ∷ parts) → IsTakenFront limits log place afresh (part ∷ parts) front
-  one_part place next afresh next_afresh part parts t moves go front behind e = by (nat_le (length (part_text log part)) (length front)) refl
+  one_part place next afresh next_afresh many part parts t moves go front behind e = by (nat_le (length (part_text log part)) (length front)) refl
     where
       by : (b : Bool) → nat_le (length (part_text log part)) (length front) ≡ b → IsTakenFront limits log place afresh (part ∷ parts) front
       by true is =
           let c = cuts_of_one (part_text log part) (parts_text log parts) front behind (sym e) (leb-true _ _ is) in
-          whole_part place next afresh next_afresh part parts front t moves is c.0 c.1 (go c.0 behind (sym c.2))
+          whole_part place next afresh next_afresh many part parts front t moves is c.0 c.1 (go c.0 behind (sym c.2))
       by false is =
           let less = leb-false _ _ is in
           let c = cuts_of_one front behind (part_text log part) (parts_text log parts) e (omega arith) in
-          part_of_part place next afresh next_afresh part parts front t is c.0 c.1
+          part_of_part place next afresh next_afresh many part parts front t is c.0 c.1
 
   no_part : (place : Option Position) (afresh : Bool) (front behind : List ℕ) → front ++ behind ≡ [] → IsTakenFront limits log place afresh [] front
   no_part place afresh (x ∷ front) behind e = absurd (cc)
@@ -142,7 +146,7 @@ module _ (goes_on : TextsGoOn) (batches : BatchesPublishAtEnd) (snapshots : Snap
   front_of_line_feed s (x ∷ front) [] e some = absurd (some refl)
   front_of_line_feed s (x ∷ front) (y ∷ behind) e some = let l = ap length e in let m = length-append front (y ∷ behind) in absurd (omega (arith, l, m))
 
-  taken_line_feed : (place : Option Position) (afresh : Bool) → IsTakenPart limits log (standing limits.history log place afresh) Line_feed (standing limits.history log place afresh)
+  taken_line_feed : (place : Option Position) (afresh : Bool) → IsTakenPart limits log (standing limits.history log place afresh) Line_feed (standing limits.history log place afresh) 0
   unfolding lines rest
   taken_line_feed place afresh =
       record {
@@ -158,11 +162,11 @@ module _ (goes_on : TextsGoOn) (batches : BatchesPublishAtEnd) (snapshots : Snap
       fits true e = let less = ltb-true limits.staged 0 e in absurd (omega (arith, less))
       fits false e = ap (λ b. if b || false then Some StageFull else None) e
 
-  at_end : (s t : Standing) (part : Part) → length (block_onto part []) ≡ 1 → (end : Standing) → PublishesAtEnd limits s (part_text log part) end → end ≡ t → IsTakenPart limits log s part t
-  at_end s t part one end p e = record { notes = p.notes; takes = p.takes; ended = p.ended; leads_to = p.leads_to ∙ e; count = p.once ∙ sym one; before = p.before }
+  at_end : (s t : Standing) (part : Part) (many : ℕ) (end : Standing) (count : ℕ) → PublishesAtEnd limits s (part_text log part) end count → end ≡ t → count ≡ many → IsTakenPart limits log s part t many
+  at_end s t part many end count p e same = record { notes = p.notes; takes = p.takes; ended = p.ended; leads_to = p.leads_to ∙ e; count = p.counted ∙ same; before = p.before }
 
   taken_commit : (p : Position) → IsPosition limits log p → suc p.at ≤ length log
-      → IsTakenPart limits log (standing limits.history log (Some p) false) (Commit (suc p.at)) (standing limits.history log (Some (renewed limits.history (suc p.at) p.low)) false)
+      → IsTakenPart limits log (standing limits.history log (Some p) false) (Commit (suc p.at)) (standing limits.history log (Some (renewed limits.history (suc p.at) p.low)) false) 1
   taken_commit p h within =
       let s = standing limits.history log (Some p) false in
       let cs = changes_of_commit log (suc p.at) in
@@ -171,48 +175,105 @@ module _ (goes_on : TextsGoOn) (batches : BatchesPublishAtEnd) (snapshots : Snap
       let count = is_log.count in
       let fits : suc p.at < 2 ^ 64 = omega arith in
       let position = next_position limits.history log p h.order within in
-      at_end s (standing limits.history log (Some (renewed limits.history (suc p.at) p.low)) false) (Commit (suc p.at)) refl (step s (Note cs (Some token)))
+      let held = next_not_held log p h.order fits in
+      let leads : step s (Note cs (Some token)) ≡ publishing (staging s cs) token = ap (λ b. if b then s else publishing (staging s cs) token) held in
+      let many : times_published s (Note cs (Some token) ∷ []) ≡ 1 = ap (λ b. (if not b then 1 else 0) + 0) held in
+      at_end s (standing limits.history log (Some (renewed limits.history (suc p.at) p.low)) false) (Commit (suc p.at)) 1 (step s (Note cs (Some token)))
+      (times_published s (Note cs (Some token) ∷ []))
       (batches limits s cs token (record {
         some = accepted.some;
         within = accepted.changes;
         name = token_is_name (suc p.at) fits;
-        new = next_not_held log p h.order fits;
         few = accepted.few;
-        small = subst (λ t. size t ≤ limits.staged) (state_one_more log p.at (omega arith)) accepted.small;
+        small = subst (λ z. size (published_tables z.node.shown) ≤ limits.staged) (sym leads) (subst (λ t. size t ≤ limits.staged) (state_one_more log p.at (omega arith)) accepted.small);
       }))
-      (λ i. record { node = record { shown = position i; history = limits.history }; afresh = false; changes = [] })
+      (leads ∙ (λ i. record { node = record { shown = position i; history = limits.history }; afresh = false; changes = [] })) many
+
+  -- a commit that the mirror holds is skipped
+  taken_again : (p : Position) (n : ℕ) → IsPosition limits log p → p.low < n → n ≤ p.at
+      → IsTakenPart limits log (standing limits.history log (Some p) false) (Commit n) (standing limits.history log (Some p) false) 0
+  taken_again p n h from to =
+      let s = standing limits.history log (Some p) false in
+      let cs = changes_of_commit log n in
+      let token = token_after n in
+      let in_log = h.in_log in
+      let accepted = is_log.accepted n (omega arith) (omega arith) in
+      let count = is_log.count in
+      let fits : n < 2 ^ 64 = omega arith in
+      let held : holds_token (node_at log p) token ≡ true = holds log p h.order (omega arith) n fits ∙ both (le-leb p.low n (omega arith)) (le-leb n p.at to) in
+      let leads : step s (Note cs (Some token)) ≡ s = ap (λ b. if b then s else publishing (staging s cs) token) held in
+      let many : times_published s (Note cs (Some token) ∷ []) ≡ 0 = ap (λ b. (if not b then 1 else 0) + 0) held in
+      at_end s s (Commit n) 0 (step s (Note cs (Some token))) (times_published s (Note cs (Some token) ∷ []))
+      (batches limits s cs token (record {
+        some = accepted.some;
+        within = accepted.changes;
+        name = token_is_name n fits;
+        few = accepted.few;
+        small = subst (λ z. size (published_tables z.node.shown) ≤ limits.staged) (sym leads) (state_is_small limits log is_log p.at in_log);
+      }))
+      leads many
+    where
+      both : {a b : Bool} → a ≡ true → b ≡ true → (a && b) ≡ true
+      both e f = λ i. e i && f i
 
   taken_snapshot : (place : Option Position) (k : ℕ) → k ≤ length log
-      → IsTakenPart limits log (standing limits.history log place true) (Snapshot k) (standing limits.history log (Some (record { at = k; low = k })) false)
+      → IsTakenPart limits log (standing limits.history log place true) (Snapshot k) (standing limits.history log (Some (record { at = k; low = k })) false) 1
   taken_snapshot place k within =
       let z : 0 ≡ k - k = omega arith in
       let node : Node = record { shown = node_where log place; history = limits.history } in
-      at_end (fresh_on node) (standing limits.history log (Some (record { at = k; low = k })) false) (Snapshot k) refl (renewed_on node (state_at log k))
+      at_end (fresh_on node) (standing limits.history log (Some (record { at = k; low = k })) false) (Snapshot k) 1 (renewed_on node (state_at log k)) 1
       (snapshots limits node (state_at log k) (state_is_sendable listed_within limits log is_log k within) is_log.range.staged_from (state_is_small limits log is_log k within))
       (λ i. record {
         node = record { shown = record { published = Some (state_at log k); held = tokens_from k (suc (z i)); kept = commits_after log k (z i) }; history = limits.history };
         afresh = false;
         changes = [];
       })
+      refl
 
-  -- from a position on
-  since : (more : List Part) (p : Position) (last : ℕ) → IsPosition limits log p → GoOn p.at more last → last ≤ length log
+  -- a commit is new, or it is not
+  moves_on : (p q : Position) (n many : ℕ) (b : Bool) → nat_lt p.at n ≡ b → (if b then renewed limits.history n p.low else p) ≡ q → (if b then 1 else 0) ≡ many
+      → Moves limits.history (Some p) false (Commit n) (Some q) false many
+  moves_on p q n many b is next counts =
+      let place : Some q ≡ moved limits.history (Some p) (Commit n) = sym (ap (λ a. Some (if a then renewed limits.history n p.low else p)) is ∙ ap Some next) in
+      let news : many ≡ (if nat_lt p.at n then 1 else 0) = sym (ap (λ a. if a then 1 else 0) is ∙ counts) in
+      record {
+        place = λ bs. ap (λ z. moved_by limits.history z bs) place;
+        anew = λ bs. refl;
+        count = λ bs i. news i + count_new limits.history (place i) bs;
+      }
+
+  -- from a number on of which the mirror holds the token
+  since : (more : List Part) (p : Position) (k last : ℕ) → IsPosition limits log p → p.low ≤ k → k ≤ p.at → GoOn k more last → last ≤ length log
       → (front behind : List ℕ) → front ++ behind ≡ parts_text log more → IsTakenFront limits log (Some p) false more front
-  since [] p last h g within front behind e = no_part goes_on limits log (Some p) false front behind e
-  since (Snapshot n ∷ more) p last h g within front behind e = absurd g
-  since (Line_feed ∷ more) p last h g within front behind e =
-      one_part goes_on limits log (Some p) (Some p) false false Line_feed more (taken_line_feed (Some p) false)
-      (record { place = λ bs. refl; anew = λ bs. refl; count = λ bs. omega arith }) (since more p last h g within) front behind e
-  since (Commit n ∷ more) p last h g within front behind e =
-      let up = goes_up (p.at + 1) more last g.1 in
-      let next : suc p.at ≤ length log = omega arith in
-      let same : suc p.at ≡ n = let f = g.0 in omega arith in
-      let q = renewed limits.history (suc p.at) p.low in
-      let one : p.at + 1 ≡ suc p.at = omega arith in
-      let go_on : GoOn (suc p.at) more last = subst (λ k. GoOn k more last) one g.1 in
-      subst (λ m. (front behind : List ℕ) → front ++ behind ≡ parts_text log (Commit m ∷ more) → IsTakenFront limits log (Some p) false (Commit m ∷ more) front) same
-      (one_part goes_on limits log (Some p) (Some q) false false (Commit (suc p.at)) more (taken_commit p h next)
-      (record { place = λ bs. refl; anew = λ bs. refl; count = λ bs. omega arith }) (since more q last (renewed_is_position limits log p h next) go_on within)) front behind e
+  since [] p k last h from to g within front behind e = no_part goes_on limits log (Some p) false front behind e
+  since (Snapshot n ∷ more) p k last h from to g within front behind e = absurd g
+  since (Line_feed ∷ more) p k last h from to g within front behind e =
+      one_part goes_on limits log (Some p) (Some p) false false 0 Line_feed more (taken_line_feed (Some p) false)
+      (record { place = λ bs. refl; anew = λ bs. refl; count = λ bs. omega arith }) (since more p k last h from to g within) front behind e
+  since (Commit n ∷ more) p k last h from to g within front behind e =
+      by (λ q. since more q (k + 1) last) (nat_lt p.at n) refl front behind e
+    where
+      by : ((q : Position) → IsPosition limits log q → q.low ≤ k + 1 → k + 1 ≤ q.at → GoOn (k + 1) more last → last ≤ length log
+          → (front behind : List ℕ) → front ++ behind ≡ parts_text log more → IsTakenFront limits log (Some q) false more front)
+          → (b : Bool) → nat_lt p.at n ≡ b
+          → (front behind : List ℕ) → front ++ behind ≡ parts_text log (Commit n ∷ more) → IsTakenFront limits log (Some p) false (Commit n ∷ more) front
+      by go true is =
+          let less = ltb-true p.at n is in
+          let up = goes_up (k + 1) more last g.1 in
+          let next : suc p.at ≤ length log = omega (arith, g.0) in
+          let same : suc p.at ≡ n = omega (arith, g.0) in
+          let q = renewed limits.history (suc p.at) p.low in
+          let there = renewed_is_position limits log p h next in
+          let order = there.order in
+          subst (λ m. (front behind : List ℕ) → front ++ behind ≡ parts_text log (Commit m ∷ more) → IsTakenFront limits log (Some p) false (Commit m ∷ more) front) same
+          (one_part goes_on limits log (Some p) (Some q) false false 1 (Commit (suc p.at)) more (taken_commit p h next)
+          (moves_on p q (suc p.at) 1 true (ap (nat_lt p.at) same ∙ is) refl refl)
+          (go q there (omega (arith, g.0)) (omega (arith, g.0)) g.1 within))
+      by go false is =
+          let less = ltb-false p.at n is in
+          one_part goes_on limits log (Some p) (Some p) false false 0 (Commit n) more (taken_again p n h (omega (arith, g.0)) (omega arith))
+          (moves_on p p n 0 false is refl refl)
+          (go p h (omega arith) (omega (arith, g.0)) g.1 within)
 
   -- a fresh connection
   fresh : (place : Option Position) (start : ℕ) (more : List Part) (last : ℕ) → GoOn start more last → last ≤ length log
@@ -221,12 +282,12 @@ module _ (goes_on : TextsGoOn) (batches : BatchesPublishAtEnd) (snapshots : Snap
       let up = goes_up start more last g in
       let here : start ≤ length log = omega arith in
       let h : IsPosition limits log (record { at = start; low = start }) = record { order = omega arith; kept = omega arith; in_log = here } in
-      one_part goes_on limits log place (Some (record { at = start; low = start })) true false (Snapshot start) more (taken_snapshot place start here)
+      one_part goes_on limits log place (Some (record { at = start; low = start })) true false 1 (Snapshot start) more (taken_snapshot place start here)
       (record { place = λ bs. refl; anew = λ bs. sym (not_zero (length bs)); count = λ bs. omega arith })
-      (since more (record { at = start; low = start }) last h g within) front behind e
+      (since more (record { at = start; low = start }) start last h (omega arith) (omega arith) g within) front behind e
 
   either : (is_fresh : Bool) (place : Option Position) (start : ℕ) (parts : List Part) (last : ℕ) → IsPlace limits log place
-      → (is_fresh ≡ false → (own : Position) × (place ≡ Some own) × (own.at ≡ start))
+      → (is_fresh ≡ false → (own : Position) × (place ≡ Some own) × (own.low ≤ start) × (start ≤ own.at))
       → (more : List Part) → parts ≡ first_parts is_fresh start ++ more → GoOn start more last → last ≤ length log
       → (front behind : List ℕ) → front ++ behind ≡ parts_text log parts → IsTakenFront limits log place is_fresh parts front
   either true place start parts last p at more e g within front behind f =
@@ -235,10 +296,10 @@ module _ (goes_on : TextsGoOn) (batches : BatchesPublishAtEnd) (snapshots : Snap
       let own = at refl in
       subst (λ q. IsTakenFront limits log q false parts front) (sym own.1)
       (subst (λ ps. IsTakenFront limits log (Some own.0) false ps front) (sym e)
-      (since more own.0 last (subst (IsPlace limits log) own.1 p) (subst (λ k. GoOn k more last) (sym own.2) g) within front behind (f ∙ ap (parts_text log) e)))
+      (since more own.0 start last (subst (IsPlace limits log) own.1 p) own.2 own.3 g within front behind (f ∙ ap (parts_text log) e)))
 
-pub fronts_are_read : TextsGoOn → BatchesPublishAtEnd → SnapshotsPublishAtEnd → ListingIsWithin → StepsRead → TakenAreGood → FrontsAreRead
-fronts_are_read goes_on batches snapshots listed_within read good limits log place c front behind is_log opened e =
+pub fronts_are_read : TextsGoOn → BatchesPublishAtEnd → SnapshotsPublishAtEnd → ListingIsWithin → StepsRead → StepsCount → TakenAreGood → FrontsAreRead
+fronts_are_read goes_on batches snapshots listed_within read counted good limits log place c front behind is_log opened e =
     let g = either goes_on batches snapshots listed_within limits log is_log c.fresh place c.start c.parts c.last opened.mirror opened.start opened.order.more opened.order.parts opened.order.go_on opened.sent front behind e in
     let opening = opening_at log place c.fresh in
     let latest = latest_at limits log place opened.mirror in
@@ -251,5 +312,5 @@ fronts_are_read goes_on batches snapshots listed_within read good limits log pla
       nothing_bad = record { good = good limits opening (lines front) g.notes (subst (λ s. AllTaken limits s (lines front) g.notes) (sym begins) g.takes.taken); short = g.takes.short };
       shows = sym (ap (λ s. s.node.shown) ends) ∙ g.shown;
       awaits = sym (ap (λ s. s.afresh) ends) ∙ g.anew;
-      published = g.count;
+      published = sym (counted limits.history opening g.notes) ∙ ap (λ s. times_published s g.notes) begins ∙ g.count;
     }

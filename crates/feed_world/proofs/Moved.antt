@@ -133,20 +133,20 @@ choose_keeps : (m : Mirror) (b : Bool) (x y : Move) → x.1.upstream ≡ m.upstr
 choose_keeps m true x y p q = p
 choose_keeps m false x y p q = q
 
-connects_to_keeps : (m : Mirror) (server : Position) (own : Option Position) → (connects_to m server own).1.upstream ≡ m.upstream
-connects_to_keeps m server None = refl
-connects_to_keeps m server (Some own) = choose_keeps m m.afresh _ _ refl (choose_keeps m (holds_number server own.at) _ _ refl refl)
+connects_to_keeps : (m : Mirror) (server : Position) (own : Option Position) (back : ℕ) → (connects_to m server own back).1.upstream ≡ m.upstream
+connects_to_keeps m server None back = refl
+connects_to_keeps m server (Some own) back = choose_keeps m m.afresh _ _ refl (choose_keeps m (holds_number server own.at) _ _ refl refl)
 
-connects_keeps : (m : Mirror) (server : Option Position) → (connects m server).1.upstream ≡ m.upstream
-connects_keeps m None = refl
-connects_keeps m (Some server) = connects_to_keeps m server m.place
+connects_keeps : (m : Mirror) (server : Option Position) (back : ℕ) → (connects m server back).1.upstream ≡ m.upstream
+connects_keeps m None back = refl
+connects_keeps m (Some server) back = connects_to_keeps m server m.place back
 
 linked_keeps : (m : Mirror) (c : Option Connection) (act : Connection → Move) → ((d : Connection) → (act d).1.upstream ≡ m.upstream) → IfOk (with_connection c act) (λ move. move.1.upstream ≡ m.upstream)
 linked_keeps m None act k = tt
 linked_keeps m (Some c) act k = k c
 
-pub keeps_connect : (w : World) → Keeps (λ m. mirror_connects m (place_at w m.upstream))
-keeps_connect w m = connects_keeps m (place_at w m.upstream)
+pub keeps_connect : (w : World) (back : ℕ) → Keeps (λ m. mirror_connects back m (place_at w m.upstream))
+keeps_connect w back m = connects_keeps m (place_at w m.upstream) back
 
 pub keeps_serve : (w : World) → Keeps (λ m. mirror_serves m (place_at w m.upstream))
 keeps_serve w m = linked_keeps m m.connection _ (λ c. refl)

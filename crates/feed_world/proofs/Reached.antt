@@ -1,5 +1,5 @@
 -- A mirror that was brought all that was sent is where the last of it was sent.
-use Rattle.std.proofs.Common.{◌≡◌, refl, sym, ap, ◌∙◌, subst, ℕ, zero, suc, ◌+◌, ◌-◌, Bool, true, false, arith, List, [], ◌∷◌, ◌++◌, length, Option, Some, None, IfSome, nat_le, leb-false, length-append, slice_get}
+use Rattle.std.proofs.Common.{◌≡◌, refl, sym, ap, ◌∙◌, subst, ℕ, zero, suc, ◌+◌, ◌-◌, ◌<◌, ◌≤◌, Bool, true, false, arith, List, [], ◌∷◌, ◌++◌, length, Option, Some, None, IfSome, nat_le, leb-false, nat_lt, ltb-false, length-append, slice_get}
 use Rattle.std.specs.Prelude.{if◌then◌else◌}
 use Rattle.std.specs.Option.{option_and_then}
 use Rattle.feed_node.specs.Limits.{Limits}
@@ -30,27 +30,24 @@ all_blocks log (part ∷ parts) n e =
     subst (λ m. (if nat_le a m then block_onto part (blocks_within log parts (n - a)) else []) ≡ block_onto part (blocks_of parts)) (sym whole)
     (within a b part (blocks_within log parts (n - a)) (blocks_of parts) (all_blocks log parts (n - a) rest))
 
--- it is at this number
-abbrev IsAt : ℕ → Option Position → Type 0
-IsAt k None = ⊥
-IsAt k (Some p) = p.at ≡ k
-
-goes_to : (history : ℕ) (parts : List Part) (k last : ℕ) (p : Position) → p.at ≡ k → GoOn k parts last → IsAt last (moved_by history (Some p) (blocks_of parts))
-goes_to history [] k last p e g = e ∙ g
+-- a mirror that has the number of what was sent before, or a later one, has that of the last
+goes_to : (history : ℕ) (parts : List Part) (k last : ℕ) (p : Position) → k ≤ p.at → GoOn k parts last → HasReached (moved_by history (Some p) (blocks_of parts)) last
+goes_to history [] k last p e g = omega (arith, e, g)
 goes_to history (Line_feed ∷ parts) k last p e g = goes_to history parts k last p e g
-goes_to history (Commit n ∷ parts) k last p e g = goes_to history parts (k + 1) last (renewed history n p.low) g.0 g.1
+goes_to history (Commit n ∷ parts) k last p e g = goes_to history parts (k + 1) last (if nat_lt p.at n then renewed history n p.low else p) (by (nat_lt p.at n) refl) g.1
+  where
+    by : (b : Bool) → nat_lt p.at n ≡ b → k + 1 ≤ (if b then renewed history n p.low else p).at
+    by true is = omega (arith, g.0)
+    by false is = let less = ltb-false p.at n is in omega (arith, g.0)
 goes_to history (Snapshot n ∷ parts) k last p e g = absurd g
 
-comes_to : (history : ℕ) (before : Option Position) (fresh : Bool) (start last : ℕ) (more : List Part) → (fresh ≡ false → (own : Position) × (before ≡ Some own) × (own.at ≡ start)) → GoOn start more last
-    → IsAt last (moved_by history before (blocks_of (first_parts fresh start ++ more)))
-comes_to history before true start last more s g = goes_to history more start last (record { at = start; low = start }) refl g
+comes_to : (history : ℕ) (before : Option Position) (fresh : Bool) (start last : ℕ) (more : List Part)
+    → (fresh ≡ false → (own : Position) × (before ≡ Some own) × (own.low ≤ start) × (start ≤ own.at)) → GoOn start more last
+    → HasReached (moved_by history before (blocks_of (first_parts fresh start ++ more))) last
+comes_to history before true start last more s g = goes_to history more start last (record { at = start; low = start }) (omega arith) g
 comes_to history before false start last more s g =
     let own = s refl in
-    subst (λ o. IsAt last (moved_by history o (blocks_of more))) (sym own.1) (goes_to history more start last own.0 own.2 g)
-
-reached_by : (last : ℕ) (place : Option Position) → IsAt last place → HasReached place last
-reached_by last None h = absurd h
-reached_by last (Some p) h = omega (arith, h)
+    subst (λ o. HasReached (moved_by history o (blocks_of more)) last) (sym own.1) (goes_to history more start last own.0 own.3 g)
 
 read_all : (limits : Limits) (log : Log) (m : Mirror) (c : Connection) (f : FollowerState) (s : ConnectionState) → AreLinked limits log m (Some c) f (Some s) → HasReadAll log m.place c
 read_all limits log m c f s h all =
@@ -58,8 +55,7 @@ read_all limits log m c f s h all =
     let o = r.opened in
     let order = o.order in
     let blocks : blocks_within log c.parts c.delivered ≡ blocks_of (first_parts c.fresh c.start ++ order.more) = all_blocks log c.parts c.delivered all ∙ ap blocks_of order.parts in
-    reached_by c.last m.place
-    (subst (IsAt c.last) (sym (r.place ∙ ap (moved_by limits.history r.before) blocks)) (comes_to limits.history r.before c.fresh c.start c.last order.more o.start order.go_on))
+    subst (λ place. HasReached place c.last) (sym (r.place ∙ ap (moved_by limits.history r.before) blocks)) (comes_to limits.history r.before c.fresh c.start c.last order.more o.start order.go_on)
 
 linked_all : (limits : Limits) (log : Log) (m : Mirror) (f : FollowerState) (c : Option Connection) (s : Option ConnectionState) → AreLinked limits log m c f s → IfSome c (HasReadAll log m.place)
 linked_all limits log m f None s h = tt

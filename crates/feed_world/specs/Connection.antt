@@ -1,6 +1,6 @@
 -- A connection between a node and a mirror behind it: what was sent on it, and how much of that
 -- came (CLICS Contest API 2023-06, event feed and reconnection).
-use Rattle.std.specs.Prelude.{◌≡◌, ℕ, ◌+◌, ◌-◌, Bool, List, [], ◌∷◌, ◌++◌, length, drop, flat_map, fold, Option, Some, None, if◌then◌else◌, nat_le}
+use Rattle.std.specs.Prelude.{◌≡◌, ℕ, ◌+◌, ◌-◌, Bool, true, false, List, [], ◌∷◌, ◌++◌, length, drop, flat_map, fold, Option, Some, None, if◌then◌else◌, nat_le, nat_lt}
 use Rattle.feed_text.specs.Ascii.{line_feed}
 use Rattle.feed_world.specs.Log.{Log, state_text, commit_text}
 use Rattle.feed_world.specs.Position.{Position, renewed}
@@ -67,16 +67,31 @@ abbrev pub blocks_between : Log → Connection → ℕ → ℕ → List Part
 blocks_between log connection d e =
     drop (length (blocks_come log connection d)) (blocks_come log connection e)
 
--- where a mirror is after a block came whole
+-- whether a block is new to a mirror that is here: a snapshot is, and a commit with a number above
+-- the mirror's
+abbrev pub is_new : Option Position → Part → Bool
+is_new place (Snapshot k) = true
+is_new (Some own) (Commit k) = nat_lt own.at k
+is_new None (Commit k) = false
+is_new place Line_feed = false
+
+-- where a mirror is after a block came whole: where it was, if the block is not new
 abbrev pub moved : ℕ → Option Position → Part → Option Position
 moved history place (Snapshot k) = Some (record { at = k; low = k })
-moved history (Some own) (Commit k) = Some (renewed history k own.low)
+moved history (Some own) (Commit k) =
+    Some (if nat_lt own.at k then renewed history k own.low else own)
 moved history None (Commit k) = None
 moved history place Line_feed = place
 
 -- where it is after these blocks
 abbrev pub moved_by : ℕ → Option Position → List Part → Option Position
 moved_by history place blocks = fold (moved history) place blocks
+
+-- how many of these blocks are new, each when it came
+abbrev pub count_new : ℕ → Option Position → List Part → ℕ
+count_new history place [] = 0
+count_new history place (block ∷ blocks) =
+    (if is_new place block then 1 else 0) + count_new history (moved history place block) blocks
 
 -- these parts go on from a number: each commit is the next one, up to the last, with any number of
 -- line feeds before, between and after them

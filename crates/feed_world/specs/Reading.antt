@@ -3,36 +3,38 @@ use Rattle.std.specs.Prelude.{◌≡◌, ℕ, ◌≤◌, ◌<◌, ◌^◌, Bool,
 use Rattle.feed_note.specs.declared.line.Line.{Line}
 use Rattle.feed_node.specs.Limits.{Limits}
 use Rattle.feed_node.specs.Log.{token_after}
-use Rattle.feed_node.specs.Mirroring.{token_count}
+use Rattle.feed_node.specs.Mirroring.{publications}
 use Rattle.feed_node.specs.Reading.{Opening, Reads, reads, keep_latest, awaits_reset}
 use Rattle.feed_world.specs.Log.{Log, IsLog, state_after}
 use Rattle.feed_world.specs.Position.{Position, IsPlace, node_where}
-use Rattle.feed_world.specs.Connection.{Connection, IsInOrder, sent_text, blocks_within, moved_by}
+use Rattle.feed_world.specs.Connection.{Connection, IsInOrder, sent_text, blocks_within, moved_by, count_new}
 
 -- a connection's opening: where its mirror was, and whether it is fresh
 abbrev pub opening_at : Log → Option Position → Bool → Opening
 opening_at log place fresh = record { before = node_where log place; fresh = fresh }
 
--- a connection that is fresh, or starts at the mirror's number; it sent, in order, what stands in
--- the log
+-- a connection that is fresh, or starts at a number of which the mirror holds the token; it sent, in
+-- order, what stands in the log
 pub record IsOpened (limits : Limits) (log : Log) (place : Option Position)
     (c : Connection) : Type 0 where
   pub mirror : IsPlace limits log place
-  pub start : c.fresh ≡ false → (own : Position) × (place ≡ Some own) × (own.at ≡ c.start)
+  pub start : c.fresh ≡ false → (own : Position) × (place ≡ Some own) × (own.low ≤ c.start)
+      × (c.start ≤ own.at)
   pub order : IsInOrder c
   pub sent : c.last ≤ length log
 
 -- A front of what was sent has nothing bad, and the mirror that reads it is where its whole blocks
--- bring it: it publishes at each of them, and nothing else.
+-- bring it: it publishes at each of them that is new, and nothing else.
 pub record IsRead (limits : Limits) (log : Log) (place : Option Position) (c : Connection)
     (front : List ℕ) : Type 0 where
   pub notes : List Line
   pub nothing_bad : Reads limits (opening_at log place c.fresh) front notes
-  pub shows : keep_latest limits.history (reads (opening_at log place c.fresh) notes)
+  pub shows : keep_latest limits.history (reads limits.history (opening_at log place c.fresh) notes)
       ≡ node_where log (moved_by limits.history place (blocks_within log c.parts (length front)))
   pub awaits : awaits_reset (opening_at log place c.fresh) notes ≡ (c.fresh
       && (length (blocks_within log c.parts (length front)) == 0))
-  pub published : token_count notes ≡ length (blocks_within log c.parts (length front))
+  pub published : publications limits.history (opening_at log place c.fresh) notes
+      ≡ count_new limits.history place (blocks_within log c.parts (length front))
 
 -- whatever front of what was sent came
 abbrev pub FrontsAreRead : Type 0

@@ -202,12 +202,12 @@ BreaksForMemory reply = Unit {0}
 
 -- the event at which the mirror of this number asks for this
 abbrev pub event_asking : Asks → ℕ → Event
-event_asking ForConnection i = Connect i
+event_asking (ForConnection back) i = Connect i back
 event_asking ForCommit i = Serve i
 
 -- what comes of it, where that node is at this place
 abbrev pub mirror_asks : Asks → Mirror → Option Position → Result Move WorldFault
-mirror_asks ForConnection m server = mirror_connects m server
+mirror_asks (ForConnection back) m server = mirror_connects back m server
 mirror_asks ForCommit m server = mirror_serves m server
 
 -- ---- what a connection has carried

@@ -1,5 +1,5 @@
 -- What each event does to a world, and the reply. An event has one reply, but where memory ran out.
-use Rattle.std.specs.Prelude.{◌≡◌, ◌≢◌, ◌⊎◌, ℕ, ◌+◌, ◌<◌, ◌≤◌, Bool, true, false, ◌&&◌, List, [], ◌∷◌, ◌++◌, length, Option, Some, None, option_map, is_some, Result, Ok, Err, min, if◌then◌else◌, nat_lt, nat_le, ◌==◌, IsSome, IsTrue}
+use Rattle.std.specs.Prelude.{◌≡◌, ◌≢◌, ◌⊎◌, ℕ, ◌+◌, ◌-◌, ◌<◌, ◌≤◌, Bool, true, false, ◌&&◌, List, [], ◌∷◌, ◌++◌, length, Option, Some, None, option_map, is_some, Result, Ok, Err, min, if◌then◌else◌, nat_lt, nat_le, ◌==◌, IsSome, IsTrue}
 use Rattle.feed_tables.specs.declared.change.Change.{Change}
 use Rattle.feed_node.specs.declared.primary.CommitFault.{CommitFault}
 use Rattle.feed_node.specs.declared.primary.CommitFault.TheVariants.{Memory as CommitMemory}
@@ -13,7 +13,7 @@ use Rattle.feed_world.specs.declared.event.Reply.{Reply}
 use Rattle.feed_world.specs.declared.event.Reply.TheVariants.{Committed, Opened, Refused, NotYet, Sent, Idled, Delivered, Broke, Cut, Saved, Restarted}
 use Rattle.feed_world.specs.declared.event.WorldFault.{WorldFault}
 use Rattle.feed_world.specs.declared.event.WorldFault.TheVariants.{NoNode, NoConnection, Commit as CommitRefused, Memory}
-use Rattle.feed_world.specs.Connection.{Part, Commit, Line_feed, Connection, bytes_sent, blocks_between, moved_by, first_parts}
+use Rattle.feed_world.specs.Connection.{Part, Commit, Line_feed, Connection, bytes_sent, blocks_between, moved_by, count_new, first_parts}
 use Rattle.feed_world.specs.Log.{Log, state_text}
 use Rattle.feed_world.specs.Position.{Position, node_at, renewed}
 use Rattle.feed_world.specs.World.{Mirror, World, mirror_at, with_mirror, place_at, saved_text}
@@ -53,8 +53,9 @@ commits_unless world changes None =
 abbrev pub commits : World → List Change → Outcome
 commits world changes = commits_unless world changes (commit_fault (primary_of world) changes)
 
--- ---- Connect: where the server holds the mirror's token, a connection behind it; else the token
--- is refused. Without a token, or once it was refused, a fresh connection.
+-- ---- Connect: where the server holds the mirror's token, a connection behind it, or behind a token
+-- so many places before; else the token is refused. Without a token, or once it was refused, a fresh
+-- connection.
 
 -- the mirror with this connection, or none
 abbrev pub linked : Mirror → Option Connection → Mirror
@@ -82,19 +83,24 @@ opens mirror fresh start = (Opened, linked mirror (Some (new_connection fresh st
 abbrev pub holds_number : Position → ℕ → Bool
 holds_number server k = nat_le server.low k && nat_le k server.at
 
-abbrev pub connects_behind : Mirror → Position → ℕ → Move
-connects_behind mirror server own =
-    if holds_number server own then opens mirror false own else (Refused, refused mirror)
+-- the number so many places before a mirror's own; no further than both nodes hold tokens
+abbrev pub start_before : ℕ → Position → Position → ℕ
+start_before back server own = own.at - min back (min (own.at - own.low) (own.at - server.low))
 
-abbrev pub connects_to : Mirror → Position → Option Position → Move
-connects_to mirror server None = opens mirror true server.at
-connects_to mirror server (Some own) =
-    if mirror.afresh then opens mirror true server.at else connects_behind mirror server own.at
+abbrev pub connects_behind : Mirror → Position → Position → ℕ → Move
+connects_behind mirror server own back =
+    if holds_number server own.at then opens mirror false (start_before back server own)
+    else (Refused, refused mirror)
+
+abbrev pub connects_to : Mirror → Position → Option Position → ℕ → Move
+connects_to mirror server None back = opens mirror true server.at
+connects_to mirror server (Some own) back =
+    if mirror.afresh then opens mirror true server.at else connects_behind mirror server own back
 
 -- to a server that is at this place
-abbrev pub connects : Mirror → Option Position → Move
-connects mirror None = (NotYet, linked mirror None)
-connects mirror (Some server) = connects_to mirror server mirror.place
+abbrev pub connects : Mirror → Option Position → ℕ → Move
+connects mirror None back = (NotYet, linked mirror None)
+connects mirror (Some server) back = connects_to mirror server mirror.place back
 
 -- ---- Serve: the commit after the last one, where the server holds its token; else nothing more
 -- comes
@@ -152,7 +158,7 @@ brought_to history log mirror c e connection =
 
 abbrev pub delivers_up_to : ℕ → Log → Mirror → Connection → ℕ → Move
 delivers_up_to history log mirror c e = (
-  Delivered (length (blocks_between log c c.delivered e)),
+  Delivered (count_new history mirror.place (blocks_between log c c.delivered e)),
   brought_to history log mirror c e
       (Some (delivered_to c e)),
 )
@@ -200,8 +206,8 @@ abbrev pub with_connection : Option Connection → (Connection → Move) → Res
 with_connection None act = Err NoConnection
 with_connection (Some c) act = Ok (act c)
 
-abbrev pub mirror_connects : Mirror → Option Position → Result Move WorldFault
-mirror_connects mirror server = Ok (connects mirror server)
+abbrev pub mirror_connects : ℕ → Mirror → Option Position → Result Move WorldFault
+mirror_connects back mirror server = Ok (connects mirror server back)
 
 abbrev pub mirror_serves : Mirror → Option Position → Result Move WorldFault
 mirror_serves mirror server =
@@ -245,8 +251,8 @@ at_node world i act = with_node world i (mirror_at world i) act
 -- the reply to an event and the world after it, where memory suffices
 abbrev pub outcome : World → Event → Outcome
 outcome world (DoCommit changes) = commits world changes
-outcome world (Connect i) =
-    at_node world i (λ mirror. mirror_connects mirror (place_at world mirror.upstream))
+outcome world (Connect i back) =
+    at_node world i (λ mirror. mirror_connects back mirror (place_at world mirror.upstream))
 outcome world (Serve i) =
     at_node world i (λ mirror. mirror_serves mirror (place_at world mirror.upstream))
 outcome world (Idle i) = at_node world i mirror_idles

@@ -14,8 +14,9 @@ use thiserror::Error;
 pub enum Event {
     /// The primary makes these changes.
     Commit(Changes),
-    /// This mirror connects to the node that it is behind.
-    Connect(usize),
+    /// This mirror connects to the node that it is behind, which sends again so many commits before
+    /// the mirror's token, as far as both nodes hold their tokens.
+    Connect(usize, usize),
     /// The node at the other end of this mirror's connection sends its next commit.
     Serve(usize),
     /// That node has no more to send for now: it sends a line feed.
@@ -34,7 +35,8 @@ pub enum Event {
 /// What a mirror asks of the node that it is behind.
 #[derive(Clone, Copy)]
 pub(crate) enum Asks {
-    ForConnection,
+    /// With so many commits again.
+    ForConnection(usize),
     ForCommit,
 }
 

@@ -24,6 +24,7 @@ impl Draws {
 enum Kind {
     Commits,
     Connects,
+    GoesBack,
     Serves,
     Idles,
     Delivers,
@@ -32,7 +33,7 @@ enum Kind {
     Restarts,
 }
 
-use Kind::{Commits, Connects, Cuts, Delivers, Idles, Restarts, Saves, Serves};
+use Kind::{Commits, Connects, Cuts, Delivers, GoesBack, Idles, Restarts, Saves, Serves};
 
 /// The kinds of events, each as often as it is drawn.
 const KINDS: [Kind; 16] = [
@@ -44,6 +45,12 @@ const KINDS: [Kind; 16] = [
 const RESTARTING: [Kind; 16] = [
     Commits, Commits, Connects, Connects, Connects, Connects, Serves, Serves, Serves, Idles,
     Delivers, Delivers, Delivers, Cuts, Saves, Restarts,
+];
+
+/// The same where servers send again what mirrors hold.
+const RESENDING: [Kind; 16] = [
+    Commits, Commits, Connects, GoesBack, GoesBack, GoesBack, Serves, Serves, Serves, Serves, Idles,
+    Delivers, Delivers, Delivers, Saves, Restarts,
 ];
 
 /// The mirrors, each as often as it is drawn, and two numbers of no mirror.
@@ -99,7 +106,12 @@ fn draw(alloc: Global, draws: &mut Draws, kinds: &[Kind; 16], model: &Numbers) -
     }
     let number = *MIRRORS.get(draws.next() % 16)?;
     let (event, happening) = match kind {
-        Connects => (Event::Connect(number), Happening::Connect(number)),
+        Connects => (Event::Connect(number, 0), Happening::Connect(number, 0)),
+        GoesBack => {
+            let back = draws.next() % 4;
+            let event = Event::Connect(number, back);
+            (event, Happening::Connect(number, back))
+        }
         Serves => (Event::Serve(number), Happening::Serve(number)),
         Idles => (Event::Idle(number), Happening::Idle(number)),
         Cuts => (Event::Cut(number), Happening::Cut(number)),
@@ -270,4 +282,14 @@ fn ample_with_restarts(rt: HostRuntime) {
     };
     assert_eq!(rt; tally.alike, 10_000);
     assert!(rt; tally.replies.iter().all(|times| 0 < *times));
+}
+
+#[test]
+fn ample_with_resends(rt: HostRuntime) {
+    let Some(tally) = play(rt.alloc(), &RESENDING, 10_000) else {
+        assert!(rt; false, "no world");
+        return;
+    };
+    assert_eq!(rt; tally.alike, 10_000);
+    assert!(rt; tally.replies.iter().take(14).all(|times| 0 < *times));
 }

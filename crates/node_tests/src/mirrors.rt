@@ -215,8 +215,12 @@ const HELD: [Script; 6] = [
             Feed(TEAM_3, Ok(1)),
             Feed(TEAM_4, Ok(1)),
             Feed(TEAM_5, Ok(1)),
+            Lacks(Mirror, "2"),
             Feed(TEAM_2, Ok(1)),
             Holds(Mirror, &["4", "5", "2"]),
+            Lacks(Mirror, "3"),
+            Feed(TEAM_1, Ok(1)),
+            Holds(Mirror, &["5", "2", "1"]),
         ],
     },
     // A line with a held token, which would also make too many changes wait.

@@ -52,7 +52,7 @@ fn replies_to_no_event(rt: HostRuntime) {
 /// Events of which the fourth can't happen.
 const STOPPED: [(Act, Want); 6] = [
     (Commit(TEAM_1), Want::Committed("1")),
-    (Connect(1), Want::Opened),
+    (Connect(1, 0), Want::Opened),
     (Deliver(1, ALL), Want::Delivered(1)),
     (Serve(2), Want::NoNode),
     (Commit(TEAM_2), Want::Committed("2")),

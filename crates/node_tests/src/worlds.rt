@@ -9,7 +9,9 @@ use feed_node::{Limits, Pulled};
 use feed_world::{ShapeFault, World};
 use std::alloc::Global;
 use world_scripts::Act::{Commit, Connect, Cut, Deliver, Idle, Restart, Save, Serve};
-use world_scripts::{ALL, FOLLOWED, GONE, LOST, STATE, TEAM_1, TEAM_2, Want};
+use world_scripts::{
+    ALL, FOLLOWED, GONE, LOST, RESENT, RESENT_ONE, RESENT_TWICE, STATE, TEAM_1, TEAM_2, Want,
+};
 
 /// What is sent by a session that has more to send, and by one that has not.
 const MORE: Want = Want::Sent(Pulled::More);
@@ -43,11 +45,18 @@ const OTHER_TEAM: &str = r#"{"type":"state","id":null,"data":{}}
 {"type":"teams","id":"2","data":{"id":"2"},"token":"4"}
 "#;
 
+const NO_TEAM: &str = r#"{"type":"teams","id":null,"data":[],"token":"2"}
+"#;
+
+const NO_TEAM_AND_STATE: &str = r#"{"type":"state","id":null,"data":{}}
+{"type":"teams","id":null,"data":[],"token":"3"}
+"#;
+
 const STATE_SHOWN: &str = r#"{"type":"state","id":null,"data":{},"token":"1"}
 "#;
 
 /// Scripts, with what is shown on their way.
-const SCRIPTS: [Course; 5] = [
+const SCRIPTS: [Course; 8] = [
     // What was published stays until a snapshot came whole.
     Course {
         up: &[0],
@@ -72,6 +81,37 @@ const SCRIPTS: [Course; 5] = [
             Shows(2, OTHER_TEAM),
         ],
     },
+    // What a mirror holds comes again, and changes nothing.
+    Course {
+        up: &[0],
+        history: 4,
+        staged: 100,
+        steps: &[
+            Part(&RESENT, 0, 7),
+            Shows(1, NO_TEAM),
+            Part(&RESENT, 7, 12),
+            Shows(1, NO_TEAM),
+            Part(&RESENT, 12, 15),
+            Shows(1, NO_TEAM_AND_STATE),
+        ],
+    },
+    Course {
+        up: &[0, 1],
+        history: 2,
+        staged: 100,
+        steps: &[
+            Part(&RESENT_TWICE, 0, 21),
+            Shows(2, NO_TEAM),
+            Part(&RESENT_TWICE, 21, 30),
+            Shows(2, NO_TEAM_AND_STATE),
+        ],
+    },
+    Course {
+        up: &[0],
+        history: 1,
+        staged: 100,
+        steps: &[Part(&RESENT_ONE, 0, 14), Shows(1, NO_TEAM_AND_STATE)],
+    },
     // A commit is sent once, and then a line feed.
     Course {
         up: &[0],
@@ -86,16 +126,16 @@ const SCRIPTS: [Course; 5] = [
         history: 2,
         staged: 100,
         steps: &[
-            Step::Act(Connect(1), Want::Opened),
+            Step::Act(Connect(1, 0), Want::Opened),
             Step::Act(Deliver(1, ALL), Want::Delivered(1)),
             Step::Act(Commit(TEAM_1), Want::Committed("1")),
             Step::Act(Commit(TEAM_2), Want::Committed("2")),
-            Step::Act(Connect(1), Want::Opened),
+            Step::Act(Connect(1, 0), Want::Opened),
             Step::Act(Serve(1), MORE),
             Step::Act(Serve(1), MORE),
             Step::Act(Deliver(1, 60), Want::Delivered(1)),
             Step::Act(Cut(1), Want::Cut),
-            Step::Act(Connect(1), Want::Opened),
+            Step::Act(Connect(1, 0), Want::Opened),
             Step::Act(Serve(1), MORE),
             Step::Act(Serve(1), UP_TO_DATE),
             Step::Act(Deliver(1, ALL), Want::Delivered(1)),
@@ -108,12 +148,12 @@ const SCRIPTS: [Course; 5] = [
         history: 1,
         staged: 100,
         steps: &[
-            Step::Act(Connect(2), Want::NotYet),
-            Step::Act(Connect(1), Want::Opened),
+            Step::Act(Connect(2, 0), Want::NotYet),
+            Step::Act(Connect(1, 0), Want::Opened),
             Step::Act(Deliver(1, 52), Want::Delivered(0)),
-            Step::Act(Connect(2), Want::NotYet),
+            Step::Act(Connect(2, 0), Want::NotYet),
             Step::Act(Deliver(1, 1), Want::Delivered(1)),
-            Step::Act(Connect(2), Want::Opened),
+            Step::Act(Connect(2, 0), Want::Opened),
             Step::Act(Deliver(2, ALL), Want::Delivered(1)),
             Shows(2, NO_TYPES),
         ],
@@ -141,7 +181,7 @@ const CARRIED: [Course; 4] = [
         steps: &[
             Step::Act(Commit(TEAM_1), Want::Committed("1")),
             CarriesNone(1),
-            Step::Act(Connect(1), Want::Opened),
+            Step::Act(Connect(1, 0), Want::Opened),
             Carries(1, 93, 0, "1"),
             Step::Act(Deliver(1, 10), Want::Delivered(0)),
             Carries(1, 93, 10, "1"),
@@ -172,17 +212,17 @@ const CARRIED: [Course; 4] = [
         history: 1,
         staged: 100,
         steps: &[
-            Step::Act(Connect(1), Want::Opened),
+            Step::Act(Connect(1, 0), Want::Opened),
             Carries(1, 53, 0, "0"),
             Step::Act(Deliver(1, ALL), Want::Delivered(1)),
             Carries(1, 53, 53, "0"),
             Step::Act(Commit(TEAM_1), Want::Committed("1")),
             Carries(1, 53, 53, "0"),
-            Step::Act(Connect(1), Want::Opened),
+            Step::Act(Connect(1, 0), Want::Opened),
             Carries(1, 0, 0, "0"),
             Step::Act(Serve(1), MORE),
             Carries(1, 56, 0, "1"),
-            Step::Act(Connect(1), Want::Opened),
+            Step::Act(Connect(1, 0), Want::Opened),
             Carries(1, 0, 0, "0"),
             Step::Act(Commit(TEAM_2), Want::Committed("2")),
             Carries(1, 0, 0, "0"),
@@ -192,9 +232,9 @@ const CARRIED: [Course; 4] = [
             Carries(1, 0, 0, "0"),
             Step::Act(Deliver(1, ALL), Want::Delivered(0)),
             Carries(1, 0, 0, "0"),
-            Step::Act(Connect(1), Want::Refused),
+            Step::Act(Connect(1, 0), Want::Refused),
             CarriesNone(1),
-            Step::Act(Connect(1), Want::Opened),
+            Step::Act(Connect(1, 0), Want::Opened),
             Carries(1, 137, 0, "2"),
         ],
     },
@@ -204,9 +244,9 @@ const CARRIED: [Course; 4] = [
         history: 1,
         staged: 100,
         steps: &[
-            Step::Act(Connect(2), Want::NotYet),
+            Step::Act(Connect(2, 0), Want::NotYet),
             CarriesNone(2),
-            Step::Act(Connect(1), Want::Opened),
+            Step::Act(Connect(1, 0), Want::Opened),
             CarriesNone(2),
             CarriesNone(0),
             CarriesNone(3),
@@ -220,12 +260,12 @@ const CARRIED: [Course; 4] = [
         history: 1,
         staged: 100,
         steps: &[
-            Step::Act(Connect(1), Want::Opened),
+            Step::Act(Connect(1, 0), Want::Opened),
             Step::Act(Deliver(1, ALL), Want::Delivered(1)),
             CarriesNone(2),
-            Step::Act(Connect(2), Want::Opened),
+            Step::Act(Connect(2, 0), Want::Opened),
             Carries(2, 53, 0, "0"),
-            Step::Act(Connect(1), Want::Opened),
+            Step::Act(Connect(1, 0), Want::Opened),
             Carries(2, 53, 0, "0"),
             Step::Act(Deliver(1, ALL), Want::Delivered(0)),
             Carries(2, 53, 0, "0"),
@@ -271,9 +311,9 @@ const SHOWN: [Course; 4] = [
         history: 2,
         staged: 100,
         steps: &[
-            Step::Act(Connect(1), Want::Opened),
+            Step::Act(Connect(1, 0), Want::Opened),
             Step::Act(Deliver(1, ALL), Want::Delivered(1)),
-            Step::Act(Connect(2), Want::Opened),
+            Step::Act(Connect(2, 0), Want::Opened),
             Step::Act(Deliver(2, ALL), Want::Delivered(1)),
             Step::Act(Commit(OBJECT), Want::Committed("1")),
             Step::Act(Serve(1), MORE),
@@ -295,16 +335,16 @@ const SHOWN: [Course; 4] = [
         history: 2,
         staged: 100,
         steps: &[
-            Step::Act(Connect(1), Want::Opened),
+            Step::Act(Connect(1, 0), Want::Opened),
             Step::Act(Deliver(1, ALL), Want::Delivered(1)),
             Step::Act(Commit(TEAM_1), Want::Committed("1")),
-            Step::Act(Connect(3), Want::Opened),
+            Step::Act(Connect(3, 0), Want::Opened),
             Step::Act(Deliver(3, ALL), Want::Delivered(1)),
             Step::Act(Commit(TEAM_2), Want::Committed("2")),
             Step::Act(Serve(1), MORE),
             Step::Act(Serve(1), MORE),
             Step::Act(Deliver(1, ALL), Want::Delivered(2)),
-            Step::Act(Connect(2), Want::Opened),
+            Step::Act(Connect(2, 0), Want::Opened),
             Step::Act(Deliver(2, ALL), Want::Delivered(1)),
             Step::Act(Commit(STATE), Want::Committed("3")),
             Step::Act(Cut(1), Want::Cut),
@@ -328,7 +368,7 @@ const SHOWN: [Course; 4] = [
             Logs(""),
             Step::Act(Commit(TEAM_1), Want::Committed("1")),
             Step::Act(Commit(BATCH), Want::Committed("2")),
-            Step::Act(Connect(1), Want::Opened),
+            Step::Act(Connect(1, 0), Want::Opened),
             Step::Act(Commit(TEAM_2), Want::Committed("3")),
             Logs(LOG),
         ],
@@ -342,7 +382,7 @@ const SHOWN: [Course; 4] = [
         steps: &[
             Step::Act(Commit(TEAM_1), Want::Committed("1")),
             Step::Act(Commit(TEAM_2), Want::Committed("2")),
-            Step::Act(Connect(1), Want::Opened),
+            Step::Act(Connect(1, 0), Want::Opened),
             Step::Act(Deliver(1, ALL), Want::Delivered(1)),
             Holds(0, "1"),
             Holds(0, "2"),
@@ -371,8 +411,8 @@ const REFUSED: [Course; 4] = [
         history: 1,
         staged: 100,
         steps: &[
-            Step::Act(Connect(2), Want::NoNode),
-            Step::Act(Connect(0), Want::NoNode),
+            Step::Act(Connect(2, 0), Want::NoNode),
+            Step::Act(Connect(0, 0), Want::NoNode),
             Step::Act(Serve(2), Want::NoNode),
             Step::Act(Serve(0), Want::NoNode),
             Step::Act(Idle(2), Want::NoNode),
@@ -421,13 +461,13 @@ const REFUSED: [Course; 4] = [
         history: 1,
         staged: 100,
         steps: &[
-            Step::Act(Connect(1), Want::Opened),
+            Step::Act(Connect(1, 0), Want::Opened),
             Step::Act(Deliver(1, ALL), Want::Delivered(1)),
             Step::Act(Cut(1), Want::Cut),
             Step::Act(Cut(1), Want::NoConnection),
             Step::Act(Serve(1), Want::NoConnection),
             Shows(1, NO_TYPES),
-            Step::Act(Connect(2), Want::Opened),
+            Step::Act(Connect(2, 0), Want::Opened),
         ],
     },
     // The greatest number of mirrors.

@@ -37,7 +37,12 @@ pub(crate) fn told(status: u16) -> Served {
 }
 
 pub(crate) fn finals(alloc: Global) -> Option<Place> {
-    Place::new(alloc, "h", "", "finals").ok()
+    place(alloc, "h", "", "finals")
+}
+
+/// A place, whose proof reads no letter of its texts.
+fn place(alloc: Global, host: &str, base: &str, contest: &str) -> Option<Place> {
+    Place::new(alloc, host, base, contest).ok()
 }
 
 /// A primary without commits.

@@ -7,7 +7,7 @@ pub returns-clause-fronts : goal.returns-clause-fronts
 returns-clause-fronts c =
     let reading = c.reading_laws.ensures in
     let node = c.node_laws.ensures in
-    fronts_are_read reading.goes_on reading.batches reading.snapshots c.table_laws.ensures.within node.read node.good
+    fronts_are_read reading.goes_on reading.batches reading.snapshots c.table_laws.ensures.within node.read node.counted node.good
 
 pub returns-clause-tokens : goal.returns-clause-tokens
 returns-clause-tokens c = tokens_tell
