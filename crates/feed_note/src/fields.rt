@@ -2,7 +2,7 @@
 
 ghost use Rattle.std.specs.Prelude.{◌≡◌, ◌||◌, IfOk, IfSome, MatchResult, option_map, IsUtf8, IsTrue, Bool};
 ghost use Rattle.feed_text.specs.Members.{item_view, member_view, member_views, IsMemberSpelling, AreMemberSpellings};
-ghost use Rattle.feed_text.specs.Strings.{Says};
+ghost use Rattle.feed_text.specs.Strings.{Says, written_string};
 ghost use Rattle.feed_note.specs.Meaning.{Notification};
 ghost use Rattle.feed_note.specs.Naming.{IsSpeltValue};
 ghost use Rattle.feed_note.specs.Reading.{last_value_spelt, HasFields, AreSpelt, AreUsual, Spell, AreNamesOf, IsFirstFault};
@@ -10,7 +10,7 @@ ghost use Rattle.feed_note.specs.Naming.{is_unreadable as unreadable_test, is_un
 
 use crate::line::LineFault;
 use crate::naming::{Naming, read_member_naming, read_naming};
-use feed_text::{Item, Member, Members, plain_text};
+use feed_text::{Item, Member, Members, text_laws};
 use std::alloc::{AllocError, Global};
 
 /// The values of the members that count: the last one of each name, where there is one.
@@ -46,15 +46,13 @@ fn last_value<'a>(
     }
 }
 
-/// Whether a member's key is this text, with no backslash in it.
-fn is_plainly(member: &Member<'_>, text: &str) -> bool
-    requires { IsMemberSpelling (member_view member.now) }
+/// Whether a member's key is this text as it is usually written.
+fn is_plainly(member: &Member<'_>, text: &str, written: &[u8]) -> bool
+    requires { written.now ≡ written_string text.now }
     ensures { IsTrue result → Says (member_view member.now).0 text.now }
 {
-    match plain_text(member.key) {
-        Some(found) => found == text,
-        None => false,
-    }
+    text_laws();
+    member.key == written
 }
 
 /// The values of the members that count.
@@ -69,6 +67,7 @@ pub fn read_fields<'a>(alloc: Global, members: &Members<'a>) -> Result<Fields<'a
 }
 
 /// The values of the members that count, where no others stand and these do in the usual order.
+#[tactic(auto, unfolding(feed_text::specs::Strings::written_string))]
 fn usual_fields<'a>(members: &[Member<'a>]) -> Option<Fields<'a>>
     requires { AreMemberSpellings (member_views members.now) }
     ensures values { IfSome result (λ fields. HasFields (member_views members.now) fields) }
@@ -77,7 +76,7 @@ fn usual_fields<'a>(members: &[Member<'a>]) -> Option<Fields<'a>>
     if members.len() == 3 {
         return fields_of(&members[0], &members[1], &members[2], None);
     }
-    if members.len() == 4 && is_plainly(&members[3], "token") {
+    if members.len() == 4 && is_plainly(&members[3], "token", b"\"token\"") {
         let token = members[3].item();
         return fields_of(&members[0], &members[1], &members[2], Some(token));
     }
@@ -85,6 +84,7 @@ fn usual_fields<'a>(members: &[Member<'a>]) -> Option<Fields<'a>>
 }
 
 /// The fields of three members, where these are a type, an id and data, and a token.
+#[tactic(auto, unfolding(feed_text::specs::Strings::written_string))]
 fn fields_of<'a>(
     kind: &Member<'a>,
     id: &Member<'a>,
@@ -97,7 +97,10 @@ fn fields_of<'a>(
     ensures { IfSome result (AreUsual
         (member_view kind.now) (member_view id.now) (member_view content.now) token.entry) }
 {
-    if !is_plainly(kind, "type") || !is_plainly(id, "id") || !is_plainly(content, "data") {
+    if !is_plainly(kind, "type", b"\"type\"")
+        || !is_plainly(id, "id", b"\"id\"")
+        || !is_plainly(content, "data", b"\"data\"")
+    {
         return None;
     }
     Some(Fields {
