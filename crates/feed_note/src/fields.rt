@@ -1,16 +1,16 @@
 //! The members of a notification that count, and what they name.
 
-ghost use Rattle.std.specs.Prelude.{◌≡◌, ◌||◌, IfOk, IfSome, MatchResult, option_map, IsUtf8, IsTrue, Bool};
+ghost use Rattle.std.specs.Prelude.{◌≡◌, ◌||◌, IfOk, IfSome, MatchResult, option_map, IsUtf8, IsTrue, Bool, codes};
 ghost use Rattle.feed_text.specs.Members.{item_view, member_view, member_views, IsMemberSpelling, AreMemberSpellings};
 ghost use Rattle.feed_text.specs.Strings.{Says, written_string};
 ghost use Rattle.feed_note.specs.Meaning.{Notification};
 ghost use Rattle.feed_note.specs.Naming.{IsSpeltValue};
-ghost use Rattle.feed_note.specs.Reading.{last_value_spelt, HasFields, AreSpelt, AreUsual, Spell, AreNamesOf, IsFirstFault};
+ghost use Rattle.feed_note.specs.Reading.{last_value_spelt, where_named, HasFields, AreSpelt, AreUsual, Spell, AreNamesOf, IsFirstFault};
 ghost use Rattle.feed_note.specs.Naming.{is_unreadable as unreadable_test, is_unreadable_or_null};
 
 use crate::line::LineFault;
 use crate::naming::{Naming, read_member_naming, read_naming};
-use feed_text::{Item, Member, Members, text_laws};
+use feed_text::{Item, Member, Members, plain_text, text_laws};
 use std::alloc::{AllocError, Global};
 
 /// The values of the members that count: the last one of each name, where there is one.
@@ -60,7 +60,10 @@ pub fn read_fields<'a>(alloc: Global, members: &Members<'a>) -> Result<Fields<'a
     ensures values { IfOk result (λ fields. HasFields members.now fields) }
     ensures spelt { IfOk result (λ fields. AreSpelt fields) }
 {
-    match usual_fields(members.list()) {
+    if let Some(fields) = usual_fields(members.list()) {
+        return Ok(fields);
+    }
+    match plain_fields(members.list()) {
         Some(fields) => Ok(fields),
         None => find_fields(alloc, members),
     }
@@ -109,6 +112,43 @@ fn fields_of<'a>(
         content: Some(content.item()),
         token,
     })
+}
+
+/// The values of the members that count, wherever they stand, where no key has a backslash.
+fn plain_fields<'a>(members: &[Member<'a>]) -> Option<Fields<'a>>
+    requires { AreMemberSpellings (member_views members.now) }
+    ensures values { IfSome result (λ fields. HasFields (member_views members.now) fields) }
+    ensures spelt { IfSome result (λ fields. AreSpelt fields) }
+{
+    let mut fields = Fields {
+        kind: None,
+        id: None,
+        content: None,
+        token: None,
+    };
+    for member in members {
+        let name = plain_text(member.key)?;
+        fields.put(name, member.item());
+    }
+    Some(fields)
+}
+
+impl<'a> Fields<'a> {
+    /// Has the value of a member of this name, where it counts.
+    fn put(&mut self, name: &str, value: Item<'a>)
+        ensures kind { self.new.kind ≡ where_named name.now (codes "type") value.entry self.old.kind }
+        ensures id { self.new.id ≡ where_named name.now (codes "id") value.entry self.old.id }
+        ensures content { self.new.content ≡ where_named name.now (codes "data") value.entry self.old.content }
+        ensures token { self.new.token ≡ where_named name.now (codes "token") value.entry self.old.token }
+    {
+        match name {
+            "type" => self.kind = Some(value),
+            "id" => self.id = Some(value),
+            "data" => self.content = Some(value),
+            "token" => self.token = Some(value),
+            _ => {}
+        }
+    }
 }
 
 /// The values of the members that count, wherever they stand.
