@@ -98,7 +98,7 @@ fn rounds(alloc: Global, course: Course) -> Option<usize> {
             chain.commit(alloc, lines)?;
         }
         if chain.follows(alloc, course, course.1)? {
-            right += 1;
+            right = right.saturating_add(1);
         }
     }
     Some(right)
