@@ -55,8 +55,8 @@ const RESTARTING: [Kind; 16] = [
 
 /// The same where servers send again what mirrors hold.
 const RESENDING: [Kind; 16] = [
-    Commits, Commits, Connects, GoesBack, GoesBack, GoesBack, Serves, Serves, Serves, Serves, Idles,
-    Delivers, Delivers, Delivers, Saves, Restarts,
+    Commits, Commits, Connects, GoesBack, GoesBack, GoesBack, Serves, Serves, Serves, Serves,
+    Idles, Delivers, Delivers, Delivers, Saves, Restarts,
 ];
 
 /// The mirrors, each as often as it is drawn, and two numbers of no mirror.
