@@ -143,7 +143,7 @@ const PARTS: &[Parts] = &[
 
 fn has_parts(alloc: Global, parts: &Parts) -> Option<bool> {
     let primary = new_primary(alloc)?;
-    let answered = answer(alloc, parts.0, primary.node(), "finals", parts.1).ok()?;
+    let answered = answer(alloc, parts.0, primary.node(), "finals", parts.1, 0).ok()?;
     let token = answered
         .session
         .as_ref()
@@ -167,7 +167,7 @@ fn opens_behind_a_token(rt: HostRuntime) {
 
 fn opened_behind(alloc: Global) -> Option<bool> {
     let primary = new_primary(alloc)?;
-    let answered = answer(alloc, BEHIND, primary.node(), "finals", Framing::Close).ok()?;
+    let answered = answer(alloc, BEHIND, primary.node(), "finals", Framing::Close, 0).ok()?;
     Some(answered.bytes.as_slice() == CLOSE_HEAD)
 }
 

@@ -4,6 +4,8 @@
 #[cfg(test)]
 mod answers;
 #[cfg(test)]
+mod backs;
+#[cfg(test)]
 mod frames;
 #[cfg(test)]
 mod heads;

@@ -76,7 +76,7 @@ pub(crate) fn mirror_at(alloc: Global, token: &str) -> Option<Mirror> {
 
 /// The bytes of the answer to a head, with the feed in chunks where it may be.
 pub(crate) fn answered(alloc: Global, head: &[u8], node: &Node) -> Option<Vec<u8>> {
-    let answered = answer(alloc, head, node, "finals", Framing::Chunked).ok()?;
+    let answered = answer(alloc, head, node, "finals", Framing::Chunked, 0).ok()?;
     Some(answered.bytes)
 }
 

@@ -42,6 +42,7 @@ fn serves_as_asked(alloc: Global) -> Option<bool> {
             "--turn",
             "1000000",
             "--chunked",
+            "--back=65536",
             "--history=2",
             "--staged=3",
         ],
@@ -54,6 +55,7 @@ fn serves_as_asked(alloc: Global) -> Option<bool> {
             && least.count == 7
             && least.turn == None
             && least.framing == Framing::Close
+            && least.back == 0
             && least.limits.history() == 1000
             && least.limits.staged() == 1_000_000
             && most.port == 1
@@ -61,6 +63,7 @@ fn serves_as_asked(alloc: Global) -> Option<bool> {
             && most.count == 1_000_000
             && most.turn == Some(1_000_000)
             && most.framing == Framing::Chunked
+            && most.back == 65_536
             && most.limits.history() == 2
             && most.limits.staged() == 3,
     )

@@ -10,8 +10,15 @@ const REPEATED: &str = r#"{"type":"teams","id":"1","data":{},"token":"1"}
 {"type":"teams","id":"1","data":null,"token":"1"}
 "#;
 
+const REPEATED_AND_BAD: &str = r#"{"type":"teams","id":"1","data":{},"token":"1"}
+{"type":"teams","id":"2","data":{},"token":"2"}
+{"type":"teams","id":"3","data":{},"token":"3"}
+{"type":"teams","id":"1","data":null,"token":"1"}
+{"type":"teams","id":"9","data":[]}
+"#;
+
 /// Feeds that are read to their end and publish.
-const PUBLISHED: [Case; 6] = [
+const PUBLISHED: [Case; 7] = [
     Case {
         words: TABLES,
         input: ONE_TEAM,
@@ -66,6 +73,18 @@ const PUBLISHED: [Case; 6] = [
 "#,
         err: "",
     },
+    // The last line's token is held: its commit came again, and changes nothing.
+    Case {
+        words: TABLES,
+        input: REPEATED,
+        status: 0,
+        out: r#"{"type":"teams","id":null,"data":[]}
+{"type":"teams","id":"1","data":{}}
+{"type":"teams","id":"2","data":{}}
+{"type":"teams","id":"3","data":{},"token":"3"}
+"#,
+        err: "",
+    },
     // A token that is too old to be held is a new one.
     Case {
         words: &["tunygarop", "tables", "--history", "1"],
@@ -80,7 +99,7 @@ const PUBLISHED: [Case; 6] = [
 ];
 
 /// Feeds that publish nothing, or have a line that is refused.
-const REFUSED: [Case; 5] = [
+const REFUSED: [Case; 4] = [
     Case {
         words: TABLES,
         input: "",
@@ -119,18 +138,6 @@ const REFUSED: [Case; 5] = [
         status: 2,
         out: ONE_TEAM_PRINTED,
         err: "tables: no meaning\n",
-    },
-    // The last line's token is held.
-    Case {
-        words: TABLES,
-        input: REPEATED,
-        status: 2,
-        out: r#"{"type":"teams","id":null,"data":[]}
-{"type":"teams","id":"1","data":{}}
-{"type":"teams","id":"2","data":{}}
-{"type":"teams","id":"3","data":{},"token":"3"}
-"#,
-        err: "tables: token again\n",
     },
 ];
 
@@ -172,17 +179,17 @@ const PLACED: [Case; 6] = [
         out: "",
         err: "tables: not a JSON object\ntables: line 3\n",
     },
-    // The last line's token is held.
+    // A line behind a commit that came again.
     Case {
         words: VERBOSE,
-        input: REPEATED,
+        input: REPEATED_AND_BAD,
         status: 2,
         out: r#"{"type":"teams","id":null,"data":[]}
 {"type":"teams","id":"1","data":{}}
 {"type":"teams","id":"2","data":{}}
 {"type":"teams","id":"3","data":{},"token":"3"}
 "#,
-        err: "tables: token again\ntables: line 4\n",
+        err: "tables: no meaning\ntables: line 5\n",
     },
     // More changes wait than are allowed.
     Case {

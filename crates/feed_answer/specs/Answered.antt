@@ -34,11 +34,12 @@ answer_opened framing (Err NotYet) = refusing NothingPublished
 answer_opened framing (Err NotHeld) = refusing TokenNotHeld
 answer_opened framing (Err Memory) = refusing NothingPublished
 
--- what the node answers to what is asked, where the body may be framed so
-abbrev pub answer_to : Asked → NodeState → Framing → AnswerParts
-answer_to (refused refusal) node framing = refusing refusal
-answer_to (feed minor since) node framing =
-    answer_opened (framing_for minor framing) (opens node since)
+-- what the node answers to what is asked, where the body may be framed so, and a session begins so
+-- many tokens before the one that is asked with
+abbrev pub answer_to : Asked → NodeState → Framing → ℕ → AnswerParts
+answer_to (refused refusal) node framing back = refusing refusal
+answer_to (feed minor since) node framing back =
+    answer_opened (framing_for minor framing) (opens node back since)
 
 -- the parts of an answer
 abbrev pub parts_of : ℕ → Framing → List ℕ → Option (List ℕ) → AnswerParts
@@ -46,7 +47,8 @@ parts_of status framing text session =
     record { status = status; framing = framing; text = text; session = session }
 
 -- the answer to these bytes
-pub record AnswersTo (head contest : List ℕ) (node : NodeState) (framing : Framing) (answer : AnswerParts) : Type 0 where
+pub record AnswersTo (head contest : List ℕ) (node : NodeState) (framing : Framing) (back : ℕ)
+    (answer : AnswerParts) : Type 0 where
   pub asked : Asked
   pub asks : Asks head contest asked
-  pub answer_is : answer ≡ answer_to asked node framing
+  pub answer_is : answer ≡ answer_to asked node framing back

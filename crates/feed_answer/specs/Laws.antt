@@ -28,8 +28,8 @@ RequestIsRead = (place : Place) (since : Option (List ℕ)) → IsPlace place �
 -- so it is answered as opening a session at its token decides
 abbrev pub RequestIsAnswered : Type 0
 RequestIsAnswered =
-    (place : Place) (since : Option (List ℕ)) (node : NodeState) (framing : Framing) (answer : AnswerParts)
-    → IsPlace place → place.base ≡ []
+    (place : Place) (since : Option (List ℕ)) (node : NodeState) (framing : Framing) (back : ℕ)
+    (answer : AnswerParts) → IsPlace place → place.base ≡ []
     → MayBeAskedWith since
-    → AnswersTo (request_text place since) place.contest node framing answer
-    → answer ≡ answer_opened framing (opens node since)
+    → AnswersTo (request_text place since) place.contest node framing back answer
+    → answer ≡ answer_opened framing (opens node back since)

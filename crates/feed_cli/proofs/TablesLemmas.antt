@@ -13,7 +13,7 @@ use Rattle.feed_node.specs.declared.fault.FeedFault.{FeedFault}
 use Rattle.feed_node.specs.declared.fault.FeedFault.TheVariants as feed
 use Rattle.feed_node.specs.Limits.{Limits}
 use Rattle.feed_node.specs.Mirroring.{MirrorState, StandsAt, Fed, HasStopped, Faulted}
-use Rattle.feed_node.specs.Reading.{Reads, FaultsAt}
+use Rattle.feed_node.specs.Reading.{Reads, FaultsAt, reads}
 use Rattle.feed_cli.specs.Fault.{fault_of_feed}
 use Rattle.feed_cli.specs.Tables.{first_opening, input_turns, Stands, HasRead, HasReadOn, IsLeft, HasFaulted, IsFed, Printed, PrintedSome, PrintedFront, outcome_of, TablesFail}
 use Rattle.feed_cli.specs.Streams.{Streams}
@@ -69,7 +69,8 @@ read_by limits least a b mirror s = record {
   notes = s.notes;
   read = subst (Consumes a b) (append-nil s.bytes) s.read;
   good = subst (λ l. Reads l first_opening s.bytes s.notes) s.limits_are s.stands.nothing_bad;
-  shown_is = ap (λ m. m.node.published) s.stands.state;
+  shown_is = ap (λ m. m.node.published) s.stands.state
+      ∙ ap (λ l. (reads l.history first_opening s.notes).published) s.limits_are;
 }
 
 -- all reads that are allowed gave something
@@ -92,7 +93,8 @@ faulted_at limits least a b rest fed behind old new why line s cut left (notes, 
   read = subst (Consumes a b) (ap (λ l. s.bytes ++ l) (sym cut) ∙ sym (append_assoc s.bytes fed behind)) s.read;
   left = left;
   first = subst (λ l. FaultsAt l first_opening (s.bytes ++ fed) notes why) s.limits_are stopped.first;
-  shown_is = ap (λ m. m.node.published) stopped.state;
+  shown_is = ap (λ m. m.node.published) stopped.state
+      ∙ ap (λ l. (reads l.history first_opening notes).published) s.limits_are;
 }
 
 -- the same of each fault but want of memory
@@ -102,7 +104,6 @@ pub stopped_at : (limits : Limits) (least : ℕ) (a b : Option (List ℕ)) (rest
 stopped_at limits least a b rest fed behind old new feed.NotOpen line s cut left f n = faulted_at limits least a b rest fed behind old new feed.NotOpen line s cut left f
 stopped_at limits least a b rest fed behind old new feed.LongLine line s cut left f n = faulted_at limits least a b rest fed behind old new feed.LongLine line s cut left f
 stopped_at limits least a b rest fed behind old new (feed.Line why) line s cut left f n = faulted_at limits least a b rest fed behind old new (feed.Line why) line s cut left f
-stopped_at limits least a b rest fed behind old new feed.TokenAgain line s cut left f n = faulted_at limits least a b rest fed behind old new feed.TokenAgain line s cut left f
 stopped_at limits least a b rest fed behind old new feed.StageFull line s cut left f n = faulted_at limits least a b rest fed behind old new feed.StageFull line s cut left f
 stopped_at limits least a b rest fed behind old new feed.Memory line s cut left f n = absurd (n refl)
 
@@ -112,7 +113,6 @@ told_at : (limits : Limits) (a b : Option (List ℕ)) (shown : Option Published)
 told_at limits a b shown feed.NotOpen line h n = h (λ e. absurd (cc))
 told_at limits a b shown feed.LongLine line h n = h (λ e. absurd (cc))
 told_at limits a b shown (feed.Line why) line h n = h (λ e. absurd (cc))
-told_at limits a b shown feed.TokenAgain line h n = h (λ e. absurd (cc))
 told_at limits a b shown feed.StageFull line h n = h (λ e. absurd (cc))
 told_at limits a b shown feed.Memory line h n = absurd (n refl)
 

@@ -40,7 +40,7 @@ pub record HasRead (limits : Limits) (old new : Option (List ℕ)) (shown : Opti
   pub notes : List Line
   pub read : Consumes old new bytes
   pub good : Reads limits first_opening bytes notes
-  pub shown_is : shown ≡ (reads first_opening notes).published
+  pub shown_is : shown ≡ (reads limits.history first_opening notes).published
 
 -- the same, where each of the reads that are allowed gave something
 pub record HasReadOn (limits : Limits) (old new : Option (List ℕ)) (shown : Option Published)
@@ -63,7 +63,7 @@ pub record HasFaulted (limits : Limits) (why : FeedStop) (old new : Option (List
   pub read : Consumes old new (bytes ++ behind)
   pub left : IsLeft why.line behind
   pub first : FaultsAt limits first_opening bytes notes why.fault
-  pub shown_is : shown ≡ (reads first_opening notes).published
+  pub shown_is : shown ≡ (reads limits.history first_opening notes).published
 
 -- what was read of the input, how that ended, and what is published then
 abbrev pub IsFed : Limits → Result (Unit {0}) Fault → Option (List ℕ) → Option (List ℕ)

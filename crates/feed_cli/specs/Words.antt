@@ -31,13 +31,17 @@ most_port = 65535
 abbrev pub most_rounds : ℕ
 most_rounds = 1000000
 
--- an option with a number from 1 to the most
-abbrev pub number_in : Text → ℕ → Rule
-number_in name most = record (new_rule name) {
+-- an option with a number from the least to the most
+abbrev pub number_between : Text → ℕ → ℕ → Rule
+number_between name least most = record (new_rule name) {
   long = Some name;
   value_names = 1;
-  parser = Some (Unsigned 1 most);
+  parser = Some (Unsigned least most);
 }
+
+-- the same with a number from 1 on
+abbrev pub number_in : Text → ℕ → Rule
+number_in name most = number_between name 1 most
 
 -- an option with any text
 abbrev pub text_option : Text → Rule
@@ -82,6 +86,9 @@ turn = number_in (codes "turn") most_rounds
 abbrev pub chunked : Rule
 chunked = flag (codes "chunked")
 
+abbrev pub back : Rule
+back = with_default (codes "0") (number_between (codes "back") 0 most_commits)
+
 abbrev pub host : Rule
 host = needed (text_option (codes "host"))
 
@@ -121,7 +128,9 @@ abbrev pub play : App
 play = new_app (codes "play")
 
 abbrev pub serve : App
-serve = with_limits (with_rule (with_rule (with_served (new_app (codes "serve"))) turn) chunked)
+serve =
+    with_limits (with_rule (with_rule (with_rule (with_served (new_app (codes "serve"))) turn)
+    chunked) back)
 
 abbrev pub pull : App
 pull = with_pull (new_app (codes "pull"))
@@ -154,6 +163,11 @@ number_at name rows = option_map (λ t. digits_value 10 (without_leading_plus t)
 -- the text of an option's value
 abbrev pub text_at : Text → List Row → Option Text
 text_at name rows = first_of name rows
+
+-- an option's value says this number, from 0 to the most
+pub record IsNumberUpTo (name : Text) (most : ℕ) (rows : List Row) (number : ℕ) : Type 0 where
+  pub said : number_at name rows ≡ Some number
+  pub greatest : number ≤ most
 
 -- an option's value says this number, from 1 to the most
 pub record IsNumber (name : Text) (most : ℕ) (rows : List Row) (number : ℕ) : Type 0 where
@@ -196,6 +210,7 @@ pub record AsksServe (rows : List Row) (options : ServeOptions) : Type 0 where
   pub contest_is : text_at (codes "contest") rows ≡ Some options.contest.now
   pub count_is : IsNumber (codes "count") most_rounds rows options.count
   pub turn_is : IsNumberIfGiven (codes "turn") most_rounds rows options.turn
+  pub back_is : IsNumberUpTo (codes "back") most_commits rows options.back
   pub framing_is : IsFramed rows options.framing
   pub limits_are : AsksLimits rows options.limits
 

@@ -40,6 +40,8 @@ pub struct ServeOptions<'a> {
     pub turn: Option<usize>,
     /// How the answers are framed.
     pub framing: Framing,
+    /// How many commits before the token of a reader its feed begins, 0 to 65,536.
+    pub back: usize,
     /// The primary's limits.
     pub limits: Limits,
 }

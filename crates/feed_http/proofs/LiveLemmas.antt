@@ -1,12 +1,14 @@
 -- What a session is sent while its primary takes batches.
 use Rattle.std.proofs.Common.{◌≡◌, ◌≢◌, refl, sym, ap, ◌∙◌, subst, ℕ, zero, suc, ◌+◌, ◌-◌, ◌<◌, ◌≤◌, Bool, true, false, true≢false, List, [], ◌∷◌, ◌++◌, length, take, drop, get_or, arith, inl, inr, Option, Some, None, append_assoc, append-nil, length-append, length-drop, length-take, map, cond, not, nat_lt}
-use Rattle.std.specs.Prelude.{◌⊎◌, MatchOption, Vec, min, Result, Ok, Err, IfErr, IfSome, is_some, if◌then◌else◌}
+use Rattle.std.specs.Prelude.{◌⊎◌, MatchOption, Vec, min, Result, Ok, Err, IfErr, IfSome, slice_get}
 use Rattle.std.specs.List.{prefix_len}
+use Rattle.std.specs.Option.{option_and_then}
 use Rattle.std.specs.Str.{bytes_eq}
 use Rattle.std.specs.Io.KnownBytes.{Appends}
 use Rattle.std.proofs.KnownBytes.{Appends-trans}
 use Rattle.std.proofs.Math.ListN.{get_or-append}
 use Rattle.std.proofs.lemmas.List.{get_or-drop}
+use Rattle.std.proofs.lemmas.Option.{slice_get-get_or, slice_get_within}
 use Rattle.std.proofs.lemmas.Bool.{cases_lt, cases_Bool}
 use Rattle.std.proofs.lemmas.Bool.Decides.{nat_tests}
 use Rattle.std.proofs.lemmas.Slice.Eq.{bytes_eq-Decides}
@@ -15,14 +17,13 @@ use Rattle.feed_note.specs.Publishing.{Published}
 use Rattle.feed_node.specs.declared.commit.Commit.{Commit}
 use Rattle.feed_node.specs.declared.primary.CommitFault.{CommitFault}
 use Rattle.feed_node.specs.Log.{PrimaryState, token_after}
-use Rattle.feed_node.specs.States.{NodeState, nothing_published, token_of, place_of, holds_token, keep_last, HoldsItsTokens, IsConsistent}
-use Rattle.feed_node.specs.Serving.{is_published}
+use Rattle.feed_node.specs.States.{NodeState, nothing_published, token_of, place_of, keep_last, HoldsItsTokens, IsConsistent}
+use Rattle.feed_node.specs.Serving.{is_published, token_before}
 use Rattle.feed_answer.specs.declared.framing.Framing.{Framing}
-use Rattle.feed_node.specs.declared.session.OpenFault.TheVariants.{NotHeld}
 use Rattle.feed_answer.specs.Answered.{AnswersTo, parts_of, answer_to, answer_opened}
 use Rattle.feed_answer.specs.Asked.{Asked, refused, feed, framing_for}
 use Rattle.feed_answer.specs.Framed.{frame_end}
-use Rattle.feed_answer.specs.Opening.{opens_from}
+use Rattle.feed_answer.specs.Opening.{starts_behind, opens_from}
 use Rattle.feed_answer.specs.Served.{farewell, behind_opening}
 use Rattle.feed_http.specs.declared.fault.EngineFault.{EngineFault}
 use Rattle.feed_http.specs.declared.fault.EngineFault.TheVariants as engine_fault
@@ -263,36 +264,51 @@ sends_live turn start now status framing text opened token sent gone count old m
       (Appends-trans middle between new (commit_frames framing sent) (farewell framing gone ++ frame_end framing) frames end),
 )
 
--- the session of an answer begins at a token that is held
-there_is : (o : Option ℕ) → is_some o ≡ true → (k : ℕ) × (o ≡ Some k)
-there_is None e = absurd (true≢false (sym e))
-there_is (Some k) e = (k, refl)
+-- the token so many places before a held one is held
+before_held : (node : NodeState) (back : ℕ) (asked token : List ℕ)
+    → token_before node back asked ≡ Some token → IsHeld node token
+before_held node back asked token e = by (place_of node asked) refl
+  where
+    before : Option ℕ → Option (List ℕ)
+    before place = option_and_then (λ k. slice_get node.held (k - back)) place
 
-begins_held : (node : NodeState) (framing : Framing) (o : Option Published) (since : Option (List ℕ)) (token : List ℕ)
+    by : (place : Option ℕ) → place_of node asked ≡ place → IsHeld node token
+    by None f = let none : ◌≡◌ {A = Option (List ℕ)} None (Some token) = sym (ap before f) ∙ e in absurd (cc)
+    by (Some place) f =
+        let found : slice_get node.held (place - back) ≡ Some token = sym (ap before f) ∙ e in
+        let within : place - back < length node.held = slice_get_within node.held (place - back) token found in
+        let stands = slice_get-get_or node.held (place - back) [] within in
+        let both : Some (get_or node.held (place - back) []) ≡ Some token = sym stands ∙ found in
+        let same : get_or node.held (place - back) [] ≡ token = cc in
+        placed node token (place - back) within same
+
+-- the session of an answer begins at a token that is held
+starts_so : (framing : Framing) (o : Option (List ℕ)) (token : List ℕ)
+    → (answer_opened framing (starts_behind o)).session ≡ Some token → o ≡ Some token
+starts_so framing None token e = let none : ◌≡◌ {A = Option (List ℕ)} None (Some token) = e in absurd (cc)
+starts_so framing (Some t) token e = e
+
+begins_held : (node : NodeState) (framing : Framing) (back : ℕ) (o : Option Published) (since : Option (List ℕ)) (token : List ℕ)
     → MatchOption o (node ≡ nothing_published) (HoldsItsTokens node)
-    → (answer_opened framing (opens_from node o since)).session ≡ Some token → IsHeld node token
-begins_held node framing None since token h e = let none : ◌≡◌ {A = Option (List ℕ)} None (Some token) = e in absurd (cc)
-begins_held node framing (Some p) None token h e =
+    → (answer_opened framing (opens_from node back o since)).session ≡ Some token → IsHeld node token
+begins_held node framing back None since token h e = let none : ◌≡◌ {A = Option (List ℕ)} None (Some token) = e in absurd (cc)
+begins_held node framing back (Some p) None token h e =
     let is : ◌≡◌ {A = Option (List ℕ)} (Some p.token) (Some token) = e in
     let same : p.token ≡ token = cc in
     let many : length node.held ≡ suc (length node.kept) = ap length h.held ∙ ap suc (tokens-length node.kept) in
     placed node token (length node.kept) (omega arith) (last_is node p h ∙ same)
-begins_held node framing (Some p) (Some asked_with) token h e = elim (cases_Bool (holds_token node asked_with)) [
-  | inl is ↦ (let there : ◌≡◌ {A = Option (List ℕ)} (Some asked_with) (Some token) = subst (λ b. (answer_opened framing (if b then Ok (record { token = asked_with; text = [] }) else Err NotHeld)).session ≡ Some token) is e in
-      let same : asked_with ≡ token = cc in
-      subst (IsHeld node) same (there_is (place_of node asked_with) is))
-  | inr other ↦ (let none : ◌≡◌ {A = Option (List ℕ)} None (Some token) = subst (λ b. (answer_opened framing (if b then Ok (record { token = asked_with; text = [] }) else Err NotHeld)).session ≡ Some token) other e in absurd (cc))
-]
+begins_held node framing back (Some p) (Some asked) token h e =
+    before_held node back asked token (starts_so framing (token_before node back asked) token e)
 
-held_by : (asked : Asked) (node : NodeState) (framing : Framing) (token : List ℕ) → IsConsistent node
-    → (answer_to asked node framing).session ≡ Some token → IsHeld node token
-held_by (refused refusal) node framing token consistent e = let none : ◌≡◌ {A = Option (List ℕ)} None (Some token) = e in absurd (cc)
-held_by (feed minor since) node framing token consistent e = begins_held node (framing_for minor framing) node.published since token consistent e
+held_by : (asked : Asked) (node : NodeState) (framing : Framing) (back : ℕ) (token : List ℕ) → IsConsistent node
+    → (answer_to asked node framing back).session ≡ Some token → IsHeld node token
+held_by (refused refusal) node framing back token consistent e = let none : ◌≡◌ {A = Option (List ℕ)} None (Some token) = e in absurd (cc)
+held_by (feed minor since) node framing back token consistent e = begins_held node (framing_for minor framing) back node.published since token consistent e
 
-pub opened_held : (head contest : List ℕ) (node m : NodeState) (framing : Framing) (status : ℕ) (with_framing : Framing) (text : List ℕ) (session : Option (List ℕ))
-    → AnswersTo head contest node framing (parts_of status with_framing text session) → node ≡ m → IsConsistent m
+pub opened_held : (head contest : List ℕ) (node m : NodeState) (framing : Framing) (back : ℕ) (status : ℕ) (with_framing : Framing) (text : List ℕ) (session : Option (List ℕ))
+    → AnswersTo head contest node framing back (parts_of status with_framing text session) → node ≡ m → IsConsistent m
     → IfSome session (λ token. IsHeld m token)
-opened_held head contest node m framing status with_framing text None answers same consistent = tt
-opened_held head contest node m framing status with_framing text (Some token) answers same consistent =
+opened_held head contest node m framing back status with_framing text None answers same consistent = tt
+opened_held head contest node m framing back status with_framing text (Some token) answers same consistent =
     subst (λ n. IsHeld n token) same
-    (held_by answers.asked node framing token (subst IsConsistent (sym same) consistent) (sym (ap (λ a. a.session) answers.answer_is)))
+    (held_by answers.asked node framing back token (subst IsConsistent (sym same) consistent) (sym (ap (λ a. a.session) answers.answer_is)))

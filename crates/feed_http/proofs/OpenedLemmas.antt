@@ -28,17 +28,18 @@ opened_so framing (Err NotYet) = λ e. absurd (omega arith)
 opened_so framing (Err NotHeld) = λ e. absurd (omega arith)
 opened_so framing (Err Memory) = λ e. absurd (omega arith)
 
-answered_so : (asked : Asked) (node : NodeState) (framing : Framing)
-    → OpenedAt (answer_to asked node framing).status (answer_to asked node framing).session
-answered_so (refused refusal) node framing = λ e. absurd (grind arith)
-answered_so (feed minor since) node framing =
-    opened_so (framing_for minor framing) (opens node since)
+answered_so : (asked : Asked) (node : NodeState) (framing : Framing) (back : ℕ)
+    → OpenedAt (answer_to asked node framing back).status (answer_to asked node framing back).session
+answered_so (refused refusal) node framing back = λ e. absurd (grind arith)
+answered_so (feed minor since) node framing back =
+    opened_so (framing_for minor framing) (opens node back since)
 
-pub opened_at : (head contest : List ℕ) (node : NodeState) (framing : Framing) (answer : AnswerParts)
-    → AnswersTo head contest node framing answer → OpenedAt answer.status answer.session
-opened_at head contest node framing answer a =
+pub opened_at : (head contest : List ℕ) (node : NodeState) (framing : Framing) (back : ℕ)
+    (answer : AnswerParts) → AnswersTo head contest node framing back answer
+    → OpenedAt answer.status answer.session
+opened_at head contest node framing back answer a =
     subst (λ x. OpenedAt x.status x.session) (sym a.answer_is)
-    (answered_so a.asked node framing)
+    (answered_so a.asked node framing back)
 
 -- ---- what that says of the batches
 

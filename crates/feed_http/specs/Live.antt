@@ -133,9 +133,10 @@ WroteRefused turn start answer fault now old new =
 -- ---- on a connection
 
 -- these bytes were read, as far as the head took, and that is a node's answer to them
-pub record HasAnswer (contest : List ℕ) (node : NodeState) (framing : Framing) (source left : Option (List ℕ)) (answer : AnswerParts) : Type 0 where
+pub record HasAnswer (contest : List ℕ) (node : NodeState) (framing : Framing) (back : ℕ)
+    (source left : Option (List ℕ)) (answer : AnswerParts) : Type 0 where
   pub head : List ℕ
   pub read : Consumes source left head
   pub needed : IsReadAsNeeded head
   pub enough : IsEnough head ⊎ IsAtEnd left
-  pub answers : AnswersTo head contest node framing answer
+  pub answers : AnswersTo head contest node framing back answer

@@ -73,9 +73,10 @@ pub record SendsAnswer (node : NodeState) (answer : AnswerParts) (text : List �
   pub tells : Tells answer sent gone served
 
 -- all that a node writes to a client that sent these bytes
-pub record Serves (head contest : List ℕ) (node : NodeState) (framing : Framing) (text : List ℕ) (served : Served) : Type 0 where
+pub record Serves (head contest : List ℕ) (node : NodeState) (framing : Framing) (back : ℕ)
+    (text : List ℕ) (served : Served) : Type 0 where
   pub answer : AnswerParts
-  pub answers : AnswersTo head contest node framing answer
+  pub answers : AnswersTo head contest node framing back answer
   pub sends : SendsAnswer node answer text served
 
 -- reading broke off where a head was still needed, and nothing was written
@@ -86,8 +87,8 @@ BrokeInHead source left old new =
 
 -- these bytes were read, as far as the head took, and a front of what a node writes to a client
 -- that sent them was written
-abbrev pub BrokeBehindHead : List ℕ → NodeState → Framing → Option (List ℕ) → Option (List ℕ)
-    → Option (List ℕ) → Option (List ℕ) → Type 0
-BrokeBehindHead contest node framing source left old new =
+abbrev pub BrokeBehindHead : List ℕ → NodeState → Framing → ℕ → Option (List ℕ)
+    → Option (List ℕ) → Option (List ℕ) → Option (List ℕ) → Type 0
+BrokeBehindHead contest node framing back source left old new =
     (head : List ℕ) × (text : List ℕ) × (served : Served) × Consumes source left head × IsReadAsNeeded head × (IsEnough head ⊎ IsAtEnd left)
-    × Serves head contest node framing text served × AppendsFront old new text
+    × Serves head contest node framing back text served × AppendsFront old new text

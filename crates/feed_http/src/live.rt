@@ -168,10 +168,11 @@ pub fn serve_live<R: FeedRead, W: FeedWrite>(
     contest: &str,
     framing: Framing,
     turns: u64,
+    back: usize,
 ) -> Result<Served, EngineFault>
     requires { 1 ≤ turn }
     ensures ok { IfOk result (λ served. (answer : AnswerParts) × (text : List ℕ)
-        × HasAnswer contest.now primary.old.node framing
+        × HasAnswer contest.now primary.old.node framing back
         (R.remaining reader.old) (R.remaining reader.new) answer
         × SendsLive turn (intake_of primary.old input.old.items) answer text served
         (intake_of primary.new input.new.items)
@@ -199,12 +200,12 @@ pub fn serve_live<R: FeedRead, W: FeedWrite>(
     ensures write { IsErrOf result Fault.Write → HasFailed (W.failures writer.old)
         (W.failures writer.new) }
     ensures write_in { IsErrOf result Fault.Write → (answer : AnswerParts)
-        × HasAnswer contest.now primary.old.node framing
+        × HasAnswer contest.now primary.old.node framing back
         (R.remaining reader.old) (R.remaining reader.new) answer
         × WroteLive turn (intake_of primary.old input.old.items) answer
         (intake_of primary.new input.new.items) (W.contents writer.old) (W.contents writer.new) }
     ensures commit_in { (why : Why) → IsErrOf result (Fault.Commit why) → (answer : AnswerParts)
-        × HasAnswer contest.now primary.old.node framing
+        × HasAnswer contest.now primary.old.node framing back
         (R.remaining reader.old) (R.remaining reader.new) answer
         × WroteRefused turn (intake_of primary.old input.old.items) answer why
         (intake_of primary.new input.new.items) (W.contents writer.old) (W.contents writer.new) }
@@ -212,7 +213,7 @@ pub fn serve_live<R: FeedRead, W: FeedWrite>(
         (Appends (W.contents writer.old) (W.contents writer.new) []
         × (intake_of primary.new input.new.items ≡ intake_of primary.old input.old.items))
         ⊎ ((answer : AnswerParts)
-        × HasAnswer contest.now primary.old.node framing
+        × HasAnswer contest.now primary.old.node framing back
         (R.remaining reader.old) (R.remaining reader.new) answer
         × WroteLive turn (intake_of primary.old input.old.items) answer
         (intake_of primary.new input.new.items) (W.contents writer.old) (W.contents writer.new)) }
@@ -220,6 +221,13 @@ pub fn serve_live<R: FeedRead, W: FeedWrite>(
 {
     let mut head = Vec::new(alloc);
     read_head(reader, &mut head, turns)?;
-    let answered = answer(alloc, head.as_slice(), primary.node(), contest, framing)?;
+    let answered = answer(
+        alloc,
+        head.as_slice(),
+        primary.node(),
+        contest,
+        framing,
+        back,
+    )?;
     send_live_answer(alloc, writer, primary, input, turn, answered)
 }

@@ -205,8 +205,9 @@ fn send_answer<W: FeedWrite>(
 /// Reads a request in at most so many reads (`turns`), answers it from a node, and sends what the
 /// node has: at status 200 a frame for each commit after the session's token, a line feed in a
 /// frame unless the node lost the token, and the end of the body. It reads no further than the
-/// head takes. Where a read fails or is one too many, the head was still needed and nothing was
-/// written; where a write fails, a front of the text was.
+/// head takes. With a token the session begins so many tokens (`back`) before it, or at the oldest
+/// one that is held. Where a read fails or is one too many, the head was still needed and nothing
+/// was written; where a write fails, a front of the text was.
 pub fn serve_node<R: FeedRead, W: FeedWrite>(
     alloc: Global,
     reader: &mut R,
@@ -215,11 +216,12 @@ pub fn serve_node<R: FeedRead, W: FeedWrite>(
     contest: &str,
     framing: Framing,
     turns: u64,
+    back: usize,
 ) -> Result<Served, EngineFault>
     ensures ok { IfOk result (λ served. (head : List ℕ) × (text : List ℕ) × Consumes
         (R.remaining reader.old) (R.remaining reader.new) head
         × IsReadAsNeeded head × (IsEnough head ⊎ IsAtEnd (R.remaining reader.new))
-        × Serves head contest.now node.now.shown framing text served × Appends
+        × Serves head contest.now node.now.shown framing back text served × Appends
         (W.contents writer.old) (W.contents writer.new) text) }
     ensures faults { IfErr result (λ fault. (fault ≡ Fault.Read) ⊎
         ((fault ≡ Fault.Write) ⊎ ((fault ≡ Fault.Turns) ⊎ (fault ≡ Fault.Memory)))) }
@@ -234,17 +236,17 @@ pub fn serve_node<R: FeedRead, W: FeedWrite>(
     ensures write { IsErrOf result Fault.Write → HasFailed (W.failures writer.old)
         (W.failures writer.new) }
     ensures write_in { IsErrOf result Fault.Write → BrokeBehindHead contest.now node.now.shown
-        framing (R.remaining reader.old) (R.remaining reader.new) (W.contents writer.old)
+        framing back (R.remaining reader.old) (R.remaining reader.new) (W.contents writer.old)
         (W.contents writer.new) }
     ensures memory { IsErrOf result Fault.Memory →
         Appends (W.contents writer.old) (W.contents writer.new) []
         ⊎ BrokeBehindHead contest.now node.now.shown
-        framing (R.remaining reader.old) (R.remaining reader.new) (W.contents writer.old)
+        framing back (R.remaining reader.old) (R.remaining reader.new) (W.contents writer.old)
         (W.contents writer.new) }
     ensures reads { RoseAtMost (R.reads reader.old) (R.reads reader.new) turns }
 {
     let mut head = Vec::new(alloc);
     read_head(reader, &mut head, turns)?;
-    let answered = answer(alloc, head.as_slice(), node, contest, framing)?;
+    let answered = answer(alloc, head.as_slice(), node, contest, framing, back)?;
     send_answer(alloc, writer, node, answered)
 }

@@ -22,5 +22,6 @@ pub mod OneMeaning
 pub mod Openings
 pub mod Piecewise
 pub mod Usual
+pub mod PlainFields
 pub mod Decided
 pub mod Meant

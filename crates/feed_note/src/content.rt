@@ -1,10 +1,9 @@
 //! What a notification's `data` holds, as far as it is kept.
 
-ghost use Rattle.std.specs.Prelude.{◌≡◌, ◌≢◌, ◌||◌, List, IfOk, IfSome, MatchResult, IsTrue, option_map, is_some, Some, true, false, IsUtf8, length, count_by};
+ghost use Rattle.std.specs.Prelude.{◌≡◌, ◌≢◌, ◌||◌, List, IfOk, IfSome, MatchResult, IsTrue, option_map, is_some, Some, true, false, IsUtf8, length};
 ghost use Rattle.feed_text.specs.Json.{Value, items_of};
 ghost use Rattle.feed_text.specs.Limits.{value_depth};
 ghost use Rattle.feed_text.specs.Members.{item_view, spelling_of};
-ghost use Rattle.feed_text.specs.Nesting.{is_opening as opening_test};
 ghost use Rattle.feed_text.specs.declared.Kind.TheVariants.{Object, Array};
 ghost use Rattle.feed_note.specs.Meaning.{Notification, element_id};
 ghost use Rattle.feed_note.specs.Naming.{naming_of};
@@ -14,7 +13,8 @@ use crate::fields::Fields;
 use crate::line::LineFault;
 use crate::naming::{Naming, read_naming};
 use feed_text::{
-    Item, Kind, OBJECT_BYTES, OBJECT_LEVELS, ObjectText, elements, last_member, nests_to, text_laws,
+    Item, Kind, OBJECT_BYTES, OBJECT_LEVELS, ObjectText, elements, last_member, nests_to, openings,
+    text_laws,
 };
 use std::alloc::{AllocError, Global};
 
@@ -51,15 +51,6 @@ fn kept_object(alloc: Global, text: &[u8]) -> Result<Option<ObjectText>, AllocEr
     }
     let object = ObjectText::from_object(alloc, text)?;
     Ok(Some(object))
-}
-
-/// How many opening brackets a text has, those in strings among them.
-fn openings(text: &[u8]) -> usize
-    ensures { result ≡ count_by opening_test text.now }
-{
-    text.iter()
-        .filter(|byte| matches!(**byte, b'{' | b'['))
-        .count()
 }
 
 /// Whether an object's text is too long or nests too deep. A text of fewer than two bytes or one

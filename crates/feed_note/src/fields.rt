@@ -1,16 +1,16 @@
 //! The members of a notification that count, and what they name.
 
-ghost use Rattle.std.specs.Prelude.{◌≡◌, ◌||◌, IfOk, IfSome, MatchResult, option_map, IsUtf8, IsTrue, Bool};
+ghost use Rattle.std.specs.Prelude.{◌≡◌, ◌||◌, IfOk, IfSome, MatchResult, option_map, IsUtf8, IsTrue, Bool, codes};
 ghost use Rattle.feed_text.specs.Members.{item_view, member_view, member_views, IsMemberSpelling, AreMemberSpellings};
-ghost use Rattle.feed_text.specs.Strings.{Says};
+ghost use Rattle.feed_text.specs.Strings.{Says, written_string};
 ghost use Rattle.feed_note.specs.Meaning.{Notification};
 ghost use Rattle.feed_note.specs.Naming.{IsSpeltValue};
-ghost use Rattle.feed_note.specs.Reading.{last_value_spelt, HasFields, AreSpelt, AreUsual, Spell, AreNamesOf, IsFirstFault};
+ghost use Rattle.feed_note.specs.Reading.{last_value_spelt, where_named, HasFields, AreSpelt, AreUsual, Spell, AreNamesOf, IsFirstFault};
 ghost use Rattle.feed_note.specs.Naming.{is_unreadable as unreadable_test, is_unreadable_or_null};
 
 use crate::line::LineFault;
 use crate::naming::{Naming, read_member_naming, read_naming};
-use feed_text::{Item, Member, Members, plain_text};
+use feed_text::{Item, Member, Members, plain_text, text_laws};
 use std::alloc::{AllocError, Global};
 
 /// The values of the members that count: the last one of each name, where there is one.
@@ -46,15 +46,13 @@ fn last_value<'a>(
     }
 }
 
-/// Whether a member's key is this text, with no backslash in it.
-fn is_plainly(member: &Member<'_>, text: &str) -> bool
-    requires { IsMemberSpelling (member_view member.now) }
+/// Whether a member's key is this text as it is usually written.
+fn is_plainly(member: &Member<'_>, text: &str, written: &[u8]) -> bool
+    requires { written.now ≡ written_string text.now }
     ensures { IsTrue result → Says (member_view member.now).0 text.now }
 {
-    match plain_text(member.key) {
-        Some(found) => found == text,
-        None => false,
-    }
+    text_laws();
+    member.key == written
 }
 
 /// The values of the members that count.
@@ -62,13 +60,17 @@ pub fn read_fields<'a>(alloc: Global, members: &Members<'a>) -> Result<Fields<'a
     ensures values { IfOk result (λ fields. HasFields members.now fields) }
     ensures spelt { IfOk result (λ fields. AreSpelt fields) }
 {
-    match usual_fields(members.list()) {
+    if let Some(fields) = usual_fields(members.list()) {
+        return Ok(fields);
+    }
+    match plain_fields(members.list()) {
         Some(fields) => Ok(fields),
         None => find_fields(alloc, members),
     }
 }
 
 /// The values of the members that count, where no others stand and these do in the usual order.
+#[tactic(auto, unfolding(feed_text::specs::Strings::written_string))]
 fn usual_fields<'a>(members: &[Member<'a>]) -> Option<Fields<'a>>
     requires { AreMemberSpellings (member_views members.now) }
     ensures values { IfSome result (λ fields. HasFields (member_views members.now) fields) }
@@ -77,7 +79,7 @@ fn usual_fields<'a>(members: &[Member<'a>]) -> Option<Fields<'a>>
     if members.len() == 3 {
         return fields_of(&members[0], &members[1], &members[2], None);
     }
-    if members.len() == 4 && is_plainly(&members[3], "token") {
+    if members.len() == 4 && is_plainly(&members[3], "token", b"\"token\"") {
         let token = members[3].item();
         return fields_of(&members[0], &members[1], &members[2], Some(token));
     }
@@ -85,6 +87,7 @@ fn usual_fields<'a>(members: &[Member<'a>]) -> Option<Fields<'a>>
 }
 
 /// The fields of three members, where these are a type, an id and data, and a token.
+#[tactic(auto, unfolding(feed_text::specs::Strings::written_string))]
 fn fields_of<'a>(
     kind: &Member<'a>,
     id: &Member<'a>,
@@ -97,7 +100,10 @@ fn fields_of<'a>(
     ensures { IfSome result (AreUsual
         (member_view kind.now) (member_view id.now) (member_view content.now) token.entry) }
 {
-    if !is_plainly(kind, "type") || !is_plainly(id, "id") || !is_plainly(content, "data") {
+    if !is_plainly(kind, "type", b"\"type\"")
+        || !is_plainly(id, "id", b"\"id\"")
+        || !is_plainly(content, "data", b"\"data\"")
+    {
         return None;
     }
     Some(Fields {
@@ -106,6 +112,43 @@ fn fields_of<'a>(
         content: Some(content.item()),
         token,
     })
+}
+
+/// The values of the members that count, wherever they stand, where no key has a backslash.
+fn plain_fields<'a>(members: &[Member<'a>]) -> Option<Fields<'a>>
+    requires { AreMemberSpellings (member_views members.now) }
+    ensures values { IfSome result (λ fields. HasFields (member_views members.now) fields) }
+    ensures spelt { IfSome result (λ fields. AreSpelt fields) }
+{
+    let mut fields = Fields {
+        kind: None,
+        id: None,
+        content: None,
+        token: None,
+    };
+    for member in members {
+        let name = plain_text(member.key)?;
+        fields.put(name, member.item());
+    }
+    Some(fields)
+}
+
+impl<'a> Fields<'a> {
+    /// Has the value of a member of this name, where it counts.
+    fn put(&mut self, name: &str, value: Item<'a>)
+        ensures kind { self.new.kind ≡ where_named name.now (codes "type") value.entry self.old.kind }
+        ensures id { self.new.id ≡ where_named name.now (codes "id") value.entry self.old.id }
+        ensures content { self.new.content ≡ where_named name.now (codes "data") value.entry self.old.content }
+        ensures token { self.new.token ≡ where_named name.now (codes "token") value.entry self.old.token }
+    {
+        match name {
+            "type" => self.kind = Some(value),
+            "id" => self.id = Some(value),
+            "data" => self.content = Some(value),
+            "token" => self.token = Some(value),
+            _ => {}
+        }
+    }
 }
 
 /// The values of the members that count, wherever they stand.

@@ -13,13 +13,14 @@ use Rattle.feed_relay.specs.declared.fault.NetworkFault.{NetworkFault}
 use Rattle.feed_relay.specs.declared.fault.NetworkFault.TheVariants.{Connect, Bind, Accept, Engine}
 use Rattle.feed_relay.specs.Exchange.{Exchange, Devices, exchange}
 
--- a node was served on a connection, in at most so many reads (`turns`) of the head of a request
+-- a node was served on a connection, in at most so many reads (`turns`) of the head of a request;
+-- a session begins at the token that is asked with
 abbrev pub ServesOnce : List ℕ → NodeState → Framing → ℕ → Exchange → Result Served EngineFault
     → Type 0
 ServesOnce contest node framing turns spoken (Ok served) =
     (head : List ℕ) × (text : List ℕ) × Consumes spoken.source spoken.left head
     × IsReadAsNeeded head × (IsEnough head ⊎ IsAtEnd spoken.left)
-    × Serves head contest node framing text served
+    × Serves head contest node framing 0 text served
     × Appends spoken.written_old spoken.written_new text
 ServesOnce contest node framing turns spoken (Err Read) =
     BrokeInHead spoken.source spoken.left spoken.written_old spoken.written_new
@@ -28,12 +29,12 @@ ServesOnce contest node framing turns spoken (Err Turns) =
     BrokeInHead spoken.source spoken.left spoken.written_old spoken.written_new
     × RoseBy spoken.reads_old spoken.reads_new turns
 ServesOnce contest node framing turns spoken (Err Write) =
-    BrokeBehindHead contest node framing spoken.source spoken.left spoken.written_old
+    BrokeBehindHead contest node framing 0 spoken.source spoken.left spoken.written_old
     spoken.written_new
     × HasFailed spoken.failed_writes_old spoken.failed_writes_new
 ServesOnce contest node framing turns spoken (Err Memory) =
     Appends spoken.written_old spoken.written_new []
-    ⊎ BrokeBehindHead contest node framing spoken.source spoken.left spoken.written_old
+    ⊎ BrokeBehindHead contest node framing 0 spoken.source spoken.left spoken.written_old
     spoken.written_new
 ServesOnce contest node framing turns spoken (Err (Commit why)) = ⊥
 ServesOnce contest node framing turns spoken (Err (Follow fault)) = ⊥

@@ -25,7 +25,7 @@ pub struct Round {
     pub served: Result<Served, NetworkFault>,
 }
 
-/// Serves a node on one connection.
+/// Serves a node on one connection, from the token that is asked with on.
 fn serve_once<R: FeedRead, W: FeedWrite>(
     alloc: Global,
     reader: &mut R,
@@ -38,7 +38,17 @@ fn serve_once<R: FeedRead, W: FeedWrite>(
         ServesOnce contest.now node.now.shown framing ENGINE_TURNS
         (exchange devices reader.old reader.new writer.old writer.new) result }
 {
-    serve_node(alloc, reader, writer, node, contest, framing, ENGINE_TURNS)
+    let back = 0;
+    serve_node(
+        alloc,
+        reader,
+        writer,
+        node,
+        contest,
+        framing,
+        ENGINE_TURNS,
+        back,
+    )
 }
 
 /// Serves a node on the next connection.

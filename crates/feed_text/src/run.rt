@@ -7,7 +7,7 @@ ghost use Rattle.feed_text.specs.Reading.{is_unescaped, is_stop, rest_while};
 use std::simd::prelude::*;
 
 /// How many bytes a step looks at.
-const LANES: usize = 16;
+pub const LANES: usize = 16;
 
 /// A bit for each byte that does not stand for itself.
 #[inline(always)]
@@ -19,8 +19,9 @@ fn stops(block: u8x16) -> u64
         | block.simd_lt(u8x16::splat(b' '))).to_bitmask()
 }
 
+/// The text behind so many bytes.
 #[inline(always)]
-fn behind(text: &[u8], count: usize) -> &[u8]
+pub fn behind(text: &[u8], count: usize) -> &[u8]
     requires { count ≤ length text.now }
     ensures { result.now ≡ drop count text.now }
 {

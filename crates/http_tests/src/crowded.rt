@@ -129,6 +129,7 @@ fn serve(
         "finals",
         framing,
         1000,
+        0,
     )
     .ok()?;
     let Crowded { client, .. } = writer;

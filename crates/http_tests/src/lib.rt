@@ -16,4 +16,6 @@ mod nodes;
 #[cfg(test)]
 mod reached;
 #[cfg(test)]
+mod resent;
+#[cfg(test)]
 mod served;

@@ -121,6 +121,7 @@ fn goes(alloc: Global, case: Case, piece: usize) -> Option<bool> {
         "finals",
         Framing::Close,
         100,
+        0,
     );
     let text = close_text(alloc, case.frames, case.ends)?;
     let stands = is_at(&primary, case.token) && input.len() == case.left;
@@ -245,6 +246,7 @@ fn takes_nothing(alloc: Global, head: &[u8], told: Served, text: &[u8]) -> Optio
         "finals",
         Framing::Chunked,
         100,
+        0,
     );
     let stands = is_at(&primary, "0") && input.len() == 2;
     Some(served == Ok(told) && writer.written() == text && stands)
@@ -279,6 +281,7 @@ fn leaves_all(alloc: Global, failing: u64, turns: u64, fault: EngineFault) -> Op
         "finals",
         Framing::Close,
         turns,
+        0,
     );
     let stands = is_at(&primary, "0") && input.len() == 2 && writer.written().is_empty();
     Some(served == Err(fault) && stands)
@@ -315,6 +318,7 @@ fn stops_at_a_write(alloc: Global, at: u64) -> Option<bool> {
         "finals",
         Framing::Close,
         100,
+        0,
     );
     let written = writer.written().len();
     let taken = if written < 127 {
@@ -358,6 +362,7 @@ fn serves_chunks(alloc: Global, turn: usize, told: Served, frames: usize) -> Opt
         "finals",
         Framing::Chunked,
         100,
+        0,
     );
     let text = chunked_text(alloc, frames, !told.gone)?;
     let stands = is_at(&primary, "3") && input.is_empty();

@@ -32,6 +32,7 @@ fn serve(alloc: Global, listener: &TcpListener, node: &Node, framing: Framing) -
         "finals",
         framing,
         1000,
+        0,
     )
     .ok()
 }

@@ -53,6 +53,7 @@ fn serve(
         "finals",
         framing,
         100,
+        0,
     );
     Some((told, writer.written().to_vec(alloc).ok()?))
 }

@@ -54,6 +54,7 @@ pub(crate) fn serve(
         "finals",
         framing,
         9000,
+        0,
     );
     Some((served, writer.written().to_vec(alloc).ok()?))
 }
@@ -179,6 +180,7 @@ fn is_served(
         "finals",
         Framing::Close,
         turns,
+        0,
     );
     Some(served == told && writer.written() == text)
 }
@@ -244,6 +246,7 @@ fn written_before(alloc: Global, at: u64) -> Option<(Result<Served, EngineFault>
         "finals",
         Framing::Close,
         100,
+        0,
     );
     if CLOSE_TEXT.starts_with(writer.written()) {
         Some((told, writer.written().len() as u64))

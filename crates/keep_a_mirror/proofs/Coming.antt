@@ -90,7 +90,6 @@ given_up_at : (old mirror : MirrorState) (bytes piece back rest all : List ℕ) 
 given_up_at old mirror bytes piece back rest all fault.NotOpen new same cut whole f = stopped_at old mirror bytes piece back rest all fault.NotOpen new same cut whole (λ notes e. e) f
 given_up_at old mirror bytes piece back rest all fault.LongLine new same cut whole f = stopped_at old mirror bytes piece back rest all fault.LongLine new same cut whole (λ notes e. e) f
 given_up_at old mirror bytes piece back rest all (fault.Line line) new same cut whole f = stopped_at old mirror bytes piece back rest all (fault.Line line) new same cut whole (λ notes e. e) f
-given_up_at old mirror bytes piece back rest all fault.TokenAgain new same cut whole f = stopped_at old mirror bytes piece back rest all fault.TokenAgain new same cut whole (λ notes e. e) f
 given_up_at old mirror bytes piece back rest all fault.StageFull new same cut whole f = stopped_at old mirror bytes piece back rest all fault.StageFull new same cut whole (λ notes e. e) f
 given_up_at old mirror bytes piece back rest all fault.Memory new same cut whole f = lost_at old mirror bytes piece back rest all new same cut whole f
 

@@ -3,6 +3,7 @@
 use crate::model::{Answer, Happening, Numbers};
 use feed_node::{CommitFault, Limits, Pulled};
 use feed_note::batches;
+use feed_tables::Changes;
 use feed_world::{Event, Reply, World, WorldFault};
 use std::alloc::Global;
 
@@ -17,6 +18,11 @@ impl Draws {
         let grown = self.seed.wrapping_mul(1_103_515_245).wrapping_add(12_345);
         self.seed = grown % 2_147_483_648;
         (self.seed / 65_536) as usize
+    }
+
+    /// A number below a limit, or none but 0 where that is 0.
+    fn below(&mut self, limit: usize) -> usize {
+        self.next().checked_rem(limit).unwrap_or(0)
     }
 }
 
@@ -49,8 +55,8 @@ const RESTARTING: [Kind; 16] = [
 
 /// The same where servers send again what mirrors hold.
 const RESENDING: [Kind; 16] = [
-    Commits, Commits, Connects, GoesBack, GoesBack, GoesBack, Serves, Serves, Serves, Serves, Idles,
-    Delivers, Delivers, Delivers, Saves, Restarts,
+    Commits, Commits, Connects, GoesBack, GoesBack, GoesBack, Serves, Serves, Serves, Serves,
+    Idles, Delivers, Delivers, Delivers, Saves, Restarts,
 ];
 
 /// The mirrors, each as often as it is drawn, and two numbers of no mirror.
@@ -66,15 +72,23 @@ struct Drawn {
     happening: Happening,
 }
 
+/// The line that sets an object to one with a number, without its end.
+fn set(alloc: Global, object: usize, number: usize) -> Option<String> {
+    format!(in alloc; "{{\"type\":\"teams\",\"id\":\"{object}\",\"data\":{{\"n\":{number}}}").ok()
+}
+
+/// The changes of a line without its end.
+fn changes(alloc: Global, set: &str) -> Option<Changes> {
+    let line = format!(in alloc; "{set},\"token\":\"-\"}}\n").ok()?;
+    batches(alloc, line.as_bytes()).ok()?.pop()
+}
+
 /// A commit sets an object that is drawn, to one with a number that is drawn.
 fn draw_commit(alloc: Global, draws: &mut Draws) -> Option<Drawn> {
-    let (object, number) = (draws.next() % OBJECTS, draws.next());
-    let set = format!(in alloc;
-        "{{\"type\":\"teams\",\"id\":\"{object}\",\"data\":{{\"n\":{number}}}"
-    ).ok()?;
-    let line = format!(in alloc; "{},\"token\":\"-\"}}\n", set.as_str()).ok()?;
+    let object = draws.below(OBJECTS);
+    let set = set(alloc, object, draws.next())?;
     Some(Drawn {
-        event: Event::Commit(batches(alloc, line.as_bytes()).ok()?.pop()?),
+        event: Event::Commit(changes(alloc, set.as_str())?),
         // A bracket and a line feed end the line.
         happening: Happening::Commit(object, set.len().saturating_add(2)),
     })
@@ -82,52 +96,65 @@ fn draw_commit(alloc: Global, draws: &mut Draws) -> Option<Drawn> {
 
 /// Of four deliveries one brings all that remains, and each other one up to 1,000 bytes.
 fn draw_bytes(draws: &mut Draws) -> usize {
-    if draws.next() % 4 == 0 {
+    if draws.below(4) == 0 {
         return usize::MAX;
     }
-    draws.next() % 1_001
+    draws.below(1_001)
 }
 
 /// Of four restarts one has a byte less than was saved, as many bytes or one more, and each other
 /// one any number from none to one more.
 fn draw_saved(draws: &mut Draws, length: usize) -> usize {
-    if draws.next() % 4 == 0 {
-        return length.saturating_add(draws.next() % 3).saturating_sub(1);
+    if draws.below(4) == 0 {
+        return length.saturating_add(draws.below(3)).saturating_sub(1);
     }
-    draws.next() % length.saturating_add(2).max(1)
+    draws.below(length.saturating_add(2))
+}
+
+/// What may happen at a mirror of this number, but for commits.
+fn draw_happening(draws: &mut Draws, kind: Kind, number: usize, model: &Numbers) -> Happening {
+    match kind {
+        Connects => Happening::Connect(number, 0),
+        GoesBack => Happening::Connect(number, draws.below(4)),
+        Serves => Happening::Serve(number),
+        Idles => Happening::Idle(number),
+        Cuts => Happening::Cut(number),
+        Saves => Happening::Save(number),
+        Restarts => {
+            let saved = model.saved(number).unwrap_or(0);
+            Happening::Restart(number, draw_saved(draws, saved))
+        }
+        _ => Happening::Deliver(number, draw_bytes(draws)),
+    }
+}
+
+/// The event that a happening at a mirror is; none for a commit.
+fn event_of(happening: Happening) -> Option<Event> {
+    Some(match happening {
+        Happening::Commit(..) => return None,
+        Happening::Connect(number, back) => Event::Connect(number, back),
+        Happening::Serve(number) => Event::Serve(number),
+        Happening::Idle(number) => Event::Idle(number),
+        Happening::Deliver(number, bytes) => Event::Deliver(number, bytes),
+        Happening::Cut(number) => Event::Cut(number),
+        Happening::Save(number) => Event::Save(number),
+        Happening::Restart(number, bytes) => Event::Restart(number, bytes),
+    })
 }
 
 /// An event of these kinds: its kind is drawn first, and then its mirror and its bytes, or its
 /// object.
 fn draw(alloc: Global, draws: &mut Draws, kinds: &[Kind; 16], model: &Numbers) -> Option<Drawn> {
-    let kind = *kinds.get(draws.next() % 16)?;
+    let kind = *kinds.get(draws.below(16))?;
     if matches!(kind, Commits) {
         return draw_commit(alloc, draws);
     }
-    let number = *MIRRORS.get(draws.next() % 16)?;
-    let (event, happening) = match kind {
-        Connects => (Event::Connect(number, 0), Happening::Connect(number, 0)),
-        GoesBack => {
-            let back = draws.next() % 4;
-            let event = Event::Connect(number, back);
-            (event, Happening::Connect(number, back))
-        }
-        Serves => (Event::Serve(number), Happening::Serve(number)),
-        Idles => (Event::Idle(number), Happening::Idle(number)),
-        Cuts => (Event::Cut(number), Happening::Cut(number)),
-        Saves => (Event::Save(number), Happening::Save(number)),
-        Restarts => {
-            let bytes = draw_saved(draws, model.saved(number).unwrap_or(0));
-            let event = Event::Restart(number, bytes);
-            (event, Happening::Restart(number, bytes))
-        }
-        _ => {
-            let bytes = draw_bytes(draws);
-            let event = Event::Deliver(number, bytes);
-            (event, Happening::Deliver(number, bytes))
-        }
-    };
-    Some(Drawn { event, happening })
+    let number = *MIRRORS.get(draws.below(16))?;
+    let happening = draw_happening(draws, kind, number, model);
+    Some(Drawn {
+        event: event_of(happening)?,
+        happening,
+    })
 }
 
 /// Whether a text is a number in decimal.
@@ -135,30 +162,48 @@ fn is_decimal(alloc: Global, text: &str, number: usize) -> Option<bool> {
     Some(format!(in alloc; "{number}").ok()?.as_str() == text)
 }
 
-/// The model's reply that is this one of the world, where a commit's token is that of this count;
-/// none for a reply that no world in ample memory gives.
-fn answer(alloc: Global, given: &Result<Reply, WorldFault>, count: usize) -> Option<Answer> {
-    Some(match given {
-        Ok(Reply::Committed(token)) => {
-            if !is_decimal(alloc, token.text(), count)? {
-                return None;
-            }
-            Answer::Committed(count)
-        }
-        Ok(Reply::Opened) => Answer::Opened,
-        Ok(Reply::Refused) => Answer::Refused,
-        Ok(Reply::NotYet) => Answer::NotYet,
-        Ok(Reply::Sent(pulled)) => Answer::Sent(*pulled),
-        Ok(Reply::Idled) => Answer::Idled,
-        Ok(Reply::Delivered(count)) => Answer::Delivered(*count),
-        Ok(Reply::Cut) => Answer::Cut,
-        Ok(Reply::Saved(count)) => Answer::Saved(*count),
-        Ok(Reply::Restarted(published)) => Answer::Restarted(*published),
-        Err(WorldFault::NoNode) => Answer::NoNode,
-        Err(WorldFault::NoConnection) => Answer::NoConnection,
-        Err(WorldFault::Commit(CommitFault::TooLarge)) => Answer::TooLarge,
+/// The model's answer that a reply is, where a commit's token is that of this count; none for a
+/// reply that no world in ample memory gives.
+fn replied(alloc: Global, reply: &Reply, count: usize) -> Option<Answer> {
+    Some(match reply {
+        Reply::Committed(token) => return committed(alloc, token.text(), count),
+        Reply::Opened => Answer::Opened,
+        Reply::Refused => Answer::Refused,
+        Reply::NotYet => Answer::NotYet,
+        Reply::Sent(pulled) => Answer::Sent(*pulled),
+        Reply::Idled => Answer::Idled,
+        Reply::Delivered(count) => Answer::Delivered(*count),
+        Reply::Cut => Answer::Cut,
+        Reply::Saved(count) => Answer::Saved(*count),
+        Reply::Restarted(published) => Answer::Restarted(*published),
         _ => return None,
     })
+}
+
+fn committed(alloc: Global, token: &str, count: usize) -> Option<Answer> {
+    if is_decimal(alloc, token, count)? {
+        Some(Answer::Committed(count))
+    } else {
+        None
+    }
+}
+
+/// The model's answer that a fault is; none for one that no world in ample memory meets.
+fn refused(fault: WorldFault) -> Option<Answer> {
+    match fault {
+        WorldFault::NoNode => Some(Answer::NoNode),
+        WorldFault::NoConnection => Some(Answer::NoConnection),
+        WorldFault::Commit(CommitFault::TooLarge) => Some(Answer::TooLarge),
+        _ => None,
+    }
+}
+
+/// The model's answer that the world's is.
+fn answer(alloc: Global, given: &Result<Reply, WorldFault>, count: usize) -> Option<Answer> {
+    match given {
+        Ok(reply) => replied(alloc, reply, count),
+        Err(fault) => refused(*fault),
+    }
 }
 
 /// Whether a node has published and holds what the model says.

@@ -30,6 +30,8 @@ pub enum Step {
     Commit(&'static str, Result<&'static str, CommitFault>),
     /// A session of the node is opened behind a token, and begins with this text.
     Open(Of, Option<&'static str>, Result<&'static str, OpenFault>),
+    /// The same so many tokens before that one.
+    OpenBefore(Of, Option<&'static str>, usize, Result<&'static str, OpenFault>),
     /// The session sends this text, and then stands at this token.
     Pull(Of, Pulled, &'static str, &'static str),
     Idle,
@@ -38,6 +40,8 @@ pub enum Step {
     /// The node holds these tokens, the oldest first.
     Holds(Of, &'static [&'static str]),
     Lacks(Of, &'static str),
+    /// The node keeps so many commits.
+    Kept(Of, usize),
     /// The node shows this object, or none, under a type and an id.
     Finds(Of, &'static str, &'static str, Option<&'static str>),
     /// The node shows tables of this size.
@@ -109,8 +113,14 @@ impl Desk {
         })
     }
 
-    fn opens(&mut self, of: Of, since: Option<&str>, want: Result<&str, OpenFault>) -> bool {
-        match self.node(of).open(self.alloc, since) {
+    fn opens(
+        &mut self,
+        of: Of,
+        since: Option<&str>,
+        back: usize,
+        want: Result<&str, OpenFault>,
+    ) -> bool {
+        match self.node(of).open(self.alloc, since, back) {
             Ok((session, text)) => {
                 self.session = Some(session);
                 want.is_ok_and(|want| text.as_slice() == want.as_bytes())
@@ -155,7 +165,8 @@ impl Desk {
     fn serves(&mut self, step: Step) -> Option<bool> {
         match step {
             Step::Commit(lines, want) => self.commits(lines, want),
-            Step::Open(of, since, want) => Some(self.opens(of, since, want)),
+            Step::Open(of, since, want) => Some(self.opens(of, since, 0, want)),
+            Step::OpenBefore(of, since, back, want) => Some(self.opens(of, since, back, want)),
             Step::Pull(of, want, sent, at) => self.pulls(of, want, sent, at),
             Step::Idle => self.idles(),
             Step::At(want) => Some(self.session.as_ref()?.token().text() == want),
@@ -168,6 +179,7 @@ impl Desk {
         match step {
             Step::Holds(of, want) => holds(self.alloc, self.node(of), want),
             Step::Lacks(of, token) => Some(!self.node(of).holds(token)),
+            Step::Kept(of, want) => Some(self.node(of).kept() == want),
             Step::Finds(of, kind, id, want) => finds(self.node(of), kind, id, want),
             Step::Size(of, want) => Some(self.node(of).published()?.size() == want),
             _ => None,

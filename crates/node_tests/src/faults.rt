@@ -20,11 +20,10 @@ fn tells<F: Display + Copy>(
 
 const LIMITS: [(BadLimits, &str); 1] = [(BadLimits, "bad limits")];
 
-const FEEDS: [(FeedFault, &str); 6] = [
+const FEEDS: [(FeedFault, &str); 5] = [
     (FeedFault::NotOpen, "not open"),
     (FeedFault::LongLine, "line too long"),
     (FeedFault::Line(LineFault::BadData), "bad data"),
-    (FeedFault::TokenAgain, "token again"),
     (FeedFault::StageFull, "stage full"),
     (FeedFault::Memory, "out of memory"),
 ];

@@ -16,6 +16,10 @@ mod mirrors;
 #[cfg(test)]
 mod model;
 #[cfg(test)]
+mod resending;
+#[cfg(test)]
+mod resends;
+#[cfg(test)]
 mod restarts;
 #[cfg(test)]
 mod restored;

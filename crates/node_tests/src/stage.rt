@@ -34,7 +34,7 @@ pub enum Step {
 }
 
 fn shows(alloc: Global, node: &Node, want: &str) -> Option<bool> {
-    let (_, text) = node.open(alloc, None).ok()?;
+    let (_, text) = node.open(alloc, None, 0).ok()?;
     Some(text.as_slice() == want.as_bytes())
 }
 

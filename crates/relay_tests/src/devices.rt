@@ -59,6 +59,14 @@ impl FeedWrite for Lent<'_> {
     }
 }
 
+/// What a follower is told. A function of its own, so that no other proof goes through each fault.
+fn note(
+    told: &mut Option<Result<Followed, NetworkFault>>,
+    pulled: &Result<Followed, NetworkFault>,
+) {
+    *told = Some(*pulled);
+}
+
 /// One follower, at most.
 #[derive(Drop)]
 pub(crate) struct Follower<'a> {
@@ -87,7 +95,7 @@ impl<'a> Accept for Follower<'a> {
     ghost misses = { λ f. f.misses };
 
     fn accept(&mut self, pulled: &Result<Followed, NetworkFault>) -> Option<(MemReader, Lent<'a>)> {
-        self.told = Some(*pulled);
+        note(&mut self.told, pulled);
         let conn = self.conn.take();
         if conn.is_none() {
             self.misses = self.misses.saturating_add(1);

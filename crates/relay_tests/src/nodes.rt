@@ -37,7 +37,12 @@ pub(crate) fn told(status: u16) -> Served {
 }
 
 pub(crate) fn finals(alloc: Global) -> Option<Place> {
-    Place::new(alloc, "h", "", "finals").ok()
+    place(alloc, "h", "", "finals")
+}
+
+/// A place, whose proof reads no letter of its texts.
+fn place(alloc: Global, host: &str, base: &str, contest: &str) -> Option<Place> {
+    Place::new(alloc, host, base, contest).ok()
 }
 
 /// A primary without commits.
@@ -68,6 +73,16 @@ pub(crate) fn is_at(mirror: &Mirror, token: &str) -> bool {
 pub(crate) fn written(alloc: Global, node: &Node, framing: Framing) -> Option<Vec<u8>> {
     let mut reader = MemReader::new(FRESH.to_vec(alloc).ok()?, 100);
     let mut writer = MemWriter::new(alloc, 100);
-    serve_node(alloc, &mut reader, &mut writer, node, "finals", framing, 9).ok()?;
+    serve_node(
+        alloc,
+        &mut reader,
+        &mut writer,
+        node,
+        "finals",
+        framing,
+        9,
+        0,
+    )
+    .ok()?;
     writer.written().to_vec(alloc).ok()
 }

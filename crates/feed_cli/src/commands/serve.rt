@@ -76,6 +76,7 @@ fn serve_next<L: Listen>(
         options.contest,
         options.framing,
         ENGINE_TURNS,
+        options.back,
     );
     match served {
         Ok(_) => Ok(()),

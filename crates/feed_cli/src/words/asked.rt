@@ -2,26 +2,30 @@
 ghost use Rattle.std.specs.Prelude.{◌≡◌, Some, IfSome};
 ghost use Rattle.clap.specs.Matches.{found_of};
 ghost use Rattle.clap.specs.Words.{rows_of, subcommand_rows_of};
-ghost use Rattle.feed_cli.specs.Words.{most_port, text_at, IsNumber, IsNumberIfGiven, IsGiven, IsFramed};
+ghost use Rattle.feed_cli.specs.Words.{most_port, text_at, IsNumber, IsNumberUpTo, IsNumberIfGiven, IsGiven, IsFramed};
 ghost use Rattle.feed_cli.specs.Words.{AsksLimits, AsksTables, AsksServe, AsksPull, AsksRelay, AsksBy, AsksAt};
 
 use super::options::{MOST_PORT, MOST_ROUNDS};
 use super::{Local, PullOptions, RelayOptions, Request, ServeOptions, TablesOptions};
 use clap::ArgMatches;
 use feed_http::Framing;
-use feed_node::Limits;
+use feed_node::{Limits, MOST_COMMITS};
 
 /// The number that an option's value says; none where it is out of its range, which its parser has
 /// refused.
+fn number_up_to(matches: &ArgMatches<'_>, name: &str, most: u64) -> Option<u64>
+    ensures { IfSome result (λ n. IsNumberUpTo name.now most (rows_of (found_of matches.now)) n) }
+{
+    let number = matches.get_one::<u64>(name)?;
+    if number <= most { Some(number) } else { None }
+}
+
+/// The same of an option whose value is 1 at least.
 fn number(matches: &ArgMatches<'_>, name: &str, most: u64) -> Option<u64>
     ensures { IfSome result (λ n. IsNumber name.now most (rows_of (found_of matches.now)) n) }
 {
-    let number = matches.get_one::<u64>(name)?;
-    if 1 <= number && number <= most {
-        Some(number)
-    } else {
-        None
-    }
+    let number = number_up_to(matches, name, most)?;
+    if 1 <= number { Some(number) } else { None }
 }
 
 /// The same of an option that may be left out.
@@ -96,6 +100,7 @@ fn serve_options<'a>(matches: &ArgMatches<'a>) -> Option<ServeOptions<'a>>
     let contest = text(matches, "contest")?;
     let count = number(matches, "count", MOST_ROUNDS)?;
     let turn = number_if_given(matches, "turn", MOST_ROUNDS)?;
+    let back = number_up_to(matches, "back", MOST_COMMITS as u64)?;
     let limits = limits(matches)?;
     Some(ServeOptions {
         port,
@@ -103,6 +108,7 @@ fn serve_options<'a>(matches: &ArgMatches<'a>) -> Option<ServeOptions<'a>>
         count,
         turn: turn.map(|turn| turn as usize),
         framing: framing(matches),
+        back: back as usize,
         limits,
     })
 }

@@ -62,6 +62,7 @@ fn serve<'a>(alloc: Global) -> Result<Command<'a>, AllocError>
     let serve = with_served(alloc, command(alloc, "serve", about))?;
     let serve = add_option(serve, options::turn(alloc))?;
     let serve = add_option(serve, options::chunked(alloc))?;
+    let serve = add_option(serve, options::back(alloc))?;
     with_limits(alloc, serve)
 }
 

@@ -15,15 +15,29 @@ pub(crate) const MOST_PORT: u64 = 65_535;
 /// The greatest number of connections, rounds, reads and batches that may be asked for.
 pub(crate) const MOST_ROUNDS: u64 = 1_000_000;
 
-/// `--NAME VALUE`, with a number from 1 to the most.
-fn number<'a>(alloc: Global, name: &'a str, value: &'a str, most: u64) -> Arg<'a>
-    ensures rule { rule_of result ≡ number_in name.entry.now most }
+/// `--NAME VALUE`, with a number from the least to the most.
+fn number_between<'a>(
+    alloc: Global,
+    name: &'a str,
+    value: &'a str,
+    least: u64,
+    most: u64,
+) -> Arg<'a>
+    ensures rule { rule_of result ≡ words.number_between name.entry.now least most }
     ensures local { result.global ≡ false }
 {
     Arg::new(alloc, name)
         .long(name)
         .value_name(value)
-        .value_parser(ValueParser::unsigned(1, most))
+        .value_parser(ValueParser::unsigned(least, most))
+}
+
+/// `--NAME VALUE`, with a number from 1 to the most.
+fn number<'a>(alloc: Global, name: &'a str, value: &'a str, most: u64) -> Arg<'a>
+    ensures rule { rule_of result ≡ number_in name.entry.now most }
+    ensures local { result.global ≡ false }
+{
+    number_between(alloc, name, value, 1, most)
 }
 
 /// `--NAME VALUE`, with any text.
@@ -129,6 +143,16 @@ pub(crate) fn chunked<'a>(alloc: Global) -> Arg<'a>
     ensures local { result.global ≡ false }
 {
     flag(alloc, "chunked").help("Send chunks, to readers of HTTP/1.1")
+}
+
+/// `--back B`.
+pub(crate) fn back<'a>(alloc: Global) -> Arg<'a>
+    ensures rule { rule_of result ≡ words.back }
+    ensures local { result.global ≡ false }
+{
+    number_between(alloc, "back", "B", 0, MOST_COMMITS as u64)
+        .help("How many commits before a reader's token its feed begins, 0 to 65536")
+        .default_value("0")
 }
 
 /// `--host H`.

@@ -67,6 +67,7 @@ impl Fork {
     }
 
     // Counts the objects that came to the left side, and evens the sides.
+    #[inline(always)]
     pub(super) fn more_left(&mut self, alloc: Global, added: usize)
         ensures objects { parts self.new ≡ parts self.old }
         ensures count { self.new.count ≡ min (self.old.count + added) usize.MAX }
@@ -78,6 +79,7 @@ impl Fork {
     }
 
     // Counts the objects that came to the right side, and evens the sides.
+    #[inline(always)]
     pub(super) fn more_right(&mut self, alloc: Global, added: usize)
         ensures objects { parts self.new ≡ parts self.old }
         ensures count { self.new.count ≡ min (self.old.count + added) usize.MAX }
@@ -89,6 +91,7 @@ impl Fork {
     }
 
     // Moves objects to the right side where the left one outweighs it.
+    #[inline(always)]
     fn lighten_left(&mut self, alloc: Global)
         ensures objects { parts self.new ≡ parts self.old }
         ensures count { self.new.count ≡ self.old.count }
@@ -102,6 +105,7 @@ impl Fork {
     }
 
     // Moves objects to the left side where the right one outweighs it.
+    #[inline(always)]
     fn lighten_right(&mut self, alloc: Global)
         ensures objects { parts self.new ≡ parts self.old }
         ensures count { self.new.count ≡ self.old.count }
@@ -173,6 +177,7 @@ impl Fork {
 }
 
 // Whether a side of a fork has more than three times the objects of the other.
+#[inline(always)]
 fn outweighs(side: usize, whole: usize) -> bool {
     side / 3 > whole.saturating_sub(side).saturating_sub(1)
 }

@@ -21,8 +21,8 @@ pub returns : goal.returns
 returns c = record {
   asked = asked_once;
   request = request_is_read;
-  answered = λ place since node framing answer is_place no_base fits answers.
-      answers.answer_is ∙ ap (λ asked. answer_to asked node framing)
+  answered = λ place since node framing back answer is_place no_base fits answers.
+      answers.answer_is ∙ ap (λ asked. answer_to asked node framing back)
       (asked_once (request_text place since) place.contest answers.asked (feed 1 since) answers.asks
       (request_is_read place since is_place no_base fits));
   frames = carries;

@@ -11,9 +11,6 @@ fields_of-requires-clause-id c = member_spelt c.args.members.now 1 _ (omega (ari
 pub fields_of-requires-clause-content : goal.fields_of-requires-clause-content
 fields_of-requires-clause-content c = member_spelt c.args.members.now 2 _ (omega (arith, c.if-members-eq3.true)) c.requires
 
-pub is_plainly-requires : goal.is_plainly-requires
-is_plainly-requires c = member_spelt c.args.members.now 3 _ (omega (arith, c.if-members-eq4.true)) c.requires
-
 pub fields_of-requires-then-is_plainly-clause-kind : goal.fields_of-requires-then-is_plainly-clause-kind
 fields_of-requires-then-is_plainly-clause-kind c = member_spelt c.args.members.now 0 _ (omega (arith, c.if-members-eq4.true)) c.requires
 
