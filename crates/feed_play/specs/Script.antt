@@ -1,5 +1,5 @@
 -- What the lines of a script say.
-use Rattle.std.specs.Prelude.{ℕ, Bool, List, [], ◌∷◌, length, Option, Some, None, option_map, if◌then◌else◌, ◌==◌, ◌&&◌, nat_le, codes}
+use Rattle.std.specs.Prelude.{ℕ, zero, suc, ◌+◌, Bool, true, false, List, [], ◌∷◌, length, unwrap_or, slice_get, Option, Some, None, option_map, if◌then◌else◌, ◌==◌, ◌&&◌, nat_le, codes}
 use Rattle.std.specs.Option.{option_and_then}
 use Rattle.std.specs.Char.{is_ascii_digit}
 use Rattle.std.specs.List.{list_all}
@@ -53,17 +53,44 @@ event_of_one event_of numbers = option_map (λ i. action.Event (event_of i)) (on
 abbrev pub event_of_two : (ℕ → ℕ → Event) → List ℕ → Option Action
 event_of_two event_of numbers = option_map (λ p. action.Event (event_of p.0 p.1)) (two_of numbers)
 
--- a connect has one number or two: without the second nothing is to be sent again
-abbrev pub connect_of : List ℕ → Option Action
-connect_of (i ∷ []) = Some (action.Event (event.Connect i 0))
-connect_of (i ∷ back ∷ []) = Some (action.Event (event.Connect i back))
-connect_of numbers = None
+-- what the first line says of the world: how many commits a node keeps, how many changes may wait
+-- for a token, and how many nodes there are; and the node that each mirror connects to, or that a
+-- connect names it
+pub record Asked : Type 0 where
+  pub history : ℕ
+  pub staged : ℕ
+  pub nodes : ℕ
+  pub upstreams : List ℕ
+  pub named : Bool
+
+-- the node that a mirror of this number connects to; of no mirror, the primary
+abbrev pub upstream_of : List ℕ → ℕ → ℕ
+upstream_of upstreams zero = 0
+upstream_of upstreams (suc i) = unwrap_or (slice_get upstreams i) 0
+
+-- A connect has the number of a mirror, and how many commits are to be sent again, where some are.
+abbrev pub connects_up : List ℕ → List ℕ → Option Action
+connects_up upstreams (i ∷ []) =
+    Some (action.Event (event.Connect i (upstream_of upstreams i) 0))
+connects_up upstreams (i ∷ back ∷ []) =
+    Some (action.Event (event.Connect i (upstream_of upstreams i) back))
+connects_up upstreams numbers = None
+
+-- The number of the node to connect to stands between them, where a connect names it.
+abbrev pub connects_to : List ℕ → Option Action
+connects_to (i ∷ j ∷ []) = Some (action.Event (event.Connect i j 0))
+connects_to (i ∷ j ∷ back ∷ []) = Some (action.Event (event.Connect i j back))
+connects_to numbers = None
+
+abbrev pub connect_of : Asked → List ℕ → Option Action
+connect_of asked numbers =
+    if asked.named then connects_to numbers else connects_up asked.upstreams numbers
 
 -- what a name asks for, with these numbers
-abbrev pub asked_by : List ℕ → List ℕ → Option Action
-asked_by name numbers =
+abbrev pub asked_by : Asked → List ℕ → List ℕ → Option Action
+asked_by asked name numbers =
     if bytes_eq name (codes "commit") then option_map action.Commit (one_of numbers)
-    else (if bytes_eq name (codes "connect") then connect_of numbers
+    else (if bytes_eq name (codes "connect") then connect_of asked numbers
     else (if bytes_eq name (codes "serve") then event_of_one event.Serve numbers
     else (if bytes_eq name (codes "idle") then event_of_one event.Idle numbers
     else (if bytes_eq name (codes "deliver") then event_of_two event.Deliver numbers
@@ -73,29 +100,51 @@ asked_by name numbers =
     else (if bytes_eq name (codes "show") then option_map action.Show (one_of numbers)
     else None))))))))
 
-abbrev pub asked_in : List (List ℕ) → Option Action
-asked_in [] = None
-asked_in (name ∷ more) = option_and_then (asked_by name) (numbers_in more)
+abbrev pub asked_in : Asked → List (List ℕ) → Option Action
+asked_in asked [] = None
+asked_in asked (name ∷ more) = option_and_then (asked_by asked name) (numbers_in more)
 
 -- what a line asks for that is not the first
-abbrev pub action_in : List ℕ → Option Action
-action_in line = asked_in (words line)
+abbrev pub action_in : Asked → List ℕ → Option Action
+action_in asked line = asked_in asked (words line)
 
-abbrev pub world_numbers : List (List ℕ) → Option (List ℕ)
-world_numbers [] = None
-world_numbers (name ∷ more) = if bytes_eq name (codes "world") then numbers_in more else None
+-- the numbers of a world with the node that each mirror connects to
+abbrev pub world_of : List ℕ → Option Asked
+world_of (history ∷ staged ∷ upstreams) =
+    Some (record {
+      history = history;
+      staged = staged;
+      nodes = 1 + length upstreams;
+      upstreams = upstreams;
+      named = false;
+    })
+world_of numbers = None
 
--- what the first line says of the world: how many commits a node keeps, how many changes may wait
--- for a token, and the node that each mirror is behind
-pub record Asked : Type 0 where
-  pub history : ℕ
-  pub staged : ℕ
-  pub upstreams : List ℕ
+-- the numbers of a world in which a connect names the node
+abbrev pub nodes_of : List ℕ → Option Asked
+nodes_of (history ∷ staged ∷ nodes ∷ []) =
+    Some (record {
+      history = history;
+      staged = staged;
+      nodes = nodes;
+      upstreams = [];
+      named = true;
+    })
+nodes_of numbers = None
 
-abbrev pub shape_by : List ℕ → Option Asked
-shape_by (history ∷ staged ∷ upstreams) =
-    Some (record { history = history; staged = staged; upstreams = upstreams })
-shape_by numbers = None
+-- three numbers, and that connections end with what they carry
+abbrev pub nodes_in : List (List ℕ) → Option Asked
+nodes_in (a ∷ b ∷ c ∷ framing ∷ []) =
+    if bytes_eq framing (codes "close")
+    then option_and_then nodes_of (numbers_in (a ∷ b ∷ c ∷ [])) else None
+nodes_in more = None
 
+abbrev pub world_in : List (List ℕ) → Option Asked
+world_in [] = None
+world_in (name ∷ more) =
+    if bytes_eq name (codes "world") then option_and_then world_of (numbers_in more)
+    else (if bytes_eq name (codes "nodes") then nodes_in more else None)
+
+-- what a first line says
 abbrev pub shape_in : List ℕ → Option Asked
-shape_in line = option_and_then shape_by (world_numbers (words line))
+shape_in line = world_in (words line)

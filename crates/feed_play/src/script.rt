@@ -108,17 +108,74 @@ fn is(word: &[u8], text: &str) -> bool
     word == text.as_bytes()
 }
 
-/// The numbers behind the name of a script's first line.
-pub fn read_world(alloc: Global, line: &[u8]) -> Result<Vec<usize>, PlayCause>
-    ensures ok { IfOk result (λ numbers. world_numbers (words line.now) ≡ Some numbers.items) }
-    ensures err { IfErr result (λ cause. cause ≢ Memory
-        → (cause ≡ Script) × (shape_in line.now ≡ None)) }
-{
-    let (name, numbers) = split_word(line);
-    match numbers {
-        Some(numbers) if is(name, "world") => read_numbers(alloc, numbers),
-        _ => Err(PlayCause::Script),
+/// The world that the first line of a script asks for.
+#[derive(Drop)]
+pub struct Asked {
+    pub history: usize,
+    pub staged: usize,
+    pub nodes: usize,
+    // The node that each mirror connects to.
+    upstreams: Vec<usize>,
+    // A connect names the node.
+    is_named: bool,
+}
+
+impl Model for Asked {
+    ghost Value = { WorldAsked };
+
+    ghost view = { λ a. record {
+        history = a.history;
+        staged = a.staged;
+        nodes = a.nodes;
+        upstreams = a.upstreams.items;
+        named = a.is_named;
+    } };
+}
+
+impl Asked {
+    /// Whether each mirror of which it is said connects to an earlier node.
+    pub fn is_ordered(&self) -> bool
+        ensures yes { IsTrue result → (i upstream : ℕ)
+            → slice_get self.now.upstreams i ≡ Some upstream → upstream ≤ i }
+        ensures no { ((i upstream : ℕ) → slice_get self.now.upstreams i ≡ Some upstream
+            → upstream ≤ i) → IsTrue result }
+    {
+        self.upstreams
+            .iter()
+            .enumerate()
+            .all(|(place, upstream)| *upstream <= place)
     }
+
+    /// The node that the mirror of this number connects to; of no mirror, the primary.
+    fn upstream(&self, number: usize) -> usize
+        ensures { result ≡ upstream_of self.now.upstreams number }
+    {
+        match number.checked_sub(1) {
+            Some(place) => self.upstreams.get(place).copied().unwrap_or(0),
+            None => 0,
+        }
+    }
+}
+
+/// A world with the node that each mirror connects to.
+fn world_of(alloc: Global, numbers: &[u8]) -> Result<Asked, PlayCause>
+    ensures ok { IfOk result (λ asked.
+        option_and_then says_world (numbers_in (words numbers.now)) ≡ Some asked) }
+    ensures err { IfErr result (λ cause. cause ≢ Memory → (cause ≡ Script)
+        × (option_and_then says_world (numbers_in (words numbers.now)) ≡ None)) }
+{
+    let mut numbers = read_numbers(alloc, numbers)?;
+    if numbers.len() < 2 {
+        return Err(PlayCause::Script);
+    }
+    let upstreams = numbers.split_off(2)?;
+    Ok(Asked {
+        history: numbers[0],
+        staged: numbers[1],
+        nodes: upstreams.len() + 1,
+        upstreams,
+        is_named: false,
+    })
 }
 
 /// The number that a text says, where it is one word.
