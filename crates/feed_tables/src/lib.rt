@@ -2,12 +2,11 @@
 #![tactic(auto)]
 
 mod change;
-mod collection;
+mod ids;
 mod laws;
 mod map;
 mod name;
 mod numbers;
-mod objects;
 mod patch;
 mod tables;
 mod tree;

@@ -8,6 +8,9 @@ ghost use Rattle.feed_tables.specs.Tables.{size, listed, AreTypes};
 ghost use Rattle.feed_tables.specs.Walks.{weight, size_in};
 
 use crate::change::Change;
+use crate::ids::Ids;
+use crate::name::Name;
+use feed_text::ObjectText;
 use crate::tables::Table;
 use crate::tree::{Fork, Tree};
 use std::alloc::{AllocError, Global};
@@ -107,10 +110,43 @@ impl<V: Drop> Map<V> {
     }
 
     /// How many of these types the tables haven't, or `usize::MAX` where they are more.
-    pub fn count_besides(&self, tables: &Map<Table>) -> usize
+    pub fn count_besides<W: Drop>(&self, tables: &Map<W>) -> usize
         ensures { result ≡ min (map.len (map_less tables.now self.now)) usize.MAX }
     {
         self.tree.count_besides(tables)
+    }
+}
+
+impl<V: Drop> Map<V> {
+    pub fn count_besides_less<W: Drop>(&self, tables: &Map<W>, gone: &Map<()>) -> usize {
+        self.tree.count_besides_less(tables, gone)
+    }
+}
+
+impl Map<Ids> {
+    pub fn count_sets(&self) -> usize {
+        self.tree.count_sets()
+    }
+}
+
+impl Map<ObjectText> {
+    pub fn copy(&self, alloc: Global) -> Result<Map<ObjectText>, AllocError>
+    {
+        let tree = self.tree.copy(alloc)?;
+        Ok(Map { tree })
+    }
+
+    pub fn list(&self, kind: &Name, changes: &mut Vec<Change>) -> Result<(), AllocError>
+    {
+        self.tree.list(kind, changes)
+    }
+
+    pub fn same(&self, other: &Map<ObjectText>) -> bool
+    {
+        if !self.tree.is_in(other) {
+            return false;
+        }
+        other.tree.is_in(self)
     }
 }
 

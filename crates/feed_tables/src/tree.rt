@@ -193,6 +193,10 @@ impl<V: Drop> Tree<V> {
         ensures put { other.new ≡ put_all self other.old }
         ensures in_order { IsInOrder other.new }
     {
+        if let Node::Leaf = &other.node {
+            *other = self;
+            return;
+        }
         match self.node {
             Node::Leaf => {}
             Node::Fork(mut fork) => {

@@ -7,6 +7,8 @@ ghost use Rattle.feed_tables.specs.Tables.{listed, AreTypes};
 ghost use Rattle.feed_tables.specs.Walks.{weight, sized, size_in, besides, AreIn};
 
 use crate::change::Change;
+use crate::ids::Ids;
+use feed_text::ObjectText;
 use crate::map::Map;
 use crate::name::Name;
 use crate::tables::Table;
@@ -24,7 +26,7 @@ impl Tree<Table> {
                 let fork = Fork {
                     left: fork.left.copy(alloc)?,
                     id: fork.id.copy()?,
-                    item: fork.item.copy()?,
+                    item: fork.item.copy(alloc)?,
                     count: fork.count,
                     right: fork.right.copy(alloc)?,
                 };
@@ -122,7 +124,7 @@ impl<V: Drop> Tree<V> {
     }
 
     /// How many of these types the tables haven't, or `usize::MAX` where they are more.
-    pub fn count_besides(&self, tables: &Map<Table>) -> usize
+    pub fn count_besides<W: Drop>(&self, tables: &Map<W>) -> usize
         ensures { result ≡ min (length (besides tables.now self.now)) usize.MAX }
     {
         match &self.node {
@@ -173,5 +175,95 @@ fn holds(tables: &Map<Table>, kind: &Name, table: &Table) -> bool
     match tables.get(kind.text()) {
         Some(held) => held.same(table),
         None => false,
+    }
+}
+
+impl<V: Drop> Tree<V> {
+    pub fn count_besides_less<W: Drop>(&self, tables: &Map<W>, gone: &Map<()>) -> usize {
+        match &self.node {
+            Node::Leaf => 0,
+            Node::Fork(fork) => {
+                let here: usize = if gone.get(fork.id.text()).is_some() {
+                    1
+                } else if tables.get(fork.id.text()).is_some() {
+                    0
+                } else {
+                    1
+                };
+                fork.left
+                    .count_besides_less(tables, gone)
+                    .saturating_add(here)
+                    .saturating_add(fork.right.count_besides_less(tables, gone))
+            }
+        }
+    }
+}
+
+impl Tree<Ids> {
+    pub fn count_sets(&self) -> usize {
+        match &self.node {
+            Node::Leaf => 0,
+            Node::Fork(fork) => fork
+                .left
+                .count_sets()
+                .saturating_add(fork.item.count_sets())
+                .saturating_add(fork.right.count_sets()),
+        }
+    }
+}
+
+impl Tree<ObjectText> {
+    pub fn copy(&self, alloc: Global) -> Result<Tree<ObjectText>, AllocError>
+    {
+        match &self.node {
+            Node::Leaf => Ok(Tree::new()),
+            Node::Fork(fork) => {
+                let fork = Fork {
+                    left: fork.left.copy(alloc)?,
+                    id: fork.id.copy()?,
+                    item: fork.item.copy()?,
+                    count: fork.count,
+                    right: fork.right.copy(alloc)?,
+                };
+                let node = Box::new(alloc, fork)?;
+                Ok(Tree {
+                    node: Node::Fork(node),
+                })
+            }
+        }
+    }
+
+    pub fn list(&self, kind: &Name, changes: &mut Vec<Change>) -> Result<(), AllocError>
+    {
+        match &self.node {
+            Node::Leaf => Ok(()),
+            Node::Fork(fork) => {
+                fork.left.list(kind, changes)?;
+                let set = Change::Set(kind.copy()?, fork.id.copy()?, fork.item.copy()?);
+                changes.push(set)?;
+                fork.right.list(kind, changes)
+            }
+        }
+    }
+
+    pub fn is_in(&self, other: &Map<ObjectText>) -> bool
+    {
+        match &self.node {
+            Node::Leaf => true,
+            Node::Fork(fork) => {
+                match other.get(fork.id.text()) {
+                    Some(held) => {
+                        if held.bytes() != fork.item.bytes() {
+                            return false;
+                        }
+                    }
+                    None => return false,
+                }
+                if !fork.left.is_in(other) {
+                    return false;
+                }
+                fork.right.is_in(other)
+            }
+        }
     }
 }
