@@ -58,6 +58,9 @@ impl<V: Drop> Fork<V> {
         ensures items { parts self.new ≡ parts self.old }
         ensures count { self.new.count ≡ min (self.old.count + added) usize.MAX }
     {
+        if added == 0 {
+            return;
+        }
         self.count = self.count.saturating_add(added);
         self.lighten_left();
     }
@@ -67,6 +70,9 @@ impl<V: Drop> Fork<V> {
         ensures items { parts self.new ≡ parts self.old }
         ensures count { self.new.count ≡ min (self.old.count + added) usize.MAX }
     {
+        if added == 0 {
+            return;
+        }
         self.count = self.count.saturating_add(added);
         self.lighten_right();
     }
