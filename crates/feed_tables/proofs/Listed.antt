@@ -16,10 +16,10 @@ use Rattle.feed_tables.specs.declared.change.Change.{Change}
 use Rattle.feed_tables.specs.declared.change.Change.TheVariants.{Set, Remove, Empty, Single, Clear}
 use Rattle.feed_tables.specs.declared.tables.Table.{Table}
 use Rattle.feed_tables.specs.declared.tables.Table.TheVariants.{One, Many}
-use Rattle.feed_tables.proofs.AtFork.{total}
+use Rattle.feed_tables.proofs.Order.{total}
 use Rattle.feed_tables.proofs.Maps.{in_order_without, from_sorted_without}
 use Rattle.feed_tables.proofs.Within.{AllNamed, named_put, all-filter, listing_within}
-use Rattle.feed_tables.specs.Walks.{sized}
+use Rattle.feed_tables.specs.Walks.{weighed, by_objects}
 use Rattle.feed_tables.proofs.Sizes.{size_is}
 
 -- ---- how many changes there are
@@ -32,7 +32,7 @@ length-listed : (e : List ℕ × Table) → length (listed e) ≡ 1 + object_cou
 length-listed (kind, One object) = refl
 length-listed (kind, Many objects) = omega (arith, length-sets kind (entries objects), len-entries objects)
 
-length-listings : (es : List (List ℕ × Table)) → length (flat_map listed es) ≡ sized es
+length-listings : (es : List (List ℕ × Table)) → length (flat_map listed es) ≡ weighed by_objects es
 length-listings [] = refl
 length-listings (e ∷ es) =
     length-append (listed e) (flat_map listed es)

@@ -11,7 +11,7 @@ use Rattle.feed_tables.specs.declared.change.Change.TheVariants.{Set}
 use Rattle.feed_tables.specs.declared.tables.Table.{Table}
 use Rattle.feed_tables.specs.declared.tables.Table.TheVariants.{One, Many}
 use Rattle.feed_tables.specs.Tables.{Objects, Contents, no_objects, no_tables, objects_or_none, after, after_all, listed, or_clear, listing}
-use Rattle.feed_tables.proofs.AtFork.{total}
+use Rattle.feed_tables.proofs.Order.{total}
 use Rattle.feed_tables.proofs.Entries.{first, second, equal, find_below}
 use Rattle.feed_tables.proofs.Maps.{byte_order_antisymmetric}
 

@@ -12,13 +12,17 @@ use Rattle.std.specs.declared.boxed.Box.{Box}
 use Rattle.feed_tables.specs.declared.tree.Fork.{Fork}
 use Rattle.feed_tables.specs.Tree.{Swaps, FirstTaken, put_all, without_all}
 use Rattle.feed_tables.specs.Map.{Exchanges, TakesFirst, map_over, map_less}
-use Rattle.feed_tables.proofs.AtFork.{total}
+use Rattle.feed_tables.proofs.Order.{total}
 
 pub from_sorted_put_all : {V : Type 0} (es fs : List (List ℕ × V)) → IsInOrder fs → from_sorted {R = byte_order} (put_all es fs) ≡ fold (λ n e. insert n e.0 e.1) (from_sorted fs) es
 from_sorted_put_all [] fs h = refl
 from_sorted_put_all {V} (e ∷ es) fs h =
     from_sorted_put_all es (put byte_order e.0 e.1 fs) (in_order_put fs h e.0 e.1)
     ∙ ap (λ (m : FinMap byte_order V). fold (λ n e. insert n e.0 e.1) m es) (from_sorted_put fs h e.0 e.1)
+
+pub in_order_put_all : {V : Type 0} (es fs : List (List ℕ × V)) → IsInOrder fs → IsInOrder (put_all es fs)
+in_order_put_all [] fs h = h
+in_order_put_all (e ∷ es) fs h = in_order_put_all es (put byte_order e.0 e.1 fs) (in_order_put fs h e.0 e.1)
 
 pub from_sorted_without_all : {V W : Type 0} (es : List (List ℕ × V)) (fs : List (List ℕ × W)) → IsInOrder fs → from_sorted {R = byte_order} (without_all es fs) ≡ fold (λ n e. remove n e.0) (from_sorted fs) es
 from_sorted_without_all [] fs h = refl
@@ -39,6 +43,10 @@ pub in_order_swapped : {V : Type 0} (id : List ℕ) (es fs : List (List ℕ × V
 in_order_swapped {V} id es fs old new true h s = subst (λ (l : List (List ℕ × V)). IsInOrder l) (sym s.1) (in_order_put es h id old)
 in_order_swapped {V} id es fs old new false h s = subst (λ (l : List (List ℕ × V)). IsInOrder l) (sym s.1) h
 
+or_none : {A : Type 0} (o : Option A) → option_or o None ≡ o
+or_none None = refl
+or_none (Some x) = refl
+
 -- what is found in entries that were put over a map, and taken out of it
 pub get-fold_insert : {V : Type 0} (es : List (List ℕ × V)) (m : FinMap byte_order V) (q : List ℕ) → IsInOrder es → get (fold (λ n e. insert n e.0 e.1) m es) q ≡ option_or (find byte_order q es) (get m q)
 get-fold_insert [] m q h = refl
@@ -49,6 +57,24 @@ get-fold_insert {V} (e ∷ es) m q h =
       | true ↦ λ is. ap (λ (o : Option V). option_or o (Some e.1)) (find_below byte_order total q es (below_tied byte_order total q e.0 es (equal _ is) (first _ _ h)))
       | false ↦ λ is. refl
     ] refl
+
+-- entries in order, put into none
+put_into_none : {V : Type 0} (es : List (List ℕ × V)) → IsInOrder es → put_all es [] ≡ es
+put_into_none {V} es h =
+    let whole : IsInOrder (put_all es []) = in_order_put_all es [] tt in
+    let same : from_sorted {R = byte_order} (put_all es []) ≡ from_sorted es =
+    from_sorted_put_all es [] tt
+    ∙ same_map total byte_order_antisymmetric _ _ (λ q.
+    get-fold_insert es (from_sorted []) q h
+    ∙ ap (λ (o : Option V). option_or (find byte_order q es) o) (get-from_sorted byte_order [] q tt)
+    ∙ or_none (find byte_order q es)
+    ∙ sym (get-from_sorted byte_order es q h)) in
+    sym (entries-from_sorted byte_order (put_all es []) whole) ∙ ap entries same ∙ entries-from_sorted byte_order es h
+
+pub put_into_nothing : {V : Type 0} (es fs : List (List ℕ × V)) → IsInOrder es → fs ≡ []
+    → es ≡ put_all es fs
+put_into_nothing {V} es fs h none =
+    sym (put_into_none es h) ∙ ap (λ (l : List (List ℕ × V)). put_all es l) (sym none)
 
 either_none : {A : Type 0} (b : Bool) → cond {A = Option A} b None None ≡ None
 either_none true = refl

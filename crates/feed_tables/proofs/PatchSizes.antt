@@ -1,103 +1,145 @@
--- Sizes of contents without some types, and with some put in.
+-- What items weigh without some of them, and with some put in.
 use Rattle.std.proofs.Common.{Bool, true, false, cond, not, min, T, Less, ◌≡◌, ℕ, ◌+◌, ◌-◌, ◌<◌, List, [], ◌∷◌, ◌++◌, Option, None, Some, fold, sym, ap, ◌∙◌, refl, arith}
 use Rattle.std.specs.Option.{is_some}
 use Rattle.std.specs.Ordering.{is_eq, eq_by_cmp}
-use Rattle.std.specs.FinMap.{FinMap, get, insert, remove, entries, entries_sorted, from_sorted, entries-from_sorted, get-from_sorted, get-insert, get-remove, get_tied, find}
+use Rattle.std.specs.FinMap.{FinMap, empty, get, insert, remove, entries, entries_sorted, from_sorted, entries-from_sorted, get-from_sorted, get-insert, get-remove, get_tied, find}
 use Rattle.std.specs.FinMap.Entries.{below_all, find-where_key, is_sorted-where_key}
 use Rattle.std.proofs.lemmas.List.Elements.{filter-append}
 use Rattle.feed_tables.specs.Bytes.{byte_order, IsInOrder}
 use Rattle.feed_tables.specs.Map.{map_over, map_less}
-use Rattle.feed_tables.specs.Tables.{Contents, size}
-use Rattle.feed_tables.specs.Walks.{weight, sized, size_in, is_besides, besides}
-use Rattle.feed_tables.specs.declared.tables.Table.{Table}
-use Rattle.feed_tables.proofs.AtFork.{total}
+use Rattle.feed_tables.specs.Walks.{Scale, weight, weighed, weighed_in, is_besides, besides}
+use Rattle.feed_tables.proofs.Order.{total}
 use Rattle.feed_tables.proofs.Entries.{first, second, less, later}
 use Rattle.feed_tables.proofs.MapsOver.{get-map_less, same_gets}
-use Rattle.feed_tables.proofs.Sizes.{size-insert, size-remove, size_is}
+use Rattle.feed_tables.proofs.Patching.{less_none, over_empty}
+use Rattle.feed_tables.proofs.Sizes.{weighed-insert, weighed-remove}
 
-apart : (k x : List ℕ) → byte_order k x ≡ Less → eq_by_cmp byte_order x k ≡ false
+pub apart : (k x : List ℕ) → byte_order k x ≡ Less → eq_by_cmp byte_order x k ≡ false
 apart k x p = ap is_eq (later total k x p)
 
-module _ {V : Type 0} where
-  -- a type that comes before all of these
-  in_removed : (c : Contents) (k : List ℕ) (es : List (List ℕ × V)) → T (below_all byte_order k es)
-      → size_in (remove c k) es ≡ size_in c es
-  in_removed c k [] h = refl
-  in_removed c k (e ∷ es) h =
-      let same : get (remove c k) e.0 ≡ get c e.0 = get-remove total c k e.0
-      ∙ ap (λ (b : Bool). cond b None (get c e.0)) (apart k e.0 (less _ (first _ _ h))) in
-      omega (arith, ap weight same, in_removed c k es (second _ _ h))
+module _ {V : Type 0} (scale : Scale V) where
+  module _ {W : Type 0} where
+    -- names none of which was changed
+    pub in_changed : (m n : FinMap byte_order V) (k : List ℕ) (es : List (List ℕ × W))
+        → ((x : List ℕ) → eq_by_cmp byte_order x k ≡ false → get n x ≡ get m x)
+        → T (below_all byte_order k es) → weighed_in scale n es ≡ weighed_in scale m es
+    in_changed m n k [] same h = refl
+    in_changed m n k (e ∷ es) same h =
+        omega (
+          arith,
+          ap (weight scale e.0) (same e.0 (apart k e.0 (less _ (first _ _ h)))),
+          in_changed m n k es same (second _ _ h),
+        )
 
-  in_inserted : (c : Contents) (k : List ℕ) (t : Table) (es : List (List ℕ × V))
-      → T (below_all byte_order k es) → size_in (insert c k t) es ≡ size_in c es
-  in_inserted c k t [] h = refl
-  in_inserted c k t (e ∷ es) h =
-      let same : get (insert c k t) e.0 ≡ get c e.0 = get-insert total c k t e.0
-      ∙ ap (λ (b : Bool). cond b (Some t) (get c e.0)) (apart k e.0 (less _ (first _ _ h))) in
-      omega (arith, ap weight same, in_inserted c k t es (second _ _ h))
+    in_removed : (m : FinMap byte_order V) (k : List ℕ) (es : List (List ℕ × W))
+        → T (below_all byte_order k es) → weighed_in scale (remove m k) es ≡ weighed_in scale m es
+    in_removed m k es h =
+        in_changed m (remove m k) k es
+        (λ x is. get-remove total m k x ∙ ap (λ (b : Bool). cond b None (get m x)) is) h
 
-  size_fold_remove : (es : List (List ℕ × V)) (c : Contents) → IsInOrder es
-      → size (fold (λ n e. remove n e.0) c es) + size_in c es ≡ size c
-  size_fold_remove [] c h = omega arith
-  size_fold_remove (e ∷ es) c h =
+    in_inserted : (m : FinMap byte_order V) (k : List ℕ) (v : V) (es : List (List ℕ × W))
+        → T (below_all byte_order k es) → weighed_in scale (insert m k v) es ≡ weighed_in scale m es
+    in_inserted m k v es h =
+        in_changed m (insert m k v) k es
+        (λ x is. get-insert total m k v x ∙ ap (λ (b : Bool). cond b (Some v) (get m x)) is) h
+
+    fold_remove : (es : List (List ℕ × W)) (m : FinMap byte_order V) → IsInOrder es
+        → weighed scale (entries (fold (λ n e. remove n e.0) m es)) + weighed_in scale m es
+        ≡ weighed scale (entries m)
+    fold_remove [] m h = omega arith
+    fold_remove (e ∷ es) m h =
+        omega (
+          arith,
+          fold_remove es (remove m e.0) (second _ _ h),
+          weighed-remove scale m e.0,
+          in_removed m e.0 es (first _ _ h),
+        )
+
+    pub weighed_less : (names : FinMap byte_order W) (m : FinMap byte_order V)
+        → weighed scale (entries (map_less names m)) + weighed_in scale m (entries names)
+        ≡ weighed scale (entries m)
+    weighed_less names m = fold_remove (entries names) m (entries_sorted names)
+
+  fold_insert : (es : List (List ℕ × V)) (m : FinMap byte_order V) → IsInOrder es
+      → weighed scale (entries (fold (λ n e. insert n e.0 e.1) m es)) + weighed_in scale m es
+      ≡ weighed scale (entries m) + weighed scale es
+  fold_insert [] m h = omega arith
+  fold_insert (e ∷ es) m h =
       omega (
         arith,
-        size_fold_remove es (remove c e.0) (second _ _ h),
-        size-remove c e.0,
-        in_removed c e.0 es (first _ _ h),
+        fold_insert es (insert m e.0 e.1) (second _ _ h),
+        weighed-insert scale m e.0 e.1,
+        in_inserted m e.0 e.1 es (first _ _ h),
       )
 
-size_fold_insert : (es : List (List ℕ × Table)) (c : Contents) → IsInOrder es
-    → size (fold (λ n e. insert n e.0 e.1) c es) + size_in c es ≡ size c + sized es
-size_fold_insert [] c h = omega arith
-size_fold_insert (e ∷ es) c h =
-    omega (
-      arith,
-      size_fold_insert es (insert c e.0 e.1) (second _ _ h),
-      size-insert c e.0 e.1,
-      in_inserted c e.0 e.1 es (first _ _ h),
-    )
+  pub weighed_over : (items m : FinMap byte_order V)
+      → weighed scale (entries (map_over items m)) + weighed_in scale m (entries items)
+      ≡ weighed scale (entries m) + weighed scale (entries items)
+  weighed_over items m = fold_insert (entries items) m (entries_sorted items)
 
-pub size_less : {V : Type 0} (names : FinMap byte_order V) (c : Contents)
-    → size (map_less names c) + size_in c (entries names) ≡ size c
-size_less names c = size_fold_remove (entries names) c (entries_sorted names)
+  -- what items weigh by what is lost of it and what comes to it
+  pub weighed_moved : (held lost items : FinMap byte_order V) (s a b g come r x y z : ℕ)
+      → weighed scale (entries lost) + a ≡ weighed scale (entries held)
+      → b ≡ weighed_in scale lost (entries items)
+      → s ≡ min (weighed scale (entries held)) 18446744073709551615 → s < 18446744073709551615
+      → x ≡ min a 18446744073709551615 → y ≡ min b 18446744073709551615
+      → g ≡ min (x + y) 18446744073709551615
+      → come ≡ min (weighed scale (entries items)) 18446744073709551615 → z ≡ s - g
+      → r ≡ min (z + come) 18446744073709551615
+      → r ≡ min (weighed scale (entries (map_over items lost))) 18446744073709551615
+  weighed_moved held lost items s a b g come r x y z less_is b_is s_is fits x_is y_is g_is come_is z_is r_is =
+      omega (
+        arith,
+        weighed_over items lost,
+        weighed_less items lost,
+        less_is,
+        b_is,
+        s_is,
+        fits,
+        x_is,
+        y_is,
+        g_is,
+        come_is,
+        z_is,
+        r_is,
+      )
 
-pub size_put : (m c : Contents) → size (map_over m c) + size_in c (entries m) ≡ size c + size m
-size_put m c =
-    omega (arith, size_fold_insert (entries m) c (entries_sorted m), size_is m)
+  -- and by what stays of it, where it is too much to be counted
+  pub weighed_kept : (lost items : FinMap byte_order V) (x come r : ℕ)
+      → x ≡ min (weighed scale (entries (map_less items lost))) 18446744073709551615
+      → come ≡ min (weighed scale (entries items)) 18446744073709551615
+      → r ≡ min (x + come) 18446744073709551615
+      → r ≡ min (weighed scale (entries (map_over items lost))) 18446744073709551615
+  weighed_kept lost items x come r x_is come_is r_is =
+      omega (arith, weighed_over items lost, weighed_less items lost, x_is, come_is, r_is)
 
--- the size by what is lost of it and what comes to it
-pub size_moved : (c lost m : Contents) (s a b g come r x y z : ℕ)
-    → size lost + a ≡ size c → b ≡ size_in lost (entries m)
-    → s ≡ min (size c) 18446744073709551615 → s < 18446744073709551615
-    → x ≡ min a 18446744073709551615 → y ≡ min b 18446744073709551615
-    → g ≡ min (x + y) 18446744073709551615 → come ≡ min (size m) 18446744073709551615 → z ≡ s - g
-    → r ≡ min (z + come) 18446744073709551615
-    → r ≡ min (size (map_over m lost)) 18446744073709551615
-size_moved c lost m s a b g come r x y z less_is b_is s_is fits x_is y_is g_is come_is z_is r_is =
-    omega (
-      arith,
-      size_put m lost,
-      size_less m lost,
-      less_is,
-      b_is,
-      s_is,
-      fits,
-      x_is,
-      y_is,
-      g_is,
-      come_is,
-      z_is,
-      r_is,
-    )
+  -- where nothing is taken away, and where nothing is put in
+  pub weighed_all : {W X : Type 0} (gone : FinMap byte_order W) (others : FinMap byte_order X)
+      (m : FinMap byte_order V) (n : ℕ) → gone ≡ empty → others ≡ empty
+      → n ≡ min (weighed scale (entries (map_less others (map_less gone m)))) 18446744073709551615
+      → n ≡ min (weighed scale (entries m)) 18446744073709551615
+  weighed_all gone others m n none no_others is =
+      is
+      ∙ ap (λ (o : FinMap byte_order V). min (weighed scale (entries o)) 18446744073709551615)
+      (less_none others (map_less gone m) no_others ∙ less_none gone m none)
 
--- and by what stays of it, where it is too large to be counted
-pub size_kept : (lost m : Contents) (x come r : ℕ)
-    → x ≡ min (size (map_less m lost)) 18446744073709551615
-    → come ≡ min (size m) 18446744073709551615 → r ≡ min (x + come) 18446744073709551615
-    → r ≡ min (size (map_over m lost)) 18446744073709551615
-size_kept lost m x come r x_is come_is r_is =
-    omega (arith, size_put m lost, size_less m lost, x_is, come_is, r_is)
+  pub in_less : {W X : Type 0} (items : FinMap byte_order V) (gone : FinMap byte_order W)
+      (m : FinMap byte_order V) (es : List (List ℕ × X)) (n : ℕ) → items ≡ empty
+      → n ≡ min (weighed_in scale (map_over items (map_less gone m)) es) 18446744073709551615
+      → n ≡ min (weighed_in scale (map_less gone m) es) 18446744073709551615
+  in_less items gone m es n none is =
+      is
+      ∙ ap (λ (o : FinMap byte_order V). min (weighed_in scale o es) 18446744073709551615)
+      (over_empty items (map_less gone m) none)
+
+  pub in_all : {W X : Type 0} (items : FinMap byte_order V) (gone : FinMap byte_order W)
+      (m : FinMap byte_order V) (es : List (List ℕ × X)) (n : ℕ) → items ≡ empty → gone ≡ empty
+      → n ≡ min (weighed_in scale (map_over items (map_less gone m)) es) 18446744073709551615
+      → n ≡ min (weighed_in scale m es) 18446744073709551615
+  in_all items gone m es n none none_gone is =
+      in_less items gone m es n none is
+      ∙ ap (λ (o : FinMap byte_order V). min (weighed_in scale o es) 18446744073709551615)
+      (less_none gone m none_gone)
 
 -- entries without some names
 turned : {A : Type 0} (b : Bool) (x : Option A) → cond b None x ≡ cond (not b) x None
@@ -118,19 +160,16 @@ module _ {V W : Type 0} (names : FinMap byte_order V) (es : List (List ℕ × W)
         (λ x t. ap (λ (o : Option V). not (is_some o)) (get_tied total names q x t)) es)
         ∙ sym (get-from_sorted byte_order (besides names es) q in_order_besides))
 
-pub size_of : (es : List (List ℕ × Table)) → IsInOrder es
-    → size (from_sorted {R = byte_order} es) ≡ sized es
-size_of es h = size_is (from_sorted es) ∙ ap sized (entries-from_sorted byte_order es h)
-
 -- sums at a fork
-pub sized-append : (l r : List (List ℕ × Table)) → sized (l ++ r) ≡ sized l + sized r
-sized-append [] r = omega arith
-sized-append (e ∷ l) r = omega (arith, sized-append l r)
+module _ {V : Type 0} (scale : Scale V) where
+  pub weighed-append : (l r : List (List ℕ × V)) → weighed scale (l ++ r) ≡ weighed scale l + weighed scale r
+  weighed-append [] r = omega arith
+  weighed-append (e ∷ l) r = omega (arith, weighed-append l r)
 
-pub size_in-append : {V : Type 0} (c : Contents) (l r : List (List ℕ × V))
-    → size_in c (l ++ r) ≡ size_in c l + size_in c r
-size_in-append c [] r = omega arith
-size_in-append c (e ∷ l) r = omega (arith, size_in-append c l r)
+  pub weighed_in-append : {W : Type 0} (m : FinMap byte_order V) (l r : List (List ℕ × W))
+      → weighed_in scale m (l ++ r) ≡ weighed_in scale m l + weighed_in scale m r
+  weighed_in-append m [] r = omega arith
+  weighed_in-append m (e ∷ l) r = omega (arith, weighed_in-append m l r)
 
 pub besides-append : {V W : Type 0} (names : FinMap byte_order V) (l r : List (List ℕ × W))
     → besides names (l ++ r) ≡ besides names l ++ besides names r

@@ -1,16 +1,15 @@
 -- What a patch makes of tables after one more change was staged in it.
-use Rattle.std.proofs.Common.{Bor, Bool, true, false, cond, ◌≡◌, ℕ, List, Option, None, Some, Result, Ok, Err, OnOk, OnErr, sym, ap, ◌∙◌, refl, subst}
+use Rattle.std.proofs.Common.{Bor, Bool, true, false, cond, ◌≡◌, ℕ, List, Option, None, Some, Ok, sym, ap, ◌∙◌, refl, subst}
 use Rattle.std.specs.Option.{option_or, option_copied, option_and_then, is_some}
 use Rattle.std.specs.Ordering.{eq_by_cmp}
 use Rattle.std.specs.FinMap.{FinMap, empty, get, insert, remove, get-empty, get-insert, get-remove, get_tied}
 use Rattle.feed_tables.specs.AtType.{less_object}
 use Rattle.feed_tables.specs.Bytes.{byte_order}
 use Rattle.feed_tables.specs.Map.{Exchanges, map_over, map_less}
-use Rattle.feed_tables.specs.Tables.{Objects, Contents, objects_or_none, object_of, object_at, with_object, without_id}
-use Rattle.feed_tables.specs.declared.patch.Patch.{Patch}
+use Rattle.feed_tables.specs.Tables.{Contents, object_of, object_at, without_id}
 use Rattle.feed_tables.specs.declared.tables.Table.{Table}
 use Rattle.feed_tables.specs.declared.tables.Table.TheVariants.{One, Many}
-use Rattle.feed_tables.proofs.AtFork.{total}
+use Rattle.feed_tables.proofs.Order.{total}
 use Rattle.feed_tables.proofs.Entries.{equal}
 use Rattle.feed_tables.proofs.Maps.{remove_absent}
 use Rattle.feed_tables.proofs.MapsOver.{get-map_over, get-map_less, same_gets, put_back, exchanged_some}
@@ -28,7 +27,7 @@ pub tied : {V : Type 0} (m : FinMap byte_order V) (q k : List ℕ) → eq_by_cmp
 tied m q k t = sym (get_tied total m q k (equal _ t))
 
 -- whether something is held under a name
-copied : {A : Type 0} (r : Option (Bor A)) → is_some (option_copied r) ≡ is_some r
+pub copied : {A : Type 0} (r : Option (Bor A)) → is_some (option_copied r) ≡ is_some r
 copied None = refl
 copied (Some x) = refl
 
@@ -48,11 +47,11 @@ less_none {V} {W} names m none = same_gets _ _ (λ q.
     ∙ ap (λ (n : FinMap byte_order V). cond {A = Option W} (is_some (get n q)) None (get m q)) none
     ∙ ap (λ (o : Option V). cond {A = Option W} (is_some o) None (get m q)) (get-empty byte_order q))
 
-over_none : (m c : Contents) → m ≡ empty → map_over m c ≡ c
-over_none m c none = same_gets _ _ (λ q.
+pub over_empty : {V : Type 0} (m c : FinMap byte_order V) → m ≡ empty → map_over m c ≡ c
+over_empty {V} m c none = same_gets _ _ (λ q.
     get-map_over m c q
-    ∙ ap (λ (n : Contents). option_or (get n q) (get c q)) none
-    ∙ ap (λ (o : Option Table). option_or o (get c q)) (get-empty byte_order q))
+    ∙ ap (λ (n : FinMap byte_order V). option_or (get n q) (get c q)) none
+    ∙ ap (λ (o : Option V). option_or o (get c q)) (get-empty byte_order q))
 
 module _ (c : Contents) where
   abbrev pub over_of : Gone → Contents → Contents
@@ -61,7 +60,7 @@ module _ (c : Contents) where
   pub over_nothing : (gone : Gone) (tables : Contents) → gone ≡ empty → tables ≡ empty
       → over_of gone tables ≡ c
   over_nothing gone tables none no_tables =
-      over_none tables (map_less gone c) no_tables ∙ less_none gone c none
+      over_empty tables (map_less gone c) no_tables ∙ less_none gone c none
 
   module _ (gone : Gone) (tables : Contents) where
     pub get-over : (q : List ℕ)
@@ -85,26 +84,6 @@ module _ (c : Contents) where
         ∙ put_found (eq_by_cmp byte_order q k) t (get tables q) (get gone q) (get c q)
         ∙ ap (λ (o : Option Table). cond (eq_by_cmp byte_order q k) (Some t) o) (sym (get-over q))
         ∙ sym (get-insert total (over_of gone tables) k t q))
-
-    -- what is held under a type
-    module _ (k : List ℕ) where
-      pub held_new : (t : Table) → get tables k ≡ Some t → get (over_of gone tables) k ≡ Some t
-      held_new t is =
-          get-over k ∙ ap (λ (o : Option Table). found o (get gone k) (get c k)) is
-
-      pub held_gone : get tables k ≡ None → is_some (get gone k) ≡ true
-          → get (over_of gone tables) k ≡ None
-      held_gone is away =
-          get-over k
-          ∙ ap (λ (o : Option Table). found o (get gone k) (get c k)) is
-          ∙ ap (λ (b : Bool). option_or None (cond {A = Option Table} b None (get c k))) away
-
-      pub held_base : get tables k ≡ None → is_some (get gone k) ≡ false
-          → get (over_of gone tables) k ≡ get c k
-      held_base is there =
-          get-over k
-          ∙ ap (λ (o : Option Table). found o (get gone k) (get c k)) is
-          ∙ ap (λ (b : Bool). option_or None (cond {A = Option Table} b None (get c k))) there
 
     -- a type that is taken away
     gone_found : (b : Bool) (w : Option Table) (g : Option (Unit {0})) (x : Unit {0})
@@ -180,44 +159,9 @@ exchanged_twice q1 q2 k m n o p held now other a b is1 is2 there e1 e2 =
 
 -- an exchange that found nothing
 pub exchanged_none : {V : Type 0} (q k : List ℕ) (m n : FinMap byte_order V) (old new : V) (b : Bool)
-    → q ≡ k → b ≡ false → Exchanges q m n old new b → (get m k ≡ None) × (n ≡ m)
+    → q ≡ k → b ≡ false → Exchanges q m n old new b → (get m k ≡ None) × (n ≡ m) × (new ≡ old)
 exchanged_none q k m n old new true is none e = cc
-exchanged_none q k m n old new false is none e =
-    let found = renamed q k m n old new false is e in (found.0, found.1)
-
-module _ (c : Contents) (gone : Gone) (tables : Contents) (k id : List ℕ) where
-  abbrev pub before : Contents
-  before = over_of c gone tables
-
-  -- an object that is put into a table of the patch
-  pub set_in : {A E : Type 0} (o : List ℕ) (more : Contents) (held now : Table)
-      → get tables k ≡ Some held → more ≡ insert tables k now → (r : Result A E)
-      → OnOk r (now ≡ Many (insert (objects_or_none (Some held)) id o))
-      → OnOk r (over_of c gone more ≡ with_object before k id o)
-  set_in o more held now there put (Ok a) made =
-      over_put c gone tables more k now put
-      ∙ ap (λ (t : Table). insert before k t) made
-      ∙ ap (λ (h : Option Table). insert before k (Many (insert (objects_or_none h) id o)))
-      (sym (held_new c gone tables k held there))
-  set_in o more held now there put (Err e) made = tt
-
-  -- an object that is taken out of one
-  pub take_in : {A E : Type 0} (more : Contents) (held now : Table)
-      → get tables k ≡ Some held → more ≡ insert tables k now → (r : Result A E)
-      → OnOk r (now ≡ less_object held id)
-      → OnOk r (over_of c gone more ≡ without_id before k id (get before k))
-  take_in more held now there put r made =
-      taken before (over_of c gone more) k id held now
-      (sym (held_new c gone tables k held there)) (over_put c gone tables more k now put) r made
-
--- an object that is put into a table which the patch hasn't yet
-pub set_new : {A E : Type 0} (m n : Contents) (k id o : List ℕ) (t now : Table)
-    → objects_or_none (Some t) ≡ objects_or_none (get m k)
-    → now ≡ Many (insert (objects_or_none (Some t)) id o) → (r : Result A E)
-    → OnOk r (n ≡ insert m k now) → OnOk r (n ≡ with_object m k id o)
-set_new m n k id o t now same made (Ok a) put =
-    put ∙ ap (insert m k) made ∙ ap (λ (os : Objects). insert m k (Many (insert os id o))) same
-set_new m n k id o t now same made (Err e) put = tt
+exchanged_none q k m n old new false is none e = renamed q k m n old new false is e
 
 -- what is taken out where nothing is held, and where the object isn't there
 pub take_nothing : (m : Contents) (k id : List ℕ) → get m k ≡ None
@@ -260,15 +204,3 @@ added_are c gone tables = same_gets _ _ (λ q.
     (get-over c gone tables q)
     ∙ fresh (get tables q) (get gone q) (get c q)
     ∙ sym (get-map_less c tables q))
-
--- a patch whose tables are as they were
-pub same_patch : (p : Patch) (tables : Contents) → tables ≡ p.tables
-    → record p { tables = tables } ≡ p
-same_patch p tables same = ap (λ (m : Contents). record p { tables = m }) same
-
-pub left_patch : {A E : Type 0} (p : Patch) (k : List ℕ) (more : Contents) (held now : Table)
-    → get p.tables k ≡ Some held → more ≡ insert p.tables k now → (r : Result A E)
-    → OnErr r (now ≡ held) → OnErr r (record p { tables = more } ≡ p)
-left_patch p k more held now there put (Ok a) same = tt
-left_patch p k more held now there put (Err e) same =
-    same_patch p more (put ∙ ap (insert p.tables k) same ∙ insert_same p.tables k held there)

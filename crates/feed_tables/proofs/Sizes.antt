@@ -1,57 +1,118 @@
--- Sizes of contents, before and after a type changes.
-use Rattle.std.proofs.Common.{cond, not, ◌≡◌, ℕ, ◌+◌, List, [], ◌∷◌, None, Some, sym, ap, ◌∙◌, refl, arith}
+-- What items by name weigh, before and after one changes.
+use Rattle.std.proofs.Common.{cond, not, ◌≡◌, ◌≤◌, ℕ, ◌+◌, List, [], ◌∷◌, Option, None, Some, sym, ap, ◌∙◌, refl, arith}
 use Rattle.std.specs.Ordering.{is_eq}
 use Rattle.std.specs.declared.cmp.Ordering.TheVariants.{Less, Equal, Greater}
-use Rattle.std.specs.FinMap.{find, put, empty, get, insert, remove, entries, entries_sorted, get-entries, entries-insert, entries-from_sorted, from_sorted, same_entries_map, len-entries}
+use Rattle.std.specs.FinMap.{FinMap, find, put, empty, get, insert, remove, entries, entries_sorted, get-entries, entries-insert, entries-from_sorted, from_sorted, same_entries_map, len-entries}
 use Rattle.std.specs.FinMap.Entries.{by_order}
 use Rattle.feed_tables.specs.Bytes.{byte_order, IsInOrder, without}
 use Rattle.feed_tables.proofs.Entries.{first, second, find_below, below_tied, below_trans}
 use Rattle.feed_tables.proofs.TablesLaws.{sized_is}
-use Rattle.feed_tables.proofs.Maps.{from_sorted_without, from_sorted_none, in_order_without}
+use Rattle.feed_tables.proofs.Maps.{byte_order_antisymmetric, from_sorted_without, from_sorted_none, in_order_without}
 use Rattle.feed_tables.specs.Tables.{Contents, object_count, size}
-use Rattle.feed_tables.specs.Walks.{weight, sized}
 use Rattle.feed_tables.specs.declared.tables.Table.{Table}
-use Rattle.feed_tables.proofs.AtFork.{total}
+use Rattle.feed_tables.specs.Walks.{Scale, weight, weighed, by_objects}
+use Rattle.feed_tables.proofs.Order.{total}
 
-from_entries_of : (c : Contents) → from_sorted (entries c) ≡ c
-from_entries_of c = same_entries_map (from_sorted (entries c)) c (entries-from_sorted byte_order (entries c) (entries_sorted c))
+module _ {V : Type 0} where
+  from_entries_of : (m : FinMap byte_order V) → from_sorted (entries m) ≡ m
+  from_entries_of m = same_entries_map (from_sorted (entries m)) m (entries-from_sorted byte_order (entries m) (entries_sorted m))
 
-pub size_is : (c : Contents) → size c ≡ sized (entries c)
+  entries-remove : (m : FinMap byte_order V) (k : List ℕ) → entries (remove m k) ≡ without k (entries m)
+  entries-remove m k =
+      ap entries (ap (λ (n : FinMap byte_order V). remove n k) (sym (from_entries_of m)) ∙ sym (from_sorted_without (entries m) (entries_sorted m) k))
+      ∙ entries-from_sorted byte_order (without k (entries m)) (in_order_without (entries m) (entries_sorted m) k)
+
+  pub entries-empty : entries {X = V} {R = byte_order} empty ≡ []
+  entries-empty = ap entries (sym (from_sorted_none {X = V})) ∙ entries-from_sorted byte_order [] tt
+
+  module _ (scale : Scale V) where
+    -- an item put under a name
+    weighed_put : (k : List ℕ) (v : V) (es : List (List ℕ × V)) → IsInOrder es
+        → weighed scale (put byte_order k v es) + weight scale k (find byte_order k es)
+        ≡ weighed scale es + scale k v
+    weighed_put k v [] h = omega arith
+    weighed_put k v (e ∷ es) h =
+        elim (byte_order k e.0) as (λ o. byte_order k e.0 ≡ o
+        → weighed scale (by_order o ((k, v) ∷ e ∷ es) ((e.0, v) ∷ es) (e ∷ put byte_order k v es))
+        + weight scale k (cond (is_eq o) (Some e.1) (find byte_order k es))
+        ≡ scale e.0 e.1 + weighed scale es + scale k v) [
+          | Less ↦ λ is.
+              let none : find byte_order k es ≡ None =
+              find_below byte_order total k es (below_trans byte_order total k e.0 es is (first _ _ h)) in
+              omega (arith, ap (weight scale k) none)
+          | Equal ↦ λ is.
+              let same : k ≡ e.0 = byte_order_antisymmetric k e.0 is in
+              omega (arith, ap (λ (n : List ℕ). scale n v) same, ap (λ (n : List ℕ). scale n e.1) same)
+          | Greater ↦ λ is. omega (arith, weighed_put k v es (second _ _ h))
+        ] refl
+
+    -- an item taken away
+    weighed_without : (k : List ℕ) (es : List (List ℕ × V)) → IsInOrder es
+        → weighed scale (without k es) + weight scale k (find byte_order k es) ≡ weighed scale es
+    weighed_without k [] h = omega arith
+    weighed_without k (e ∷ es) h =
+        elim (byte_order k e.0) as (λ o. byte_order k e.0 ≡ o
+        → weighed scale (cond (not (is_eq o)) (e ∷ without k es) (without k es))
+        + weight scale k (cond (is_eq o) (Some e.1) (find byte_order k es))
+        ≡ scale e.0 e.1 + weighed scale es) [
+          | Less ↦ λ is. omega (arith, weighed_without k es (second _ _ h))
+          | Equal ↦ λ is.
+              let none : find byte_order k es ≡ None =
+              find_below byte_order total k es (below_tied byte_order total k e.0 es is (first _ _ h)) in
+              let same : k ≡ e.0 = byte_order_antisymmetric k e.0 is in
+              omega (
+                arith,
+                ap (weight scale k) none,
+                ap (λ (n : List ℕ). scale n e.1) same,
+                weighed_without k es (second _ _ h),
+              )
+          | Greater ↦ λ is. omega (arith, weighed_without k es (second _ _ h))
+        ] refl
+
+    pub weighed-insert : (m : FinMap byte_order V) (k : List ℕ) (v : V)
+        → weighed scale (entries (insert m k v)) + weight scale k (get m k)
+        ≡ weighed scale (entries m) + scale k v
+    weighed-insert m k v =
+        omega (
+          arith,
+          ap (weighed scale) (entries-insert total m k v),
+          weighed_put k v (entries m) (entries_sorted m),
+          ap (weight scale k) (get-entries m k),
+        )
+
+    pub weighed-remove : (m : FinMap byte_order V) (k : List ℕ)
+        → weighed scale (entries (remove m k)) + weight scale k (get m k) ≡ weighed scale (entries m)
+    weighed-remove m k =
+        omega (
+          arith,
+          ap (weighed scale) (entries-remove m k),
+          weighed_without k (entries m) (entries_sorted m),
+          ap (weight scale k) (get-entries m k),
+        )
+
+-- types and objects of collections
+pub size_is : (c : Contents) → size c ≡ weighed by_objects (entries c)
 size_is c = omega (arith, len-entries c, sized_is (entries c))
 
--- a table put under a type
-sized_put : (k : List ℕ) (t : Table) (es : List (List ℕ × Table)) → IsInOrder es → sized (put byte_order k t es) + weight (find byte_order k es) ≡ sized es + weight (Some t)
-sized_put k t [] h = omega arith
-sized_put k t (e ∷ es) h =
-    elim (byte_order k e.0) as (λ o. byte_order k e.0 ≡ o → sized (by_order o ((k, t) ∷ e ∷ es) ((e.0, t) ∷ es) (e ∷ put byte_order k t es)) + weight (cond (is_eq o) (Some e.1) (find byte_order k es)) ≡ 1 + object_count e.1 + sized es + weight (Some t)) [
-      | Less ↦ λ is. let none : find byte_order k es ≡ None = find_below byte_order total k es (below_trans byte_order total k e.0 es is (first _ _ h)) in omega (arith, ap weight none)
-      | Equal ↦ λ is. omega arith
-      | Greater ↦ λ is. omega (arith, sized_put k t es (second _ _ h))
-    ] refl
+pub size-remove : (c : Contents) (k : List ℕ)
+    → size (remove c k) + weight by_objects k (get c k) ≡ size c
+size-remove c k = omega (arith, size_is c, size_is (remove c k), weighed-remove by_objects c k)
 
--- a type taken away
-sized_without : (k : List ℕ) (es : List (List ℕ × Table)) → IsInOrder es → sized (without k es) + weight (find byte_order k es) ≡ sized es
-sized_without k [] h = omega arith
-sized_without k (e ∷ es) h =
-    elim (byte_order k e.0) as (λ o. byte_order k e.0 ≡ o → sized (cond (not (is_eq o)) (e ∷ without k es) (without k es)) + weight (cond (is_eq o) (Some e.1) (find byte_order k es)) ≡ 1 + object_count e.1 + sized es) [
-      | Less ↦ λ is. omega (arith, sized_without k es (second _ _ h))
-      | Equal ↦ λ is. let none : find byte_order k es ≡ None = find_below byte_order total k es (below_tied byte_order total k e.0 es is (first _ _ h)) in omega (arith, ap weight none, sized_without k es (second _ _ h))
-      | Greater ↦ λ is. omega (arith, sized_without k es (second _ _ h))
-    ] refl
+pub size-insert : (c : Contents) (k : List ℕ) (t held : Table) → get c k ≡ Some held
+    → size (insert c k t) + object_count held ≡ size c + object_count t
+size-insert c k t held there =
+    omega (
+      arith,
+      size_is c,
+      size_is (insert c k t),
+      weighed-insert by_objects c k t,
+      ap (weight by_objects k) there,
+    )
 
-entries-remove : (c : Contents) (k : List ℕ) → entries (remove c k) ≡ without k (entries c)
-entries-remove c k =
-    ap entries (ap (λ (m : Contents). remove m k) (sym (from_entries_of c)) ∙ sym (from_sorted_without (entries c) (entries_sorted c) k))
-    ∙ entries-from_sorted byte_order (without k (entries c)) (in_order_without (entries c) (entries_sorted c) k)
-
-entries-empty : entries {X = Table} {R = byte_order} empty ≡ []
-entries-empty = ap entries (sym (from_sorted_none {X = Table})) ∙ entries-from_sorted byte_order [] tt
-
-pub size-insert : (c : Contents) (k : List ℕ) (t : Table) → size (insert c k t) + weight (get c k) ≡ size c + weight (Some t)
-size-insert c k t = omega (arith, size_is c, size_is (insert c k t), ap sized (entries-insert total c k t), sized_put k t (entries c) (entries_sorted c), ap weight (get-entries c k))
-
-pub size-remove : (c : Contents) (k : List ℕ) → size (remove c k) + weight (get c k) ≡ size c
-size-remove c k = omega (arith, size_is c, size_is (remove c k), ap sized (entries-remove c k), sized_without k (entries c) (entries_sorted c), ap weight (get-entries c k))
+pub count_within : (c : Contents) (k : List ℕ) (held : Table) → get c k ≡ Some held
+    → object_count held ≤ size c
+count_within c k held there =
+    omega (arith, size-remove c k, ap (weight by_objects k) there)
 
 pub size-empty : (c : Contents) → c ≡ empty → 0 ≡ size c
-size-empty c is = omega (arith, size_is c, ap sized (ap entries is ∙ entries-empty))
+size-empty c is = omega (arith, size_is c, ap (weighed by_objects) (ap entries is ∙ entries-empty))

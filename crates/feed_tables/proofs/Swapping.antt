@@ -9,7 +9,7 @@ use Rattle.feed_tables.specs.Tree.{Swaps, IsCounted, entries_of, count_of}
 use Rattle.feed_tables.specs.declared.tree.Node.{Node}
 use Rattle.feed_tables.specs.declared.tree.Node.TheVariants.{Fork as a_fork}
 use Rattle.feed_tables.specs.declared.tree.Fork.{Fork}
-use Rattle.feed_tables.proofs.AtFork.{total}
+use Rattle.feed_tables.proofs.Order.{total}
 use Rattle.feed_tables.proofs.TreeFork.{AtFork, find_before, find_after, put_before, put_after}
 
 pub same_length : {V : Type 0} (id : List ℕ) (es fs : List (List ℕ × V)) (old new : V) (b : Bool) → IsInOrder es → Swaps id es fs old new b → length fs ≡ length es

@@ -1,5 +1,5 @@
 -- What tables and their listings hold is within the limits.
-use Rattle.std.proofs.Common.{◌≡◌, ℕ, Bool, true, false, cond, List, [], ◌∷◌, flat_map, Less, Equal, Greater, Result, Ok, Err, OnOk, OnErr, rules, sym, subst, arith, codes}
+use Rattle.std.proofs.Common.{◌≡◌, ℕ, Bool, true, false, cond, List, [], ◌∷◌, ◌++◌, ap, ◌∙◌, flat_map, Less, Equal, Greater, Result, Ok, Err, OnOk, OnErr, rules, sym, subst, arith, codes}
 use Rattle.std.specs.List.{All, AllByRecursion, filter}
 use Rattle.std.proofs.lemmas.Str.{IsUtf8-from_ascii}
 use Rattle.std.proofs.lemmas.List.Elements.{All-from_recursion}
@@ -8,6 +8,13 @@ use Rattle.std.specs.FinMap.Entries.{by_order}
 use Rattle.feed_tables.specs.Bytes.{byte_order, without}
 use Rattle.feed_tables.specs.Changes.{IsChange, sets}
 use Rattle.feed_tables.specs.Names.{IsName}
+use Rattle.feed_text.specs.Objects.{IsObjectText}
+use Rattle.feed_tables.specs.Tree.{entries_of}
+use Rattle.feed_tables.specs.declared.tree.Fork.{Fork}
+use Rattle.feed_tables.specs.declared.tree.Node.{Node}
+use Rattle.feed_tables.specs.declared.tree.Node.TheVariants.{Fork as a_fork}
+use Rattle.std.specs.declared.alloc.Global.{Global}
+use Rattle.std.specs.declared.boxed.Box.{Box}
 use Rattle.feed_tables.specs.Objects.{AreObjects}
 use Rattle.feed_tables.specs.Tables.{Contents, listed, or_clear, listing, IsTable, AreTypes}
 use Rattle.feed_tables.specs.declared.change.Change.{Change}
@@ -69,3 +76,22 @@ all_or_clear (c ∷ cs) p = p
 
 pub listing_within : (contents : Contents) → AreTypes (entries contents) → All IsChange (listing contents)
 listing_within contents p = All-from_recursion IsChange _ (all_or_clear _ (all_listings (entries contents) p))
+
+-- objects that are listed within the limits, at a fork
+pub objects_at : {A E : Type 0} {n : Node (List ℕ)} {d : List (List ℕ × List ℕ)}
+    {box : Box (Fork (List ℕ)) Global} → entries_of n ≡ d → n ≡ a_fork box
+    → (e f g h : Fork (List ℕ)) → e ≡ box.value → f ≡ box.value → g ≡ box.value → h ≡ box.value
+    → AreObjects e.left → IsName f.id → IsObjectText g.item → (r : Result A E)
+    → OnOk r (AreObjects h.right) → OnOk r (AreObjects d)
+objects_at {d = d} {box = box} view_is is e f g h e_is f_is g_is h_is left id object (Ok a) right =
+    let whole : d ≡ box.value.left ++ (box.value.id, box.value.item) ∷ box.value.right =
+    sym view_is ∙ ap entries_of is in
+    let all : AreObjects (box.value.left ++ (box.value.id, box.value.item) ∷ box.value.right) =
+    all-append (λ x. IsName x.0 × IsObjectText x.1) box.value.left
+    ((box.value.id, box.value.item) ∷ box.value.right)
+    (subst (λ (k : Fork (List ℕ)). AreObjects k.left) e_is left)
+    ((subst (λ (k : Fork (List ℕ)). IsName k.id) f_is id,
+    subst (λ (k : Fork (List ℕ)). IsObjectText k.item) g_is object),
+    subst (λ (k : Fork (List ℕ)). AreObjects k.right) h_is right) in
+    subst (λ (es : List (List ℕ × List ℕ)). AreObjects es) (sym whole) all
+objects_at view_is is e f g h e_is f_is g_is h_is left id object (Err x) right = tt

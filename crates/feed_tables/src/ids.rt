@@ -1,21 +1,39 @@
 //! What becomes of the objects of a collection.
 
-use crate::map::Map;
+ghost use Rattle.std.specs.Prelude.{◌≡◌, min, OnOk, OnErr};
+ghost use Rattle.std.specs.FinMap as map;
+ghost use Rattle.feed_tables.specs.Patches.{over_ids};
+ghost use Rattle.feed_tables.specs.Tables.{Objects};
+
+use crate::map::{Map, weigh_over};
 use crate::name::Name;
+use crate::scale::EachOne;
 use crate::tree::Fork;
 use feed_text::ObjectText;
 use std::alloc::{AllocError, Global};
 
-/// Objects that are gone, and then those that are there.
-#[derive(Drop)]
+/// Objects of a collection that are gone, and then those that are put in. Each brings the memory
+/// that it needs in the collection.
 pub struct Ids {
     gone: Map<()>,
+    // These are put in after the others are taken away.
     sets: Map<ObjectText>,
+}
+
+// Written out: a caller's proof has one call where a value is dropped.
+impl Drop for Ids {
+    fn drop(self) {
+        let Ids { gone, sets } = self;
+        drop(gone);
+        drop(sets);
+    }
 }
 
 impl Ids {
     /// Nothing becomes of any object.
-    pub fn new() -> Ids {
+    pub fn new() -> Ids
+        ensures { (objects : Objects) → over_ids objects result ≡ objects }
+    {
         Ids {
             gone: Map::new(),
             sets: Map::new(),
@@ -23,41 +41,55 @@ impl Ids {
     }
 
     /// Puts a node's object under its id.
-    pub fn set(&mut self, node: Box<Fork<ObjectText>>) {
+    pub fn set(&mut self, node: Box<Fork<ObjectText>>)
+        ensures { (objects : Objects) → over_ids objects self.new
+            ≡ map.insert (over_ids objects self.old) node.value.id node.value.item }
+    {
         self.sets.insert(node);
     }
 
-    /// Takes the object of an id away.
+    /// Takes the object of an id away. For want of memory nothing changes.
     pub fn take(
         &mut self,
         alloc: Global,
-        base: &Map<ObjectText>,
+        objects: &Map<ObjectText>,
         id: &Name,
-    ) -> Result<(), AllocError> {
-        if base.get(id.text()).is_some() {
-            let node = Fork::new(alloc, id.copy()?, ())?;
-            self.gone.insert(node);
+    ) -> Result<(), AllocError>
+        ensures ok { OnOk result (over_ids objects.now self.new
+            ≡ map.remove (over_ids objects.now self.old) id.now) }
+        ensures err { OnErr result (self.new ≡ self.old) }
+    {
+        if objects.get(id.text()).is_none() {
+            self.sets.remove(id.text());
+            return Ok(());
         }
+        let node = Fork::new(alloc, id.copy()?, ())?;
+        self.gone.insert(node);
         self.sets.remove(id.text());
         Ok(())
     }
 
-    /// How many objects are put in, at most.
-    pub fn count_sets(&self) -> usize {
+    /// How many objects are put in, or `usize::MAX` where they are more.
+    pub fn count_sets(&self) -> usize
+        ensures { result ≡ min (map.len self.now.sets) usize.MAX }
+    {
         self.sets.count()
     }
 
-    /// How many objects there are then.
-    pub fn count_over(&self, base: &Map<ObjectText>) -> usize {
-        let lost = self.gone.count().saturating_sub(self.gone.count_besides(base));
-        let come = self.sets.count_besides_less(base, &self.gone);
-        base.count().saturating_sub(lost).saturating_add(come)
+    /// How many objects there are over these, or `usize::MAX` where they are more. It takes time by
+    /// what becomes of objects.
+    pub fn count_over(&self, objects: &Map<ObjectText>) -> usize
+        ensures { result ≡ min (map.len (over_ids objects.now self.now)) usize.MAX }
+    {
+        weigh_over(objects.count(), objects, &self.gone, &self.sets, &EachOne)
     }
 
-    /// Makes the objects those over them.
-    pub fn put_into(self, base: &mut Map<ObjectText>) {
+    /// Makes the objects those over them. It takes no memory.
+    pub fn put_into(self, objects: &mut Map<ObjectText>)
+        ensures { objects.new ≡ over_ids objects.old self }
+    {
         let Ids { gone, sets } = self;
-        gone.take_from(base);
-        sets.put_into(base);
+        gone.take_from(objects);
+        sets.put_into(objects);
     }
 }

@@ -8,6 +8,7 @@ mod map;
 mod name;
 mod numbers;
 mod patch;
+mod scale;
 mod tables;
 mod tree;
 

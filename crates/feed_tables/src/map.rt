@@ -3,16 +3,20 @@
 ghost use Rattle.std.specs.Prelude.{◌≡◌, ◌++◌, ◌↔◌, min, flat_map, IfOk, OnOk, IsTrue};
 ghost use Rattle.std.specs.Option.{option_copied};
 ghost use Rattle.std.specs.FinMap as map;
+ghost use Rattle.feed_tables.specs.Changes.{sets};
 ghost use Rattle.feed_tables.specs.Map.{Exchanges, map_over, map_less, TakesFirst};
-ghost use Rattle.feed_tables.specs.Tables.{size, listed, AreTypes};
-ghost use Rattle.feed_tables.specs.Walks.{weight, size_in};
+ghost use Rattle.feed_tables.specs.Objects.{AreObjects};
+ghost use Rattle.feed_tables.specs.Patches.{sets_in};
+ghost use Rattle.feed_tables.specs.Tables.{listed, AreTypes};
+ghost use Rattle.feed_tables.specs.Walks.{weighed, weighed_in};
 
 use crate::change::Change;
 use crate::ids::Ids;
 use crate::name::Name;
-use feed_text::ObjectText;
+use crate::scale::Scale;
 use crate::tables::Table;
 use crate::tree::{Fork, Tree};
+use feed_text::ObjectText;
 use std::alloc::{AllocError, Global};
 use std::marker::Model;
 
@@ -100,48 +104,129 @@ impl<V: Drop> Map<V> {
         self.tree.take_from(&mut other.tree);
     }
 
-    /// How much of the size of the tables these types have, or `usize::MAX` where it is more. Those
-    /// that are gone have none.
-    pub fn size_in(&self, gone: &Map<()>, tables: &Map<Table>) -> usize
-        ensures { result ≡ min (size_in (map_less gone.now tables.now) (map.entries self.now))
-            usize.MAX }
+    /// How many of these names are none of the others, or `usize::MAX` where they are more.
+    pub fn count_besides<W: Drop>(&self, others: &Map<W>) -> usize
+        ensures { result ≡ min (map.len (map_less others.now self.now)) usize.MAX }
     {
-        self.tree.size_in(gone, tables)
+        self.tree.count_besides(others)
     }
 
-    /// How many of these types the tables haven't, or `usize::MAX` where they are more.
-    pub fn count_besides<W: Drop>(&self, tables: &Map<W>) -> usize
-        ensures { result ≡ min (map.len (map_less tables.now self.now)) usize.MAX }
+    /// How much the items weigh whose names are in neither, or `usize::MAX` where it is more.
+    pub fn weigh_besides<W: Drop, X: Drop, S: Scale<V>>(
+        &self,
+        gone: &Map<W>,
+        others: &Map<X>,
+        scale: &S,
+    ) -> usize
+        ensures { result ≡ min (weighed (S.weight scale.now)
+            (map.entries (map_less others.now (map_less gone.now self.now)))) usize.MAX }
     {
-        self.tree.count_besides(tables)
+        self.tree.weigh_besides(gone, others, scale)
+    }
+
+    /// How much these names weigh by what is held under them, where some items are taken away and
+    /// then some put in; or `usize::MAX` where it is more.
+    pub fn weigh_in<W: Drop, S: Scale<W>>(
+        &self,
+        items: &Map<W>,
+        gone: &Map<()>,
+        held: &Map<W>,
+        scale: &S,
+    ) -> usize
+        ensures { result ≡ min (weighed_in (S.weight scale.now)
+            (map_over items.now (map_less gone.now held.now)) (map.entries self.now)) usize.MAX }
+    {
+        self.tree.weigh_in(items, gone, held, scale)
+    }
+
+    /// How much all items weigh, or `usize::MAX` where it is more.
+    pub fn weigh<S: Scale<V>>(&self, scale: &S) -> usize
+        ensures { result ≡ min (weighed (S.weight scale.now) (map.entries self.now)) usize.MAX }
+    {
+        let (gone, others) = (Map::<()>::new(), Map::<()>::new());
+        self.weigh_besides(&gone, &others, scale)
     }
 }
 
-impl<V: Drop> Map<V> {
-    pub fn count_besides_less<W: Drop>(&self, tables: &Map<W>, gone: &Map<()>) -> usize {
-        self.tree.count_besides_less(tables, gone)
+/// The item of a name, where some items are taken away and then some put in.
+pub fn held_in<'a, V: Drop>(
+    items: &'a Map<V>,
+    gone: &Map<()>,
+    held: &'a Map<V>,
+    name: &str,
+) -> Option<&'a V>
+    ensures { option_copied result
+        ≡ map.get (map_over items.now (map_less gone.now held.now)) name.now }
+{
+    match items.get(name) {
+        Some(item) => return Some(item),
+        None => {}
+    }
+    if gone.get(name).is_some() {
+        return None;
+    }
+    held.get(name)
+}
+
+/// How much items weigh after some are taken away and then some put in, or `usize::MAX` where it is
+/// more. It takes time by these alone.
+pub fn weigh_over<V: Drop, S: Scale<V>>(
+    total: usize,
+    held: &Map<V>,
+    gone: &Map<()>,
+    items: &Map<V>,
+    scale: &S,
+) -> usize
+    requires { total ≡ min (weighed (S.weight scale.now) (map.entries held.now)) usize.MAX }
+    ensures { result ≡ min (weighed (S.weight scale.now)
+        (map.entries (map_over items.now (map_less gone.now held.now)))) usize.MAX }
+{
+    let come = items.weigh(scale);
+    if total >= usize::MAX {
+        return held.weigh_besides(gone, items, scale).saturating_add(come);
+    }
+    let none = Map::new();
+    let nothing = Map::new();
+    let left = gone.weigh_in(&none, &nothing, held, scale);
+    let replaced = items.weigh_in(&none, gone, held, scale);
+    let lost = left.saturating_add(replaced);
+    total.saturating_sub(lost).saturating_add(come)
+}
+
+/// What maps hold.
+pub trait Held: Drop {
+    /// The same item again.
+    fn again(&self, alloc: Global) -> Result<Self, AllocError>
+        ensures { IfOk result (λ item. item ≡ self.now) };
+
+    /// Whether both are the same.
+    fn is_same(&self, other: &Self) -> bool
+        ensures { IsTrue result ↔ (self.now ≡ other.now) };
+}
+
+impl Held for ObjectText {
+    fn again(&self, alloc: Global) -> Result<ObjectText, AllocError> {
+        let _alloc = alloc;
+        self.copy()
+    }
+
+    fn is_same(&self, other: &ObjectText) -> bool {
+        self.bytes() == other.bytes()
     }
 }
 
-impl Map<Ids> {
-    pub fn count_sets(&self) -> usize {
-        self.tree.count_sets()
-    }
-}
-
-impl Map<ObjectText> {
-    pub fn copy(&self, alloc: Global) -> Result<Map<ObjectText>, AllocError>
+impl<V: Held> Map<V> {
+    /// The same items again.
+    pub fn copy(&self, alloc: Global) -> Result<Map<V>, AllocError>
+        ensures { IfOk result (λ m. m ≡ self.now) }
     {
         let tree = self.tree.copy(alloc)?;
         Ok(Map { tree })
     }
 
-    pub fn list(&self, kind: &Name, changes: &mut Vec<Change>) -> Result<(), AllocError>
-    {
-        self.tree.list(kind, changes)
-    }
-
-    pub fn same(&self, other: &Map<ObjectText>) -> bool
+    /// Whether both have the same items under the same names.
+    pub fn same(&self, other: &Map<V>) -> bool
+        ensures { IsTrue result ↔ (self.now ≡ other.now) }
     {
         if !self.tree.is_in(other) {
             return false;
@@ -151,39 +236,6 @@ impl Map<ObjectText> {
 }
 
 impl Map<Table> {
-    /// The same types again. Their objects are shared.
-    pub fn copy(&self, alloc: Global) -> Result<Map<Table>, AllocError>
-        ensures { IfOk result (λ m. m ≡ self.now) }
-    {
-        let tree = self.tree.copy(alloc)?;
-        Ok(Map { tree })
-    }
-
-    /// Types and objects of collections, or `usize::MAX` where they are more.
-    pub fn size(&self) -> usize
-        ensures { result ≡ min (size self.now) usize.MAX }
-    {
-        self.tree.size()
-    }
-
-    /// How much of the size a type has.
-    pub fn weight(&self, kind: &str) -> usize
-        ensures { result ≡ min (weight (map.get self.now kind.now)) usize.MAX }
-    {
-        match self.get(kind) {
-            Some(table) => table.weight(),
-            None => 0,
-        }
-    }
-
-    /// The same without the types that are in either.
-    pub fn size_besides(&self, gone: &Map<()>, tables: &Map<Table>) -> usize
-        ensures { result ≡ min (size (map_less tables.now (map_less gone.now self.now)))
-            usize.MAX }
-    {
-        self.tree.size_besides(gone, tables)
-    }
-
     /// Appends the changes that make the tables, type by type.
     pub fn list(&self, changes: &mut Vec<Change>) -> Result<(), AllocError>
         ensures list { OnOk result (changes.new.items
@@ -192,14 +244,24 @@ impl Map<Table> {
     {
         self.tree.list(changes)
     }
+}
 
-    /// Whether both have the same objects under the same types.
-    pub fn same(&self, other: &Map<Table>) -> bool
-        ensures { IsTrue result ↔ (self.now ≡ other.now) }
+impl Map<Ids> {
+    /// How many objects are put in, or `usize::MAX` where they are more.
+    pub fn count_sets(&self) -> usize
+        ensures { result ≡ min (sets_in (map.entries self.now)) usize.MAX }
     {
-        if !self.tree.is_in(other) {
-            return false;
-        }
-        other.tree.is_in(self)
+        self.tree.count_sets()
+    }
+}
+
+impl Map<ObjectText> {
+    /// Appends a change for each object, in byte order of the ids.
+    pub fn list(&self, kind: &Name, changes: &mut Vec<Change>) -> Result<(), AllocError>
+        ensures list { OnOk result (changes.new.items
+            ≡ changes.old.items ++ sets kind.now (map.entries self.now)) }
+        ensures within { OnOk result (AreObjects (map.entries self.now)) }
+    {
+        self.tree.list(kind, changes)
     }
 }

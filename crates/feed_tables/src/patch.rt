@@ -1,23 +1,34 @@
 //! Changes that are staged on tables.
 
+ghost use Rattle.std.specs.Prelude.{◌≡◌, OnOk, OnErr, min, nat_lt, None};
+ghost use Rattle.std.specs.Option.{option_copied};
+ghost use Rattle.std.specs.FinMap as map;
+ghost use Rattle.feed_tables.specs.Map.{map_over, map_less};
+ghost use Rattle.feed_tables.specs.Patches.{below, over, adds, with_all_ids};
+ghost use Rattle.feed_tables.specs.Tables.{Contents, after, with_object, without_id, size, collection_of};
+
 use crate::change::Change;
 use crate::ids::Ids;
-use crate::map::Map;
+use crate::map::{Map, held_in};
 use crate::name::Name;
+use crate::scale::{AfterIds, ByObjects};
 use crate::tables::{Table, Tables};
 use crate::tree::Fork;
 use feed_text::ObjectText;
 use std::alloc::{AllocError, Global};
 
-/// What becomes of some types of tables.
+/// What becomes of some types of tables. It has what changes are to make of them, and not the
+/// others: its types are taken away, or have a table of its own; and then objects change in the
+/// collections that are held. Each brings the memory that it needs among the tables.
 pub struct Patch {
     gone: Map<()>,
     // These are put in after the others are taken away.
     tables: Map<Table>,
-    // And these into the collections that are held then.
+    // These change then.
     ids: Map<Ids>,
 }
 
+// Written out: a caller's proof has one call where a value is dropped.
 impl Drop for Patch {
     fn drop(self) {
         let Patch { gone, tables, ids } = self;
@@ -29,7 +40,9 @@ impl Drop for Patch {
 
 impl Patch {
     /// Nothing becomes of any type.
-    pub fn new() -> Patch {
+    pub fn new() -> Patch
+        ensures { (base : Contents) → over base result ≡ base }
+    {
         Patch {
             gone: Map::new(),
             tables: Map::new(),
@@ -37,39 +50,36 @@ impl Patch {
         }
     }
 
-    // What is held under a type before objects are put in.
-    fn held<'a>(&'a self, base: &'a Tables, kind: &str) -> Option<&'a Table> {
-        match self.tables.get(kind) {
-            Some(table) => return Some(table),
-            None => {}
-        }
-        if self.gone.get(kind).is_some() {
-            return None;
-        }
-        base.table(kind)
-    }
-
-    // The collection.
-    fn objects<'a>(&'a self, base: &'a Tables, kind: &str) -> Option<&'a Map<ObjectText>> {
-        match self.held(base, kind) {
-            Some(Table::Many(objects)) => Some(objects),
-            _ => None,
-        }
-    }
-
     /// Makes a change of what the tables hold after the patch. For want of memory nothing changes.
-    pub fn apply(&mut self, alloc: Global, base: &Tables, change: &Change) -> Result<(), AllocError> {
+    #[tactic(auto, unfolding(crate::specs::Tables::after))]
+    pub fn apply(&mut self, alloc: Global, base: &Tables, change: &Change) -> Result<(), AllocError>
+        ensures ok { OnOk result (over base.now.contents self.new
+            ≡ after (over base.now.contents self.old) change.now) }
+        ensures err { OnErr result (self.new ≡ self.old) }
+    {
         match change {
             Change::Set(kind, id, object) => self.set(alloc, base, kind, id, object),
             Change::Remove(kind, id) => self.take(alloc, base, kind, id),
-            Change::Empty(kind) => self.replace(alloc, kind, Table::Many(Map::new())),
-            Change::Single(kind, object) => self.replace(alloc, kind, Table::One(object.copy()?)),
+            Change::Empty(kind) => self.replace(alloc, base, kind, Table::Many(Map::new())),
+            Change::Single(kind, object) => {
+                self.replace(alloc, base, kind, Table::One(object.copy()?))
+            }
             Change::Clear(kind) => self.clear(alloc, base, kind),
         }
     }
 
     // Puts a table under a type.
-    fn replace(&mut self, alloc: Global, kind: &Name, table: Table) -> Result<(), AllocError> {
+    fn replace(
+        &mut self,
+        alloc: Global,
+        base: &Tables,
+        kind: &Name,
+        table: Table,
+    ) -> Result<(), AllocError>
+        ensures ok { OnOk result (over base.now.contents self.new
+            ≡ map.insert (over base.now.contents self.old) kind.now table) }
+        ensures err { OnErr result (self.new ≡ self.old) }
+    {
         let node = Fork::new(alloc, kind.copy()?, table)?;
         self.tables.insert(node);
         self.ids.remove(kind.text());
@@ -77,7 +87,11 @@ impl Patch {
     }
 
     // Takes a type away.
-    fn clear(&mut self, alloc: Global, base: &Tables, kind: &Name) -> Result<(), AllocError> {
+    fn clear(&mut self, alloc: Global, base: &Tables, kind: &Name) -> Result<(), AllocError>
+        ensures ok { OnOk result (over base.now.contents self.new
+            ≡ map.remove (over base.now.contents self.old) kind.now) }
+        ensures err { OnErr result (self.new ≡ self.old) }
+    {
         if base.table(kind.text()).is_none() {
             self.tables.remove(kind.text());
             return Ok(());
@@ -96,16 +110,14 @@ impl Patch {
         kind: &Name,
         id: &Name,
         object: &ObjectText,
-    ) -> Result<(), AllocError> {
+    ) -> Result<(), AllocError>
+        ensures ok { OnOk result (over base.now.contents self.new
+            ≡ with_object (over base.now.contents self.old) kind.now id.now object.now) }
+        ensures err { OnErr result (self.new ≡ self.old) }
+    {
         let node = Fork::new(alloc, id.copy()?, object.copy()?)?;
-        if self.objects(base, kind.text()).is_none() {
-            let mut ids = Ids::new();
-            ids.set(node);
-            let ids = Fork::new(alloc, kind.copy()?, ids)?;
-            let table = Fork::new(alloc, kind.copy()?, Table::Many(Map::new()))?;
-            self.tables.insert(table);
-            self.ids.insert(ids);
-            return Ok(());
+        if objects_of(&self.tables, &self.gone, base, kind.text()).is_none() {
+            return self.begin(alloc, base, kind, node);
         }
         let mut ids = Ids::new();
         if self.ids.swap(kind.text(), &mut ids) {
@@ -119,6 +131,28 @@ impl Patch {
         Ok(())
     }
 
+    // Puts a collection of this node's object under a type.
+    fn begin(
+        &mut self,
+        alloc: Global,
+        base: &Tables,
+        kind: &Name,
+        node: Box<Fork<ObjectText>>,
+    ) -> Result<(), AllocError>
+        requires { collection_of (map.get (below base.now.contents self.old) kind.now) ≡ None }
+        ensures ok { OnOk result (over base.now.contents self.new
+            ≡ with_object (over base.now.contents self.old) kind.now node.value.id node.value.item) }
+        ensures err { OnErr result (self.new ≡ self.old) }
+    {
+        let mut ids = Ids::new();
+        ids.set(node);
+        let ids = Fork::new(alloc, kind.copy()?, ids)?;
+        let table = Fork::new(alloc, kind.copy()?, Table::Many(Map::new()))?;
+        self.tables.insert(table);
+        self.ids.insert(ids);
+        Ok(())
+    }
+
     // Takes an object out of the collection of a type, where there is one.
     fn take(
         &mut self,
@@ -126,32 +160,50 @@ impl Patch {
         base: &Tables,
         kind: &Name,
         id: &Name,
-    ) -> Result<(), AllocError> {
-        let mut ids = Ids::new();
-        let there = self.ids.swap(kind.text(), &mut ids);
-        let Some(objects) = self.objects(base, kind.text()) else {
-            let _there = self.ids.swap(kind.text(), &mut ids);
+    ) -> Result<(), AllocError>
+        ensures ok { OnOk result (over base.now.contents self.new
+            ≡ without_id (over base.now.contents self.old) kind.now id.now
+            (map.get (over base.now.contents self.old) kind.now)) }
+        ensures err { OnErr result (self.new ≡ self.old) }
+    {
+        let Some(objects) = objects_of(&self.tables, &self.gone, base, kind.text()) else {
             return Ok(());
         };
-        let done = ids.take(alloc, objects, id);
-        if there {
+        let mut ids = Ids::new();
+        if self.ids.swap(kind.text(), &mut ids) {
+            let done = ids.take(alloc, objects, id);
             let _there = self.ids.swap(kind.text(), &mut ids);
             return done;
         }
-        done?;
+        ids.take(alloc, objects, id)?;
         let node = Fork::new(alloc, kind.copy()?, ids)?;
         self.ids.insert(node);
         Ok(())
     }
 
-    /// Types and objects of collections after the patch, or `usize::MAX` where they are more.
-    pub fn size_over(&self, base: &Tables) -> usize {
-        base.size_with(&self.gone, &self.tables)
+    /// Types and objects of collections after the patch, or `usize::MAX` where they are more. It
+    /// takes time by what the patch changes.
+    pub fn size_over(&self, base: &Tables) -> usize
+        ensures { result ≡ min (size (over base.now.contents self.now)) usize.MAX }
+    {
+        let below = base.size_with(&self.gone, &self.tables);
+        let after = AfterIds { changed: &self.ids };
+        if below >= usize::MAX {
+            let kept = base.types().weigh_besides(&self.gone, &self.tables, &after);
+            return kept.saturating_add(self.tables.weigh(&after));
+        }
+        let (tables, gone) = (&self.tables, &self.gone);
+        let left = self.ids.weigh_in(tables, gone, base.types(), &ByObjects);
+        let come = self.ids.weigh_in(tables, gone, base.types(), &after);
+        below.saturating_sub(left).saturating_add(come)
     }
 
-    /// Whether there are more types and objects after the patch than this.
-    pub fn exceeds(&self, base: &Tables, most: usize) -> bool {
-        let come = self.tables.size().saturating_add(self.ids.count_sets());
+    /// Whether there are more types and objects after the patch than this many. Where the tables
+    /// are far from that, no object is looked for among them.
+    pub fn exceeds(&self, base: &Tables, most: usize) -> bool
+        ensures { result ≡ nat_lt most (min (size (over base.now.contents self.now)) usize.MAX) }
+    {
+        let come = self.tables.weigh(&ByObjects).saturating_add(self.ids.count_sets());
         if base.size().saturating_add(come) <= most {
             return false;
         }
@@ -160,17 +212,49 @@ impl Patch {
 
     /// How many types there are after the patch that weren't there, or `usize::MAX` where they are
     /// more.
-    pub fn adds(&self, base: &Tables) -> usize {
-        base.count_new(&self.tables)
+    pub fn adds(&self, base: &Tables) -> usize
+        ensures { result ≡ min (adds base.now.contents self.now) usize.MAX }
+    {
+        self.tables.count_besides(base.types())
     }
 
-    /// Makes the tables what they are after the patch.
-    pub fn put(self, tables: &mut Tables) {
+    /// Makes the tables what they are after the patch. It takes no memory, and time by what the
+    /// patch changes.
+    pub fn put(self, tables: &mut Tables)
+        ensures { tables.new.contents ≡ over tables.old.contents self }
+    {
         let Patch {
             gone,
             tables: own,
             ids,
         } = self;
-        tables.merge(gone, own, ids);
+        tables.merge(gone, own);
+        change_all(ids, tables);
+    }
+}
+
+// Changes the objects of collections.
+fn change_all(mut ids: Map<Ids>, tables: &mut Tables)
+    ensures { tables.new.contents ≡ with_all_ids ids tables.old.contents }
+{
+    'types: while let Some(node) = ids.take_first() {
+        let (kind, ids) = node.into_parts();
+        tables.change(kind.text(), ids);
+    }
+}
+
+// The collection of a type whose objects may change.
+fn objects_of<'a>(
+    tables: &'a Map<Table>,
+    gone: &Map<()>,
+    base: &'a Tables,
+    kind: &str,
+) -> Option<&'a Map<ObjectText>>
+    ensures { option_copied result ≡ collection_of
+        (map.get (map_over tables.now (map_less gone.now base.now.contents)) kind.now) }
+{
+    match held_in(tables, gone, base.types(), kind) {
+        Some(Table::Many(objects)) => Some(objects),
+        _ => None,
     }
 }

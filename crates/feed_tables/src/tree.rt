@@ -189,7 +189,8 @@ impl<V: Drop> Tree<V> {
 
     /// Puts all items into another tree. It takes no memory.
     pub fn put_into(self, other: &mut Tree<V>)
-        requires { IsInOrder other.old }
+        requires ordered { IsInOrder self }
+        requires other_ordered { IsInOrder other.old }
         ensures put { other.new ≡ put_all self other.old }
         ensures in_order { IsInOrder other.new }
     {

@@ -58,11 +58,10 @@ impl<V: Drop> Fork<V> {
         ensures items { parts self.new ≡ parts self.old }
         ensures count { self.new.count ≡ min (self.old.count + added) usize.MAX }
     {
-        if added == 0 {
-            return;
-        }
         self.count = self.count.saturating_add(added);
-        self.lighten_left();
+        if added > 0 {
+            self.lighten_left();
+        }
     }
 
     // Counts the items that came to the right side, and evens the sides.
@@ -70,11 +69,10 @@ impl<V: Drop> Fork<V> {
         ensures items { parts self.new ≡ parts self.old }
         ensures count { self.new.count ≡ min (self.old.count + added) usize.MAX }
     {
-        if added == 0 {
-            return;
-        }
         self.count = self.count.saturating_add(added);
-        self.lighten_right();
+        if added > 0 {
+            self.lighten_right();
+        }
     }
 
     // Moves items to the right side where the left one outweighs it.

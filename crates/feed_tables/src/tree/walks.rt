@@ -1,23 +1,28 @@
-//! Walks through the types of tables.
+//! Walks through items by name.
 
 ghost use Rattle.std.specs.Prelude.{◌≡◌, ◌∷◌, ◌++◌, [], ◌↔◌, Some, min, length, flat_map, IfOk, OnOk, IsTrue};
+ghost use Rattle.std.specs.Option.{option_copied};
 ghost use Rattle.std.specs.FinMap as map;
-ghost use Rattle.feed_tables.specs.Map.{map_less};
+ghost use Rattle.feed_tables.specs.Changes.{sets};
+ghost use Rattle.feed_tables.specs.Map.{map_over, map_less};
+ghost use Rattle.feed_tables.specs.Objects.{AreObjects};
+ghost use Rattle.feed_tables.specs.Patches.{sets_in};
 ghost use Rattle.feed_tables.specs.Tables.{listed, AreTypes};
-ghost use Rattle.feed_tables.specs.Walks.{weight, sized, size_in, besides, AreIn};
+ghost use Rattle.feed_tables.specs.Walks.{weight, weighed, weighed_in, besides, AreIn};
 
 use crate::change::Change;
 use crate::ids::Ids;
-use feed_text::ObjectText;
-use crate::map::Map;
+use crate::map::{Held, Map, held_in};
 use crate::name::Name;
+use crate::scale::Scale;
 use crate::tables::Table;
 use crate::tree::{Fork, Node, Tree};
+use feed_text::ObjectText;
 use std::alloc::{AllocError, Global};
 
-impl Tree<Table> {
-    /// The same types again. Their objects are shared.
-    pub fn copy(&self, alloc: Global) -> Result<Tree<Table>, AllocError>
+impl<V: Held> Tree<V> {
+    /// The same items again.
+    pub fn copy(&self, alloc: Global) -> Result<Tree<V>, AllocError>
         ensures { IfOk result (λ t. t ≡ self.now) }
     {
         match &self.node {
@@ -26,7 +31,7 @@ impl Tree<Table> {
                 let fork = Fork {
                     left: fork.left.copy(alloc)?,
                     id: fork.id.copy()?,
-                    item: fork.item.copy(alloc)?,
+                    item: fork.item.again(alloc)?,
                     count: fork.count,
                     right: fork.right.copy(alloc)?,
                 };
@@ -38,56 +43,8 @@ impl Tree<Table> {
         }
     }
 
-    /// Types and objects of collections, or `usize::MAX` where they are more.
-    pub fn size(&self) -> usize
-        ensures { result ≡ min (sized self.now) usize.MAX }
-    {
-        match &self.node {
-            Node::Leaf => 0,
-            Node::Fork(fork) => fork
-                .left
-                .size()
-                .saturating_add(fork.item.weight())
-                .saturating_add(fork.right.size()),
-        }
-    }
-
-    /// The same without the types that are in either.
-    pub fn size_besides(&self, gone: &Map<()>, tables: &Map<Table>) -> usize
-        ensures { result ≡ min (sized (besides tables.now (besides gone.now self.now))) usize.MAX }
-    {
-        match &self.node {
-            Node::Leaf => 0,
-            Node::Fork(fork) => {
-                let weight = weight_besides(gone, tables, fork.id.text(), &fork.item);
-                fork.left
-                    .size_besides(gone, tables)
-                    .saturating_add(weight)
-                    .saturating_add(fork.right.size_besides(gone, tables))
-            }
-        }
-    }
-
-    /// Appends the changes that make the tables, type by type.
-    pub fn list(&self, changes: &mut Vec<Change>) -> Result<(), AllocError>
-        ensures list { OnOk result (changes.new.items
-            ≡ changes.old.items ++ flat_map listed self.now) }
-        ensures within { OnOk result (AreTypes self.now) }
-    {
-        match &self.node {
-            Node::Leaf => Ok(()),
-            Node::Fork(fork) => {
-                fork.left.list(changes)?;
-                // What is listed is within the limits.
-                let (_kind, _objects) = (fork.id.text(), fork.item.count());
-                fork.item.list(&fork.id, changes)?;
-                fork.right.list(changes)
-            }
-        }
-    }
-
-    /// Whether the types are all held, with the same objects.
-    pub fn is_in(&self, other: &Map<Table>) -> bool
+    /// Whether the items are all held under their names.
+    pub fn is_in(&self, other: &Map<V>) -> bool
         ensures { IsTrue result ↔ AreIn other.now self.now }
     {
         match &self.node {
@@ -105,102 +62,146 @@ impl Tree<Table> {
     }
 }
 
-impl<V: Drop> Tree<V> {
-    /// How much of the size of the tables these types have, or `usize::MAX` where it is more. Those
-    /// that are gone have none.
-    pub fn size_in(&self, gone: &Map<()>, tables: &Map<Table>) -> usize
-        ensures { result ≡ min (size_in (map_less gone.now tables.now) self.now) usize.MAX }
-    {
-        match &self.node {
-            Node::Leaf => 0,
-            Node::Fork(fork) => {
-                let weight = weight_in(gone, tables, fork.id.text());
-                fork.left
-                    .size_in(gone, tables)
-                    .saturating_add(weight)
-                    .saturating_add(fork.right.size_in(gone, tables))
-            }
-        }
-    }
-
-    /// How many of these types the tables haven't, or `usize::MAX` where they are more.
-    pub fn count_besides<W: Drop>(&self, tables: &Map<W>) -> usize
-        ensures { result ≡ min (length (besides tables.now self.now)) usize.MAX }
-    {
-        match &self.node {
-            Node::Leaf => 0,
-            Node::Fork(fork) => {
-                let here: usize = if tables.get(fork.id.text()).is_some() {
-                    0
-                } else {
-                    1
-                };
-                fork.left
-                    .count_besides(tables)
-                    .saturating_add(here)
-                    .saturating_add(fork.right.count_besides(tables))
-            }
-        }
-    }
-}
-
-// How much of the size of the tables a type has that isn't gone.
-fn weight_in(gone: &Map<()>, tables: &Map<Table>, kind: &str) -> usize
-    ensures { result ≡ min (weight (map.get (map_less gone.now tables.now) kind.now)) usize.MAX }
+// Whether a map has this very item under a name.
+fn holds<V: Held>(items: &Map<V>, name: &Name, item: &V) -> bool
+    ensures { IsTrue result ↔ (map.get items.now name.now ≡ Some item.now) }
 {
-    if gone.get(kind).is_some() {
-        return 0;
-    }
-    tables.weight(kind)
-}
-
-// How much of the size a table has, where its type is in neither.
-fn weight_besides(gone: &Map<()>, tables: &Map<Table>, kind: &str, table: &Table) -> usize
-    ensures { result
-        ≡ min (sized (besides tables.now (besides gone.now ((kind.now, table.now) ∷ [])))) usize.MAX }
-{
-    if gone.get(kind).is_some() {
-        return 0;
-    }
-    if tables.get(kind).is_some() {
-        return 0;
-    }
-    table.weight()
-}
-
-// Whether a type has this very table.
-fn holds(tables: &Map<Table>, kind: &Name, table: &Table) -> bool
-    ensures { IsTrue result ↔ (map.get tables.now kind.now ≡ Some table.now) }
-{
-    match tables.get(kind.text()) {
-        Some(held) => held.same(table),
+    match items.get(name.text()) {
+        Some(held) => held.is_same(item),
         None => false,
     }
 }
 
 impl<V: Drop> Tree<V> {
-    pub fn count_besides_less<W: Drop>(&self, tables: &Map<W>, gone: &Map<()>) -> usize {
+    /// How much the items weigh whose names are in neither, or `usize::MAX` where it is more.
+    pub fn weigh_besides<W: Drop, X: Drop, S: Scale<V>>(
+        &self,
+        gone: &Map<W>,
+        others: &Map<X>,
+        scale: &S,
+    ) -> usize
+        ensures { result ≡ min (weighed (S.weight scale.now)
+            (besides others.now (besides gone.now self.now))) usize.MAX }
+    {
         match &self.node {
             Node::Leaf => 0,
             Node::Fork(fork) => {
-                let here: usize = if gone.get(fork.id.text()).is_some() {
-                    1
-                } else if tables.get(fork.id.text()).is_some() {
+                let weight = weight_besides(gone, others, fork.id.text(), &fork.item, scale);
+                fork.left
+                    .weigh_besides(gone, others, scale)
+                    .saturating_add(weight)
+                    .saturating_add(fork.right.weigh_besides(gone, others, scale))
+            }
+        }
+    }
+
+    /// How much these names weigh by what is held under them, where some items are taken away and
+    /// then some put in; or `usize::MAX` where it is more.
+    pub fn weigh_in<W: Drop, S: Scale<W>>(
+        &self,
+        items: &Map<W>,
+        gone: &Map<()>,
+        held: &Map<W>,
+        scale: &S,
+    ) -> usize
+        ensures { result ≡ min (weighed_in (S.weight scale.now)
+            (map_over items.now (map_less gone.now held.now)) self.now) usize.MAX }
+    {
+        match &self.node {
+            Node::Leaf => 0,
+            Node::Fork(fork) => {
+                let weight = weight_in(items, gone, held, fork.id.text(), scale);
+                fork.left
+                    .weigh_in(items, gone, held, scale)
+                    .saturating_add(weight)
+                    .saturating_add(fork.right.weigh_in(items, gone, held, scale))
+            }
+        }
+    }
+
+    /// How many of these names are none of the others, or `usize::MAX` where they are more.
+    pub fn count_besides<W: Drop>(&self, others: &Map<W>) -> usize
+        ensures { result ≡ min (length (besides others.now self.now)) usize.MAX }
+    {
+        match &self.node {
+            Node::Leaf => 0,
+            Node::Fork(fork) => {
+                let here: usize = if others.get(fork.id.text()).is_some() {
                     0
                 } else {
                     1
                 };
                 fork.left
-                    .count_besides_less(tables, gone)
+                    .count_besides(others)
                     .saturating_add(here)
-                    .saturating_add(fork.right.count_besides_less(tables, gone))
+                    .saturating_add(fork.right.count_besides(others))
+            }
+        }
+    }
+}
+
+// How much a name weighs by what is held under it.
+fn weight_in<W: Drop, S: Scale<W>>(
+    items: &Map<W>,
+    gone: &Map<()>,
+    held: &Map<W>,
+    name: &str,
+    scale: &S,
+) -> usize
+    ensures { result ≡ min (weight (S.weight scale.now) name.now
+        (map.get (map_over items.now (map_less gone.now held.now)) name.now)) usize.MAX }
+{
+    match held_in(items, gone, held, name) {
+        Some(item) => scale.weigh(name, item),
+        None => 0,
+    }
+}
+
+// How much an item weighs, where its name is in neither.
+fn weight_besides<V: Drop, W: Drop, X: Drop, S: Scale<V>>(
+    gone: &Map<W>,
+    others: &Map<X>,
+    name: &str,
+    item: &V,
+    scale: &S,
+) -> usize
+    ensures { result ≡ min (weighed (S.weight scale.now)
+        (besides others.now (besides gone.now ((name.now, item.now) ∷ [])))) usize.MAX }
+{
+    if gone.get(name).is_some() {
+        return 0;
+    }
+    if others.get(name).is_some() {
+        return 0;
+    }
+    scale.weigh(name, item)
+}
+
+impl Tree<Table> {
+    /// Appends the changes that make the tables, type by type.
+    pub fn list(&self, changes: &mut Vec<Change>) -> Result<(), AllocError>
+        ensures list { OnOk result (changes.new.items
+            ≡ changes.old.items ++ flat_map listed self.now) }
+        ensures within { OnOk result (AreTypes self.now) }
+    {
+        match &self.node {
+            Node::Leaf => Ok(()),
+            Node::Fork(fork) => {
+                fork.left.list(changes)?;
+                // What is listed is within the limits.
+                let _kind = fork.id.text();
+                fork.item.list(&fork.id, changes)?;
+                fork.right.list(changes)
             }
         }
     }
 }
 
 impl Tree<Ids> {
-    pub fn count_sets(&self) -> usize {
+    /// How many objects are put in, or `usize::MAX` where they are more.
+    pub fn count_sets(&self) -> usize
+        ensures { result ≡ min (sets_in self.now) usize.MAX }
+    {
         match &self.node {
             Node::Leaf => 0,
             Node::Fork(fork) => fork
@@ -213,56 +214,21 @@ impl Tree<Ids> {
 }
 
 impl Tree<ObjectText> {
-    pub fn copy(&self, alloc: Global) -> Result<Tree<ObjectText>, AllocError>
-    {
-        match &self.node {
-            Node::Leaf => Ok(Tree::new()),
-            Node::Fork(fork) => {
-                let fork = Fork {
-                    left: fork.left.copy(alloc)?,
-                    id: fork.id.copy()?,
-                    item: fork.item.copy()?,
-                    count: fork.count,
-                    right: fork.right.copy(alloc)?,
-                };
-                let node = Box::new(alloc, fork)?;
-                Ok(Tree {
-                    node: Node::Fork(node),
-                })
-            }
-        }
-    }
-
+    /// Appends a change for each object, in the order of their ids.
     pub fn list(&self, kind: &Name, changes: &mut Vec<Change>) -> Result<(), AllocError>
+        ensures list { OnOk result (changes.new.items
+            ≡ changes.old.items ++ sets kind.now self.now) }
+        ensures within { OnOk result (AreObjects self.now) }
     {
         match &self.node {
             Node::Leaf => Ok(()),
             Node::Fork(fork) => {
                 fork.left.list(kind, changes)?;
+                // What is listed is within the limits.
+                let (_id, _object) = (fork.id.text(), fork.item.bytes());
                 let set = Change::Set(kind.copy()?, fork.id.copy()?, fork.item.copy()?);
                 changes.push(set)?;
                 fork.right.list(kind, changes)
-            }
-        }
-    }
-
-    pub fn is_in(&self, other: &Map<ObjectText>) -> bool
-    {
-        match &self.node {
-            Node::Leaf => true,
-            Node::Fork(fork) => {
-                match other.get(fork.id.text()) {
-                    Some(held) => {
-                        if held.bytes() != fork.item.bytes() {
-                            return false;
-                        }
-                    }
-                    None => return false,
-                }
-                if !fork.left.is_in(other) {
-                    return false;
-                }
-                fork.right.is_in(other)
             }
         }
     }

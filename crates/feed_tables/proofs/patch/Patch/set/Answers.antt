@@ -1,16 +1,59 @@
-use Rattle.feed_tables.proofs.Patching.{exchanged_twice, set_in, left_patch}
+use Rattle.std.proofs.Common.{◌≡◌, None, refl, sym, ap, ◌∙◌, List, ℕ}
+use Rattle.std.specs.FinMap.{get, insert}
+use Rattle.feed_tables.specs.Patches.{over_ids}
+use Rattle.feed_tables.specs.Tables.{Objects, collection_of}
+use Rattle.feed_tables.specs.declared.ids.Ids.{Ids}
+use Rattle.feed_tables.proofs.Changing.{Changed, held_some, held_none, held_after, held_still, set_again, same_ids}
+use Rattle.feed_tables.proofs.Patching.{over_of, exchanged_twice, exchanged_none}
 use Rattle.feed_tables.proofs.patch.Patch.set.Goals as goal
+
+pub begin-requires : goal.begin-requires
+begin-requires c =
+    let p = c.args.self.now in
+    let m = over_of c.args.base.now.contents p.gone p.tables in
+    held_none (get m c.args.kind.now) c.objects_of.result c.if-is_none.ensures
+    (c.objects_of.ensures ∙ ap (λ (q : List ℕ). collection_of (get m q)) c.text.ensures.text)
 
 pub returns-then-swap-clause-ok : goal.returns-then-swap-clause-ok
 returns-then-swap-clause-ok c =
     let p = c.args.self.now in
     let k = c.args.kind.now in
-    let twice = exchanged_twice c.text.result.now c.text-then-swap.result.now k p.tables c.swap.new.self c.swap-there.new.self _ c.swap.new.item c.put-done.new.self c.swap-there.new.item c.swap.result c.swap-there.result c.text.ensures.text c.text-then-swap.ensures.text c.if-swap.true c.swap.ensures c.swap-there.ensures in
-    set_in c.args.base.now.contents p.gone p.tables k c.args.id.now c.args.object.now c.swap-there.new.self c.swap.new.item c.put-done.new.self twice.0 twice.1 c.put-done.result c.put-done.ensures.ok
+    let m = over_of c.args.base.now.contents p.gone p.tables in
+    let held = held_some (get m k) c.objects_of.result c.if-is_none.ensures
+    (c.objects_of.ensures ∙ ap (λ (q : List ℕ). collection_of (get m q)) c.text.ensures.text) in
+    let i = c.swap.new.item in
+    let j = c.set.new.self in
+    let node = c.in_ok-node.node.value in
+    let twice = exchanged_twice c.text-2.result.now c.text-then-swap.result.now k p.ids c.swap.new.self c.swap-there.new.self _ i j c.swap-there.new.item c.swap.result c.swap-there.result c.text-2.ensures.text c.text-then-swap.ensures.text c.if-swap.true c.swap.ensures c.swap-there.ensures in
+    let made : over_ids held.0 j ≡ insert (over_ids held.0 i) c.args.id.now c.args.object.now =
+    c.set.ensures held.0
+    ∙ ap (λ (q : List ℕ). insert (over_ids held.0 i) q node.item) (c.in_ok-node.ensures.0 ∙ c.in_ok-copy.ensures)
+    ∙ ap (λ (o : List ℕ). insert (over_ids held.0 i) c.args.id.now o) (c.in_ok-node.ensures.1 ∙ c.in_ok-copy-2.ensures) in
+    set_again p.ids m k c.swap-there.new.self held.0 (over_ids held.0 i) j c.args.id.now c.args.object.now held.1
+    (held_after p.ids m k held.0 i held.1 twice.0) twice.1 made
 
-pub returns-then-swap-clause-err : goal.returns-then-swap-clause-err
-returns-then-swap-clause-err c =
+pub returns-clause-ok : goal.returns-clause-ok
+returns-clause-ok c =
     let p = c.args.self.now in
     let k = c.args.kind.now in
-    let twice = exchanged_twice c.text.result.now c.text-then-swap.result.now k p.tables c.swap.new.self c.swap-there.new.self _ c.swap.new.item c.put-done.new.self c.swap-there.new.item c.swap.result c.swap-there.result c.text.ensures.text c.text-then-swap.ensures.text c.if-swap.true c.swap.ensures c.swap-there.ensures in
-    left_patch p k c.swap-there.new.self c.swap.new.item c.put-done.new.self twice.0 twice.1 c.put-done.result c.put-done.ensures.err
+    let m = over_of c.args.base.now.contents p.gone p.tables in
+    let held = held_some (get m k) c.objects_of.result c.if-is_none.ensures
+    (c.objects_of.ensures ∙ ap (λ (q : List ℕ). collection_of (get m q)) c.text.ensures.text) in
+    let none = exchanged_none c.text-2.result.now k p.ids c.swap.new.self _ c.swap.new.item c.swap.result c.text-2.ensures.text c.if-swap.false c.swap.ensures in
+    let i = c.swap.new.item in
+    let j = c.set-2.new.self in
+    let node = c.in_ok-node.node.value in
+    let last = c.in_ok-node-2.node.value in
+    let same : over_ids held.0 i ≡ held.0 = ap (over_ids held.0) none.2 ∙ c.new-ids.ensures held.0 in
+    let made : over_ids held.0 j ≡ insert held.0 c.args.id.now c.args.object.now =
+    c.set-2.ensures held.0
+    ∙ ap (λ (n : Objects). insert n node.id node.item) same
+    ∙ ap (λ (q : List ℕ). insert held.0 q node.item) (c.in_ok-node.ensures.0 ∙ c.in_ok-copy.ensures)
+    ∙ ap (λ (o : List ℕ). insert held.0 c.args.id.now o) (c.in_ok-node.ensures.1 ∙ c.in_ok-copy-2.ensures) in
+    let put : c.insert.new.self ≡ insert p.ids k j =
+    c.insert.ensures
+    ∙ ap (λ (n : Changed). insert n last.id last.item) none.1
+    ∙ ap (λ (q : List ℕ). insert p.ids q last.item) (c.in_ok-node-2.ensures.0 ∙ c.in_ok-copy-3.ensures)
+    ∙ ap (λ (x : Ids). insert p.ids k x) c.in_ok-node-2.ensures.1 in
+    set_again p.ids m k c.insert.new.self held.0 held.0 j c.args.id.now c.args.object.now held.1
+    (held_still p.ids m k held.0 held.1 none.0) put made

@@ -1,33 +1,62 @@
-use Rattle.std.proofs.Common.{◌≡◌, sym, ap, ◌∙◌, ℕ, List, Some, None}
-use Rattle.std.specs.Option.{option_copied}
-use Rattle.std.specs.FinMap.{get}
-use Rattle.feed_tables.specs.Tables.{Contents, object_of, without_id}
-use Rattle.feed_tables.proofs.Patching.{exchanged_twice, exchanged_none, take_in, left_patch, take_absent, none_copied, over_of}
+use Rattle.std.proofs.Common.{◌≡◌, None, Some, Result, Ok, Err, OnOk, OnErr, refl, sym, ap, ◌∙◌, List, ℕ}
+use Rattle.std.specs.FinMap.{get, insert, remove}
+use Rattle.feed_tables.specs.Patches.{over_ids}
+use Rattle.feed_tables.specs.Tables.{Objects, collection_of}
+use Rattle.feed_tables.specs.declared.ids.Ids.{Ids}
+use Rattle.feed_tables.proofs.Changing.{Changed, held_is, held_after, held_still, take_done, taken_again, taken_nowhere, none_of, left_ids}
+use Rattle.feed_tables.proofs.Patching.{over_of, exchanged_twice, exchanged_none}
 use Rattle.feed_tables.proofs.patch.Patch.take.Goals as goal
+
+pub returns-in_default-clause-ok : goal.returns-in_default-clause-ok
+returns-in_default-clause-ok c =
+    let p = c.args.self.now in
+    let k = c.args.kind.now in
+    let m = over_of c.args.base.now.contents p.gone p.tables in
+    taken_nowhere p.ids m k c.args.id.now
+    (none_of (get m k) c.objects_of.result c.in_default.not-Some
+    (c.objects_of.ensures ∙ ap (λ (q : List ℕ). collection_of (get m q)) c.text.ensures.text))
 
 pub returns-then-swap-clause-ok : goal.returns-then-swap-clause-ok
 returns-then-swap-clause-ok c =
     let p = c.args.self.now in
     let k = c.args.kind.now in
-    let twice = exchanged_twice c.text.result.now c.text-then-swap.result.now k p.tables c.swap.new.self c.swap-there.new.self _ c.swap.new.item c.take-done.new.self c.swap-there.new.item c.swap.result c.swap-there.result c.text.ensures.text c.text-then-swap.ensures.text c.if-swap.true c.swap.ensures c.swap-there.ensures in
-    take_in c.args.base.now.contents p.gone p.tables k c.args.id.now c.swap-there.new.self c.swap.new.item c.take-done.new.self twice.0 twice.1 c.take-done.result c.take-done.ensures.ok
+    let m = over_of c.args.base.now.contents p.gone p.tables in
+    let objects = c.in-Some.objects.now in
+    let held = held_is (get m k) c.objects_of.result c.in-Some.objects c.in-Some.is
+    (c.objects_of.ensures ∙ ap (λ (q : List ℕ). collection_of (get m q)) c.text.ensures.text) in
+    let i = c.swap.new.item in
+    let j = c.take-done.new.self in
+    let twice = exchanged_twice c.text-2.result.now c.text-then-swap.result.now k p.ids c.swap.new.self c.swap-there.new.self _ i j c.swap-there.new.item c.swap.result c.swap-there.result c.text-2.ensures.text c.text-then-swap.ensures.text c.if-swap.true c.swap.ensures c.swap-there.ensures in
+    take_done p.ids m k c.swap-there.new.self objects i j c.args.id.now held twice.0 twice.1 c.take-done.result c.take-done.ensures.ok
 
 pub returns-then-swap-clause-err : goal.returns-then-swap-clause-err
 returns-then-swap-clause-err c =
     let p = c.args.self.now in
     let k = c.args.kind.now in
-    let twice = exchanged_twice c.text.result.now c.text-then-swap.result.now k p.tables c.swap.new.self c.swap-there.new.self _ c.swap.new.item c.take-done.new.self c.swap-there.new.item c.swap.result c.swap-there.result c.text.ensures.text c.text-then-swap.ensures.text c.if-swap.true c.swap.ensures c.swap-there.ensures in
-    left_patch p k c.swap-there.new.self c.swap.new.item c.take-done.new.self twice.0 twice.1 c.take-done.result c.take-done.ensures.err
+    let i = c.swap.new.item in
+    let j = c.take-done.new.self in
+    let twice = exchanged_twice c.text-2.result.now c.text-then-swap.result.now k p.ids c.swap.new.self c.swap-there.new.self _ i j c.swap-there.new.item c.swap.result c.swap-there.result c.text-2.ensures.text c.text-then-swap.ensures.text c.if-swap.true c.swap.ensures c.swap-there.ensures in
+    left_ids p k c.swap-there.new.self i j twice.0 twice.1 c.take-done.result c.take-done.ensures.err
 
-pub returns-then-is_none-clause-ok : goal.returns-then-is_none-clause-ok
-returns-then-is_none-clause-ok c =
+pub returns-clause-ok : goal.returns-clause-ok
+returns-clause-ok c =
     let p = c.args.self.now in
     let k = c.args.kind.now in
-    let id = c.args.id.now in
-    let base = c.args.base.now.contents in
-    let none = exchanged_none c.text.result.now k p.tables c.swap.new.self _ c.swap.new.item c.swap.result c.text.ensures.text c.if-swap.false c.swap.ensures in
-    let then : Contents = over_of base p.gone c.swap.new.self in
-    let there : get then k ≡ Some c.in-Some.held.now = ap (λ (q : List ℕ). get then q) (sym c.text-2.ensures.text) ∙ sym c.held.ensures ∙ ap option_copied c.in-Some.is in
-    let absent : object_of id c.in-Some.held.now ≡ None = ap (λ (q : List ℕ). object_of q c.in-Some.held.now) (sym c.text-3.ensures.text) ∙ sym c.get.ensures ∙ none_copied c.get.result c.if-is_none.ensures in
-    take_absent then k id c.in-Some.held.now there absent
-    ∙ ap (λ (m : Contents). without_id (over_of base p.gone m) k id (get (over_of base p.gone m) k)) none.1
+    let m = over_of c.args.base.now.contents p.gone p.tables in
+    let objects = c.in-Some.objects.now in
+    let held = held_is (get m k) c.objects_of.result c.in-Some.objects c.in-Some.is
+    (c.objects_of.ensures ∙ ap (λ (q : List ℕ). collection_of (get m q)) c.text.ensures.text) in
+    let none = exchanged_none c.text-2.result.now k p.ids c.swap.new.self _ c.swap.new.item c.swap.result c.text-2.ensures.text c.if-swap.false c.swap.ensures in
+    let i = c.swap.new.item in
+    let j = c.take.new.self in
+    let last = c.in_ok-node.node.value in
+    let same : over_ids objects i ≡ objects = ap (over_ids objects) none.2 ∙ c.new-ids.ensures objects in
+    let made : over_ids objects j ≡ remove objects c.args.id.now =
+    c.in_ok-take.ensures.ok ∙ ap (λ (n : Objects). remove n c.args.id.now) same in
+    let put : c.insert.new.self ≡ insert p.ids k j =
+    c.insert.ensures
+    ∙ ap (λ (n : Changed). insert n last.id last.item) none.1
+    ∙ ap (λ (q : List ℕ). insert p.ids q last.item) (c.in_ok-node.ensures.0 ∙ c.in_ok-copy.ensures)
+    ∙ ap (λ (x : Ids). insert p.ids k x) c.in_ok-node.ensures.1 in
+    taken_again p.ids m k c.insert.new.self objects objects j c.args.id.now held
+    (held_still p.ids m k objects held none.0) put made

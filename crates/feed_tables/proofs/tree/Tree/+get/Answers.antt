@@ -1,7 +1,7 @@
 use Rattle.std.proofs.Common.{rules, ◌≡◌, Greater, Less, Equal}
 use Rattle.feed_tables.specs.Bytes.{byte_order}
 use Rattle.feed_tables.proofs.Entries.{later, earlier}
-use Rattle.feed_tables.proofs.AtFork.{total, alike}
+use Rattle.feed_tables.proofs.Order.{total, alike}
 use Rattle.feed_tables.proofs.TreeFork.{at_lent, find_before, find_at, find_after}
 use Rattle.feed_tables.proofs.tree.Tree.+get.Goals as goal
 

@@ -1,0 +1,29 @@
+use Rattle.std.proofs.Common.{◌≡◌, ◌+◌, ◌≤◌, Some, None, sym, ap, ◌∙◌, refl, arith}
+use Rattle.std.specs.FinMap.{get, insert}
+use Rattle.feed_tables.specs.Patches.{merged, with_ids}
+use Rattle.feed_tables.specs.Tables.{Contents, Tables, object_count, size}
+use Rattle.feed_tables.specs.declared.tables.Table.{Table}
+use Rattle.feed_tables.proofs.Patching.{exchanged_twice, exchanged_none}
+use Rattle.feed_tables.proofs.Sizes.{size-insert, count_within}
+use Rattle.feed_tables.proofs.tables.Tables.change.Goals as goal
+
+pub invariant_of-self-2 : goal.invariant_of-self-2
+invariant_of-self-2 c =
+    let types = c.self.inside.types in
+    let k = c.args.kind.now in
+    let held = c.swap.new.item in
+    let twice = exchanged_twice k k k types c.swap.new.self c.swap-there.new.self _ held c.merge.new.self c.swap-there.new.item c.swap.result c.swap-there.result refl refl c.if-not-swap.false c.swap.ensures c.swap-there.ensures in
+    c.moved-self-inside.ensures (size types) (object_count held) (object_count c.merge.new.self) c.self.invariant c.count-before.ensures c.count-after.ensures
+    (ap (λ (m : Contents). size m + object_count held) twice.1 ∙ size-insert types k c.merge.new.self held twice.0)
+    (count_within types k held twice.0)
+
+pub returns : goal.returns
+returns c =
+    let types = c.self.inside.types in
+    let k = c.args.kind.now in
+    let held : types ≡ c.args.self.now.contents = ap (λ (t : Tables). t.contents) c.self.view_is in
+    let twice = exchanged_twice k k k types c.swap.new.self c.swap-there.new.self _ c.swap.new.item c.merge.new.self c.swap-there.new.item c.swap.result c.swap-there.result refl refl c.if-not-swap.false c.swap.ensures c.swap-there.ensures in
+    twice.1
+    ∙ ap (λ (t : Table). insert types k t) c.merge.ensures
+    ∙ sym (ap (with_ids types k c.args.ids) twice.0)
+    ∙ ap (λ (m : Contents). with_ids m k c.args.ids (get m k)) held
