@@ -6,12 +6,14 @@ ghost use Rattle.std.specs.Char.{is_ascii_digit};
 ghost use Rattle.std.specs.List.{list_all};
 ghost use Rattle.std.specs.Str.{bytes_eq};
 ghost use Rattle.std.specs.Str.Parse.{digits_value};
-ghost use Rattle.feed_play.specs.Script.{is_space, words, is_number as says_number, number_in, numbers_in, one_of, two_of, asked_by, world_numbers, shape_in, action_in};
+ghost use Rattle.feed_play.specs.Script.{is_space, words, is_number as says_number, number_in, numbers_in, one_of, two_of, three_of, listed_for, connect_listed, connect_named, connect_of, other_by, world_of, nodes_in, shape_in, action_in};
+ghost use Rattle.feed_play.specs.Player.{IsOrdered};
 ghost use Rattle.feed_play.specs.declared.fault.PlayCause.TheVariants.{Script, Memory};
 
 use crate::fault::PlayCause;
 use feed_world::Event;
 use std::alloc::Global;
+use std::marker::Model;
 
 /// What a line of a script asks for.
 #[derive(Drop)]
@@ -108,16 +110,90 @@ fn is(word: &[u8], text: &str) -> bool
     word == text.as_bytes()
 }
 
-/// The numbers behind the name of a script's first line.
-pub fn read_world(alloc: Global, line: &[u8]) -> Result<Vec<usize>, PlayCause>
-    ensures ok { IfOk result (λ numbers. world_numbers (words line.now) ≡ Some numbers.items) }
+/// What the first line of a script says of its world.
+#[derive(Drop)]
+pub struct Asked {
+    history: usize,
+    staged: usize,
+    nodes: usize,
+    // The node that each mirror connects to; none where a connect names it.
+    upstreams: Option<Vec<usize>>,
+}
+
+impl Model for Asked {
+    ghost use Rattle.std.specs.Prelude.{option_map};
+    ghost use Rattle.feed_play.specs.Script.{Asked as WorldAsked};
+
+    ghost Value = { WorldAsked };
+
+    ghost view = { λ a. record {
+      history = a.history;
+      staged = a.staged;
+      nodes = a.nodes;
+      upstreams = option_map (λ upstreams. upstreams.items) a.upstreams;
+    } };
+}
+
+/// What the numbers of a `world` line say.
+fn read_world(alloc: Global, text: &[u8]) -> Result<Asked, PlayCause>
+    ensures ok { IfOk result (λ asked.
+        option_and_then world_of (numbers_in (words text.now)) ≡ Some asked) }
+    ensures err { IfErr result (λ cause. cause ≢ Memory → (cause ≡ Script)
+        × (option_and_then world_of (numbers_in (words text.now)) ≡ None)) }
+{
+    let mut numbers = read_numbers(alloc, text)?;
+    if numbers.len() < 2 {
+        return Err(PlayCause::Script);
+    }
+    let history = numbers.remove(0);
+    let staged = numbers.remove(0);
+    Ok(Asked {
+        history,
+        staged,
+        nodes: numbers.len() + 1,
+        upstreams: Some(numbers),
+    })
+}
+
+/// What the words of a `nodes` line say.
+#[tactic(auto, using(crate::proofs::NumberLemmas::nodes_long))]
+fn read_nodes(text: &[u8]) -> Option<Asked>
+    ensures { result ≡ nodes_in (words text.now) }
+{
+    let (history, behind) = split_word(text);
+    let (staged, behind) = split_word(behind?);
+    let (nodes, behind) = split_word(behind?);
+    let (framing, behind) = split_word(behind?);
+    if behind.is_some() {
+        return None;
+    }
+    if !is(framing, "close") {
+        return None;
+    }
+    Some(Asked {
+        history: read_number(history)?,
+        staged: read_number(staged)?,
+        nodes: read_number(nodes)?,
+        upstreams: None,
+    })
+}
+
+/// What the first line of a script says of its world.
+pub fn read_first(alloc: Global, line: &[u8]) -> Result<Asked, PlayCause>
+    ensures ok { IfOk result (λ asked. shape_in line.now ≡ Some asked) }
     ensures err { IfErr result (λ cause. cause ≢ Memory
         → (cause ≡ Script) × (shape_in line.now ≡ None)) }
 {
-    let (name, numbers) = split_word(line);
-    match numbers {
-        Some(numbers) if is(name, "world") => read_numbers(alloc, numbers),
-        _ => Err(PlayCause::Script),
+    let (name, behind) = split_word(line);
+    let Some(text) = behind else {
+        return Err(PlayCause::Script);
+    };
+    if is(name, "world") {
+        read_world(alloc, text)
+    } else if is(name, "nodes") {
+        read_nodes(text).ok_or(PlayCause::Script)
+    } else {
+        Err(PlayCause::Script)
     }
 }
 
@@ -138,14 +214,105 @@ fn read_two(text: &[u8]) -> Option<(usize, usize)>
     Some((first, read_one(behind?)?))
 }
 
+/// The numbers that a text of three words says.
+fn read_three(text: &[u8]) -> Option<(usize, usize, usize)>
+    ensures { result ≡ option_and_then three_of (numbers_in (words text.now)) }
+{
+    let (first, behind) = split_word(text);
+    let first = read_number(first)?;
+    let (second, third) = read_two(behind?)?;
+    Some((first, second, third))
+}
+
+/// Whether each of these nodes that mirrors connect to is earlier than its mirror.
+fn are_ordered(upstreams: &[usize]) -> bool
+    ensures yes { IsTrue result → IsOrdered (Some upstreams.now) }
+    ensures no { IsOrdered (Some upstreams.now) → IsTrue result }
+{
+    upstreams
+        .iter()
+        .enumerate()
+        .all(|(place, upstream)| *upstream <= place)
+}
+
+/// The node that is listed for the mirror of this number; the primary where none is.
+fn listed_node(upstreams: &[usize], number: usize) -> usize
+    ensures { result ≡ listed_for upstreams.now number }
+{
+    match number.checked_sub(1) {
+        Some(place) => upstreams.get(place).copied().unwrap_or(0),
+        None => 0,
+    }
+}
+
+/// The connect of a mirror to the node that is listed for it.
+fn read_listed(upstreams: &[usize], numbers: &[u8]) -> Option<Action>
+    ensures { result
+        ≡ option_and_then (connect_listed upstreams.now) (numbers_in (words numbers.now)) }
+{
+    let (number, back) = match read_two(numbers) {
+        Some(both) => both,
+        None => (read_one(numbers)?, 0),
+    };
+    let server = listed_node(upstreams, number);
+    Some(Action::Event(Event::Connect(number, server, back)))
+}
+
+/// The connect of a mirror to the node that is named.
+fn read_named(numbers: &[u8]) -> Option<Action>
+    ensures { result ≡ option_and_then connect_named (numbers_in (words numbers.now)) }
+{
+    if let Some((number, server, back)) = read_three(numbers) {
+        return Some(Action::Event(Event::Connect(number, server, back)));
+    }
+    let (number, server) = read_two(numbers)?;
+    Some(Action::Event(Event::Connect(number, server, 0)))
+}
+
+impl Asked {
+    /// How many commits a node keeps, and how many changes may wait for a token.
+    pub fn limits(&self) -> (usize, usize)
+        ensures { result ≡ (self.now.history, self.now.staged) }
+    {
+        (self.history, self.staged)
+    }
+
+    /// How many nodes there are.
+    pub fn nodes(&self) -> usize
+        ensures { result ≡ self.now.nodes }
+    {
+        self.nodes
+    }
+
+    /// Whether each mirror for which a node is listed connects to an earlier one.
+    pub fn is_ordered(&self) -> bool
+        ensures yes { IsTrue result → IsOrdered self.now.upstreams }
+        ensures no { IsOrdered self.now.upstreams → IsTrue result }
+    {
+        match &self.upstreams {
+            Some(upstreams) => are_ordered(upstreams.as_slice()),
+            None => true,
+        }
+    }
+
+    /// The connect that these numbers ask for.
+    fn read_connect(&self, numbers: &[u8]) -> Option<Action>
+        ensures { result
+            ≡ option_and_then (connect_of self.now.upstreams) (numbers_in (words numbers.now)) }
+    {
+        match &self.upstreams {
+            Some(upstreams) => read_listed(upstreams.as_slice(), numbers),
+            None => read_named(numbers),
+        }
+    }
+}
+
 /// What this name asks for with one number.
 fn action_named(name: &[u8], number: usize) -> Option<Action>
-    ensures { result ≡ asked_by name.now (number ∷ []) }
+    ensures { result ≡ other_by name.now (number ∷ []) }
 {
     if is(name, "commit") {
         Some(Action::Commit(number))
-    } else if is(name, "connect") {
-        Some(Action::Event(Event::Connect(number, 0)))
     } else if is(name, "serve") {
         Some(Action::Event(Event::Serve(number)))
     } else if is(name, "idle") {
@@ -163,11 +330,9 @@ fn action_named(name: &[u8], number: usize) -> Option<Action>
 
 /// What this name asks for with two numbers.
 fn action_of_two(name: &[u8], first: usize, second: usize) -> Option<Action>
-    ensures { result ≡ asked_by name.now (first ∷ second ∷ []) }
+    ensures { result ≡ other_by name.now (first ∷ second ∷ []) }
 {
-    if is(name, "connect") {
-        Some(Action::Event(Event::Connect(first, second)))
-    } else if is(name, "deliver") {
+    if is(name, "deliver") {
         Some(Action::Event(Event::Deliver(first, second)))
     } else if is(name, "restart") {
         Some(Action::Event(Event::Restart(first, second)))
@@ -176,15 +341,25 @@ fn action_of_two(name: &[u8], first: usize, second: usize) -> Option<Action>
     }
 }
 
-/// What a line of a script asks for that is not the first.
-pub fn read_action(line: &[u8]) -> Option<Action>
-    ensures { result ≡ action_in line.now }
+/// What another name than that of a connect asks for with these numbers.
+fn read_other(name: &[u8], numbers: &[u8]) -> Option<Action>
+    ensures { result ≡ option_and_then (other_by name.now) (numbers_in (words numbers.now)) }
 {
-    let (name, numbers) = split_word(line);
-    let numbers = numbers?;
     if let Some((first, second)) = read_two(numbers) {
         return action_of_two(name, first, second);
     }
     let number = read_one(numbers)?;
     action_named(name, number)
+}
+
+/// What a line of a script asks for that is not the first.
+pub fn read_action(asked: &Asked, line: &[u8]) -> Option<Action>
+    ensures { result ≡ action_in asked.now line.now }
+{
+    let (name, numbers) = split_word(line);
+    if is(name, "connect") {
+        asked.read_connect(numbers?)
+    } else {
+        read_other(name, numbers?)
+    }
 }
