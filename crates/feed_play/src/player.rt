@@ -12,8 +12,9 @@ ghost use Rattle.feed_world.specs.World.{World as Numbers};
 
 use crate::fault::{PlayCause, PlayFault};
 use crate::feed_lines::read_changes;
+use crate::first::{Asked, read_first};
 use crate::lines::Lines;
-use crate::script::{Action, Asked, read_action, read_first};
+use crate::script::{Action, read_action};
 use crate::told::{print_reply, print_shown};
 use feed_node::Limits;
 use feed_world::{Event, World, WorldFault};
