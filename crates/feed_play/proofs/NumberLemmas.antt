@@ -9,7 +9,7 @@ use Rattle.std.proofs.lemmas.Str.Parse.{IsNumeralModel, numerals_by_value, tells
 use Rattle.std.proofs.lemmas.Str.{digit_value_digit}
 use Rattle.std.proofs.lemmas.Int.Digits.{digits_value_more}
 use Rattle.feed_note.specs.Lines.{onto_first}
-use Rattle.feed_play.specs.Script.{is_space, is_number, number_in, numbers_in, one_of, words}
+use Rattle.feed_play.specs.Script.{is_space, is_number, number_in, numbers_in, one_of, nodes_in, words}
 use Rattle.feed_play.proofs.WordLemmas.{stays, both, first_true, second_true, one_word}
 
 and_false : (a : Bool) → (a && false) ≡ false
@@ -112,6 +112,10 @@ some_words (b ∷ t) = by (is_space b) refl (some_words t)
         → (w : List ℕ) × (ws : List (List ℕ)) × (cond s ([] ∷ words t) (onto_first b (words t)) ≡ w ∷ ws)
     by true is (w, ws, e) = ([], words t, refl)
     by false is (w, ws, e) = (b ∷ w, ws, ap (onto_first b) e)
+
+-- more words are behind the word of a framing
+pub nodes_long : (a b c d t : List ℕ) → nodes_in (a ∷ b ∷ c ∷ d ∷ words t) ≡ None
+nodes_long a b c d t = let (w, ws, some) = some_words t in rw some refl
 
 abbrev HasTwoWords : List (List ℕ) → Type 0
 HasTwoWords ws = (w : List ℕ) × (v : List ℕ) × (more : List (List ℕ)) × (ws ≡ w ∷ v ∷ more)

@@ -1,79 +1,29 @@
 -- Lemmas on runs of a script.
-use Rattle.std.proofs.Common.{◌≡◌, ◌≢◌, refl, sym, ap, ◌∙◌, subst, ℕ, zero, suc, ◌+◌, ◌-◌, ◌<◌, ◌≤◌, arith, take, length-drop, List, [], ◌∷◌, ◌++◌, length, map, drop, get_or, slice_get, Option, Some, None, Result, Ok, Err, OnOk, IfErr, IfSome, Bor, append_assoc}
-use Rattle.std.proofs.lemmas.List.{append-nil, take_all}
+use Rattle.std.proofs.Common.{◌≡◌, ◌≢◌, refl, sym, ap, ◌∙◌, subst, ℕ, zero, suc, ◌+◌, ◌<◌, ◌≤◌, arith, List, [], ◌∷◌, ◌++◌, length, map, slice_get, Option, Some, None, Result, Ok, Err, OnOk, IfErr, IfSome, Bor, append_assoc}
+use Rattle.std.proofs.lemmas.List.{append-nil}
 use Rattle.std.proofs.lemmas.Option.{slice_get_past}
 use Rattle.std.specs.Prelude.{unwrap_or}
 use Rattle.std.specs.Option.{option_and_then}
 use Rattle.feed_tables.specs.declared.change.Change.{Change}
 use Rattle.feed_note.specs.Lines.{lines as lines_of}
-use Rattle.feed_node.specs.Limits.{Limits, IsInRange}
+use Rattle.feed_node.specs.Limits.{Limits}
 use Rattle.feed_node.specs.States.{NodeState, published_token}
 use Rattle.feed_world.specs.Log.{Log}
 use Rattle.feed_world.specs.Position.{node_where}
-use Rattle.feed_world.specs.States.{FollowerState, WorldState, IsWorld, AreMirrors, RefusesShape, shown_at}
-use Rattle.feed_world.specs.World.{Mirror, World, HasShape, new_mirror, new_world, node_of}
+use Rattle.feed_world.specs.States.{FollowerState, WorldState, IsWorld, AreMirrors, shown_at}
+use Rattle.feed_world.specs.World.{Mirror, World, node_of}
 use Rattle.feed_world.specs.declared.event.Event.{Event}
 use Rattle.feed_world.specs.declared.event.Event.TheVariants as event
-use Rattle.feed_world.specs.declared.event.ShapeFault.{ShapeFault}
-use Rattle.feed_world.specs.declared.event.ShapeFault.TheVariants as shape
-use Rattle.feed_play.specs.Fault.{cause_of_shape}
 use Rattle.feed_play.specs.FeedLines.{TakesFeed}
 use Rattle.feed_play.specs.Lines.{LinesLeft}
-use Rattle.feed_play.specs.Player.{token_at, Makes, MakesNone, HasBadLimits, DoesAsked, Replies, Shows, LineDone, LineStops, StopsAsked, StopsShow, StopsShowing, PlaysNext, PlaysOn, PlaysUpTo}
-use Rattle.feed_play.specs.Script.{Asked, action_in, shape_by, shape_in, words, world_numbers}
+use Rattle.feed_play.specs.Player.{token_at, Makes, DoesAsked, Replies, Shows, LineDone, LineStops, StopsAsked, StopsShow, StopsShowing, PlaysNext, PlaysOn, PlaysUpTo}
+use Rattle.feed_play.specs.Script.{Asked, action_in, words}
 use Rattle.feed_play.specs.Told.{Prints, shown_text}
 use Rattle.feed_play.specs.declared.fault.PlayCause.{PlayCause}
 use Rattle.feed_play.specs.declared.fault.PlayCause.TheVariants as cause
 use Rattle.feed_play.specs.declared.fault.PlayFault.{PlayFault}
+use Rattle.feed_play.specs.declared.script.Action.{Action}
 use Rattle.feed_play.specs.declared.script.Action.TheVariants as action
-
--- ---- the first line
-
-abbrev asked_by : List ℕ → Asked
-asked_by ns = record { history = get_or ns 0 0; staged = get_or ns 1 0; upstreams = drop 2 ns }
-
-shaped : (ns : List ℕ) → 2 ≤ length ns → shape_by ns ≡ Some (asked_by ns)
-shaped [] many = absurd (omega arith)
-shaped (a ∷ []) many = absurd (omega arith)
-shaped (a ∷ b ∷ ns) many = refl
-
-module _ (line xs ns : List ℕ) (said : world_numbers (words line) ≡ Some ns) (same : xs ≡ ns) (many : 2 ≤ length xs) where
-  says : shape_in line ≡ Some (asked_by xs)
-  says = ap (option_and_then shape_by) (said ∙ ap Some (sym same)) ∙ shaped xs many
-
-  pub bad_limits : ¬ (IsInRange (get_or xs 0 0) (get_or xs 1 0)) → HasBadLimits line
-  bad_limits bad = record { asked = asked_by xs; says = says; limits = bad }
-
-  module _ (limits : Limits) (is : limits ≡ record { history = get_or xs 0 0; staged = get_or xs 1 0 }) (good : IsInRange limits.history limits.staged) where
-    in_range : IsInRange (get_or xs 0 0) (get_or xs 1 0)
-    in_range = subst (λ (l : Limits). IsInRange l.history l.staged) is good
-
-    refused : (why : ShapeFault) → RefusesShape (drop 2 xs) why → MakesNone line (cause_of_shape why)
-    refused shape.BadShape bad = record { asked = asked_by xs; says = says; limits = in_range; shape = bad }
-    refused shape.Memory all = tt
-
-    upstreams_kept : (up : List ℕ) → map (λ m. m.upstream) (map new_mirror up) ≡ up
-    upstreams_kept [] = refl
-    upstreams_kept (u ∷ up) = ap (λ l. u ∷ l) (upstreams_kept up)
-
-    behind_two : (up : List ℕ) → up ≡ take (length xs - 2) (drop 2 xs) → up ≡ drop 2 xs
-    behind_two up which = which ∙ take_all (length xs - 2) (drop 2 xs) (omega (arith, length-drop 2 xs))
-
-    pub made : (up : List ℕ) (state : WorldState) → up ≡ take (length xs - 2) (drop 2 xs) → IsWorld (new_world limits up) state → (w : World) × IsWorld w state × Makes line w
-    made up state which stands = (
-      new_world limits up,
-      stands,
-      record {
-        asked = asked_by xs;
-        says = says;
-        limits = in_range;
-        shape = subst HasShape (upstreams_kept up ∙ behind_two up which) stands.nodes.shape;
-        is = ap (λ l. new_world l up) is ∙ ap (new_world (record { history = get_or xs 0 0; staged = get_or xs 1 0 })) (behind_two up which);
-      },
-    )
-
-    pub made_none : (up : List ℕ) (why : ShapeFault) (cause : PlayCause) → up ≡ take (length xs - 2) (drop 2 xs) → RefusesShape up why → cause ≡ cause_of_shape why → MakesNone line cause
-    made_none up why cause which bad told = subst (MakesNone line) (sym told) (refused why (subst (λ l. RefusesShape l why) (behind_two up which) bad))
 
 -- ---- what nodes show
 
@@ -134,20 +84,20 @@ pub OnOk-weaker : {A B : Type 0} (p : Result (Unit {0}) PlayCause) → (A → B)
 OnOk-weaker (Ok u) f h = f h
 OnOk-weaker (Err why) f h = tt
 
-module _ (line : List ℕ) (lines : LinesLeft) where
-  pub happens : (what : Event) (old new : WorldState) (before after : List ℕ) → action_in line ≡ Some (action.Event what)
-      → Replies what old new before after → LineDone line old new lines lines before after
+module _ (asks : Option Action) (lines : LinesLeft) where
+  pub happens : (what : Event) (old new : WorldState) (before after : List ℕ) → asks ≡ Some (action.Event what)
+      → Replies what old new before after → LineDone asks old new lines lines before after
   happens what old new before after is replies w stands =
       let (then, state, (text, told, grown)) = replies w stands in
       (then, state, (text, subst (λ o. DoesAsked o w lines text then lines) (sym is) (refl, told), grown))
 
-  pub commits : (count : ℕ) (changes : List Change) (left : LinesLeft) (old new : WorldState) (before after : List ℕ) → action_in line ≡ Some (action.Commit count)
-      → TakesFeed lines left count changes → Replies (event.Commit changes) old new before after → LineDone line old new lines left before after
+  pub commits : (count : ℕ) (changes : List Change) (left : LinesLeft) (old new : WorldState) (before after : List ℕ) → asks ≡ Some (action.Commit count)
+      → TakesFeed lines left count changes → Replies (event.Commit changes) old new before after → LineDone asks old new lines left before after
   commits count changes left old new before after is fed replies w stands =
       let (then, state, (text, told, grown)) = replies w stands in
       (then, state, (text, subst (λ o. DoesAsked o w lines text then left) (sym is) (record { changes = changes; fed = fed; replied = told }), grown))
 
-  pub shows : (i : ℕ) (state : WorldState) (before after : List ℕ) → action_in line ≡ Some (action.Show i) → Shows state i before after → LineDone line state state lines lines before after
+  pub shows : (i : ℕ) (state : WorldState) (before after : List ℕ) → asks ≡ Some (action.Show i) → Shows state i before after → LineDone asks state state lines lines before after
   shows i state before after is (node, shown, grown) w stands =
       let (there, same) = shown_where w state stands i node shown in
       (w, stands, (shown_text node.published, subst (λ o. DoesAsked o w lines (shown_text node.published) w lines) (sym is) (refl, refl, record { is_there = there; shown = ap (λ n. shown_text n.published) same }), grown))
@@ -163,8 +113,8 @@ module _ (line : List ℕ) (lines : LinesLeft) where
   no_show i state w stands n cause.Shape at some h = absurd h
   no_show i state w stands n (cause.Line why) at some h = absurd h
 
-  pub shows_not : (r : Result (Unit {0}) PlayFault) (p : Result (Unit {0}) PlayCause) (number i : ℕ) (state : WorldState) → action_in line ≡ Some (action.Show i) → number ≡ lines.read
-      → IfErr r (λ why. (why.line ≡ number) × (p ≡ Err why.cause)) → IfErr p (λ cause. StopsShow state i cause) → IfErr r (λ why. LineStops line state lines why)
+  pub shows_not : (r : Result (Unit {0}) PlayFault) (p : Result (Unit {0}) PlayCause) (number i : ℕ) (state : WorldState) → asks ≡ Some (action.Show i) → number ≡ lines.read
+      → IfErr r (λ why. (why.line ≡ number) × (p ≡ Err why.cause)) → IfErr p (λ cause. StopsShow state i cause) → IfErr r (λ why. LineStops asks state lines why)
   shows_not (Ok u) p number i state is at told stops = tt
   shows_not (Err why) p number i state is at told stops = λ w stands some.
       subst (λ o. StopsAsked o w lines why) (sym is) (no_show i state w stands why.line why.cause (told.0 ∙ at) some (subst (λ q. IfErr q (λ cause. StopsShow state i cause)) told.1 stops))
@@ -172,14 +122,14 @@ module _ (line : List ℕ) (lines : LinesLeft) where
 -- ---- a whole script
 
 -- printed from here on, of a run that leads to the world of this state
-abbrev pub HasPlayed : List ℕ → WorldState → LinesLeft → List ℕ → List ℕ → Type 0
-HasPlayed script state lines initial now = (w : World) × IsWorld w state × Prints initial now (λ told. PlaysUpTo script told w lines)
+abbrev pub HasPlayed : List ℕ → Asked → WorldState → LinesLeft → List ℕ → List ℕ → Type 0
+HasPlayed script asked state lines initial now = (w : World) × IsWorld w state × Prints initial now (λ told. PlaysUpTo script asked told w lines)
 
-pub played_more : (script : List ℕ) (old new : WorldState) (initial before now line : List ℕ) (lines behind left : LinesLeft) → HasPlayed script old lines initial before
-    → lines.left ≡ line ∷ behind.left → behind.read ≡ lines.read + 1 → LineDone line old new behind left before now → HasPlayed script new left initial now
-played_more script old new initial before now line lines behind left (w, stands, (told, up, grown)) is read done =
+pub played_more : (script : List ℕ) (asked : Asked) (old new : WorldState) (initial before now line : List ℕ) (lines behind left : LinesLeft) → HasPlayed script asked old lines initial before
+    → lines.left ≡ line ∷ behind.left → behind.read ≡ lines.read + 1 → LineDone (action_in asked line) old new behind left before now → HasPlayed script asked new left initial now
+played_more script asked old new initial before now line lines behind left (w, stands, (told, up, grown)) is read done =
     let (then, state, (text, does, more)) = done w stands in
-    let next : PlaysNext w lines text then left = record { line = line; behind = behind; next = record { left = is; read = read }; does = does } in (
+    let next : PlaysNext asked w lines text then left = record { line = line; behind = behind; next = record { left = is; read = read }; does = does } in (
       then,
       state,
       (
@@ -190,19 +140,19 @@ played_more script old new initial before now line lines behind left (w, stands,
     )
 
 -- no line says a world in no bytes
-no_world : (w : World) → Makes [] w → ⊥
+no_world : (asked : Asked) (w : World) → Makes [] asked w → ⊥
 unfolding words
-no_world w makes = absurd (none_some makes.says)
+no_world asked w makes = absurd (none_some makes.says)
   where
     none_some : {a : Asked} → None ≡ Some a → ⊥
     none_some e = absurd (cc)
 
 -- nothing was played yet
-pub begun : (script : List ℕ) (first empty : Bor (List ℕ)) (o : Option (Bor (List ℕ))) (begin behind : LinesLeft) (state : WorldState) (initial : List ℕ) → begin ≡ record { left = lines_of script; read = 0 }
+pub begun : (script : List ℕ) (first empty : Bor (List ℕ)) (o : Option (Bor (List ℕ))) (begin behind : LinesLeft) (asked : Asked) (state : WorldState) (initial : List ℕ) → begin ≡ record { left = lines_of script; read = 0 }
     → IfSome o (λ line. (begin.left ≡ line.now ∷ behind.left) × (behind.read ≡ begin.read + 1)) → first ≡ unwrap_or o empty → empty.now ≡ []
-    → (w : World) × IsWorld w state × Makes first.now w → HasPlayed script state behind initial initial
-begun script first empty None begin behind state initial is some e nothing (w, stands, makes) = absurd (no_world w (subst (λ l. Makes l w) (ap (λ l. l.now) e ∙ nothing) makes))
-begun script first empty (Some line) begin behind state initial is (left, read) e nothing (w, stands, makes) = (
+    → (w : World) × IsWorld w state × Makes first.now asked w → HasPlayed script asked state behind initial initial
+begun script first empty None begin behind asked state initial is some e nothing (w, stands, makes) = absurd (no_world asked w (subst (λ l. Makes l asked w) (ap (λ l. l.now) e ∙ nothing) makes))
+begun script first empty (Some line) begin behind asked state initial is (left, read) e nothing (w, stands, makes) = (
   w,
   stands,
   (
@@ -212,8 +162,8 @@ begun script first empty (Some line) begin behind state initial is (left, read) 
       more = behind.left;
       lines = sym (ap (λ b. b.left) is) ∙ left;
       start = w;
-      makes = subst (λ l. Makes l w) (ap (λ l. l.now) e) makes;
-      plays = subst (λ n. PlaysOn w (record { left = behind.left; read = n }) [] w behind) (read ∙ ap (λ b. b.read + 1) is) PlaysOn.none;
+      makes = subst (λ l. Makes l asked w) (ap (λ l. l.now) e) makes;
+      plays = subst (λ n. PlaysOn asked w (record { left = behind.left; read = n }) [] w behind) (read ∙ ap (λ b. b.read + 1) is) PlaysOn.none;
     },
     sym (append-nil initial),
   ),

@@ -21,7 +21,7 @@ cause_of_world world.Memory = Memory
 cause_of_world (world.Commit commit.Memory) = Memory
 cause_of_world reason = World reason
 
--- there is no such world
+-- no world has so many nodes
 abbrev pub cause_of_shape : ShapeFault → PlayCause
 cause_of_shape shape.BadShape = Shape
 cause_of_shape shape.Memory = Memory

@@ -1,6 +1,6 @@
 -- A script played: what its lines do in a world, one after another, what is printed of that, and
 -- why it stops.
-use Rattle.std.specs.Prelude.{◌≡◌, ◌≢◌, ℕ, ◌+◌, ◌≤◌, ◌<◌, ◌⊎◌, List, [], ◌∷◌, ◌++◌, length, Option, Some, None}
+use Rattle.std.specs.Prelude.{◌≡◌, ◌≢◌, ℕ, ◌+◌, ◌≤◌, ◌<◌, ◌⊎◌, List, [], ◌∷◌, ◌++◌, length, slice_get, Option, Some, None}
 use Rattle.feed_tables.specs.declared.change.Change.{Change}
 use Rattle.feed_note.specs.Lines.{lines as lines_of}
 use Rattle.feed_node.specs.Limits.{IsInRange}
@@ -25,13 +25,24 @@ use Rattle.feed_play.specs.declared.script.Action.TheVariants as action
 
 -- ---- the first line
 
--- the line says a world that there is: its limits are in range, and it has a shape
-pub record Makes (line : List ℕ) (w : World) : Type 0 where
-  pub asked : Asked
+-- Each mirror for which a node is listed connects to an earlier one: place i of the list is that of
+-- mirror i + 1.
+abbrev pub IsOrdered : Option (List ℕ) → Type 0
+IsOrdered (Some upstreams) =
+    (i upstream : ℕ) → slice_get upstreams i ≡ Some upstream → upstream ≤ i
+IsOrdered None = Unit {0}
+
+-- a world may have so many nodes, and mirrors that connect so
+pub record IsShaped (asked : Asked) : Type 0 where
+  pub nodes : HasShape asked.nodes
+  pub ordered : IsOrdered asked.upstreams
+
+-- the line says this of a world that there is: its limits are in range, and it has a shape
+pub record Makes (line : List ℕ) (asked : Asked) (w : World) : Type 0 where
   pub says : shape_in line ≡ Some asked
   pub limits : IsInRange asked.history asked.staged
-  pub shape : HasShape asked.upstreams
-  pub is : w ≡ new_world (record { history = asked.history; staged = asked.staged }) asked.upstreams
+  pub shape : IsShaped asked
+  pub is : w ≡ new_world (record { history = asked.history; staged = asked.staged }) asked.nodes
 
 -- the line says limits that are out of range
 pub record HasBadLimits (line : List ℕ) : Type 0 where
@@ -44,7 +55,7 @@ pub record HasBadShape (line : List ℕ) : Type 0 where
   pub asked : Asked
   pub says : shape_in line ≡ Some asked
   pub limits : IsInRange asked.history asked.staged
-  pub shape : ¬ (HasShape asked.upstreams)
+  pub shape : ¬ (IsShaped asked)
 
 -- why the line makes no world; for want of memory nothing is said
 abbrev pub MakesNone : List ℕ → PlayCause → Type 0
@@ -153,11 +164,11 @@ Shows state number printed_old printed_new =
     × (printed_new ≡ printed_old ++ shown_text node.published)
 
 -- what the line asks for was done
-abbrev pub LineDone : List ℕ → WorldState → WorldState → LinesLeft → LinesLeft → List ℕ → List ℕ
-    → Type 0
-LineDone line old new behind left printed_old printed_new =
+abbrev pub LineDone : Option Action → WorldState → WorldState → LinesLeft → LinesLeft → List ℕ
+    → List ℕ → Type 0
+LineDone asks old new behind left printed_old printed_new =
     (w : World) → IsWorld w old → (after : World) × IsWorld after new
-    × Prints printed_old printed_new (λ text. DoesAsked (action_in line) w behind text after left)
+    × Prints printed_old printed_new (λ text. DoesAsked asks w behind text after left)
 
 -- why the event stops a script; for want of memory nothing is said
 abbrev pub StopsEvent : WorldState → Event → PlayCause → Type 0
@@ -179,10 +190,9 @@ StopsShow state number cause.Shape = ⊥
 StopsShow state number (cause.Line why) = ⊥
 
 -- why the line stops a script; for want of memory nothing is said
-abbrev pub LineStops : List ℕ → WorldState → LinesLeft → PlayFault → Type 0
-LineStops line old behind why =
-    (w : World) → IsWorld w old → why.cause ≢ cause.Memory
-    → StopsAsked (action_in line) w behind why
+abbrev pub LineStops : Option Action → WorldState → LinesLeft → PlayFault → Type 0
+LineStops asks old behind why =
+    (w : World) → IsWorld w old → why.cause ≢ cause.Memory → StopsAsked asks w behind why
 
 -- ---- several lines, and a whole script
 
@@ -192,39 +202,42 @@ pub record IsNext (lines : LinesLeft) (line : List ℕ) (behind : LinesLeft) : T
   pub read : behind.read ≡ lines.read + 1
 
 -- what the next line asks for is done
-pub record PlaysNext (old : World) (lines : LinesLeft) (text : List ℕ) (new : World)
+pub record PlaysNext (asked : Asked) (old : World) (lines : LinesLeft) (text : List ℕ) (new : World)
     (left : LinesLeft) : Type 0 where
   pub line : List ℕ
   pub behind : LinesLeft
   pub next : IsNext lines line behind
-  pub does : DoesAsked (action_in line) old behind text new left
+  pub does : DoesAsked (action_in asked line) old behind text new left
 
 -- what the next lines ask for is done, one after another, and this is printed in all
-pub data PlaysOn (start : World) (lines : LinesLeft) : List ℕ → World → LinesLeft → Type 0 where
-  none : PlaysOn start lines [] start lines
+pub data PlaysOn (asked : Asked) (start : World) (lines : LinesLeft)
+    : List ℕ → World → LinesLeft → Type 0 where
+  none : PlaysOn asked start lines [] start lines
   one_more : (told text : List ℕ) (old new : World) (at left : LinesLeft)
-      → PlaysOn start lines told old at → PlaysNext old at text new left
-      → PlaysOn start lines (told ++ text) new left
+      → PlaysOn asked start lines told old at → PlaysNext asked old at text new left
+      → PlaysOn asked start lines (told ++ text) new left
 
 -- the lines of a script behind the first one
 abbrev pub behind_first : List (List ℕ) → LinesLeft
 behind_first more = record { left = more; read = 1 }
 
--- The first line of the script makes a world. What the next ones ask for is done in it, and this is
--- printed: then the world is this one, and these lines are left.
-pub record PlaysUpTo (script told : List ℕ) (world : World) (left : LinesLeft) : Type 0 where
+-- The first line of the script says this of a world, and makes it. What the next ones ask for is
+-- done in it, and this is printed: then the world is this one, and these lines are left.
+pub record PlaysUpTo (script : List ℕ) (asked : Asked) (told : List ℕ) (world : World)
+    (left : LinesLeft) : Type 0 where
   pub first : List ℕ
   pub more : List (List ℕ)
   pub lines : lines_of script ≡ first ∷ more
   pub start : World
-  pub makes : Makes first start
-  pub plays : PlaysOn start (behind_first more) told world left
+  pub makes : Makes first asked start
+  pub plays : PlaysOn asked start (behind_first more) told world left
 
 -- what all lines of the script ask for is done, and this is printed
 pub record Plays (script told : List ℕ) : Type 0 where
+  pub asked : Asked
   pub world : World
   pub end : LinesLeft
-  pub up_to : PlaysUpTo script told world end
+  pub up_to : PlaysUpTo script asked told world end
   pub none_left : end.left ≡ []
 
 -- the first of these lines; an empty one, where there is none
@@ -242,13 +255,14 @@ pub record StopsAtFirst (script told : List ℕ) (why : PlayFault) : Type 0 wher
 -- For want of memory nothing is said of the line, but that the fault is told there or at a later
 -- one.
 pub record StopsLater (script told : List ℕ) (why : PlayFault) : Type 0 where
+  pub asked : Asked
   pub world : World
   pub at : LinesLeft
-  pub before : PlaysUpTo script told world at
+  pub before : PlaysUpTo script asked told world at
   pub line : List ℕ
   pub behind : LinesLeft
   pub next : IsNext at line behind
-  pub stops : why.cause ≢ cause.Memory → StopsAsked (action_in line) world behind why
+  pub stops : why.cause ≢ cause.Memory → StopsAsked (action_in asked line) world behind why
   pub from : behind.read ≤ why.line
 
 -- the script stops there, and this is printed before

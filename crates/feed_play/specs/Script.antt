@@ -1,5 +1,5 @@
 -- What the lines of a script say.
-use Rattle.std.specs.Prelude.{ℕ, Bool, List, [], ◌∷◌, length, Option, Some, None, option_map, if◌then◌else◌, ◌==◌, ◌&&◌, nat_le, codes}
+use Rattle.std.specs.Prelude.{ℕ, zero, suc, ◌+◌, Bool, List, [], ◌∷◌, length, Option, Some, None, option_map, unwrap_or, slice_get, if◌then◌else◌, ◌==◌, ◌&&◌, nat_le, codes}
 use Rattle.std.specs.Option.{option_and_then}
 use Rattle.std.specs.Char.{is_ascii_digit}
 use Rattle.std.specs.List.{list_all}
@@ -46,6 +46,10 @@ abbrev pub two_of : List ℕ → Option (ℕ × ℕ)
 two_of (i ∷ n ∷ []) = Some (i, n)
 two_of numbers = None
 
+abbrev pub three_of : List ℕ → Option (ℕ × ℕ × ℕ)
+three_of (i ∷ j ∷ n ∷ []) = Some (i, j, n)
+three_of numbers = None
+
 -- an event of one number, and of two
 abbrev pub event_of_one : (ℕ → Event) → List ℕ → Option Action
 event_of_one event_of numbers = option_map (λ i. action.Event (event_of i)) (one_of numbers)
@@ -53,17 +57,38 @@ event_of_one event_of numbers = option_map (λ i. action.Event (event_of i)) (on
 abbrev pub event_of_two : (ℕ → ℕ → Event) → List ℕ → Option Action
 event_of_two event_of numbers = option_map (λ p. action.Event (event_of p.0 p.1)) (two_of numbers)
 
--- a connect has one number or two: without the second nothing is to be sent again
-abbrev pub connect_of : List ℕ → Option Action
-connect_of (i ∷ []) = Some (action.Event (event.Connect i 0))
-connect_of (i ∷ back ∷ []) = Some (action.Event (event.Connect i back))
-connect_of numbers = None
+-- ---- what a connect asks for; without a number for that nothing is to be sent again
 
--- what a name asks for, with these numbers
-abbrev pub asked_by : List ℕ → List ℕ → Option Action
-asked_by name numbers =
+-- the node listed for the mirror of this number; the primary, where none is
+abbrev pub listed_for : List ℕ → ℕ → ℕ
+listed_for upstreams zero = 0
+listed_for upstreams (suc i) = unwrap_or (slice_get upstreams i) 0
+
+-- the mirror connects to the node listed for it
+abbrev pub connect_listed : List ℕ → List ℕ → Option Action
+connect_listed upstreams (i ∷ []) =
+    Some (action.Event (event.Connect i (listed_for upstreams i) 0))
+connect_listed upstreams (i ∷ back ∷ []) =
+    Some (action.Event (event.Connect i (listed_for upstreams i) back))
+connect_listed upstreams numbers = None
+
+-- the mirror connects to the node that is named behind it
+abbrev pub connect_named : List ℕ → Option Action
+connect_named (i ∷ j ∷ []) = Some (action.Event (event.Connect i j 0))
+connect_named (i ∷ j ∷ back ∷ []) = Some (action.Event (event.Connect i j back))
+connect_named numbers = None
+
+-- the nodes that mirrors connect to are listed, or a connect names its own
+abbrev pub connect_of : Option (List ℕ) → List ℕ → Option Action
+connect_of (Some upstreams) numbers = connect_listed upstreams numbers
+connect_of None numbers = connect_named numbers
+
+-- ---- what a line asks for
+
+-- what another name asks for, with these numbers
+abbrev pub other_by : List ℕ → List ℕ → Option Action
+other_by name numbers =
     if bytes_eq name (codes "commit") then option_map action.Commit (one_of numbers)
-    else (if bytes_eq name (codes "connect") then connect_of numbers
     else (if bytes_eq name (codes "serve") then event_of_one event.Serve numbers
     else (if bytes_eq name (codes "idle") then event_of_one event.Idle numbers
     else (if bytes_eq name (codes "deliver") then event_of_two event.Deliver numbers
@@ -71,31 +96,63 @@ asked_by name numbers =
     else (if bytes_eq name (codes "save") then event_of_one event.Save numbers
     else (if bytes_eq name (codes "restart") then event_of_two event.Restart numbers
     else (if bytes_eq name (codes "show") then option_map action.Show (one_of numbers)
-    else None))))))))
-
-abbrev pub asked_in : List (List ℕ) → Option Action
-asked_in [] = None
-asked_in (name ∷ more) = option_and_then (asked_by name) (numbers_in more)
-
--- what a line asks for that is not the first
-abbrev pub action_in : List ℕ → Option Action
-action_in line = asked_in (words line)
-
-abbrev pub world_numbers : List (List ℕ) → Option (List ℕ)
-world_numbers [] = None
-world_numbers (name ∷ more) = if bytes_eq name (codes "world") then numbers_in more else None
+    else None)))))))
 
 -- what the first line says of the world: how many commits a node keeps, how many changes may wait
--- for a token, and the node that each mirror is behind
+-- for a token, and how many nodes there are; and the node that each mirror connects to, where they
+-- are listed
 pub record Asked : Type 0 where
   pub history : ℕ
   pub staged : ℕ
-  pub upstreams : List ℕ
+  pub nodes : ℕ
+  pub upstreams : Option (List ℕ)
 
-abbrev pub shape_by : List ℕ → Option Asked
-shape_by (history ∷ staged ∷ upstreams) =
-    Some (record { history = history; staged = staged; upstreams = upstreams })
-shape_by numbers = None
+-- what a name asks for, with these numbers
+abbrev pub asked_by : Asked → List ℕ → List ℕ → Option Action
+asked_by asked name numbers =
+    if bytes_eq name (codes "connect") then connect_of asked.upstreams numbers
+    else other_by name numbers
 
+abbrev pub asked_in : Asked → List (List ℕ) → Option Action
+asked_in asked [] = None
+asked_in asked (name ∷ more) = option_and_then (asked_by asked name) (numbers_in more)
+
+-- what a line asks for that is not the first
+abbrev pub action_in : Asked → List ℕ → Option Action
+action_in asked line = asked_in asked (words line)
+
+-- ---- the first line
+
+-- the numbers of a world in which the nodes that mirrors connect to are listed
+abbrev pub world_of : List ℕ → Option Asked
+world_of (history ∷ staged ∷ upstreams) =
+    Some (record {
+      history = history;
+      staged = staged;
+      nodes = length upstreams + 1;
+      upstreams = Some upstreams;
+    })
+world_of numbers = None
+
+-- the numbers of one in which a connect names the node
+abbrev pub nodes_of : List ℕ → Option Asked
+nodes_of (history ∷ staged ∷ nodes ∷ []) =
+    Some (record { history = history; staged = staged; nodes = nodes; upstreams = None })
+nodes_of numbers = None
+
+-- three numbers, and that what is sent ends where the connection closes
+abbrev pub nodes_in : List (List ℕ) → Option Asked
+nodes_in (history ∷ staged ∷ nodes ∷ framing ∷ []) =
+    if bytes_eq framing (codes "close")
+    then option_and_then nodes_of (numbers_in (history ∷ staged ∷ nodes ∷ [])) else None
+nodes_in more = None
+
+abbrev pub world_in : List (List ℕ) → Option Asked
+world_in [] = None
+world_in (name ∷ more) =
+    if bytes_eq name (codes "world") then option_and_then world_of (numbers_in more)
+    else (if bytes_eq name (codes "nodes") then nodes_in more else None)
+
+-- what a first line says
 abbrev pub shape_in : List ℕ → Option Asked
-shape_in line = option_and_then shape_by (world_numbers (words line))
+shape_in line = world_in (words line)

@@ -38,7 +38,8 @@ pub enum PlayCause {
     /// The first line's limits are out of range.
     #[error("bad limits")]
     Limits,
-    /// There are more nodes than a world has at most, or a mirror is not behind an earlier one.
+    /// There is no node, or there are more than a world has at most; or a mirror is listed behind
+    /// itself or a later one.
     #[error("bad shape")]
     Shape,
     /// The feed line means nothing. It is no want of memory.

@@ -3,6 +3,7 @@
 
 mod fault;
 mod feed_lines;
+mod first;
 mod lines;
 mod player;
 mod script;

@@ -5,32 +5,37 @@ ghost use Rattle.feed_note.specs.Lines.{lines as lines_of};
 ghost use Rattle.feed_play.specs.Lines.{all_lines, IsLineFrom};
 ghost use Rattle.std.specs.Option.{option_copied};
 ghost use Rattle.feed_play.specs.Player.{restarted_by, token_at, Makes, MakesNone, Replies, Shows, LineDone, StopsEvent, StopsShow, LineStops, Plays, Stops};
+ghost use Rattle.feed_play.specs.Script.{action_in};
 ghost use Rattle.feed_play.specs.Told.{Prints};
 ghost use Rattle.feed_world.specs.States.{IsWorld};
 ghost use Rattle.feed_world.specs.World.{World as Numbers};
 
 use crate::fault::{PlayCause, PlayFault};
 use crate::feed_lines::read_changes;
+use crate::first::{Asked, read_first};
 use crate::lines::Lines;
-use crate::script::{Action, read_action, read_world};
+use crate::script::{Action, read_action};
 use crate::told::{print_reply, print_shown};
 use feed_node::Limits;
 use feed_world::{Event, World, WorldFault};
 use std::alloc::Global;
 
-/// The world that the first line of a script asks for.
-fn make_world(alloc: Global, line: &[u8]) -> Result<World, PlayCause>
-    ensures ok { IfOk result (λ world. (w : Numbers) × IsWorld w world × Makes line.now w) }
+/// The world that the first line of a script asks for, and what it says of that.
+fn make_world(alloc: Global, line: &[u8]) -> Result<(Asked, World), PlayCause>
+    ensures ok { IfOk result (λ made. (w : Numbers) × IsWorld w made.1
+        × Makes line.now made.0 w) }
     ensures err { IfErr result (λ cause. MakesNone line.now cause) }
 {
-    let numbers = read_world(alloc, line)?;
-    let [history, staged, upstreams @ ..] = numbers.as_slice() else {
-        return Err(PlayCause::Script);
-    };
-    let Ok(limits) = Limits::new(*history, *staged) else {
+    let asked = read_first(alloc, line)?;
+    let (history, staged) = asked.limits();
+    let Ok(limits) = Limits::new(history, staged) else {
         return Err(PlayCause::Limits);
     };
-    Ok(World::new(alloc, upstreams, limits)?)
+    if !asked.is_ordered() {
+        return Err(PlayCause::Shape);
+    }
+    let world = World::new(alloc, asked.nodes(), limits)?;
+    Ok((asked, world))
 }
 
 /// The mirror that an event restarts.
@@ -92,14 +97,16 @@ fn at(line: u64, played: Result<(), PlayCause>) -> Result<(), PlayFault>
 /// Does what a line asks for, with the feed lines after it where it announces some.
 fn play_line(
     alloc: Global,
+    asked: &Asked,
     world: &mut World,
     line: &[u8],
     lines: &mut Lines<'_>,
     out: &mut Vec<u8>,
 ) -> Result<(), PlayFault>
-    ensures ok { OnOk result (LineDone line.now world.old world.new lines.old lines.new
-        out.old.items out.new.items) }
-    ensures err { IfErr result (λ fault. LineStops line.now world.old lines.old fault) }
+    ensures ok { OnOk result (LineDone (action_in asked.now line.now) world.old world.new
+        lines.old lines.new out.old.items out.new.items) }
+    ensures err { IfErr result (λ fault.
+        LineStops (action_in asked.now line.now) world.old lines.old fault) }
     ensures quiet { OnErr result (out.new.items ≡ out.old.items) }
 
     ensures all { all_lines lines.new ≡ all_lines lines.old }
@@ -109,7 +116,7 @@ fn play_line(
         IsLineFrom lines.old.read (all_lines lines.old) fault.line) }
 {
     let number = lines.number();
-    let Some(action) = read_action(line) else {
+    let Some(action) = read_action(asked, line) else {
         return at(number, Err(PlayCause::Script));
     };
     match action {
@@ -136,12 +143,13 @@ pub fn play(alloc: Global, script: &[u8], out: &mut Vec<u8>) -> Result<(), PlayF
 {
     let mut lines = Lines::new(script);
     let first = lines.next_line().unwrap_or(&[]);
-    let mut world = match make_world(alloc, first) {
-        Ok(world) => world,
+    let (said, mut world) = match make_world(alloc, first) {
+        Ok(made) => made,
         Err(cause) => return Err(PlayFault { line: 1, cause }),
     };
+    let asked = &said;
     'lines: while let Some(line) = lines.next_line() {
-        play_line(alloc, &mut world, line, &mut lines, out)?;
+        play_line(alloc, asked, &mut world, line, &mut lines, out)?;
     }
     Ok(())
 }

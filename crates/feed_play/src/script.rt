@@ -1,15 +1,16 @@
-//! The lines of a script: their words, and what they ask for.
+//! The lines of a script: their words and numbers, and what those ask for that are not the first.
 
-ghost use Rattle.std.specs.Prelude.{◌≡◌, ◌≢◌, ◌≤◌, ◌<◌, ◌++◌, ◌∷◌, [], ℕ, List, length, position, Option, Some, None, IfSome, IfNone, IfOk, IfErr, true, IsTrue};
+ghost use Rattle.std.specs.Prelude.{◌≡◌, ◌≢◌, ◌≤◌, ◌<◌, ◌++◌, ◌∷◌, [], ℕ, List, length, position, Option, Some, None, IfSome, IfNone, IfOk, IfErr, true};
 ghost use Rattle.std.specs.Option.{option_and_then};
 ghost use Rattle.std.specs.Char.{is_ascii_digit};
 ghost use Rattle.std.specs.List.{list_all};
 ghost use Rattle.std.specs.Str.{bytes_eq};
 ghost use Rattle.std.specs.Str.Parse.{digits_value};
-ghost use Rattle.feed_play.specs.Script.{is_space, words, is_number as says_number, number_in, numbers_in, one_of, two_of, asked_by, world_numbers, shape_in, action_in};
+ghost use Rattle.feed_play.specs.Script.{is_space, words, is_number as says_number, number_in, numbers_in, one_of, two_of, three_of, listed_for, connect_listed, connect_named, connect_of, other_by, action_in};
 ghost use Rattle.feed_play.specs.declared.fault.PlayCause.TheVariants.{Script, Memory};
 
 use crate::fault::PlayCause;
+use crate::first::Asked;
 use feed_world::Event;
 use std::alloc::Global;
 
@@ -34,7 +35,7 @@ fn space_in(text: &[u8]) -> Option<usize>
 }
 
 /// The first word of a text, and what is behind the space after it.
-fn split_word(text: &[u8]) -> (&[u8], Option<&[u8]>)
+pub fn split_word(text: &[u8]) -> (&[u8], Option<&[u8]>)
     ensures last { IfNone result.1 (words text.now ≡ result.0.now ∷ []) }
     ensures more { IfSome result.1 (λ behind. words text.now ≡ result.0.now ∷ words behind.now) }
     ensures shorter { IfSome result.1 (λ behind. length behind.now < length text.now) }
@@ -70,7 +71,7 @@ fn value_of(digits: &[u8]) -> usize
 }
 
 /// The number that a word says: 1 to 9 decimal digits.
-fn read_number(word: &[u8]) -> Option<usize>
+pub fn read_number(word: &[u8]) -> Option<usize>
     ensures { result ≡ number_in word.now }
 {
     if is_number(word) {
@@ -81,7 +82,7 @@ fn read_number(word: &[u8]) -> Option<usize>
 }
 
 /// The numbers that the words of a text say.
-fn read_numbers(alloc: Global, text: &[u8]) -> Result<Vec<usize>, PlayCause>
+pub fn read_numbers(alloc: Global, text: &[u8]) -> Result<Vec<usize>, PlayCause>
     ensures ok { IfOk result (λ numbers. numbers_in (words text.now) ≡ Some numbers.items) }
     ensures err { IfErr result (λ cause. cause ≢ Memory
         → (cause ≡ Script) × (numbers_in (words text.now) ≡ None)) }
@@ -102,23 +103,10 @@ fn read_numbers(alloc: Global, text: &[u8]) -> Result<Vec<usize>, PlayCause>
 }
 
 /// Whether a word is this text.
-fn is(word: &[u8], text: &str) -> bool
+pub fn is(word: &[u8], text: &str) -> bool
     ensures { result ≡ bytes_eq word.now text.now }
 {
     word == text.as_bytes()
-}
-
-/// The numbers behind the name of a script's first line.
-pub fn read_world(alloc: Global, line: &[u8]) -> Result<Vec<usize>, PlayCause>
-    ensures ok { IfOk result (λ numbers. world_numbers (words line.now) ≡ Some numbers.items) }
-    ensures err { IfErr result (λ cause. cause ≢ Memory
-        → (cause ≡ Script) × (shape_in line.now ≡ None)) }
-{
-    let (name, numbers) = split_word(line);
-    match numbers {
-        Some(numbers) if is(name, "world") => read_numbers(alloc, numbers),
-        _ => Err(PlayCause::Script),
-    }
 }
 
 /// The number that a text says, where it is one word.
@@ -138,14 +126,67 @@ fn read_two(text: &[u8]) -> Option<(usize, usize)>
     Some((first, read_one(behind?)?))
 }
 
+/// The numbers that a text of three words says.
+fn read_three(text: &[u8]) -> Option<(usize, usize, usize)>
+    ensures { result ≡ option_and_then three_of (numbers_in (words text.now)) }
+{
+    let (first, behind) = split_word(text);
+    let first = read_number(first)?;
+    let (second, third) = read_two(behind?)?;
+    Some((first, second, third))
+}
+
+/// The node that is listed for the mirror of this number; the primary where none is.
+fn listed_node(upstreams: &[usize], number: usize) -> usize
+    ensures { result ≡ listed_for upstreams.now number }
+{
+    match number.checked_sub(1) {
+        Some(place) => upstreams.get(place).copied().unwrap_or(0),
+        None => 0,
+    }
+}
+
+/// The connect of a mirror to the node that is listed for it.
+fn read_listed(upstreams: &[usize], numbers: &[u8]) -> Option<Action>
+    ensures { result
+        ≡ option_and_then (connect_listed upstreams.now) (numbers_in (words numbers.now)) }
+{
+    let (number, back) = match read_two(numbers) {
+        Some(both) => both,
+        None => (read_one(numbers)?, 0),
+    };
+    let server = listed_node(upstreams, number);
+    Some(Action::Event(Event::Connect(number, server, back)))
+}
+
+/// The connect of a mirror to the node that is named.
+fn read_named(numbers: &[u8]) -> Option<Action>
+    ensures { result ≡ option_and_then connect_named (numbers_in (words numbers.now)) }
+{
+    if let Some((number, server, back)) = read_three(numbers) {
+        return Some(Action::Event(Event::Connect(number, server, back)));
+    }
+    let (number, server) = read_two(numbers)?;
+    Some(Action::Event(Event::Connect(number, server, 0)))
+}
+
+/// The connect that these numbers ask for.
+fn read_connect(asked: &Asked, numbers: &[u8]) -> Option<Action>
+    ensures { result
+        ≡ option_and_then (connect_of asked.now.upstreams) (numbers_in (words numbers.now)) }
+{
+    match asked.upstreams() {
+        Some(upstreams) => read_listed(upstreams, numbers),
+        None => read_named(numbers),
+    }
+}
+
 /// What this name asks for with one number.
 fn action_named(name: &[u8], number: usize) -> Option<Action>
-    ensures { result ≡ asked_by name.now (number ∷ []) }
+    ensures { result ≡ other_by name.now (number ∷ []) }
 {
     if is(name, "commit") {
         Some(Action::Commit(number))
-    } else if is(name, "connect") {
-        Some(Action::Event(Event::Connect(number, 0)))
     } else if is(name, "serve") {
         Some(Action::Event(Event::Serve(number)))
     } else if is(name, "idle") {
@@ -163,11 +204,9 @@ fn action_named(name: &[u8], number: usize) -> Option<Action>
 
 /// What this name asks for with two numbers.
 fn action_of_two(name: &[u8], first: usize, second: usize) -> Option<Action>
-    ensures { result ≡ asked_by name.now (first ∷ second ∷ []) }
+    ensures { result ≡ other_by name.now (first ∷ second ∷ []) }
 {
-    if is(name, "connect") {
-        Some(Action::Event(Event::Connect(first, second)))
-    } else if is(name, "deliver") {
+    if is(name, "deliver") {
         Some(Action::Event(Event::Deliver(first, second)))
     } else if is(name, "restart") {
         Some(Action::Event(Event::Restart(first, second)))
@@ -176,15 +215,25 @@ fn action_of_two(name: &[u8], first: usize, second: usize) -> Option<Action>
     }
 }
 
-/// What a line of a script asks for that is not the first.
-pub fn read_action(line: &[u8]) -> Option<Action>
-    ensures { result ≡ action_in line.now }
+/// What another name than that of a connect asks for with these numbers.
+fn read_other(name: &[u8], numbers: &[u8]) -> Option<Action>
+    ensures { result ≡ option_and_then (other_by name.now) (numbers_in (words numbers.now)) }
 {
-    let (name, numbers) = split_word(line);
-    let numbers = numbers?;
     if let Some((first, second)) = read_two(numbers) {
         return action_of_two(name, first, second);
     }
     let number = read_one(numbers)?;
     action_named(name, number)
+}
+
+/// What a line of a script asks for that is not the first.
+pub fn read_action(asked: &Asked, line: &[u8]) -> Option<Action>
+    ensures { result ≡ action_in asked.now line.now }
+{
+    let (name, numbers) = split_word(line);
+    if is(name, "connect") {
+        read_connect(asked, numbers?)
+    } else {
+        read_other(name, numbers?)
+    }
 }

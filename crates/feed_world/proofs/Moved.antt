@@ -1,12 +1,13 @@
 -- What an event at one mirror does to all nodes.
-use Rattle.std.proofs.Common.{◌≡◌, refl, sym, ap, ◌∙◌, subst, ℕ, zero, suc, ◌+◌, ◌-◌, ◌<◌, ◌≤◌, Bool, true, false, arith, List, [], ◌∷◌, ◌++◌, length, map, take, drop, Option, Some, None, inl, inr, Result, Ok, Err, IfOk, IfErr, slice_get, slice_set, get_or}
-use Rattle.std.proofs.lemmas.Option.{slice_get_past, slice_get-get_or}
+use Rattle.std.proofs.Common.{Bor, ◌≡◌, refl, sym, ap, ◌∙◌, subst, ℕ, zero, suc, ◌+◌, ◌-◌, ◌<◌, ◌≤◌, Bool, true, false, not, ◌&&◌, nat_le, IfSome, arith, List, [], ◌∷◌, ◌++◌, length, map, take, drop, Option, Some, None, inl, inr, Result, Ok, Err, IfOk, IfErr, slice_get, slice_set, get_or}
+use Rattle.std.proofs.lemmas.List.{length-map}
+use Rattle.std.proofs.lemmas.Option.{slice_get_past, slice_get-get_or, slice_get_within, slice_get-map}
 use Rattle.std.specs.Option.{option_and_then}
-use Rattle.std.specs.Prelude.{IsTrue, if◌then◌else◌, ◌⊎◌}
+use Rattle.std.specs.Prelude.{IsTrue, if◌then◌else◌, ◌⊎◌, ◌==◌, option_map, option_copied, IfNone}
 use Rattle.feed_node.specs.declared.fault.FeedFault.TheVariants.{Memory as FeedMemory}
 use Rattle.feed_node.specs.Limits.{Limits}
 use Rattle.feed_node.specs.Log.{PrimaryState}
-use Rattle.feed_node.specs.States.{NodeState}
+use Rattle.feed_node.specs.States.{Node, NodeState}
 use Rattle.feed_world.specs.declared.event.Event.{Event}
 use Rattle.feed_world.specs.declared.event.Event.TheVariants.{Deliver}
 use Rattle.feed_world.specs.declared.event.Reply.{Reply}
@@ -17,19 +18,19 @@ use Rattle.feed_world.specs.Log.{Log}
 use Rattle.feed_world.specs.Connection.{Connection}
 use Rattle.feed_world.specs.Position.{Position, IsPlace, node_where}
 use Rattle.feed_world.specs.States.{FollowerState, IsMirror, ConnectionState, AreLinked, AreMirrors, AreNodes, Moves, RefusesMove, BreaksMirror, NodesMove, IsBrought, all_shown}
-use Rattle.feed_world.specs.Step.{Move, Outcome, outcome, at_node, with_node, after_move, with_connection, is_free, is_free_reply, IsRefused, Breaks, mirror_connects, mirror_serves, mirror_idles, mirror_delivers, mirror_cuts, mirror_saves, mirror_restarts, connects, connects_to, holds_number, brought_to}
-use Rattle.feed_world.specs.World.{Mirror, World, HasShape, mirror_at, with_mirror, place_at}
+use Rattle.feed_world.specs.Step.{Move, Outcome, outcome, at_node, with_node, after_move, with_connection, is_free, is_free_reply, IsRefused, Breaks, mirror_connects, mirror_serves, mirror_idles, mirror_delivers, mirror_cuts, mirror_saves, mirror_restarts, turned_to, connects, connects_to, holds_number, brought_to}
+use Rattle.feed_world.specs.World.{Mirror, World, is_other, mirror_at, with_mirror, place_at}
 
 -- ---- lists of mirrors
 
 module _ (limits : Limits) (log : Log) where
-  same_length : (ms : List Mirror) (fs : List FollowerState) → AreMirrors limits log ms fs → length ms ≡ length fs
+  pub same_length : (ms : List Mirror) (fs : List FollowerState) → AreMirrors limits log ms fs → length ms ≡ length fs
   same_length [] [] h = refl
   same_length [] (f ∷ fs) h = absurd h
   same_length (m ∷ ms) [] h = absurd h
   same_length (m ∷ ms) (f ∷ fs) h = ap suc (same_length ms fs h.1)
 
-  mirror_of : (ms : List Mirror) (fs : List FollowerState) (place : ℕ) (f : FollowerState) → AreMirrors limits log ms fs → slice_get fs place ≡ Some f
+  pub mirror_of : (ms : List Mirror) (fs : List FollowerState) (place : ℕ) (f : FollowerState) → AreMirrors limits log ms fs → slice_get fs place ≡ Some f
       → (m : Mirror) × (slice_get ms place ≡ Some m) × IsMirror limits log m f
   mirror_of [] [] place f h e = absurd (cc)
   mirror_of [] (g ∷ fs) place f h e = absurd h
@@ -49,30 +50,43 @@ module _ (limits : Limits) (log : Log) where
   set_both (n ∷ ms) (g ∷ fs) zero m f h k = (k, h.1)
   set_both (n ∷ ms) (g ∷ fs) (suc place) m f h k = (h.0, set_both ms fs place m f h.1 k)
 
-same_upstreams : (ms : List Mirror) (place : ℕ) (m n : Mirror) → slice_get ms place ≡ Some m → n.upstream ≡ m.upstream → map (λ a. a.upstream) (slice_set ms place n) ≡ map (λ a. a.upstream) ms
-same_upstreams [] place m n e u = refl
-same_upstreams (a ∷ ms) zero m n e u = ap (λ x. x ∷ map (λ b. b.upstream) ms) (u ∙ sym (upstream_of e))
-  where
-    upstream_or : Option Mirror → ℕ
-    upstream_or None = 0
-    upstream_or (Some b) = b.upstream
+-- what holds of each mirror holds after one was put in another's place
+module _ (P : ℕ → Mirror → Type 0) where
+  each_set : (ms : List Mirror) (base place : ℕ) (n : Mirror) → ((i : ℕ) → IfSome (slice_get ms i) (P (base + i))) → P (base + place) n
+      → (i : ℕ) → IfSome (slice_get (slice_set ms place n) i) (P (base + i))
+  each_set [] base place n h k i = tt
+  each_set (m ∷ ms) base zero n h k zero = k
+  each_set (m ∷ ms) base zero n h k (suc i) = h (suc i)
+  each_set (m ∷ ms) base (suc place) n h k zero = h zero
+  each_set (m ∷ ms) base (suc place) n h k (suc i) =
+      let e : (j : ℕ) → suc base + j ≡ base + suc j = λ j. omega arith in
+      subst (λ q. IfSome (slice_get (slice_set ms place n) i) (P q)) (e i)
+      (each_set ms (suc base) place n (λ j. subst (λ q. IfSome (slice_get ms j) (P q)) (sym (e j)) (h (suc j))) (subst (λ q. P q n) (sym (e place)) k) i)
 
-    upstream_of : Some a ≡ Some m → a.upstream ≡ m.upstream
-    upstream_of p = ap upstream_or p
-same_upstreams (a ∷ ms) (suc place) m n e u = ap (λ x. a.upstream ∷ x) (same_upstreams ms place m n e u)
+  each_put : (ms : List Mirror) (place : ℕ) (n : Mirror) → ((i : ℕ) → IfSome (slice_get ms i) (P i)) → P place n → (i : ℕ) → IfSome (slice_get (slice_set ms place n) i) (P i)
+  each_put ms place n h k i =
+      let e : (j : ℕ) → 0 + j ≡ j = λ j. omega arith in
+      subst (λ q. IfSome (slice_get (slice_set ms place n) i) (P q)) (e i)
+      (each_set ms 0 place n (λ j. subst (λ q. IfSome (slice_get ms j) (P q)) (sym (e j)) (h j)) (subst (λ q. P q n) (sym (e place)) k) i)
+
+length_set : (ms : List Mirror) (place : ℕ) (n : Mirror) → length (slice_set ms place n) ≡ length ms
+length_set [] place n = refl
+length_set (m ∷ ms) zero n = refl
+length_set (m ∷ ms) (suc place) n = ap suc (length_set ms place n)
 
 -- ---- one mirror moves
 
 module _ (w : World) (primary : PrimaryState) (fs : List FollowerState) (h : AreNodes w primary fs) where
-  put_back : (place : ℕ) (m n : Mirror) (f : FollowerState) → slice_get w.mirrors place ≡ Some m → n.upstream ≡ m.upstream → IsMirror w.limits w.log n f
+  put_back : (place : ℕ) (n : Mirror) (f : FollowerState) → is_other w (suc place) n.upstream ≡ true → IsMirror w.limits w.log n f
       → AreNodes (with_mirror w (suc place) n) primary (slice_set fs place f)
-  put_back place m n f there same k =
+  put_back place n f other k =
       record {
         log = h.log;
         latest = h.latest;
         place = h.place;
         shows = h.shows;
-        shape = subst HasShape (sym (same_upstreams w.mirrors place m n there same)) h.shape;
+        others = λ i. subst (λ l. IfSome (slice_get (slice_set w.mirrors place n) i) (λ m. (nat_le m.upstream l && not (m.upstream == suc i)) ≡ true)) (sym (length_set w.mirrors place n))
+            (each_put (λ j m. is_other w (suc j) m.upstream ≡ true) w.mirrors place n h.others other i);
         mirrors = set_both w.limits w.log w.mirrors fs place n f h.mirrors k;
       }
 
@@ -85,7 +99,7 @@ pub record LeadsTo (w : World) (o : Outcome) (primary : PrimaryState) (reply : R
   pub nodes : AreNodes after primary fs
 
 pub moved : (w : World) (primary : PrimaryState) (fs : List FollowerState) → AreNodes w primary fs → (place : ℕ) (m : Mirror) (r : Result Move WorldFault) → slice_get w.mirrors place ≡ Some m
-    → IfOk r (λ move. move.1.upstream ≡ m.upstream) → (reply : Reply) (f : FollowerState) → Moves w.limits w.log r reply f
+    → IfOk r (λ move. is_other w (suc place) move.1.upstream ≡ true) → (reply : Reply) (f : FollowerState) → Moves w.limits w.log r reply f
     → LeadsTo w (after_move w (suc place) r) primary reply (slice_set fs place f)
 moved w primary fs h place m (Err fault) there keeps reply f k = absurd k
 moved w primary fs h place m (Ok move) there keeps reply f k =
@@ -94,7 +108,7 @@ moved w primary fs h place m (Ok move) there keeps reply f k =
       outcome = ap (λ x. Ok (x, with_mirror w (suc place) move.1)) (sym k.0);
       limits = refl;
       log = refl;
-      nodes = put_back w primary fs h place m move.1 f there keeps k.1;
+      nodes = put_back w primary fs h place move.1 f keeps k.1;
     }
 
 pub outcome_at : (w : World) (place : ℕ) (m : Mirror) (act : Mirror → Result Move WorldFault) → slice_get w.mirrors place ≡ Some m → at_node w (suc place) act ≡ after_move w (suc place) (act m)
@@ -124,47 +138,56 @@ refused_as : (o : Outcome) (fault : WorldFault) → ¬ (fault ≡ Memory) → Re
 refused_as (Ok p) fault other k = absurd (other k.0)
 refused_as (Err reason) fault other k = ap Err (sym k)
 
--- ---- which moves keep the node that a mirror is behind
+-- ---- moves after which a mirror has connected to another node last, as before
 
-abbrev pub Keeps : (Mirror → Result Move WorldFault) → Type 0
-Keeps act = (m : Mirror) → IfOk (act m) (λ move. move.1.upstream ≡ m.upstream)
+abbrev pub Keeps : World → ℕ → (Mirror → Result Move WorldFault) → Type 0
+Keeps w i act = (m : Mirror) → is_other w i m.upstream ≡ true → IfOk (act m) (λ move. is_other w i move.1.upstream ≡ true)
 
-choose_keeps : (m : Mirror) (b : Bool) (x y : Move) → x.1.upstream ≡ m.upstream → y.1.upstream ≡ m.upstream → (if b then x else y).1.upstream ≡ m.upstream
-choose_keeps m true x y p q = p
-choose_keeps m false x y p q = q
+-- the node that it connected to last
+abbrev IsBehind : ℕ → Result Move WorldFault → Type 0
+IsBehind j r = IfOk r (λ move. move.1.upstream ≡ j)
+
+still_other : (w : World) (i j : ℕ) (r : Result Move WorldFault) → IsBehind j r → is_other w i j ≡ true → IfOk r (λ move. is_other w i move.1.upstream ≡ true)
+still_other w i j (Ok move) same other = ap (is_other w i) same ∙ other
+still_other w i j (Err fault) same other = tt
+
+choose_keeps : (j : ℕ) (b : Bool) (x y : Move) → x.1.upstream ≡ j → y.1.upstream ≡ j → (if b then x else y).1.upstream ≡ j
+choose_keeps j true x y p q = p
+choose_keeps j false x y p q = q
 
 connects_to_keeps : (m : Mirror) (server : Position) (own : Option Position) (back : ℕ) → (connects_to m server own back).1.upstream ≡ m.upstream
 connects_to_keeps m server None back = refl
-connects_to_keeps m server (Some own) back = choose_keeps m m.afresh _ _ refl (choose_keeps m (holds_number server own.at) _ _ refl refl)
+connects_to_keeps m server (Some own) back = choose_keeps m.upstream m.afresh _ _ refl (choose_keeps m.upstream (holds_number server own.at) _ _ refl refl)
 
 connects_keeps : (m : Mirror) (server : Option Position) (back : ℕ) → (connects m server back).1.upstream ≡ m.upstream
 connects_keeps m None back = refl
 connects_keeps m (Some server) back = connects_to_keeps m server m.place back
 
-linked_keeps : (m : Mirror) (c : Option Connection) (act : Connection → Move) → ((d : Connection) → (act d).1.upstream ≡ m.upstream) → IfOk (with_connection c act) (λ move. move.1.upstream ≡ m.upstream)
+linked_keeps : (m : Mirror) (c : Option Connection) (act : Connection → Move) → ((d : Connection) → (act d).1.upstream ≡ m.upstream) → IsBehind m.upstream (with_connection c act)
 linked_keeps m None act k = tt
 linked_keeps m (Some c) act k = k c
 
-pub keeps_connect : (w : World) (back : ℕ) → Keeps (λ m. mirror_connects back m (place_at w m.upstream))
-keeps_connect w back m = connects_keeps m (place_at w m.upstream) back
+-- a mirror that connects turns to the node that it connects to
+pub keeps_connect : (w : World) (i j back : ℕ) → is_other w i j ≡ true → Keeps w i (λ m. mirror_connects j back m (place_at w j))
+keeps_connect w i j back other m old = still_other w i j (mirror_connects j back m (place_at w j)) (connects_keeps (turned_to j m) (place_at w j) back) other
 
-pub keeps_serve : (w : World) → Keeps (λ m. mirror_serves m (place_at w m.upstream))
-keeps_serve w m = linked_keeps m m.connection _ (λ c. refl)
+pub keeps_serve : (w : World) (i : ℕ) → Keeps w i (λ m. mirror_serves m (place_at w m.upstream))
+keeps_serve w i m = still_other w i m.upstream (mirror_serves m (place_at w m.upstream)) (linked_keeps m m.connection _ (λ c. refl))
 
-pub keeps_idle : Keeps mirror_idles
-keeps_idle m = linked_keeps m m.connection _ (λ c. refl)
+pub keeps_idle : (w : World) (i : ℕ) → Keeps w i mirror_idles
+keeps_idle w i m = still_other w i m.upstream (mirror_idles m) (linked_keeps m m.connection _ (λ c. refl))
 
-keeps_deliver : (history : ℕ) (log : Log) (n : ℕ) → Keeps (mirror_delivers history log n)
-keeps_deliver history log n m = linked_keeps m m.connection _ (λ c. refl)
+keeps_deliver : (w : World) (i n : ℕ) → Keeps w i (mirror_delivers w.limits.history w.log n)
+keeps_deliver w i n m = still_other w i m.upstream (mirror_delivers w.limits.history w.log n m) (linked_keeps m m.connection _ (λ c. refl))
 
-pub keeps_cut : Keeps mirror_cuts
-keeps_cut m = linked_keeps m m.connection _ (λ c. refl)
+pub keeps_cut : (w : World) (i : ℕ) → Keeps w i mirror_cuts
+keeps_cut w i m = still_other w i m.upstream (mirror_cuts m) (linked_keeps m m.connection _ (λ c. refl))
 
-pub keeps_save : (log : Log) → Keeps (mirror_saves log)
-keeps_save log m = refl
+pub keeps_save : (w : World) (i : ℕ) → Keeps w i (mirror_saves w.log)
+keeps_save w i m = still_other w i m.upstream (mirror_saves w.log m) refl
 
-pub keeps_restart : (log : Log) (n : ℕ) → Keeps (mirror_restarts log n)
-keeps_restart log n m = refl
+pub keeps_restart : (w : World) (i n : ℕ) → Keeps w i (mirror_restarts w.log n)
+keeps_restart w i n m = still_other w i m.upstream (mirror_restarts w.log n m) refl
 
 -- ---- where nodes are
 
@@ -197,6 +220,14 @@ module _ (w : World) (primary : PrimaryState) (fs : List FollowerState) (h : Are
       same_node : Some primary.node ≡ Some node → primary.node ≡ node
       same_node p = ap node_or p
   shown (suc i) node e = shown_mirror w.mirrors fs i node h.mirrors e
+
+-- it is one of the nodes
+pub within : (w : World) (primary : PrimaryState) (fs : List FollowerState) → AreNodes w primary fs → (i : ℕ) (node : NodeState) → slice_get (all_shown primary fs) i ≡ Some node → i ≤ length w.mirrors
+within w primary fs h i node e =
+    let a = slice_get_within (all_shown primary fs) i node e in
+    let b = length-map fs (λ f. f.mirror.node) in
+    let l = same_length w.limits w.log w.mirrors fs h.mirrors in
+    omega (arith, a, b, l)
 
 -- ---- events
 
@@ -233,11 +264,15 @@ module _ (w : World) (primary : PrimaryState) (fs : List FollowerState) (h : Are
   at : (m : Mirror) × (slice_get w.mirrors place ≡ Some m) × IsMirror w.limits w.log m (get_or fs place d)
   at = mirror_of w.limits w.log w.mirrors fs place (get_or fs place d) h.mirrors (slice_get-get_or fs place d less)
 
-  leads : (act : Mirror → Result Move WorldFault) → Keeps act → (reply : Reply) (f : FollowerState) → Moves w.limits w.log (act at.0) reply f
+  -- it connected to another node last
+  other_at : is_other w (suc place) at.0.upstream ≡ true
+  other_at = subst (λ o. IfSome o (λ m. is_other w (suc place) m.upstream ≡ true)) at.1 (h.others place)
+
+  leads : (act : Mirror → Result Move WorldFault) → Keeps w (suc place) act → (reply : Reply) (f : FollowerState) → Moves w.limits w.log (act at.0) reply f
       → LeadsTo w (at_node w number act) primary reply (slice_set fs place f)
   leads act keeps reply f k =
       subst (λ n. LeadsTo w (at_node w n act) primary reply (slice_set fs place f)) (sym same)
-      (subst (λ o. LeadsTo w o primary reply (slice_set fs place f)) (sym (outcome_at w place at.0 act at.1)) (moved w primary fs h place at.0 (act at.0) at.1 (keeps at.0) reply f k))
+      (subst (λ o. LeadsTo w o primary reply (slice_set fs place f)) (sym (outcome_at w place at.0 act at.1)) (moved w primary fs h place at.0 (act at.0) at.1 (keeps at.0 other_at) reply f k))
 
   refuses : (act : Mirror → Result Move WorldFault) (fault : WorldFault) → RefusesMove (act at.0) fault → RefusesOutcome (at_node w number act) fault
   refuses act fault k =
@@ -245,7 +280,7 @@ module _ (w : World) (primary : PrimaryState) (fs : List FollowerState) (h : Are
       (subst (λ o. RefusesOutcome o fault) (sym (outcome_at w place at.0 act at.1)) (move_refused w (suc place) (act at.0) fault k))
 
   -- an event at which the mirror makes this move
-  pub move_leads : (event : Event) (act : Mirror → Result Move WorldFault) → at_node w number act ≡ outcome w event → Keeps act → (r : Result Reply WorldFault) (f : FollowerState)
+  pub move_leads : (event : Event) (act : Mirror → Result Move WorldFault) → at_node w number act ≡ outcome w event → Keeps w (suc place) act → (r : Result Reply WorldFault) (f : FollowerState)
       → ((m : Mirror) → IsMirror w.limits w.log m (get_or fs place d) → IfOk r (λ reply. Moves w.limits w.log (act m) reply f))
       → IfOk r (λ reply. NodesMove w primary event reply (slice_set fs place f))
   move_leads event act is keeps (Ok reply) f k =
@@ -273,11 +308,11 @@ module _ (w : World) (primary : PrimaryState) (fs : List FollowerState) (h : Are
         to = b.to;
         after = ap (λ j. with_mirror w j (brought_to w.limits.history w.log at.0 b.connection b.e None)) (sym same);
       } in
-      (after, record { step = inr (is, breaks); limits = refl; log = refl }, put_back w primary fs h place at.0 _ f at.1 refl b.is_mirror)
+      (after, record { step = inr (is, breaks); limits = refl; log = refl }, put_back w primary fs h place _ f other_at b.is_mirror)
 
   delivered : (n : ℕ) (reply : Reply) (f : FollowerState) → IsBrought w.limits w.log at.0 number n reply f → NodesMove w primary (Deliver number n) reply (slice_set fs place f)
   delivered n reply f (inl moves) =
-      event_moves w primary (Deliver number n) reply _ (leads (mirror_delivers w.limits.history w.log n) (keeps_deliver w.limits.history w.log n) reply f moves)
+      event_moves w primary (Deliver number n) reply _ (leads (mirror_delivers w.limits.history w.log n) (keeps_deliver w (suc place) n) reply f moves)
   delivered n reply f (inr broke) = broken n reply f broke.0 broke.1
 
   pub deliver_leads : (n : ℕ) (r : Result Reply WorldFault) (f : FollowerState)
@@ -291,69 +326,71 @@ module _ (w : World) (primary : PrimaryState) (fs : List FollowerState) (h : Are
       inl (refused_as (outcome w (Deliver number n)) fault (λ e. let both : NoConnection ≡ Memory = sym k.0 ∙ e in absurd (cc))
       (refuses (mirror_delivers w.limits.history w.log n) fault (unlinked w.limits w.log at.0 _ _ fault at.2 k)))
 
--- ---- the node that a mirror is behind, among the earlier ones
+-- ---- a mirror between the others
 
-set_behind : (fs : List FollowerState) (place : ℕ) (g : FollowerState) → take place fs ++ slice_set (drop place fs) 0 g ≡ slice_set fs place g
-set_behind fs zero g = refl
-set_behind [] (suc place) g = refl
-set_behind (f ∷ fs) (suc place) g = ap (λ xs. f ∷ xs) (set_behind fs place g)
+set_between : (fs : List FollowerState) (place : ℕ) (g : FollowerState) → take place fs ++ (slice_set (take 1 (drop place fs)) 0 g ++ drop 1 (drop place fs)) ≡ slice_set fs place g
+set_between [] zero g = refl
+set_between (f ∷ fs) zero g = refl
+set_between [] (suc place) g = refl
+set_between (f ∷ fs) (suc place) g = ap (λ xs. f ∷ xs) (set_between fs place g)
 
-pub put_together : (fs early later : List FollowerState) (place : ℕ) (g : FollowerState) → early ≡ take place fs → later ≡ drop place fs → early ++ slice_set later 0 g ≡ slice_set fs place g
-put_together fs early later place g e l = ap (λ xs. xs ++ slice_set later 0 g) e ∙ ap (λ xs. take place fs ++ slice_set xs 0 g) l ∙ set_behind fs place g
+pub put_between : (fs early rest own later : List FollowerState) (place : ℕ) (g : FollowerState) → early ≡ take place fs → rest ≡ drop place fs → own ≡ take 1 rest → later ≡ drop 1 rest
+    → early ++ (slice_set own 0 g ++ later) ≡ slice_set fs place g
+put_between fs early rest own later place g e r o l =
+    (λ i. e i ++ (slice_set ((o ∙ ap (take 1) r) i) 0 g ++ (l ∙ ap (drop 1) r) i)) ∙ set_between fs place g
 
-pub first_of_rest : (fs later : List FollowerState) (place : ℕ) (d : FollowerState) → ((k : ℕ) (x : FollowerState) → get_or later k x ≡ get_or fs (place + k) x) → get_or later 0 d ≡ get_or fs place d
-first_of_rest fs later place d k = k 0 d ∙ ap (λ n. get_or fs n d) (omega arith)
+around : (fs : List FollowerState) (place : ℕ) (d : FollowerState) → place < length fs → take place fs ++ get_or fs place d ∷ drop 1 (drop place fs) ≡ fs
+around [] place d less = absurd (omega arith)
+around (f ∷ fs) zero d less = refl
+around (f ∷ fs) (suc place) d less = ap (λ xs. f ∷ xs) (around fs place d (omega arith))
 
-pub get_there : (fs : List FollowerState) (place : ℕ) (d : FollowerState) → place < length fs → (f : FollowerState) → f ≡ get_or fs place d → slice_get fs place ≡ Some f
-get_there fs place d less f is = slice_get-get_or fs place d less ∙ ap Some (sym is)
+pub between : (fs early rest later : List FollowerState) (place : ℕ) (d : FollowerState) → place < length fs → early ≡ take place fs → rest ≡ drop place fs → later ≡ drop 1 rest
+    → early ++ get_or fs place d ∷ later ≡ fs
+between fs early rest later place d less e r l = (λ i. e i ++ get_or fs place d ∷ (l ∙ ap (drop 1) r) i) ∙ around fs place d less
 
-get_of_take : {X : Type 0} (xs : List X) (n i : ℕ) (x : X) → slice_get (take n xs) i ≡ Some x → slice_get xs i ≡ Some x
-get_of_take xs zero i x e = absurd (cc)
-get_of_take [] (suc n) i x e = e
-get_of_take (y ∷ xs) (suc n) zero x e = e
-get_of_take (y ∷ xs) (suc n) (suc i) x e = get_of_take xs n i x e
+pub first_of_rest : (fs rest own : List FollowerState) (place : ℕ) (d : FollowerState) → ((k : ℕ) (x : FollowerState) → get_or rest k x ≡ get_or fs (place + k) x)
+    → get_or own 0 d ≡ get_or rest 0 d → get_or own 0 d ≡ get_or fs place d
+first_of_rest fs rest own place d k o = o ∙ k 0 d ∙ ap (λ n. get_or fs n d) (omega arith)
 
-map_of_take : {X Y : Type 0} (g : X → Y) (xs : List X) (n : ℕ) → map g (take n xs) ≡ take n (map g xs)
-map_of_take g xs zero = refl
-map_of_take g [] (suc n) = refl
-map_of_take g (x ∷ xs) (suc n) = ap (λ ys. g x ∷ ys) (map_of_take g xs n)
+-- ---- the nodes besides one mirror
 
-not_nowhere : {X Y : Type 0} (g : X → Y) (xs : List X) (i : ℕ) → i < length xs → slice_get (map g xs) i ≡ None → ⊥
-not_nowhere g [] i less e = absurd (omega arith)
-not_nowhere g (x ∷ xs) zero less e = absurd (cc)
-not_nowhere g (x ∷ xs) (suc i) less e = not_nowhere g xs i (omega arith) e
+module _ (primary : PrimaryState) where
+  pub always_there : (early : List FollowerState) (i : ℕ) → i ≤ length early → None ≡ slice_get (all_shown primary early) i → ⊥
+  always_there early zero less e = absurd (cc)
+  always_there [] (suc i) less e = absurd (omega arith)
+  always_there (f ∷ early) (suc zero) less e = absurd (cc)
+  always_there (f ∷ early) (suc (suc i)) less e = always_there early (suc i) (omega arith) e
 
-shown_early : (primary : PrimaryState) (fs early : List FollowerState) (place : ℕ) → early ≡ take place fs → (i : ℕ) (node : NodeState) → Some node ≡ slice_get (all_shown primary early) i → slice_get (all_shown primary fs) i ≡ Some node
-shown_early primary fs early place t zero node e = sym e
-shown_early primary fs early place t (suc i) node e =
-    get_of_take (map (λ f. f.mirror.node) fs) place i node
-    (ap (λ l. slice_get l i) (sym (map_of_take (λ f. f.mirror.node) fs place)) ∙ ap (λ l. slice_get (map (λ f. f.mirror.node) l) i) (sym t) ∙ sym e)
+  shown_in : (early later : List FollowerState) (i : ℕ) (node : NodeState) → slice_get (map (λ f. f.mirror.node) early) i ≡ Some node → slice_get (map (λ f. f.mirror.node) (early ++ later)) i ≡ Some node
+  shown_in [] later i node e = absurd (cc)
+  shown_in (f ∷ early) later zero node e = e
+  shown_in (f ∷ early) later (suc i) node e = shown_in early later i node e
 
-always_there : (primary : PrimaryState) (early : List FollowerState) (i : ℕ) → i ≤ length early → None ≡ slice_get (all_shown primary early) i → ⊥
-always_there primary early zero less e = absurd (cc)
-always_there primary early (suc i) less e = not_nowhere (λ f. f.mirror.node) early i (omega arith) (sym e)
+  pub shown_before : (early later : List FollowerState) (i : ℕ) (node : NodeState) → slice_get (all_shown primary early) i ≡ Some node → slice_get (all_shown primary (early ++ later)) i ≡ Some node
+  shown_before early later zero node e = e
+  shown_before early later (suc i) node e = shown_in early later i node e
 
-get_upstream : (ms : List Mirror) (place : ℕ) (m : Mirror) → slice_get ms place ≡ Some m → slice_get (map (λ a. a.upstream) ms) place ≡ Some m.upstream
-get_upstream [] place m e = absurd (cc)
-get_upstream (a ∷ ms) zero m e = ap upstream_of e
-  where
-    upstream_of : Option Mirror → Option ℕ
-    upstream_of None = None
-    upstream_of (Some b) = Some b.upstream
-get_upstream (a ∷ ms) (suc place) m e = get_upstream ms place m e
+  shown_at_end : (early later : List FollowerState) (f g : FollowerState) (i : ℕ) → slice_get later i ≡ Some g → slice_get (map (λ h. h.mirror.node) (early ++ f ∷ later)) (suc (length early + i)) ≡ Some g.mirror.node
+  shown_at_end [] later f g i e = ap (λ k. slice_get (map (λ h. h.mirror.node) later) k) (omega arith) ∙ shown_of later g i e
+    where
+      shown_of : (fs : List FollowerState) (g : FollowerState) (k : ℕ) → slice_get fs k ≡ Some g → slice_get (map (λ h. h.mirror.node) fs) k ≡ Some g.mirror.node
+      shown_of fs g k e = slice_get-map (λ h. h.mirror.node) fs k ∙ ap (option_map (λ h. h.mirror.node)) e
+  shown_at_end (h ∷ early) later f g i e =
+      let same : suc (length early) + i ≡ suc (length early + i) = omega arith in
+      ap (λ k. slice_get (map (λ q. q.mirror.node) (early ++ f ∷ later)) k) same ∙ shown_at_end early later f g i e
 
--- what is asked of the node that a mirror is behind, which is one of the primary and these earlier mirrors
-module _ (w : World) (primary : PrimaryState) (fs : List FollowerState) (h : AreNodes w primary fs) (place : ℕ) (f : FollowerState) (early : List FollowerState) (front : early ≡ take place fs)
-    (i : ℕ) (behind : i ≡ f.upstream) where
-  pub server_is_there : slice_get fs place ≡ Some f → length early ≡ place → None ≡ slice_get (all_shown primary early) i → ⊥
-  server_is_there there l e =
-      let m = mirror_of w.limits w.log w.mirrors fs place f h.mirrors there in
-      let u = h.shape.earlier place m.0.upstream (get_upstream w.mirrors place m.0 m.1) in
-      let v : i ≡ m.0.upstream = behind ∙ m.2.upstream in
-      always_there primary early i (omega arith) e
+  pub shown_behind : (early later : List FollowerState) (f g : FollowerState) (i number : ℕ) → slice_get later i ≡ Some g → number ≡ suc (suc (length early + i)) → slice_get (all_shown primary (early ++ f ∷ later)) number ≡ Some g.mirror.node
+  shown_behind early later f g i number e same = ap (λ k. slice_get (all_shown primary (early ++ f ∷ later)) k) same ∙ shown_at_end early later f g i e
 
-  pub server : (node : NodeState) → Some node ≡ slice_get (all_shown primary early) i → (m : Mirror) → IsMirror w.limits w.log m f → IsShown w m.upstream node
-  server node e m is = subst (λ j. IsShown w j node) (behind ∙ is.upstream) (shown w primary fs h i node (shown_early primary fs early place front i node e))
+  -- one among the first
+  pub found_before : (early later : List FollowerState) (i : ℕ) (r : Option (Bor Node)) → option_map (λ node. node.shown) (option_copied r) ≡ slice_get (all_shown primary early) i
+      → IfSome r (λ node. slice_get (all_shown primary (early ++ later)) i ≡ Some node.now.shown)
+  found_before early later i None e = tt
+  found_before early later i (Some node) e = shown_before early later i node.now.shown (sym e)
+
+  pub found_there : (early : List FollowerState) (i : ℕ) (P : Type 0) (r : Option (Bor Node)) → i ≤ length early → option_map (λ node. node.shown) (option_copied r) ≡ slice_get (all_shown primary early) i → IfNone r P
+  found_there early i P None less e = absurd (always_there early i less e)
+  found_there early i P (Some node) less e = tt
 
 get_node : (fs : List FollowerState) (place : ℕ) (d : FollowerState) → place < length fs → Some (get_or fs place d).mirror.node ≡ slice_get (map (λ f. f.mirror.node) fs) place
 get_node [] place d less = absurd (omega arith)

@@ -73,8 +73,8 @@ run_all w (e ∷ es) = go_on w (outcome w e) (λ v. run_all v es)
 abbrev shown : World → ℕ → List ℕ
 shown w i = published_text (node_of w i).published
 
-abbrev world : ℕ → ℕ → List ℕ → World
-world h s ups = new_world (record { history = h; staged = s }) ups
+abbrev world : ℕ → ℕ → ℕ → World
+world h s nodes = new_world (record { history = h; staged = s }) nodes
 
 abbrev teams : List ℕ
 teams = codes "teams"
@@ -118,14 +118,14 @@ a_cut = a_world (mirror (position 1 1) 0 true None ∷ [])
 abbrev a_reset : World
 a_reset = a_world (mirror (position 5 5) 0 false (Some (opened_at 5 177 false)) ∷ [])
 
-a_first : run_all (world 2 100 (0 ∷ [])) (DoCommit (set_team (codes "1") ∷ []) ∷ Connect 1 0 ∷ Deliver 1 9999
+a_first : run_all (world 2 100 2) (DoCommit (set_team (codes "1") ∷ []) ∷ Connect 1 0 0 ∷ Deliver 1 9999
     ∷ DoCommit (Single state (codes "{}") ∷ []) ∷ DoCommit (Clear teams ∷ [])
     ∷ DoCommit (Set groups (codes "1") (obj (codes "1")) ∷ []) ∷ DoCommit (Set groups (codes "2") (obj (codes "2")) ∷ []) ∷ [])
     ≡ (Ok (Committed (codes "1")) ∷ Ok Opened ∷ Ok (Delivered 1) ∷ Ok (Committed (codes "2")) ∷ Ok (Committed (codes "3")) ∷ Ok (Committed (codes "4")) ∷ Ok (Committed (codes "5")) ∷ [], a_behind)
 unfolding digits after written_string
 a_first = simp (entries-inserted, entries-removed, get-entries, len-entries, entries-empty)
 
-a_refused : run_all a_behind (Connect 1 0 ∷ Connect 1 0 ∷ Deliver 1 10 ∷ DoCut 1 ∷ []) ≡ (Ok Refused ∷ Ok Opened ∷ Ok (Delivered 0) ∷ Ok Cut ∷ [], a_cut)
+a_refused : run_all a_behind (Connect 1 0 0 ∷ Connect 1 0 0 ∷ Deliver 1 10 ∷ DoCut 1 ∷ []) ≡ (Ok Refused ∷ Ok Opened ∷ Ok (Delivered 0) ∷ Ok Cut ∷ [], a_cut)
 unfolding digits after written_string
 a_refused = simp (entries-inserted, entries-removed, get-entries, len-entries, entries-empty)
 
@@ -133,7 +133,7 @@ a_shown : shown a_cut 1 ≡ codes "{\"type\":\"teams\",\"id\":null,\"data\":[]}\
 unfolding digits after written_string
 a_shown = simp (entries-inserted, entries-removed, get-entries, len-entries, entries-empty)
 
-a_last : run_all a_cut (Connect 1 0 ∷ Deliver 1 9999 ∷ []) ≡ (Ok Opened ∷ Ok (Delivered 1) ∷ [], a_reset)
+a_last : run_all a_cut (Connect 1 0 0 ∷ Deliver 1 9999 ∷ []) ≡ (Ok Opened ∷ Ok (Delivered 1) ∷ [], a_reset)
 unfolding digits after written_string
 a_last = simp (entries-inserted, entries-removed, get-entries, len-entries, entries-empty)
 
@@ -157,13 +157,13 @@ b_relay_reset = b_world (mirror (position 4 4) 0 false (Some (opened_at 4 130 fa
 abbrev b_all_reset : World
 b_all_reset = b_world (mirror (position 4 4) 0 false (Some (opened_at 4 130 false)) ∷ mirror (position 4 4) 1 false (Some (opened_at 4 130 false)) ∷ [])
 
-b_first : run_all (world 1 100 (0 ∷ 1 ∷ [])) (DoCommit (set_team (codes "1") ∷ []) ∷ Connect 1 0 ∷ Deliver 1 9999 ∷ Connect 2 0
+b_first : run_all (world 1 100 3) (DoCommit (set_team (codes "1") ∷ []) ∷ Connect 1 0 0 ∷ Deliver 1 9999 ∷ Connect 2 1 0
     ∷ DoCommit (set_team (codes "2") ∷ []) ∷ DoCommit (Remove teams (codes "1") ∷ []) ∷ DoCommit (Single state (codes "{}") ∷ []) ∷ [])
     ≡ (Ok (Committed (codes "1")) ∷ Ok Opened ∷ Ok (Delivered 1) ∷ Ok Opened ∷ Ok (Committed (codes "2")) ∷ Ok (Committed (codes "3")) ∷ Ok (Committed (codes "4")) ∷ [], b_behind)
 unfolding digits after written_string
 b_first = simp (entries-inserted, entries-removed, get-entries, len-entries, entries-empty)
 
-b_refused : run_all b_behind (Connect 1 0 ∷ Connect 1 0 ∷ Deliver 1 9999 ∷ Serve 2 ∷ Idle 2 ∷ Deliver 2 9999 ∷ [])
+b_refused : run_all b_behind (Connect 1 0 0 ∷ Connect 1 0 0 ∷ Deliver 1 9999 ∷ Serve 2 ∷ Idle 2 ∷ Deliver 2 9999 ∷ [])
     ≡ (Ok Refused ∷ Ok Opened ∷ Ok (Delivered 1) ∷ Ok (Sent Gone) ∷ Ok (Sent Gone) ∷ Ok (Delivered 1) ∷ [], b_relay_reset)
 unfolding digits after written_string
 b_refused = simp (entries-inserted, entries-removed, get-entries, len-entries, entries-empty)
@@ -172,7 +172,7 @@ b_shown : shown b_relay_reset 2 ≡ codes "{\"type\":\"teams\",\"id\":null,\"dat
 unfolding digits after written_string
 b_shown = simp (entries-inserted, entries-removed, get-entries, len-entries, entries-empty)
 
-b_last : run_all b_relay_reset (Connect 2 0 ∷ Connect 2 0 ∷ Deliver 2 9999 ∷ []) ≡ (Ok Refused ∷ Ok Opened ∷ Ok (Delivered 1) ∷ [], b_all_reset)
+b_last : run_all b_relay_reset (Connect 2 1 0 ∷ Connect 2 1 0 ∷ Deliver 2 9999 ∷ []) ≡ (Ok Refused ∷ Ok Opened ∷ Ok (Delivered 1) ∷ [], b_all_reset)
 unfolding digits after written_string
 b_last = simp (entries-inserted, entries-removed, get-entries, len-entries, entries-empty)
 
@@ -182,14 +182,14 @@ b_shown_last = simp (entries-inserted, entries-removed, get-entries, len-entries
 
 -- a commit that is sent on an open connection
 abbrev sent_on : List Event
-sent_on = Connect 1 0 ∷ Deliver 1 9999 ∷ DoCommit (Single state (codes "{}") ∷ []) ∷ Serve 1 ∷ Serve 1 ∷ Idle 1 ∷ Deliver 1 9999 ∷ []
+sent_on = Connect 1 0 0 ∷ Deliver 1 9999 ∷ DoCommit (Single state (codes "{}") ∷ []) ∷ Serve 1 ∷ Serve 1 ∷ Idle 1 ∷ Deliver 1 9999 ∷ []
 
-d_replies : (run_all (world 1 100 (0 ∷ [])) sent_on).0 ≡
+d_replies : (run_all (world 1 100 2) sent_on).0 ≡
     Ok Opened ∷ Ok (Delivered 1) ∷ Ok (Committed (codes "1")) ∷ Ok (Sent More) ∷ Ok (Sent UpToDate) ∷ Ok Idled ∷ Ok (Delivered 1) ∷ []
 unfolding digits after written_string
 d_replies = simp (entries-inserted, entries-removed, get-entries, len-entries, entries-empty)
 
-d_shown : shown (run_all (world 1 100 (0 ∷ [])) sent_on).1 1 ≡ codes "{\"type\":\"state\",\"id\":null,\"data\":{},\"token\":\"1\"}\n"
+d_shown : shown (run_all (world 1 100 2) sent_on).1 1 ≡ codes "{\"type\":\"state\",\"id\":null,\"data\":{},\"token\":\"1\"}\n"
 unfolding digits after written_string
 d_shown = simp (entries-inserted, entries-removed, get-entries, len-entries, entries-empty)
 
@@ -202,9 +202,9 @@ e_cut = record { limits = record { history = 4; staged = 100 }; log = e_log; pri
 
 -- its next connection begins at 0
 abbrev sent_again : List Event
-sent_again = Connect 1 9 ∷ DoCommit (Single (codes "s") (codes "{}") ∷ []) ∷ Serve 1 ∷ Deliver 1 9999 ∷ []
+sent_again = Connect 1 0 9 ∷ DoCommit (Single (codes "s") (codes "{}") ∷ []) ∷ Serve 1 ∷ Deliver 1 9999 ∷ []
 
-e_front : run_all (world 4 100 (0 ∷ [])) (Connect 1 0 ∷ Deliver 1 9999 ∷ DoCommit (Set (codes "t") (codes "1") (codes "{}") ∷ []) ∷ DoCommit (Remove (codes "t") (codes "1") ∷ [])
+e_front : run_all (world 4 100 2) (Connect 1 0 0 ∷ Deliver 1 9999 ∷ DoCommit (Set (codes "t") (codes "1") (codes "{}") ∷ []) ∷ DoCommit (Remove (codes "t") (codes "1") ∷ [])
     ∷ Serve 1 ∷ Serve 1 ∷ Deliver 1 9999 ∷ DoCut 1 ∷ [])
     ≡ (Ok Opened ∷ Ok (Delivered 1) ∷ Ok (Committed (codes "1")) ∷ Ok (Committed (codes "2")) ∷ Ok (Sent More) ∷ Ok (Sent More) ∷ Ok (Delivered 2) ∷ Ok Cut ∷ [], e_cut)
 unfolding digits after written_string
@@ -235,37 +235,37 @@ c_at place =
       mirrors = record { place = place; upstream = 0; afresh = false; connection = None; saved = Some 1 } ∷ [];
     }
 
-c_front : run_all (world 1 100 (0 ∷ [])) (DoCommit (set_team (codes "1") ∷ set_team (codes "2") ∷ []) ∷ Connect 1 0 ∷ Deliver 1 9999 ∷ Save 1 ∷ Restart 1 136 ∷ [])
+c_front : run_all (world 1 100 2) (DoCommit (set_team (codes "1") ∷ set_team (codes "2") ∷ []) ∷ Connect 1 0 0 ∷ Deliver 1 9999 ∷ Save 1 ∷ Restart 1 136 ∷ [])
     ≡ (Ok (Committed (codes "1")) ∷ Ok Opened ∷ Ok (Delivered 1) ∷ Ok (Saved 137) ∷ Ok (Restarted false) ∷ [], c_at None)
 unfolding digits after written_string
 c_front = simp (entries-inserted, entries-removed, get-entries, len-entries, entries-empty)
 
-c_all : run_all (c_at None) (Connect 1 0 ∷ Deliver 1 9999 ∷ Restart 1 137 ∷ Serve 1 ∷ [])
+c_all : run_all (c_at None) (Connect 1 0 0 ∷ Deliver 1 9999 ∷ Restart 1 137 ∷ Serve 1 ∷ [])
     ≡ (Ok Opened ∷ Ok (Delivered 1) ∷ Ok (Restarted true) ∷ Err NoConnection ∷ [], c_at (position 1 1))
 unfolding digits after written_string
 c_all = simp (entries-inserted, entries-removed, get-entries, len-entries, entries-empty)
 
-no_saved : (run_all (world 1 100 (0 ∷ [])) (Save 0 ∷ [])).0 ≡ Err NoNode ∷ []
+no_saved : (run_all (world 1 100 2) (Save 0 ∷ [])).0 ≡ Err NoNode ∷ []
 unfolding digits
 no_saved = refl
 
 -- refusals, and a node that has published nothing
-no_node : (run_all (world 1 100 (0 ∷ [])) (Connect 2 0 ∷ [])).0 ≡ Err NoNode ∷ []
+no_node : (run_all (world 1 100 2) (Connect 2 1 0 ∷ [])).0 ≡ Err NoNode ∷ []
 unfolding digits
 no_node = refl
 
-no_primary : (run_all (world 1 100 (0 ∷ [])) (Deliver 0 1 ∷ [])).0 ≡ Err NoNode ∷ []
+no_primary : (run_all (world 1 100 2) (Deliver 0 1 ∷ [])).0 ≡ Err NoNode ∷ []
 unfolding digits
 no_primary = refl
 
-no_connection : (run_all (world 1 100 (0 ∷ [])) (Serve 1 ∷ [])).0 ≡ Err NoConnection ∷ []
+no_connection : (run_all (world 1 100 2) (Serve 1 ∷ [])).0 ≡ Err NoConnection ∷ []
 unfolding digits
 no_connection = refl
 
-empty_batch : (run_all (world 1 100 (0 ∷ [])) (DoCommit [] ∷ [])).0 ≡ Err (CommitRefused EmptyBatch) ∷ []
+empty_batch : (run_all (world 1 100 2) (DoCommit [] ∷ [])).0 ≡ Err (CommitRefused EmptyBatch) ∷ []
 unfolding digits
 empty_batch = refl
 
-not_yet : (run_all (world 1 100 (0 ∷ 1 ∷ [])) (Connect 2 0 ∷ [])).0 ≡ Ok NotYet ∷ []
+not_yet : (run_all (world 1 100 3) (Connect 2 1 0 ∷ [])).0 ≡ Ok NotYet ∷ []
 unfolding digits
 not_yet = refl

@@ -25,7 +25,7 @@ use Rattle.feed_world.specs.Log.{Log, IsLog}
 use Rattle.feed_world.specs.Position.{Position, IsPosition, IsPlace, commits_after, node_where}
 use Rattle.feed_world.specs.Reading.{IsOpened, opening_at}
 use Rattle.feed_world.specs.Step.{Move, Step, Run, RunUpTo, primary_of, mirror_connects, mirror_serves, mirror_delivers, brought_to, reached, is_free_reply}
-use Rattle.feed_world.specs.World.{Mirror, World, HasShape, connection_at, saved_text}
+use Rattle.feed_world.specs.World.{Mirror, World, HasShape, is_other, connection_at, saved_text}
 
 -- a connection: the token that its session has come to, the text that was sent, how many bytes of
 -- it were delivered, and whether the server sends no more
@@ -35,8 +35,8 @@ pub record ConnectionState : Type 0 where
   pub delivered : ℕ
   pub over : Bool
 
--- a mirror, the number of the node that it is behind, its connection, if there is one, and its
--- saved text
+-- a mirror, the number of the node that it connected to last, its connection, if there is one, and
+-- its saved text
 pub record FollowerState : Type 0 where
   pub mirror : MirrorState
   pub upstream : ℕ
@@ -65,13 +65,13 @@ abbrev pub world_state : PrimaryState → List Commit → List FollowerState →
 world_state primary log followers = record { primary = primary; log = log; followers = followers }
 
 -- a mirror without a connection, of which nothing was saved
-abbrev pub new_follower : Limits → ℕ → FollowerState
-new_follower limits upstream = follower_state (new_mirror limits) upstream None []
+abbrev pub new_follower : Limits → FollowerState
+new_follower limits = follower_state (new_mirror limits) 0 None []
 
 -- why there is no world
-abbrev pub RefusesShape : List ℕ → ShapeFault → Type 0
-RefusesShape up BadShape = ¬ (HasShape up)
-RefusesShape up NoMemory = HasShape up
+abbrev pub RefusesShape : ℕ → ShapeFault → Type 0
+RefusesShape nodes BadShape = ¬ (HasShape nodes)
+RefusesShape nodes NoMemory = HasShape nodes
 
 -- the connection has the text that was sent on this one, and its session the last token
 pub record IsConnection (log : Log) (c : Connection) (s : ConnectionState) : Type 0 where
@@ -106,7 +106,7 @@ AreLinked limits log m None f (Some s) = ⊥
 abbrev pub asks_with : Log → Mirror → Option (List ℕ)
 asks_with log m = if m.afresh then None else published_token (node_where log m.place)
 
--- the mirror shows what one at this place shows, is behind the same node, and has the same saved
+-- the mirror shows what one at this place shows, connected to the same node, and has the same saved
 -- text, of a state in the log
 pub record IsMirror (limits : Limits) (log : Log) (m : Mirror) (f : FollowerState) : Type 0 where
   pub place : IsPlace limits log m.place
@@ -152,13 +152,18 @@ AreMirrors limits log (m ∷ ms) (f ∷ fs) = IsMirror limits log m f × AreMirr
 AreMirrors limits log [] (f ∷ fs) = ⊥
 AreMirrors limits log (m ∷ ms) [] = ⊥
 
+-- each mirror connected to another node last
+abbrev pub ConnectToOthers : World → Type 0
+ConnectToOthers w =
+    (i : ℕ) → IfSome (slice_get w.mirrors i) (λ m. is_other w (suc i) m.upstream ≡ true)
+
 -- the primary and the mirrors are those of this world
 pub record AreNodes (w : World) (primary : PrimaryState) (fs : List FollowerState) : Type 0 where
   pub log : IsLog w.limits w.log
   pub latest : w.primary.at ≡ length w.log
   pub place : IsPosition w.limits w.log w.primary
   pub shows : primary ≡ primary_of w
-  pub shape : HasShape (map (λ m. m.upstream) w.mirrors)
+  pub others : ConnectToOthers w
   pub mirrors : AreMirrors w.limits w.log w.mirrors fs
 
 -- the state is that of this world
@@ -198,16 +203,21 @@ abbrev pub BreaksForMemory : Reply → Type 0
 BreaksForMemory (Broke i fault) = fault ≡ FeedMemory
 BreaksForMemory reply = Unit {0}
 
--- ---- what a mirror asks of the node that it is behind
+-- ---- what a mirror asks of another node
 
 -- the event at which the mirror of this number asks for this
 abbrev pub event_asking : Asks → ℕ → Event
-event_asking (ForConnection back) i = Connect i back
+event_asking (ForConnection j back) i = Connect i j back
 event_asking ForCommit i = Serve i
+
+-- the node that is asked by a mirror that connected to this one last
+abbrev pub node_asked : Asks → ℕ → ℕ
+node_asked (ForConnection j back) upstream = j
+node_asked ForCommit upstream = upstream
 
 -- what comes of it, where that node is at this place
 abbrev pub mirror_asks : Asks → Mirror → Option Position → Result Move WorldFault
-mirror_asks (ForConnection back) m server = mirror_connects back m server
+mirror_asks (ForConnection j back) m server = mirror_connects j back m server
 mirror_asks ForCommit m server = mirror_serves m server
 
 -- ---- what a connection has carried

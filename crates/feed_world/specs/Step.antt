@@ -16,7 +16,7 @@ use Rattle.feed_world.specs.declared.event.WorldFault.TheVariants.{NoNode, NoCon
 use Rattle.feed_world.specs.Connection.{Part, Commit, Line_feed, Connection, bytes_sent, blocks_between, moved_by, count_new, first_parts}
 use Rattle.feed_world.specs.Log.{Log, state_text}
 use Rattle.feed_world.specs.Position.{Position, node_at, renewed}
-use Rattle.feed_world.specs.World.{Mirror, World, mirror_at, with_mirror, place_at, saved_text}
+use Rattle.feed_world.specs.World.{Mirror, World, is_other, mirror_at, with_mirror, place_at, saved_text}
 
 -- a reply and the world after it, or why the event is refused
 abbrev pub Outcome : Type 0
@@ -53,9 +53,13 @@ commits_unless world changes None =
 abbrev pub commits : World → List Change → Outcome
 commits world changes = commits_unless world changes (commit_fault (primary_of world) changes)
 
--- ---- Connect: where the server holds the mirror's token, a connection behind it, or behind a token
--- so many places before; else the token is refused. Without a token, or once it was refused, a fresh
--- connection.
+-- ---- Connect: to another node. Where that holds the mirror's token, a connection behind it, or
+-- behind a token so many places before; else the token is refused. Without a token, or once it was
+-- refused, a fresh connection.
+
+-- the mirror, which turns to this node
+abbrev pub turned_to : ℕ → Mirror → Mirror
+turned_to j mirror = record mirror { upstream = j }
 
 -- the mirror with this connection, or none
 abbrev pub linked : Mirror → Option Connection → Mirror
@@ -206,8 +210,8 @@ abbrev pub with_connection : Option Connection → (Connection → Move) → Res
 with_connection None act = Err NoConnection
 with_connection (Some c) act = Ok (act c)
 
-abbrev pub mirror_connects : ℕ → Mirror → Option Position → Result Move WorldFault
-mirror_connects back mirror server = Ok (connects mirror server back)
+abbrev pub mirror_connects : ℕ → ℕ → Mirror → Option Position → Result Move WorldFault
+mirror_connects j back mirror server = Ok (connects (turned_to j mirror) server back)
 
 abbrev pub mirror_serves : Mirror → Option Position → Result Move WorldFault
 mirror_serves mirror server =
@@ -251,8 +255,9 @@ at_node world i act = with_node world i (mirror_at world i) act
 -- the reply to an event and the world after it, where memory suffices
 abbrev pub outcome : World → Event → Outcome
 outcome world (DoCommit changes) = commits world changes
-outcome world (Connect i back) =
-    at_node world i (λ mirror. mirror_connects back mirror (place_at world mirror.upstream))
+outcome world (Connect i j back) =
+    if is_other world i j
+    then at_node world i (λ mirror. mirror_connects j back mirror (place_at world j)) else Err NoNode
 outcome world (Serve i) =
     at_node world i (λ mirror. mirror_serves mirror (place_at world mirror.upstream))
 outcome world (Idle i) = at_node world i mirror_idles

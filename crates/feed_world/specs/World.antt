@@ -1,5 +1,5 @@
--- A world of nodes: a primary, and mirrors each behind another node.
-use Rattle.std.specs.Prelude.{◌≡◌, ℕ, zero, suc, ◌≤◌, ◌+◌, Bool, false, List, [], length, map, Option, Some, None, slice_get, slice_set}
+-- A world of nodes: a primary, and mirrors that connect to any other node.
+use Rattle.std.specs.Prelude.{◌≡◌, ℕ, zero, suc, ◌≤◌, ◌-◌, Bool, false, not, ◌&&◌, nat_le, ◌==◌, List, [], length, replicate, Option, Some, None, slice_get, slice_set}
 use Rattle.std.specs.Option.{option_and_then}
 use Rattle.feed_node.specs.Limits.{Limits}
 use Rattle.feed_node.specs.States.{NodeState}
@@ -7,9 +7,10 @@ use Rattle.feed_world.specs.Log.{Log, state_text}
 use Rattle.feed_world.specs.Position.{Position, node_where}
 use Rattle.feed_world.specs.Connection.{Connection}
 
--- a mirror: where it is, if it has published anything; the node that it connects to; whether its
--- token was refused and nothing was published since, so that its next connection is fresh; its
--- connection, if there is one; and the number of the state that is its saved text, if one is
+-- a mirror: where it is, if it has published anything; the node that it connected to last, and node
+-- 0 before; whether its token was refused and nothing was published since, so that its next
+-- connection is fresh; its connection to that node, if there is one; and the number of the state that
+-- is its saved text, if one is
 pub record Mirror : Type 0 where
   pub place : Option Position
   pub upstream : ℕ
@@ -28,32 +29,34 @@ pub record World : Type 0 where
 abbrev pub most_nodes : ℕ
 most_nodes = 256
 
--- the primary and the mirrors are no more nodes than a world has at most, and each mirror is behind
--- an earlier node
-pub record HasShape (upstreams : List ℕ) : Type 0 where
-  pub few : 1 + length upstreams ≤ most_nodes
-  pub earlier : (i upstream : ℕ) → slice_get upstreams i ≡ Some upstream → upstream ≤ i
+-- a world may have so many nodes: the primary, and no more mirrors than there may be
+pub record HasShape (nodes : ℕ) : Type 0 where
+  pub some : 1 ≤ nodes
+  pub few : nodes ≤ most_nodes
 
-abbrev pub new_mirror : ℕ → Mirror
-new_mirror upstream =
+abbrev pub new_mirror : Mirror
+new_mirror =
     record {
       place = None;
-      upstream = upstream;
+      upstream = 0;
       afresh = false;
       connection = None;
       saved = None;
     }
 
--- the world at the start; the mirror of number i + 1 is behind the node that stands at place i of
--- the list
-abbrev pub new_world : Limits → List ℕ → World
-new_world limits upstreams =
+-- the world of so many nodes at the start
+abbrev pub new_world : Limits → ℕ → World
+new_world limits nodes =
     record {
       limits = limits;
       log = [];
       primary = record { at = 0; low = 0 };
-      mirrors = map new_mirror upstreams;
+      mirrors = replicate (nodes - 1) new_mirror;
     }
+
+-- node j is there, and another than node i
+abbrev pub is_other : World → ℕ → ℕ → Bool
+is_other world i j = nat_le j (length world.mirrors) && not (j == i)
 
 -- the mirror of this number, where there is one
 abbrev pub mirror_at : World → ℕ → Option Mirror

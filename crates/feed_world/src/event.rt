@@ -1,6 +1,7 @@
 //! What may happen in a world, and its replies.
 
 ghost use Rattle.std.specs.Prelude.{◌≡◌};
+ghost use Rattle.feed_world.specs.States.{node_asked};
 ghost use Rattle.feed_world.specs.declared.event.WorldFault.TheVariants.{Commit as CommitRefused, Memory as WorldMemory};
 ghost use Rattle.feed_world.specs.declared.event.ShapeFault.TheVariants.{Memory as ShapeMemory};
 
@@ -14,9 +15,9 @@ use thiserror::Error;
 pub enum Event {
     /// The primary makes these changes.
     Commit(Changes),
-    /// This mirror connects to the node that it is behind, which sends again so many commits before
-    /// the mirror's token, as far as both nodes hold their tokens.
-    Connect(usize, usize),
+    /// This mirror connects to this other node, which sends again so many commits before the mirror's
+    /// token, as far as both nodes hold their tokens.
+    Connect(usize, usize, usize),
     /// The node at the other end of this mirror's connection sends its next commit.
     Serve(usize),
     /// That node has no more to send for now: it sends a line feed.
@@ -32,12 +33,25 @@ pub enum Event {
     Restart(usize, usize),
 }
 
-/// What a mirror asks of the node that it is behind.
+/// What a mirror asks of another node.
 #[derive(Clone, Copy)]
 pub(crate) enum Asks {
-    /// With so many commits again.
-    ForConnection(usize),
+    /// Of this node, with so many commits again.
+    ForConnection(usize, usize),
+    /// Of the node at the other end of its connection.
     ForCommit,
+}
+
+impl Asks {
+    /// The number of the node that is asked by a mirror that connected to this one last.
+    pub fn of(self, upstream: usize) -> usize
+        ensures { result ≡ node_asked self upstream }
+    {
+        match self {
+            Asks::ForConnection(server, _) => server,
+            Asks::ForCommit => upstream,
+        }
+    }
 }
 
 /// What a world replies to an event.
@@ -70,7 +84,8 @@ pub enum Reply {
 /// Why an event was refused: the first of these that holds. A refused event changes nothing.
 #[derive(Clone, Copy, Debug, PartialEq, Eq, Error)]
 pub enum WorldFault {
-    /// No mirror has this number.
+    /// No mirror has this number; or no node has that of the node to connect to, or it is the mirror
+    /// itself.
     #[error("no such node")]
     NoNode,
     /// The mirror has no connection.
@@ -87,7 +102,7 @@ pub enum WorldFault {
 /// Why no world was made: the first of these that holds.
 #[derive(Clone, Copy, Debug, PartialEq, Eq, Error)]
 pub enum ShapeFault {
-    /// There are more nodes than a world has at most, or a mirror is not behind an earlier one.
+    /// There is no node, or there are more than a world has at most.
     #[error("bad shape")]
     BadShape,
     /// Memory ran out.

@@ -1,11 +1,11 @@
 //! Events at the mirror of a number. Mirrors are numbered from 1, in order.
 
-ghost use Rattle.std.specs.Prelude.{◌≡◌, ◌<◌, ◌≤◌, ℕ, suc, length, slice_get, option_map, IfOk, IfErr, OnErr};
+ghost use Rattle.std.specs.Prelude.{◌≡◌, ◌≢◌, ◌⊎◌, ◌<◌, ◌≤◌, ◌+◌, ◌++◌, ◌∷◌, ℕ, suc, length, slice_get, option_map, Some, IfSome, IfNone, IsSome, IfOk, IfErr, OnErr};
 ghost use Rattle.std.specs.Option.{option_copied};
 ghost use Rattle.feed_node.specs.Log.{PrimaryState};
 ghost use Rattle.feed_world.specs.declared.event.Event.TheVariants.{Idle, Deliver, Cut as DoCut, Save, Restart};
 ghost use Rattle.feed_world.specs.declared.event.WorldFault.TheVariants.{NoNode};
-ghost use Rattle.feed_world.specs.States.{AreNodes, NodesMove, all_shown, event_asking};
+ghost use Rattle.feed_world.specs.States.{FollowerState, AreNodes, NodesMove, all_shown, event_asking};
 ghost use Rattle.feed_world.specs.Step.{IsRefused};
 ghost use Rattle.feed_world.specs.World.{World as Numbers};
 
@@ -41,7 +41,29 @@ pub(crate) fn node_among<'a>(
     }
 }
 
-/// The mirror asks the node that it is behind.
+/// The node of this number, among the primary, these mirrors, one that isn't looked at, and those
+/// behind it.
+fn other_node<'a>(
+    primary: &'a Primary,
+    earlier: &'a [Follower],
+    later: &'a [Follower],
+    number: usize,
+) -> Option<&'a Node>
+    ensures some { (f : FollowerState) → IfSome result (λ node.
+        slice_get (all_shown primary.now (earlier.now ++ f ∷ later.now)) number
+        ≡ Some node.now.shown) }
+    ensures other { IsSome result → number ≢ suc (length earlier.now) }
+    ensures none { IfNone result ((number ≡ suc (length earlier.now))
+        ⊎ (length earlier.now + length later.now + 2 ≤ number)) }
+{
+    if number <= earlier.len() {
+        return node_among(primary, earlier, number);
+    }
+    let place = number.checked_sub(earlier.len())?.checked_sub(2)?;
+    Some(later.get(place)?.node())
+}
+
+/// The mirror asks another node.
 pub(crate) fn ask(
     alloc: Global,
     primary: &Primary,
@@ -57,15 +79,16 @@ pub(crate) fn ask(
     ensures unchanged { OnErr result (followers.new ≡ followers.old) }
 {
     let place = place_of(followers, number)?;
-    let (earlier, later) = followers.split_at_mut(place);
-    let follower = &mut later[0];
-    match node_among(primary, earlier, follower.upstream()) {
+    let (earlier, rest) = followers.split_at_mut(place);
+    let (own, later) = rest.split_at_mut(1);
+    let follower = &mut own[0];
+    match other_node(primary, earlier, later, asks.of(follower.upstream())) {
         Some(server) => follower.ask(alloc, server, asks),
         None => Err(WorldFault::NoNode),
     }
 }
 
-/// The node that the mirror is behind has no more to send for now.
+/// The node that the mirror is connected to has no more to send for now.
 pub(crate) fn idle(followers: &mut [Follower], number: usize) -> Result<Reply, WorldFault>
     ensures ok { (w : Numbers) (primary : PrimaryState) → AreNodes w primary followers.old
         → IfOk result (λ reply. NodesMove w primary (Idle number) reply followers.new) }

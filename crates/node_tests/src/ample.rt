@@ -31,6 +31,7 @@ enum Kind {
     Commits,
     Connects,
     GoesBack,
+    Switches,
     Serves,
     Idles,
     Delivers,
@@ -39,7 +40,7 @@ enum Kind {
     Restarts,
 }
 
-use Kind::{Commits, Connects, Cuts, Delivers, GoesBack, Idles, Restarts, Saves, Serves};
+use Kind::{Commits, Connects, Cuts, Delivers, GoesBack, Idles, Restarts, Saves, Serves, Switches};
 
 /// The kinds of events, each as often as it is drawn.
 const KINDS: [Kind; 16] = [
@@ -59,8 +60,24 @@ const RESENDING: [Kind; 16] = [
     Idles, Delivers, Delivers, Delivers, Saves, Restarts,
 ];
 
+/// The same where mirrors connect to any node.
+const SWITCHING: [Kind; 16] = [
+    Commits, Commits, Switches, Switches, Switches, Switches, Serves, Serves, Serves, Serves,
+    Idles, Delivers, Delivers, Delivers, Saves, Restarts,
+];
+
 /// The mirrors, each as often as it is drawn, and two numbers of no mirror.
 const MIRRORS: [usize; 16] = [1, 1, 1, 1, 1, 2, 2, 2, 2, 2, 3, 3, 3, 3, 0, 4];
+
+/// The node that each mirror connects to where none is drawn: the first and the second to the
+/// primary, and the third to the first.
+const UPSTREAMS: [usize; 3] = [0, 0, 1];
+
+/// The node that a mirror of this number connects to; of no mirror, the primary.
+fn upstream(number: usize) -> usize {
+    let upstream = number.checked_sub(1).and_then(|place| UPSTREAMS.get(place));
+    upstream.copied().unwrap_or(0)
+}
 
 /// How many objects may be set. With their type 101 of them are too many.
 const OBJECTS: usize = 128;
@@ -114,8 +131,10 @@ fn draw_saved(draws: &mut Draws, length: usize) -> usize {
 /// What may happen at a mirror of this number, but for commits.
 fn draw_happening(draws: &mut Draws, kind: Kind, number: usize, model: &Numbers) -> Happening {
     match kind {
-        Connects => Happening::Connect(number, 0),
-        GoesBack => Happening::Connect(number, draws.below(4)),
+        Connects => Happening::Connect(number, upstream(number), 0),
+        GoesBack => Happening::Connect(number, upstream(number), draws.below(4)),
+        // Of five numbers the last is that of no node.
+        Switches => Happening::Connect(number, draws.below(5), draws.below(4)),
         Serves => Happening::Serve(number),
         Idles => Happening::Idle(number),
         Cuts => Happening::Cut(number),
@@ -132,7 +151,7 @@ fn draw_happening(draws: &mut Draws, kind: Kind, number: usize, model: &Numbers)
 fn event_of(happening: Happening) -> Option<Event> {
     Some(match happening {
         Happening::Commit(..) => return None,
-        Happening::Connect(number, back) => Event::Connect(number, back),
+        Happening::Connect(number, server, back) => Event::Connect(number, server, back),
         Happening::Serve(number) => Event::Serve(number),
         Happening::Idle(number) => Event::Idle(number),
         Happening::Deliver(number, bytes) => Event::Deliver(number, bytes),
@@ -292,8 +311,8 @@ struct Tally {
 
 /// Draws so many events of these kinds, until the world and the model part.
 fn play(alloc: Global, kinds: &[Kind; 16], count: usize) -> Option<Tally> {
-    let mut world = World::new(alloc, &[0, 0, 1], Limits::new(2, 100).ok()?).ok()?;
-    let mut model = Numbers::new(alloc, &[0, 0, 1], 2, 100, OBJECTS)?;
+    let mut world = World::new(alloc, 4, Limits::new(2, 100).ok()?).ok()?;
+    let mut model = Numbers::new(alloc, 3, 2, 100, OBJECTS)?;
     let mut draws = Draws { seed: 1 };
     let mut replies = [0usize; 19];
     for alike in 0..count {
@@ -332,6 +351,16 @@ fn ample_with_restarts(rt: HostRuntime) {
 #[test]
 fn ample_with_resends(rt: HostRuntime) {
     let Some(tally) = play(rt.alloc(), &RESENDING, 10_000) else {
+        assert!(rt; false, "no world");
+        return;
+    };
+    assert_eq!(rt; tally.alike, 10_000);
+    assert!(rt; tally.replies.iter().take(14).all(|times| 0 < *times));
+}
+
+#[test]
+fn ample_with_any_server(rt: HostRuntime) {
+    let Some(tally) = play(rt.alloc(), &SWITCHING, 10_000) else {
         assert!(rt; false, "no world");
         return;
     };

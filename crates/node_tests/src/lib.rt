@@ -30,4 +30,6 @@ mod sessions;
 #[cfg(test)]
 mod stage;
 #[cfg(test)]
+mod switching;
+#[cfg(test)]
 mod worlds;

@@ -27,7 +27,7 @@ const MORE: Want = Want::Sent(Pulled::More);
 const SAVED: [Course; 6] = [
     // A front of what was saved restores nothing, and all of it the state with its token alone.
     Course {
-        up: &[0],
+        nodes: 2,
         history: 1,
         staged: 100,
         steps: &[
@@ -47,14 +47,14 @@ const SAVED: [Course; 6] = [
     // Before anything is published nothing is saved, and before anything is saved nothing is
     // restored.
     Course {
-        up: &[0],
+        nodes: 2,
         history: 1,
         staged: 100,
         steps: &[
             Act(Restart(1, ALL), Want::Restarted(false)),
             Act(Save(1), Want::Saved(0)),
             Act(Restart(1, 0), Want::Restarted(false)),
-            Act(Connect(1, 0), Want::Opened),
+            Act(Connect(1, 0, 0), Want::Opened),
             Act(Deliver(1, ALL), Want::Delivered(1)),
             At(1, "0"),
             Act(Restart(1, ALL), Want::Restarted(false)),
@@ -64,12 +64,12 @@ const SAVED: [Course; 6] = [
     },
     // One text restores its state again and again, and is kept until another is saved.
     Course {
-        up: &[0],
+        nodes: 2,
         history: 2,
         staged: 100,
         steps: &[
             Act(Commit(TEAM_1), Want::Committed("1")),
-            Act(Connect(1, 0), Want::Opened),
+            Act(Connect(1, 0, 0), Want::Opened),
             Act(Deliver(1, ALL), Want::Delivered(1)),
             Act(Save(1), Want::Saved(93)),
             Act(Commit(TEAM_2), Want::Committed("2")),
@@ -83,7 +83,7 @@ const SAVED: [Course; 6] = [
             ShowsNothing(1),
             Act(Restart(1, ALL), Want::Restarted(true)),
             Shows(1, ONE_TEAM),
-            Act(Connect(1, 0), Want::Opened),
+            Act(Connect(1, 0, 0), Want::Opened),
             Act(Serve(1), MORE),
             Act(Deliver(1, ALL), Want::Delivered(1)),
             At(1, "2"),
@@ -94,11 +94,11 @@ const SAVED: [Course; 6] = [
     },
     // Saved within a delivery is what was published before, and not what is staged.
     Course {
-        up: &[0],
+        nodes: 2,
         history: 1,
         staged: 100,
         steps: &[
-            Act(Connect(1, 0), Want::Opened),
+            Act(Connect(1, 0, 0), Want::Opened),
             Act(Deliver(1, ALL), Want::Delivered(1)),
             Act(Commit(TEAMS), Want::Committed("1")),
             Act(Serve(1), MORE),
@@ -112,14 +112,14 @@ const SAVED: [Course; 6] = [
     },
     // An open connection is gone with a restart, and what was not delivered of it.
     Course {
-        up: &[0, 1],
+        nodes: 3,
         history: 1,
         staged: 100,
         steps: &[
-            Act(Connect(1, 0), Want::Opened),
+            Act(Connect(1, 0, 0), Want::Opened),
             Act(Deliver(1, ALL), Want::Delivered(1)),
             Act(Save(1), Want::Saved(53)),
-            Act(Connect(2, 0), Want::Opened),
+            Act(Connect(2, 1, 0), Want::Opened),
             Act(Commit(TEAM_1), Want::Committed("1")),
             Act(Serve(1), MORE),
             Act(Deliver(1, 10), Want::Delivered(0)),
@@ -127,7 +127,7 @@ const SAVED: [Course; 6] = [
             CarriesNone(1),
             Act(Cut(1), Want::NoConnection),
             Act(Deliver(1, ALL), Want::NoConnection),
-            Act(Connect(1, 0), Want::Opened),
+            Act(Connect(1, 0, 0), Want::Opened),
             Carries(1, 0, 0, "0"),
             Carries(2, 53, 0, "0"),
             Act(Deliver(2, ALL), Want::Delivered(1)),
@@ -136,22 +136,22 @@ const SAVED: [Course; 6] = [
     },
     // A mirror that is restarted after its token was refused asks with the token that it has then.
     Course {
-        up: &[0, 1],
+        nodes: 3,
         history: 1,
         staged: 100,
         steps: &[
             Act(Commit(TEAM_1), Want::Committed("1")),
-            Act(Connect(1, 0), Want::Opened),
+            Act(Connect(1, 0, 0), Want::Opened),
             Act(Deliver(1, ALL), Want::Delivered(1)),
             Act(Save(1), Want::Saved(93)),
             Act(Commit(TEAM_2), Want::Committed("2")),
             Act(Commit(TEAM_1), Want::Committed("3")),
-            Act(Connect(1, 0), Want::Refused),
+            Act(Connect(1, 0, 0), Want::Refused),
             Act(Restart(1, ALL), Want::Restarted(true)),
-            Act(Connect(1, 0), Want::Refused),
+            Act(Connect(1, 0, 0), Want::Refused),
             Act(Restart(1, 0), Want::Restarted(false)),
-            Act(Connect(2, 0), Want::NotYet),
-            Act(Connect(1, 0), Want::Opened),
+            Act(Connect(2, 1, 0), Want::NotYet),
+            Act(Connect(1, 0, 0), Want::Opened),
             Act(Deliver(1, ALL), Want::Delivered(1)),
             At(1, "3"),
         ],
@@ -182,7 +182,7 @@ fn restarts_from(alloc: Global, world: &mut World, bytes: usize) -> Option<bool>
 /// How many bytes of those that were saved restore nothing, counted up to the first that restore
 /// the state.
 fn fewest(alloc: Global) -> Option<usize> {
-    let mut world = World::new(alloc, RESTARTED.up, Limits::new(1, 100).ok()?).ok()?;
+    let mut world = World::new(alloc, RESTARTED.nodes, Limits::new(1, 100).ok()?).ok()?;
     world.run(alloc, events(alloc, RESTARTED.lines)?).ok()?;
     for bytes in 0..200 {
         if restarts_from(alloc, &mut world, bytes)? {
@@ -200,7 +200,7 @@ fn restarts_from_all_alone(rt: HostRuntime) {
 /// Whether the worked script, as one list with a last event that is refused, leaves the mirror
 /// restarted.
 fn ends_refused(alloc: Global) -> Option<bool> {
-    let mut world = World::new(alloc, RESTARTED.up, Limits::new(1, 100).ok()?).ok()?;
+    let mut world = World::new(alloc, RESTARTED.nodes, Limits::new(1, 100).ok()?).ok()?;
     let mut list = events(alloc, RESTARTED.lines)?;
     list.push(Event::Serve(1)).ok()?;
     let fault = world.run(alloc, list).err();

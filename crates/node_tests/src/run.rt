@@ -4,7 +4,9 @@ use feed_node::Limits;
 use feed_world::{World, WorldFault};
 use std::alloc::Global;
 use world_scripts::Act::{Commit, Connect, Cut, Deliver, Serve};
-use world_scripts::{ALL, Act, FOLLOWED, RESTARTED, Script, TEAM_1, TEAM_2, Want, events};
+use world_scripts::{
+    ALL, Act, FOLLOWED, RESTARTED, SWITCHED, Script, TEAM_1, TEAM_2, Want, events,
+};
 
 /// Whether the nodes have published these tokens, the primary first.
 fn ends_at(world: &World, ends: &[&str]) -> Option<bool> {
@@ -19,7 +21,7 @@ fn ends_at(world: &World, ends: &[&str]) -> Option<bool> {
 /// Whether a script's events, as one list, have its replies and its end.
 fn is_run(alloc: Global, script: &Script) -> Option<bool> {
     let limits = Limits::new(script.history, 100).ok()?;
-    let mut world = World::new(alloc, script.up, limits).ok()?;
+    let mut world = World::new(alloc, script.nodes, limits).ok()?;
     let replies = world.run(alloc, events(alloc, script.lines)?).ok()?;
     let count = replies.len();
     for (reply, (_, want)) in replies.into_iter().zip(script.lines) {
@@ -34,11 +36,12 @@ fn is_run(alloc: Global, script: &Script) -> Option<bool> {
 fn replies_to_each_event(rt: HostRuntime) {
     assert_eq!(rt; is_run(rt.alloc(), &FOLLOWED), Some(true));
     assert_eq!(rt; is_run(rt.alloc(), &RESTARTED), Some(true));
+    assert_eq!(rt; is_run(rt.alloc(), &SWITCHED), Some(true));
 }
 
 /// A script of no event.
 const NONE: Script = Script {
-    up: &[0],
+    nodes: 2,
     history: 1,
     lines: &[],
     ends: &["0"],
@@ -52,7 +55,7 @@ fn replies_to_no_event(rt: HostRuntime) {
 /// Events of which the fourth can't happen.
 const STOPPED: [(Act, Want); 6] = [
     (Commit(TEAM_1), Want::Committed("1")),
-    (Connect(1, 0), Want::Opened),
+    (Connect(1, 0, 0), Want::Opened),
     (Deliver(1, ALL), Want::Delivered(1)),
     (Serve(2), Want::NoNode),
     (Commit(TEAM_2), Want::Committed("2")),
@@ -61,7 +64,7 @@ const STOPPED: [(Act, Want); 6] = [
 
 /// Whether the first refused event ends a run, and those before it stand.
 fn stops(alloc: Global) -> Option<bool> {
-    let mut world = World::new(alloc, &[0], Limits::new(1, 100).ok()?).ok()?;
+    let mut world = World::new(alloc, 2, Limits::new(1, 100).ok()?).ok()?;
     let fault = world.run(alloc, events(alloc, &STOPPED)?).err();
     let is_ended = fault == Some(WorldFault::NoNode);
     let is_logged = world.log().len() == 1 && world.node(1)?.token()?.text() == "1";

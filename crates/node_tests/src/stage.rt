@@ -121,10 +121,10 @@ fn goes(alloc: Global, world: &mut World, step: Step) -> Option<bool> {
     }
 }
 
-/// Steps in a new world of mirrors behind these nodes, with these limits.
+/// Steps in a new world of so many nodes, with these limits.
 #[derive(Clone, Copy)]
 pub struct Course {
-    pub up: &'static [usize],
+    pub nodes: usize,
     pub history: usize,
     pub staged: usize,
     pub steps: &'static [Step],
@@ -133,7 +133,7 @@ pub struct Course {
 /// How many steps go as they say, up to the first that does not.
 pub fn right(alloc: Global, course: &Course) -> Option<usize> {
     let limits = Limits::new(course.history, course.staged).ok()?;
-    let mut world = World::new(alloc, course.up, limits).ok()?;
+    let mut world = World::new(alloc, course.nodes, limits).ok()?;
     let mut count: usize = 0;
     for step in course.steps {
         if goes(alloc, &mut world, *step) != Some(true) {

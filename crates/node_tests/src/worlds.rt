@@ -59,7 +59,7 @@ const STATE_SHOWN: &str = r#"{"type":"state","id":null,"data":{},"token":"1"}
 const SCRIPTS: [Course; 8] = [
     // What was published stays until a snapshot came whole.
     Course {
-        up: &[0],
+        nodes: 2,
         history: 2,
         staged: 100,
         steps: &[
@@ -71,7 +71,7 @@ const SCRIPTS: [Course; 8] = [
     },
     // What was sent on a session that is gone still comes; then the mirror asks anew.
     Course {
-        up: &[0, 1],
+        nodes: 3,
         history: 1,
         staged: 100,
         steps: &[
@@ -83,7 +83,7 @@ const SCRIPTS: [Course; 8] = [
     },
     // What a mirror holds comes again, and changes nothing.
     Course {
-        up: &[0],
+        nodes: 2,
         history: 4,
         staged: 100,
         steps: &[
@@ -96,7 +96,7 @@ const SCRIPTS: [Course; 8] = [
         ],
     },
     Course {
-        up: &[0, 1],
+        nodes: 3,
         history: 2,
         staged: 100,
         steps: &[
@@ -107,14 +107,14 @@ const SCRIPTS: [Course; 8] = [
         ],
     },
     Course {
-        up: &[0],
+        nodes: 2,
         history: 1,
         staged: 100,
         steps: &[Part(&RESENT_ONE, 0, 14), Shows(1, NO_TEAM_AND_STATE)],
     },
     // A commit is sent once, and then a line feed.
     Course {
-        up: &[0],
+        nodes: 2,
         history: 1,
         staged: 100,
         steps: &[Part(&FOLLOWED, 0, 7), Shows(1, STATE_SHOWN)],
@@ -122,20 +122,20 @@ const SCRIPTS: [Course; 8] = [
     // A connection behind a token goes on where the last one was cut, within the line of the second
     // commit.
     Course {
-        up: &[0],
+        nodes: 2,
         history: 2,
         staged: 100,
         steps: &[
-            Step::Act(Connect(1, 0), Want::Opened),
+            Step::Act(Connect(1, 0, 0), Want::Opened),
             Step::Act(Deliver(1, ALL), Want::Delivered(1)),
             Step::Act(Commit(TEAM_1), Want::Committed("1")),
             Step::Act(Commit(TEAM_2), Want::Committed("2")),
-            Step::Act(Connect(1, 0), Want::Opened),
+            Step::Act(Connect(1, 0, 0), Want::Opened),
             Step::Act(Serve(1), MORE),
             Step::Act(Serve(1), MORE),
             Step::Act(Deliver(1, 60), Want::Delivered(1)),
             Step::Act(Cut(1), Want::Cut),
-            Step::Act(Connect(1, 0), Want::Opened),
+            Step::Act(Connect(1, 0, 0), Want::Opened),
             Step::Act(Serve(1), MORE),
             Step::Act(Serve(1), UP_TO_DATE),
             Step::Act(Deliver(1, ALL), Want::Delivered(1)),
@@ -144,16 +144,16 @@ const SCRIPTS: [Course; 8] = [
     },
     // A mirror behind a relay that has published nothing asks again.
     Course {
-        up: &[0, 1],
+        nodes: 3,
         history: 1,
         staged: 100,
         steps: &[
-            Step::Act(Connect(2, 0), Want::NotYet),
-            Step::Act(Connect(1, 0), Want::Opened),
+            Step::Act(Connect(2, 1, 0), Want::NotYet),
+            Step::Act(Connect(1, 0, 0), Want::Opened),
             Step::Act(Deliver(1, 52), Want::Delivered(0)),
-            Step::Act(Connect(2, 0), Want::NotYet),
+            Step::Act(Connect(2, 1, 0), Want::NotYet),
             Step::Act(Deliver(1, 1), Want::Delivered(1)),
-            Step::Act(Connect(2, 0), Want::Opened),
+            Step::Act(Connect(2, 1, 0), Want::Opened),
             Step::Act(Deliver(2, ALL), Want::Delivered(1)),
             Shows(2, NO_TYPES),
         ],
@@ -175,13 +175,13 @@ fn plays_scripts(rt: HostRuntime) {
 const CARRIED: [Course; 4] = [
     // A fresh connection. The snapshot of one team has 93 bytes, a commit of one has 56.
     Course {
-        up: &[0],
+        nodes: 2,
         history: 1,
         staged: 100,
         steps: &[
             Step::Act(Commit(TEAM_1), Want::Committed("1")),
             CarriesNone(1),
-            Step::Act(Connect(1, 0), Want::Opened),
+            Step::Act(Connect(1, 0, 0), Want::Opened),
             Carries(1, 93, 0, "1"),
             Step::Act(Deliver(1, 10), Want::Delivered(0)),
             Carries(1, 93, 10, "1"),
@@ -208,21 +208,21 @@ const CARRIED: [Course; 4] = [
     // Connections behind a token, the last of which ends since the token is no longer held; then a
     // fresh one. The snapshots of no types and of two teams have 53 and 137 bytes.
     Course {
-        up: &[0],
+        nodes: 2,
         history: 1,
         staged: 100,
         steps: &[
-            Step::Act(Connect(1, 0), Want::Opened),
+            Step::Act(Connect(1, 0, 0), Want::Opened),
             Carries(1, 53, 0, "0"),
             Step::Act(Deliver(1, ALL), Want::Delivered(1)),
             Carries(1, 53, 53, "0"),
             Step::Act(Commit(TEAM_1), Want::Committed("1")),
             Carries(1, 53, 53, "0"),
-            Step::Act(Connect(1, 0), Want::Opened),
+            Step::Act(Connect(1, 0, 0), Want::Opened),
             Carries(1, 0, 0, "0"),
             Step::Act(Serve(1), MORE),
             Carries(1, 56, 0, "1"),
-            Step::Act(Connect(1, 0), Want::Opened),
+            Step::Act(Connect(1, 0, 0), Want::Opened),
             Carries(1, 0, 0, "0"),
             Step::Act(Commit(TEAM_2), Want::Committed("2")),
             Carries(1, 0, 0, "0"),
@@ -232,21 +232,21 @@ const CARRIED: [Course; 4] = [
             Carries(1, 0, 0, "0"),
             Step::Act(Deliver(1, ALL), Want::Delivered(0)),
             Carries(1, 0, 0, "0"),
-            Step::Act(Connect(1, 0), Want::Refused),
+            Step::Act(Connect(1, 0, 0), Want::Refused),
             CarriesNone(1),
-            Step::Act(Connect(1, 0), Want::Opened),
+            Step::Act(Connect(1, 0, 0), Want::Opened),
             Carries(1, 137, 0, "2"),
         ],
     },
     // A node that has published nothing opens no connection, and the primary has none.
     Course {
-        up: &[0, 1],
+        nodes: 3,
         history: 1,
         staged: 100,
         steps: &[
-            Step::Act(Connect(2, 0), Want::NotYet),
+            Step::Act(Connect(2, 1, 0), Want::NotYet),
             CarriesNone(2),
-            Step::Act(Connect(1, 0), Want::Opened),
+            Step::Act(Connect(1, 0, 0), Want::Opened),
             CarriesNone(2),
             CarriesNone(0),
             CarriesNone(3),
@@ -256,16 +256,16 @@ const CARRIED: [Course; 4] = [
     },
     // A connection stays as it is while the node at its other end gets a new one.
     Course {
-        up: &[0, 1],
+        nodes: 3,
         history: 1,
         staged: 100,
         steps: &[
-            Step::Act(Connect(1, 0), Want::Opened),
+            Step::Act(Connect(1, 0, 0), Want::Opened),
             Step::Act(Deliver(1, ALL), Want::Delivered(1)),
             CarriesNone(2),
-            Step::Act(Connect(2, 0), Want::Opened),
+            Step::Act(Connect(2, 1, 0), Want::Opened),
             Carries(2, 53, 0, "0"),
-            Step::Act(Connect(1, 0), Want::Opened),
+            Step::Act(Connect(1, 0, 0), Want::Opened),
             Carries(2, 53, 0, "0"),
             Step::Act(Deliver(1, ALL), Want::Delivered(0)),
             Carries(2, 53, 0, "0"),
@@ -307,13 +307,13 @@ const LOG: &str = r#"{"type":"teams","id":"1","data":{"id":"1"},"token":"1"}
 const SHOWN: [Course; 4] = [
     // A commit, handed on by a relay to a mirror behind it.
     Course {
-        up: &[0, 1],
+        nodes: 3,
         history: 2,
         staged: 100,
         steps: &[
-            Step::Act(Connect(1, 0), Want::Opened),
+            Step::Act(Connect(1, 0, 0), Want::Opened),
             Step::Act(Deliver(1, ALL), Want::Delivered(1)),
-            Step::Act(Connect(2, 0), Want::Opened),
+            Step::Act(Connect(2, 1, 0), Want::Opened),
             Step::Act(Deliver(2, ALL), Want::Delivered(1)),
             Step::Act(Commit(OBJECT), Want::Committed("1")),
             Step::Act(Serve(1), MORE),
@@ -331,20 +331,20 @@ const SHOWN: [Course; 4] = [
     // Two mirrors come to "2" in different ways, by a snapshot and by commits, and one stays at
     // "1".
     Course {
-        up: &[0, 1, 0],
+        nodes: 4,
         history: 2,
         staged: 100,
         steps: &[
-            Step::Act(Connect(1, 0), Want::Opened),
+            Step::Act(Connect(1, 0, 0), Want::Opened),
             Step::Act(Deliver(1, ALL), Want::Delivered(1)),
             Step::Act(Commit(TEAM_1), Want::Committed("1")),
-            Step::Act(Connect(3, 0), Want::Opened),
+            Step::Act(Connect(3, 0, 0), Want::Opened),
             Step::Act(Deliver(3, ALL), Want::Delivered(1)),
             Step::Act(Commit(TEAM_2), Want::Committed("2")),
             Step::Act(Serve(1), MORE),
             Step::Act(Serve(1), MORE),
             Step::Act(Deliver(1, ALL), Want::Delivered(2)),
-            Step::Act(Connect(2, 0), Want::Opened),
+            Step::Act(Connect(2, 1, 0), Want::Opened),
             Step::Act(Deliver(2, ALL), Want::Delivered(1)),
             Step::Act(Commit(STATE), Want::Committed("3")),
             Step::Act(Cut(1), Want::Cut),
@@ -361,14 +361,14 @@ const SHOWN: [Course; 4] = [
     },
     // The log has each commit with its token, also those that no node keeps any more.
     Course {
-        up: &[0],
+        nodes: 2,
         history: 1,
         staged: 100,
         steps: &[
             Logs(""),
             Step::Act(Commit(TEAM_1), Want::Committed("1")),
             Step::Act(Commit(BATCH), Want::Committed("2")),
-            Step::Act(Connect(1, 0), Want::Opened),
+            Step::Act(Connect(1, 0, 0), Want::Opened),
             Step::Act(Commit(TEAM_2), Want::Committed("3")),
             Logs(LOG),
         ],
@@ -376,13 +376,13 @@ const SHOWN: [Course; 4] = [
     // A node holds its own token and the one before the commits that it keeps; after a snapshot it
     // keeps none.
     Course {
-        up: &[0],
+        nodes: 2,
         history: 1,
         staged: 100,
         steps: &[
             Step::Act(Commit(TEAM_1), Want::Committed("1")),
             Step::Act(Commit(TEAM_2), Want::Committed("2")),
-            Step::Act(Connect(1, 0), Want::Opened),
+            Step::Act(Connect(1, 0, 0), Want::Opened),
             Step::Act(Deliver(1, ALL), Want::Delivered(1)),
             Holds(0, "1"),
             Holds(0, "2"),
@@ -407,12 +407,16 @@ fn shows_what_was_committed(rt: HostRuntime) {
 /// What can't happen, and leaves all as it was.
 const REFUSED: [Course; 4] = [
     Course {
-        up: &[0],
+        nodes: 2,
         history: 1,
         staged: 100,
         steps: &[
-            Step::Act(Connect(2, 0), Want::NoNode),
-            Step::Act(Connect(0, 0), Want::NoNode),
+            Step::Act(Connect(2, 0, 0), Want::NoNode),
+            Step::Act(Connect(0, 1, 0), Want::NoNode),
+            Step::Act(Connect(0, 0, 0), Want::NoNode),
+            Step::Act(Connect(1, 1, 0), Want::NoNode),
+            Step::Act(Connect(1, 2, 0), Want::NoNode),
+            Step::Act(Connect(1, usize::MAX, 0), Want::NoNode),
             Step::Act(Serve(2), Want::NoNode),
             Step::Act(Serve(0), Want::NoNode),
             Step::Act(Idle(2), Want::NoNode),
@@ -440,7 +444,7 @@ const REFUSED: [Course; 4] = [
     // A world without mirrors has the primary alone. The second team makes its tables too large,
     // and then the first comes again.
     Course {
-        up: &[],
+        nodes: 1,
         history: 2,
         staged: 2,
         steps: &[
@@ -457,22 +461,22 @@ const REFUSED: [Course; 4] = [
     },
     // A connection is cut once. What its mirror shows stays, and is served.
     Course {
-        up: &[0, 1],
+        nodes: 3,
         history: 1,
         staged: 100,
         steps: &[
-            Step::Act(Connect(1, 0), Want::Opened),
+            Step::Act(Connect(1, 0, 0), Want::Opened),
             Step::Act(Deliver(1, ALL), Want::Delivered(1)),
             Step::Act(Cut(1), Want::Cut),
             Step::Act(Cut(1), Want::NoConnection),
             Step::Act(Serve(1), Want::NoConnection),
             Shows(1, NO_TYPES),
-            Step::Act(Connect(2, 0), Want::Opened),
+            Step::Act(Connect(2, 1, 0), Want::Opened),
         ],
     },
     // The greatest number of mirrors.
     Course {
-        up: &[0; 255],
+        nodes: 256,
         history: 1,
         staged: 1,
         steps: &[ShowsNothing(255), NoNode(256)],
@@ -490,16 +494,16 @@ fn refuses_what_cannot_happen(rt: HostRuntime) {
     }
 }
 
-/// Nodes that no world has: a mirror behind itself, one behind a later node, and one too many.
-const SHAPES: [&[usize]; 3] = [&[1], &[0, 2], &[0; 256]];
+/// Numbers of nodes that no world has: none, one too many, and as many as there may be numbers.
+const SHAPES: [usize; 3] = [0, 257, usize::MAX];
 
-fn fault_of(alloc: Global, up: &[usize]) -> Option<ShapeFault> {
-    World::new(alloc, up, Limits::new(1, 1).ok()?).err()
+fn fault_of(alloc: Global, nodes: usize) -> Option<ShapeFault> {
+    World::new(alloc, nodes, Limits::new(1, 1).ok()?).err()
 }
 
 #[test]
 fn has_a_shape(rt: HostRuntime) {
-    for up in SHAPES {
-        assert_eq!(rt; fault_of(rt.alloc(), up), Some(ShapeFault::BadShape));
+    for nodes in SHAPES {
+        assert_eq!(rt; fault_of(rt.alloc(), nodes), Some(ShapeFault::BadShape));
     }
 }

@@ -10,7 +10,7 @@ use std::alloc::Global;
 #[derive(Clone, Copy)]
 pub enum Act {
     Commit(&'static [u8]),
-    Connect(usize, usize),
+    Connect(usize, usize, usize),
     Serve(usize),
     Idle(usize),
     Deliver(usize, usize),
@@ -32,7 +32,7 @@ impl Act {
     pub fn event(self, alloc: Global) -> Option<Event> {
         Some(match self {
             Act::Commit(lines) => Event::Commit(changes(alloc, lines)?),
-            Act::Connect(number, back) => Event::Connect(number, back),
+            Act::Connect(number, server, back) => Event::Connect(number, server, back),
             Act::Serve(number) => Event::Serve(number),
             Act::Idle(number) => Event::Idle(number),
             Act::Deliver(number, bytes) => Event::Deliver(number, bytes),

@@ -7,6 +7,10 @@ mod want;
 mod worked;
 
 pub use act::{Act, events};
-pub use lines::{GROUP_1, GROUP_2, NO_TEAM_1, NO_TEAMS, STATE, TEAM_1, TEAM_2, TEAMS};
+pub use lines::{
+    GROUP_1, GROUP_2, NO_TEAM_1, NO_TEAMS, OBJECT_1, OBJECT_2, STATE, TEAM_1, TEAM_2, TEAMS,
+};
 pub use want::Want;
-pub use worked::{ALL, FOLLOWED, GONE, LOST, RESENT, RESENT_ONE, RESENT_TWICE, RESTARTED, Script};
+pub use worked::{
+    ALL, FOLLOWED, GONE, LOST, RESENT, RESENT_ONE, RESENT_TWICE, RESTARTED, SWITCHED, Script,
+};

@@ -16,6 +16,11 @@ pub const NO_TEAMS: &[u8] = b"{\"type\":\"teams\",\"id\":null,\"data\":null,\"to
 
 pub const STATE: &[u8] = b"{\"type\":\"state\",\"id\":null,\"data\":{},\"token\":\"-\"}\n";
 
+/// Two objects of a type of one letter.
+pub const OBJECT_1: &[u8] = b"{\"type\":\"t\",\"id\":\"1\",\"data\":{},\"token\":\"-\"}\n";
+
+pub const OBJECT_2: &[u8] = b"{\"type\":\"t\",\"id\":\"2\",\"data\":{},\"token\":\"-\"}\n";
+
 pub const GROUP_1: &[u8] =
     b"{\"type\":\"groups\",\"id\":\"1\",\"data\":{\"id\":\"1\"},\"token\":\"-\"}\n";
 

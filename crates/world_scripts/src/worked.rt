@@ -1,18 +1,20 @@
 //! Scripts worked by hand from the rules on worlds.
 
 use crate::act::Act::{self, Commit, Connect, Cut, Deliver, Idle, Restart, Save, Serve};
-use crate::lines::{GROUP_1, GROUP_2, NO_TEAM_1, NO_TEAMS, STATE, TEAM_1, TEAM_2, TEAMS};
+use crate::lines::{
+    GROUP_1, GROUP_2, NO_TEAM_1, NO_TEAMS, OBJECT_1, OBJECT_2, STATE, TEAM_1, TEAM_2, TEAMS,
+};
 use crate::want::Want;
 use feed_node::Pulled;
 
 /// More bytes than were sent.
 pub const ALL: usize = 9999;
 
-/// A script: the node that each mirror is behind, how many commits a node keeps, what happens, and
-/// the tokens that the nodes have published at its end, the primary's first.
+/// A script: how many nodes there are, how many commits a node keeps, what happens, and the tokens
+/// that the nodes have published at its end, the primary's first.
 #[derive(Clone, Copy)]
 pub struct Script {
-    pub up: &'static [usize],
+    pub nodes: usize,
     pub history: usize,
     pub lines: &'static [(Act, Want)],
     pub ends: &'static [&'static str],
@@ -20,21 +22,21 @@ pub struct Script {
 
 /// A mirror's token is no longer held, and its next connection is cut within the snapshot.
 pub const LOST: Script = Script {
-    up: &[0],
+    nodes: 2,
     history: 2,
     lines: &[
         (Commit(TEAM_1), Want::Committed("1")),
-        (Connect(1, 0), Want::Opened),
+        (Connect(1, 0, 0), Want::Opened),
         (Deliver(1, ALL), Want::Delivered(1)),
         (Commit(STATE), Want::Committed("2")),
         (Commit(NO_TEAMS), Want::Committed("3")),
         (Commit(GROUP_1), Want::Committed("4")),
         (Commit(GROUP_2), Want::Committed("5")),
-        (Connect(1, 0), Want::Refused),
-        (Connect(1, 0), Want::Opened),
+        (Connect(1, 0, 0), Want::Refused),
+        (Connect(1, 0, 0), Want::Opened),
         (Deliver(1, 10), Want::Delivered(0)),
         (Cut(1), Want::Cut),
-        (Connect(1, 0), Want::Opened),
+        (Connect(1, 0, 0), Want::Opened),
         (Deliver(1, ALL), Want::Delivered(1)),
     ],
     ends: &["5", "5"],
@@ -42,24 +44,24 @@ pub const LOST: Script = Script {
 
 /// A relay is published anew while the session of a mirror behind it is open.
 pub const GONE: Script = Script {
-    up: &[0, 1],
+    nodes: 3,
     history: 1,
     lines: &[
         (Commit(TEAM_1), Want::Committed("1")),
-        (Connect(1, 0), Want::Opened),
+        (Connect(1, 0, 0), Want::Opened),
         (Deliver(1, ALL), Want::Delivered(1)),
-        (Connect(2, 0), Want::Opened),
+        (Connect(2, 1, 0), Want::Opened),
         (Commit(TEAM_2), Want::Committed("2")),
         (Commit(NO_TEAM_1), Want::Committed("3")),
         (Commit(STATE), Want::Committed("4")),
-        (Connect(1, 0), Want::Refused),
-        (Connect(1, 0), Want::Opened),
+        (Connect(1, 0, 0), Want::Refused),
+        (Connect(1, 0, 0), Want::Opened),
         (Deliver(1, ALL), Want::Delivered(1)),
         (Serve(2), Want::Sent(Pulled::Gone)),
         (Idle(2), Want::Sent(Pulled::Gone)),
         (Deliver(2, ALL), Want::Delivered(1)),
-        (Connect(2, 0), Want::Refused),
-        (Connect(2, 0), Want::Opened),
+        (Connect(2, 1, 0), Want::Refused),
+        (Connect(2, 1, 0), Want::Opened),
         (Deliver(2, ALL), Want::Delivered(1)),
     ],
     ends: &["4", "4", "4"],
@@ -67,10 +69,10 @@ pub const GONE: Script = Script {
 
 /// A commit is sent on an open connection, and then a line feed.
 pub const FOLLOWED: Script = Script {
-    up: &[0],
+    nodes: 2,
     history: 1,
     lines: &[
-        (Connect(1, 0), Want::Opened),
+        (Connect(1, 0, 0), Want::Opened),
         (Deliver(1, ALL), Want::Delivered(1)),
         (Commit(STATE), Want::Committed("1")),
         (Serve(1), Want::Sent(Pulled::More)),
@@ -83,10 +85,10 @@ pub const FOLLOWED: Script = Script {
 
 /// A mirror was cut between two commits, and is sent again what it holds.
 pub const RESENT: Script = Script {
-    up: &[0],
+    nodes: 2,
     history: 4,
     lines: &[
-        (Connect(1, 0), Want::Opened),
+        (Connect(1, 0, 0), Want::Opened),
         (Deliver(1, ALL), Want::Delivered(1)),
         (Commit(TEAM_1), Want::Committed("1")),
         (Commit(NO_TEAM_1), Want::Committed("2")),
@@ -94,7 +96,7 @@ pub const RESENT: Script = Script {
         (Serve(1), Want::Sent(Pulled::More)),
         (Deliver(1, ALL), Want::Delivered(2)),
         (Cut(1), Want::Cut),
-        (Connect(1, 9), Want::Opened),
+        (Connect(1, 0, 9), Want::Opened),
         (Commit(STATE), Want::Committed("3")),
         (Serve(1), Want::Sent(Pulled::More)),
         (Deliver(1, ALL), Want::Delivered(0)),
@@ -108,12 +110,12 @@ pub const RESENT: Script = Script {
 /// A relay is sent again what it holds, and a mirror behind it what it holds, each no further back
 /// than both nodes hold tokens.
 pub const RESENT_TWICE: Script = Script {
-    up: &[0, 1],
+    nodes: 3,
     history: 2,
     lines: &[
-        (Connect(1, 7), Want::Opened),
+        (Connect(1, 0, 7), Want::Opened),
         (Deliver(1, ALL), Want::Delivered(1)),
-        (Connect(2, 7), Want::Opened),
+        (Connect(2, 1, 7), Want::Opened),
         (Deliver(2, ALL), Want::Delivered(1)),
         (Commit(TEAM_1), Want::Committed("1")),
         (Commit(NO_TEAM_1), Want::Committed("2")),
@@ -122,8 +124,8 @@ pub const RESENT_TWICE: Script = Script {
         (Serve(2), Want::Sent(Pulled::More)),
         (Deliver(2, ALL), Want::Delivered(1)),
         // Both hold 0 and 1, and so does their server: commit 1 comes again.
-        (Connect(1, 7), Want::Opened),
-        (Connect(2, 1), Want::Opened),
+        (Connect(1, 0, 7), Want::Opened),
+        (Connect(2, 1, 1), Want::Opened),
         (Serve(1), Want::Sent(Pulled::More)),
         (Serve(2), Want::Sent(Pulled::More)),
         (Serve(2), Want::Sent(Pulled::UpToDate)),
@@ -136,11 +138,11 @@ pub const RESENT_TWICE: Script = Script {
         (Commit(STATE), Want::Committed("3")),
         (Commit(GROUP_1), Want::Committed("4")),
         // The primary holds 2 to 4: from 2 on there is nothing to send again.
-        (Connect(1, 7), Want::Opened),
+        (Connect(1, 0, 7), Want::Opened),
         (Serve(1), Want::Sent(Pulled::More)),
         (Serve(1), Want::Sent(Pulled::More)),
         (Deliver(1, ALL), Want::Delivered(2)),
-        (Connect(2, 7), Want::Opened),
+        (Connect(2, 1, 7), Want::Opened),
         (Serve(2), Want::Sent(Pulled::More)),
         (Deliver(2, ALL), Want::Delivered(1)),
     ],
@@ -149,20 +151,20 @@ pub const RESENT_TWICE: Script = Script {
 
 /// A mirror that keeps one commit is sent that one again.
 pub const RESENT_ONE: Script = Script {
-    up: &[0],
+    nodes: 2,
     history: 1,
     lines: &[
-        (Connect(1, 1), Want::Opened),
+        (Connect(1, 0, 1), Want::Opened),
         (Deliver(1, ALL), Want::Delivered(1)),
         (Commit(TEAM_1), Want::Committed("1")),
         (Commit(STATE), Want::Committed("2")),
-        (Connect(1, 1), Want::Refused),
-        (Connect(1, 1), Want::Opened),
+        (Connect(1, 0, 1), Want::Refused),
+        (Connect(1, 0, 1), Want::Opened),
         (Deliver(1, ALL), Want::Delivered(1)),
         (Commit(NO_TEAM_1), Want::Committed("3")),
         (Serve(1), Want::Sent(Pulled::More)),
         (Deliver(1, ALL), Want::Delivered(1)),
-        (Connect(1, 65_536), Want::Opened),
+        (Connect(1, 0, 65_536), Want::Opened),
         (Serve(1), Want::Sent(Pulled::More)),
         (Serve(1), Want::Sent(Pulled::UpToDate)),
         (Deliver(1, ALL), Want::Delivered(0)),
@@ -172,17 +174,39 @@ pub const RESENT_ONE: Script = Script {
 
 /// A mirror is restarted from all but the last byte that was saved of it, and from all.
 pub const RESTARTED: Script = Script {
-    up: &[0],
+    nodes: 2,
     history: 1,
     lines: &[
         (Commit(TEAMS), Want::Committed("1")),
-        (Connect(1, 0), Want::Opened),
+        (Connect(1, 0, 0), Want::Opened),
         (Deliver(1, ALL), Want::Delivered(1)),
         (Save(1), Want::Saved(137)),
         (Restart(1, 136), Want::Restarted(false)),
-        (Connect(1, 0), Want::Opened),
+        (Connect(1, 0, 0), Want::Opened),
         (Deliver(1, ALL), Want::Delivered(1)),
         (Restart(1, 137), Want::Restarted(true)),
     ],
     ends: &["1", "1"],
+};
+
+/// A mirror takes a relay that is behind it: it is refused, and its next connection takes it back
+/// to the relay's token. Then it takes the primary again.
+pub const SWITCHED: Script = Script {
+    nodes: 3,
+    history: 4,
+    lines: &[
+        (Commit(OBJECT_1), Want::Committed("1")),
+        (Connect(1, 0, 0), Want::Opened),
+        (Deliver(1, ALL), Want::Delivered(1)),
+        (Commit(OBJECT_2), Want::Committed("2")),
+        (Connect(2, 0, 0), Want::Opened),
+        (Deliver(2, ALL), Want::Delivered(1)),
+        (Connect(2, 1, 0), Want::Refused),
+        (Connect(2, 1, 0), Want::Opened),
+        (Deliver(2, ALL), Want::Delivered(1)),
+        (Connect(2, 0, 0), Want::Opened),
+        (Serve(2), Want::Sent(Pulled::More)),
+        (Deliver(2, ALL), Want::Delivered(1)),
+    ],
+    ends: &["2", "1", "2"],
 };

@@ -10,7 +10,7 @@ use Rattle.feed_play.proofs.player.play.Given as goal
 abbrev pub invariant-lines : goal.invariant-lines
 invariant-lines l = record {
   all : all_lines l.lines ≡ all_lines l.initial.lines;
-  played : (w : World) × IsWorld w l.world × Prints l.initial.out.items l.out.items (λ told. PlaysUpTo l.fn.script told w l.lines);
+  played : (w : World) × IsWorld w l.world × Prints l.initial.out.items l.out.items (λ told. PlaysUpTo l.fn.script l.asked told w l.lines);
 }
 
 abbrev pub decreases-lines : goal.decreases-lines

@@ -1,6 +1,8 @@
+use Rattle.std.proofs.Common.{◌≡◌, refl, sym, ap, ◌∙◌, arith, ◌∷◌, ◌++◌, get_or}
 use Rattle.std.proofs.lemmas.Result.{err_from_is_err_and}
-use Rattle.feed_world.proofs.Asked.{asked_nobody, asked_leads, asked_fails}
-use Rattle.feed_world.proofs.Moved.{server_is_there, first_of_rest, put_together, get_there}
+use Rattle.feed_world.specs.States.{node_asked}
+use Rattle.feed_world.proofs.Asked.{asked_nobody, asked_leads, asked_fails, asked_none}
+use Rattle.feed_world.proofs.Moved.{between, first_of_rest, put_between}
 use Rattle.feed_world.proofs.moves.ask.Goals as goal
 
 pub returns-in_err-place-clause-err : goal.returns-in_err-place-clause-err
@@ -10,20 +12,40 @@ returns-in_err-place-clause-err c w h =
 
 pub returns-in-Some-clause-ok : goal.returns-in-Some-clause-ok
 returns-in-Some-clause-ok c w h =
-    asked_leads w c.args.primary.now _ h c.args.number c.in_ok-place.place c.in_ok-place.ensures.ok.0 c.index-later-0.result c.in_ok-place.ensures.ok.1
-    _ (first_of_rest _ _ _ _ c.split_at_mut-earlier.ensures.by_index.1) _ c.split_at_mut-earlier.ensures.front _ c.upstream.ensures
-    c.in-Some.server.now.shown c.in-Some.ensures c.args.asks _ c.ask.new.self (put_together _ _ _ _ _ c.split_at_mut-earlier.ensures.front c.split_at_mut-earlier.ensures.back) c.ask.result
+    let first = c.split_at_mut-earlier.ensures in
+    let second = c.split_at_mut-own.ensures in
+    let is = first_of_rest c.args.followers.now c.split_at_mut-earlier.result.1.now c.split_at_mut-own.result.0.now c.in_ok-place.place c.index-own-0.result first.by_index.1 (second.by_index.0 0 c.index-own-0.result (omega arith)) in
+    asked_leads w c.args.primary.now _ h c.args.number c.in_ok-place.place c.in_ok-place.ensures.ok.0 c.index-own-0.result c.in_ok-place.ensures.ok.1
+    _ is c.split_at_mut-earlier.result.0.now c.split_at_mut-own.result.1.now first.front_len
+    (ap (λ f. c.split_at_mut-earlier.result.0.now ++ f ∷ c.split_at_mut-own.result.1.now) is
+    ∙ between c.args.followers.now c.split_at_mut-earlier.result.0.now c.split_at_mut-earlier.result.1.now c.split_at_mut-own.result.1.now c.in_ok-place.place c.index-own-0.result c.in_ok-place.ensures.ok.1 first.front first.back second.back)
+    c.args.asks c.of.result (c.of.ensures ∙ ap (node_asked c.args.asks) c.upstream.ensures)
+    c.in-Some.server.now.shown (c.in-Some.ensures.some _) (c.in-Some.ensures.other refl)
+    _ c.ask.new.self (put_between c.args.followers.now c.split_at_mut-earlier.result.0.now c.split_at_mut-earlier.result.1.now c.split_at_mut-own.result.0.now c.split_at_mut-own.result.1.now c.in_ok-place.place _ first.front first.back second.front second.back) c.ask.result
     (λ m at p n k. c.ask.ensures.ok w.limits w.log m at h.log p n k)
 
 pub returns-in-Some-clause-err : goal.returns-in-Some-clause-err
 returns-in-Some-clause-err c w h =
-    asked_fails w c.args.primary.now _ h c.args.number c.in_ok-place.place c.in_ok-place.ensures.ok.0 c.index-later-0.result c.in_ok-place.ensures.ok.1
-    _ (first_of_rest _ _ _ _ c.split_at_mut-earlier.ensures.by_index.1) _ c.split_at_mut-earlier.ensures.front _ c.upstream.ensures
-    c.in-Some.server.now.shown c.in-Some.ensures c.args.asks c.ask.result
+    let first = c.split_at_mut-earlier.ensures in
+    let second = c.split_at_mut-own.ensures in
+    let is = first_of_rest c.args.followers.now c.split_at_mut-earlier.result.1.now c.split_at_mut-own.result.0.now c.in_ok-place.place c.index-own-0.result first.by_index.1 (second.by_index.0 0 c.index-own-0.result (omega arith)) in
+    asked_fails w c.args.primary.now _ h c.args.number c.in_ok-place.place c.in_ok-place.ensures.ok.0 c.index-own-0.result c.in_ok-place.ensures.ok.1
+    _ is c.split_at_mut-earlier.result.0.now c.split_at_mut-own.result.1.now first.front_len
+    (ap (λ f. c.split_at_mut-earlier.result.0.now ++ f ∷ c.split_at_mut-own.result.1.now) is
+    ∙ between c.args.followers.now c.split_at_mut-earlier.result.0.now c.split_at_mut-earlier.result.1.now c.split_at_mut-own.result.1.now c.in_ok-place.place c.index-own-0.result c.in_ok-place.ensures.ok.1 first.front first.back second.back)
+    c.args.asks c.of.result (c.of.ensures ∙ ap (node_asked c.args.asks) c.upstream.ensures)
+    c.in-Some.server.now.shown (c.in-Some.ensures.some _) (c.in-Some.ensures.other refl)
+    c.ask.result
     (λ m at p n k. c.ask.ensures.err w.limits w.log m at h.log p n k)
 
 pub returns-in-None-clause-err : goal.returns-in-None-clause-err
 returns-in-None-clause-err c w h =
-    absurd (server_is_there w c.args.primary.now _ h c.in_ok-place.place _ _ c.split_at_mut-earlier.ensures.front _ c.upstream.ensures
-    (get_there _ c.in_ok-place.place c.index-later-0.result c.in_ok-place.ensures.ok.1 _ (first_of_rest _ _ _ _ c.split_at_mut-earlier.ensures.by_index.1))
-    c.split_at_mut-earlier.ensures.front_len c.in-None.ensures)
+    let first = c.split_at_mut-earlier.ensures in
+    let second = c.split_at_mut-own.ensures in
+    let is = first_of_rest c.args.followers.now c.split_at_mut-earlier.result.1.now c.split_at_mut-own.result.0.now c.in_ok-place.place c.index-own-0.result first.by_index.1 (second.by_index.0 0 c.index-own-0.result (omega arith)) in
+    asked_none w c.args.primary.now _ h c.args.number c.in_ok-place.place c.in_ok-place.ensures.ok.0 c.index-own-0.result c.in_ok-place.ensures.ok.1
+    _ is c.split_at_mut-earlier.result.0.now c.split_at_mut-own.result.1.now first.front_len
+    (ap (λ f. c.split_at_mut-earlier.result.0.now ++ f ∷ c.split_at_mut-own.result.1.now) is
+    ∙ between c.args.followers.now c.split_at_mut-earlier.result.0.now c.split_at_mut-earlier.result.1.now c.split_at_mut-own.result.1.now c.in_ok-place.place c.index-own-0.result c.in_ok-place.ensures.ok.1 first.front first.back second.back)
+    c.args.asks c.of.result (c.of.ensures ∙ ap (node_asked c.args.asks) c.upstream.ensures)
+    c.in-None.ensures.none

@@ -1,4 +1,4 @@
-use Rattle.std.proofs.Common.{refl, inl}
+use Rattle.std.proofs.Common.{refl, inl, suc}
 use Rattle.std.proofs.lemmas.Result.{err_from_is_err_and}
 use Rattle.feed_world.specs.declared.event.Event.TheVariants.{Cut as DoCut}
 use Rattle.feed_world.specs.Step.{mirror_cuts}
@@ -14,7 +14,7 @@ returns-in_err-place-clause-err c w primary h =
 pub returns-clause-ok : goal.returns-clause-ok
 returns-clause-ok c w primary h =
     move_leads w primary _ h c.args.number c.in_ok-place.place c.in_ok-place.ensures.ok.0 c.index-followers-place.result c.in_ok-place.ensures.ok.1
-    (DoCut c.args.number) mirror_cuts refl keeps_cut c.cut.result c.cut.new.self (λ m k. c.cut.ensures.ok w.limits w.log m k)
+    (DoCut c.args.number) mirror_cuts refl (keeps_cut w (suc c.in_ok-place.place)) c.cut.result c.cut.new.self (λ m k. c.cut.ensures.ok w.limits w.log m k)
 
 pub returns-clause-err : goal.returns-clause-err
 returns-clause-err c w primary h =

@@ -1,4 +1,4 @@
-use Rattle.std.proofs.Common.{refl, inl}
+use Rattle.std.proofs.Common.{refl, inl, suc}
 use Rattle.std.proofs.lemmas.Result.{err_from_is_err_and}
 use Rattle.feed_world.specs.declared.event.Event.TheVariants.{Restart}
 use Rattle.feed_world.specs.Step.{mirror_restarts}
@@ -15,7 +15,7 @@ returns-in_err-place-clause-err c w primary h =
 pub returns-in-Ok-clause-ok : goal.returns-in-Ok-clause-ok
 returns-in-Ok-clause-ok c w primary h =
     move_leads w primary _ h c.args.number c.in_ok-place.place c.in_ok-place.ensures.ok.0 c.index-followers-place.result c.in_ok-place.ensures.ok.1
-    (Restart c.args.number c.args.bytes) (mirror_restarts w.log c.args.bytes) refl (keeps_restart w.log c.args.bytes) (Ok c.in-Ok.reply) c.restart.new.self (λ m k. c.in-Ok.ensures.ok w.limits w.log m h.log k)
+    (Restart c.args.number c.args.bytes) (mirror_restarts w.log c.args.bytes) refl (keeps_restart w (suc c.in_ok-place.place) c.args.bytes) (Ok c.in-Ok.reply) c.restart.new.self (λ m k. c.in-Ok.ensures.ok w.limits w.log m h.log k)
 
 pub returns-in-Err-clause-err : goal.returns-in-Err-clause-err
 returns-in-Err-clause-err c w primary h =

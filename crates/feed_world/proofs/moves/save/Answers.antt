@@ -1,4 +1,4 @@
-use Rattle.std.proofs.Common.{refl, inl}
+use Rattle.std.proofs.Common.{refl, inl, suc}
 use Rattle.std.proofs.lemmas.Result.{err_from_is_err_and}
 use Rattle.feed_world.specs.declared.event.Event.TheVariants.{Save}
 use Rattle.feed_world.specs.Step.{mirror_saves}
@@ -15,7 +15,7 @@ returns-in_err-place-clause-err c w primary h =
 pub returns-clause-ok : goal.returns-clause-ok
 returns-clause-ok c w primary h =
     move_leads w primary _ h c.args.number c.in_ok-place.place c.in_ok-place.ensures.ok.0 c.index-followers-place.result c.in_ok-place.ensures.ok.1
-    (Save c.args.number) (mirror_saves w.log) refl (keeps_save w.log) (Ok c.in_ok-save.field-0) c.save.new.self (λ m k. c.in_ok-save.ensures.ok w.limits w.log m k)
+    (Save c.args.number) (mirror_saves w.log) refl (keeps_save w (suc c.in_ok-place.place)) (Ok c.in_ok-save.field-0) c.save.new.self (λ m k. c.in_ok-save.ensures.ok w.limits w.log m k)
 
 pub returns-in_err-save-clause-err : goal.returns-in_err-save-clause-err
 returns-in_err-save-clause-err c w primary h =
