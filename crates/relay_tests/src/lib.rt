@@ -8,6 +8,8 @@ mod devices;
 #[cfg(test)]
 mod faults;
 #[cfg(test)]
+mod first;
+#[cfg(test)]
 mod loopback;
 #[cfg(test)]
 mod nodes;

@@ -1,0 +1,42 @@
+use Rattle.std.proofs.Common.{rules, sym, ap, ◌∙◌, subst, inl, inr, ◌+◌, ◌<◌, ◌≤◌, ◌++◌, ◌∷◌, [], length, take, arith, length-append}
+use Rattle.std.proofs.lemmas.List.{take_more, length-take-le}
+use Rattle.feed_relay.specs.First.{GoesOn, none_asked, position}
+use Rattle.feed_relay.specs.Exchange.{devices_of}
+use Rattle.feed_relay.proofs.FirstLemmas.{goes_on, stops_at}
+use Rattle.feed_relay.proofs.first.follow_first.Goals as goal
+
+pub places-init : goal.places-init
+places-init g c =
+    let dial = g.D.Dial in
+    let reader = g.D.Reader.FeedRead in
+    let writer = g.D.Writer.FeedWrite in
+    let start = position c.args.mirror.now (dial.misses c.args.dial.now) in
+    record {
+      goes = subst (λ l. GoesOn (devices_of reader.remaining reader.reads reader.failures writer.contents writer.failures) c.args.turns start [] l start) (sym c.in_ok-attempts.ensures.items) none_asked;
+      few = search rules;
+      room = search rules;
+      cut = λ none. none;
+    }
+
+pub returns-then-is_last-clause-followed : goal.returns-then-is_last-clause-followed
+returns-then-is_last-clause-followed g c =
+    let asked = c.ask_place-outcome.ensures.asked in
+    let lt : c.places.number < length c.args.places.now = c.places-test.true in
+    inr (stops_at _ c.args.turns c.places.number _ _ _ c.args.places.now c.index-places-number.result _ asked.0 _ _ c.places.invariant.goes
+    (length-take-le c.places.number c.args.places.now (omega (arith, lt)))
+    (take_more c.args.places.now c.places.number _ lt ∙ ap (λ p. take c.places.number c.args.places.now ++ p ∷ []) (sym c.index-places-number.is))
+    asked.3 (sym c.is_last.ensures ∙ c.if-is_last.true) asked.1)
+
+pub places-preserved : goal.places-preserved
+places-preserved g c =
+    let asked = c.ask_place-outcome.ensures.asked in
+    let lt : c.places.number < length c.args.places.now = c.places-test.true in
+    record {
+      goes = goes_on _ c.args.turns c.places.number _ _ _ c.args.places.now c.index-places-number.result _ asked.0 _ _ c.places.invariant.goes
+          (length-take-le c.places.number c.args.places.now (omega (arith, lt)))
+          (take_more c.args.places.now c.places.number _ lt ∙ ap (λ p. take c.places.number c.args.places.now ++ p ∷ []) (sym c.index-places-number.is))
+          asked.3 (sym c.is_last.ensures ∙ c.if-is_last.false) asked.1;
+      few = let a = c.places.invariant.few in let b = ap length asked.1 ∙ length-append c.places.attempts.items asked.0 in let d = asked.2 in omega (arith, a, b, d);
+      room = let a = c.places.invariant.room in let b = c.ask_place-outcome.ensures.capacity in omega (arith, a, b);
+      cut = λ none. c.ask_place-outcome.ensures.cut (c.places.invariant.cut none);
+    }

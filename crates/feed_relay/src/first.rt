@@ -1,0 +1,142 @@
+//! Following the first of several places that serves.
+ghost use Rattle.std.specs.Prelude.{◌≡◌, ◌≢◌, ◌+◌, ◌≤◌, ◌++◌, List, length, None, IfOk, OnErr};
+ghost use Rattle.std.specs.Vec.{vec_capacity};
+ghost use Rattle.feed_relay.specs.declared.first.Attempt.{Attempt as Tried};
+ghost use Rattle.feed_relay.specs.Exchange.{devices_of};
+ghost use Rattle.feed_relay.specs.First.{position, is_last, Attempts, AsksPlace};
+ghost use Rattle.feed_relay.specs.First.{FollowsFirst};
+
+use crate::dial::Dial;
+use crate::fault::NetworkFault;
+use crate::pulling::pull_once;
+use feed_http::{EngineFault, Followed, Place};
+use feed_node::Mirror;
+use std::alloc::{AllocError, Global};
+
+/// What one attempt came to.
+#[derive(Clone, Copy, Debug, PartialEq, Eq)]
+pub enum AttemptEnd {
+    /// No connection was opened.
+    NoLink,
+    /// A response was followed.
+    Followed(Followed),
+    /// Asking or following failed.
+    Failed(EngineFault),
+}
+
+/// One attempt to follow a place.
+#[derive(Clone, Copy, Debug, PartialEq, Eq)]
+pub struct Attempt {
+    /// The number of the place, counted from 0.
+    pub place: usize,
+    /// What came of it.
+    pub outcome: AttemptEnd,
+}
+
+impl AttemptEnd {
+    /// Whether no further place is asked then: a feed was followed to its end, or memory ran out.
+    pub fn is_last(self) -> bool
+        ensures { result ≡ is_last self }
+    {
+        match self {
+            AttemptEnd::Followed(Followed::Ended | Followed::Done) => true,
+            AttemptEnd::Failed(fault) => NetworkFault::Engine(fault).is_want_of_memory(),
+            _ => false,
+        }
+    }
+}
+
+/// One attempt at the place of this number.
+fn try_place<D: Dial>(
+    alloc: Global,
+    dial: &mut D,
+    number: usize,
+    place: &Place,
+    mirror: &mut Mirror,
+    turns: u64,
+) -> AttemptEnd
+    ensures tried { let devices = devices_of D.Reader.remaining D.Reader.reads D.Reader.failures
+        D.Writer.contents D.Writer.failures in
+        Attempts devices place.now turns (position mirror.old (D.misses dial.old)) result
+        (position mirror.new (D.misses dial.new)) }
+    ensures cut { mirror.old.connection ≡ None → mirror.new.connection ≡ None }
+{
+    let Some((reader, writer)) = dial.dial(number) else {
+        return AttemptEnd::NoLink;
+    };
+    let mut reader = reader;
+    let mut writer = writer;
+    match pull_once(alloc, place, mirror, turns, &mut reader, &mut writer) {
+        Ok(followed) => AttemptEnd::Followed(followed),
+        Err(fault) => AttemptEnd::Failed(fault),
+    }
+}
+
+/// All attempts at the place of this number, which are told behind the earlier ones: one, or, where
+/// the token was refused, another one. Answers what the last one came to.
+fn ask_place<D: Dial>(
+    alloc: Global,
+    dial: &mut D,
+    number: usize,
+    place: &Place,
+    mirror: &mut Mirror,
+    turns: u64,
+    attempts: &mut Vec<Attempt>,
+) -> AttemptEnd
+    requires { length attempts.old.items + 2 ≤ vec_capacity attempts.old }
+    ensures asked { let devices = devices_of D.Reader.remaining D.Reader.reads D.Reader.failures
+        D.Writer.contents D.Writer.failures in
+        (tried : List Tried) × (attempts.new.items ≡ attempts.old.items ++ tried)
+        × (length tried ≤ 2)
+        × AsksPlace devices number place.now turns (position mirror.old (D.misses dial.old)) tried
+        result (position mirror.new (D.misses dial.new)) }
+    ensures known { result ≢ AttemptEnd.Followed Followed.TokenRefused }
+    ensures capacity { vec_capacity attempts.new ≡ vec_capacity attempts.old }
+    ensures cut { mirror.old.connection ≡ None → mirror.new.connection ≡ None }
+{
+    let outcome = try_place(alloc, dial, number, place, mirror, turns);
+    attempts.push_reserved(Attempt {
+        place: number,
+        outcome,
+    });
+    if outcome != AttemptEnd::Followed(Followed::TokenRefused) {
+        return outcome;
+    }
+    let again = try_place(alloc, dial, number, place, mirror, turns);
+    attempts.push_reserved(Attempt {
+        place: number,
+        outcome: again,
+    });
+    again
+}
+
+/// Asks these places, in their order, for what a mirror lacks, and follows the response, each on a
+/// connection that is dialed by the place's number and in at most so many reads (`turns`): up to the
+/// first whose feed was followed to its end, or at which memory ran out, or all. Where a place
+/// refuses the mirror's token, it is asked once more, for everything. Tells each attempt, in order.
+/// The room for two attempts at each place is taken first; where there is none, nobody is asked.
+pub fn follow_first<D: Dial>(
+    alloc: Global,
+    dial: &mut D,
+    places: &[Place],
+    mirror: &mut Mirror,
+    turns: u64,
+) -> Result<Vec<Attempt>, AllocError>
+    ensures followed { let devices = devices_of D.Reader.remaining D.Reader.reads
+        D.Reader.failures D.Writer.contents D.Writer.failures in
+        IfOk result (λ attempts. FollowsFirst devices places.now turns
+        (position mirror.old (D.misses dial.old)) attempts.items
+        (position mirror.new (D.misses dial.new))) }
+    ensures cut { mirror.old.connection ≡ None → mirror.new.connection ≡ None }
+    ensures memory { OnErr result ((mirror.new ≡ mirror.old) × (dial.new ≡ dial.old)) }
+{
+    let room = places.len().checked_mul(2).ok_or(AllocError)?;
+    let mut attempts = Vec::with_capacity(alloc, room)?;
+    'places: for (number, place) in places.iter().enumerate() {
+        let outcome = ask_place(alloc, dial, number, place, mirror, turns, &mut attempts);
+        if outcome.is_last() {
+            return Ok(attempts);
+        }
+    }
+    Ok(attempts)
+}
