@@ -1,0 +1,81 @@
+-- Lemmas on addresses.
+use Rattle.std.proofs.Common.{◌≡◌, ◌≢◌, refl, sym, ap, ◌∙◌, subst, ◌+◌, ◌<◌, ◌≤◌, ◌++◌, ◌∷◌, [], List, ℕ, Bool, true, false, Option, None, Some, length, take, drop, arith}
+use Rattle.std.specs.Prelude.{◌==◌, slice_index}
+use Rattle.std.specs.Borrow.{Bor}
+use Rattle.std.specs.Option.{MatchOption}
+use Rattle.std.specs.Str.{NoCharPasses}
+use Rattle.std.specs.Str.Parse.{AllDigits}
+use Rattle.std.specs.Str.Pattern.{RFindsChar}
+use Rattle.std.proofs.Math.Seq.{get_or-append_seam}
+use Rattle.std.proofs.lemmas.List.{take-append-drop}
+use Rattle.std.proofs.lemmas.Str.Parse.{digit_at}
+use Rattle.std.proofs.lemmas.Str.Pattern.{NoCharPasses-char, drop_at_char}
+use Rattle.feed_answer.specs.Place.{is_host}
+use Rattle.feed_cli.specs.Addresses.{IsPort, IsAddress, IsBad, AreAddresses}
+
+-- the byte is not in the text
+abbrev pub Lacks : ℕ → List ℕ → Type 0
+Lacks c text = (i : ℕ) → i < length text → slice_index text i ≢ c
+
+-- what `rsplit_once` says of a text that is cut at an ASCII character
+abbrev pub IsCutAtLast : ℕ → List ℕ → Option (Bor (List ℕ) × Bor (List ℕ)) → Type 0
+IsCutAtLast c text r = MatchOption r (RFindsChar c text None) (λ x. (i : ℕ) × (j : ℕ) × RFindsChar c text (Some (i, j)) × (x.0.now ≡ take i text)
+    × (x.1.now ≡ drop j text) × (i ≤ j) × (length x.0.now ≡ i) × (length x.1.now + j ≡ length text))
+
+pub last_cut : (c : ℕ) (text : List ℕ) (r : Option (Bor (List ℕ) × Bor (List ℕ))) → IsCutAtLast c text r → c < 128
+    → MatchOption r (Lacks c text) (λ x. (text ≡ x.0.now ++ c ∷ x.1.now) × Lacks c x.1.now)
+last_cut c text None h low = λ i. NoCharPasses-char c text i h low
+last_cut c text (Some x) h low = (
+  sym (take-append-drop h.0 text) ∙ (λ k. sym h.3 k ++ (drop_at_char c text h.0 h.1 h.2.1 low ∙ ap (λ l. c ∷ l) (sym h.4)) k),
+  λ i. NoCharPasses-char c x.1.now i (subst (NoCharPasses (λ d. d == c)) (sym h.4) h.2.0) low,
+)
+
+-- where the byte stands behind xs
+not_in : (c : ℕ) (text xs ys : List ℕ) → Lacks c text → text ≡ xs ++ c ∷ ys → ⊥
+not_in c text xs ys lacks e =
+    let here : slice_index text (length xs) ≡ c = ap (λ l. slice_index l (length xs)) e ∙ get_or-append_seam xs c ys 0 in
+    let inside : length xs < length text = let n = ap length e in grind (arith) in
+    lacks (length xs) inside here
+
+-- a text is cut at the last such byte in one way
+same_cut : (c : ℕ) (xs ys us vs : List ℕ) → xs ++ c ∷ ys ≡ us ++ c ∷ vs → Lacks c ys → Lacks c vs → (xs ≡ us) × (ys ≡ vs)
+same_cut c [] ys [] vs e a b = (refl, cc)
+same_cut c [] ys (u ∷ us) vs e a b = absurd (not_in c ys us vs a (cc))
+same_cut c (x ∷ xs) ys [] vs e a b = absurd (not_in c vs xs ys b (cc))
+same_cut c (x ∷ xs) ys (u ∷ us) vs e a b =
+    let first : x ≡ u = cc in
+    let rest : xs ++ c ∷ ys ≡ us ++ c ∷ vs = cc in
+    let same = same_cut c xs ys us vs rest a b in
+    ((λ k. first k ∷ same.0 k), same.1)
+
+digits_lack : (digits : List ℕ) → AllDigits 10 digits → Lacks 58 digits
+digits_lack digits all i inside e = let at = digit_at digits i all inside in omega (arith, at, e)
+
+-- a text without a colon, one whose host is none, and one whose port is none
+pub bad_without_colon : (text : List ℕ) → Lacks 58 text → IsBad text
+bad_without_colon text lacks good = not_in 58 text good.0.0 good.1.digits lacks good.1.is
+
+pub bad_host : (text host digits : List ℕ) → text ≡ host ++ 58 ∷ digits → Lacks 58 digits → is_host host ≡ false → IsBad text
+bad_host text host digits is lacks none good =
+    let same = same_cut 58 host digits good.0.0 good.1.digits (sym is ∙ good.1.is) lacks (digits_lack good.1.digits good.1.port.digits) in
+    let other : is_host host ≡ true = ap is_host same.0 ∙ good.1.host in
+    absurd (cc)
+
+pub bad_port : (text host digits : List ℕ) → text ≡ host ++ 58 ∷ digits → Lacks 58 digits → ((port : ℕ) → ¬ (IsPort digits port)) → IsBad text
+bad_port text host digits is lacks none good =
+    let same = same_cut 58 host digits good.0.0 good.1.digits (sym is ∙ good.1.is) lacks (digits_lack good.1.digits good.1.port.digits) in
+    none good.0.1 (subst (λ d. IsPort d good.0.1) (sym same.1) good.1.port)
+
+-- one more part is an address
+pub are_more : (parts : List (List ℕ)) (part : List ℕ) (addresses : List (List ℕ × ℕ)) (address : List ℕ × ℕ) → AreAddresses parts addresses → IsAddress part address
+    → AreAddresses (parts ++ part ∷ []) (addresses ++ address ∷ [])
+are_more [] part [] address are is = (is, tt)
+are_more [] part (a ∷ addresses) address are is = absurd are
+are_more (p ∷ parts) part [] address are is = absurd are
+are_more (p ∷ parts) part (a ∷ addresses) address are is = (are.0, are_more parts part addresses address are.1 is)
+
+pub as_many : (parts : List (List ℕ)) (addresses : List (List ℕ × ℕ)) → AreAddresses parts addresses → length parts ≡ length addresses
+as_many [] [] are = refl
+as_many [] (a ∷ addresses) are = absurd are
+as_many (p ∷ parts) [] are = absurd are
+as_many (p ∷ parts) (a ∷ addresses) are = ap (λ n. n + 1) (as_many parts addresses are.1)
