@@ -1,17 +1,18 @@
 -- Lemmas on addresses.
-use Rattle.std.proofs.Common.{◌≡◌, ◌≢◌, refl, sym, ap, ◌∙◌, subst, ◌+◌, ◌<◌, ◌≤◌, ◌++◌, ◌∷◌, [], List, ℕ, Bool, true, false, Option, None, Some, length, take, drop, arith}
-use Rattle.std.specs.Prelude.{◌==◌, slice_index}
+use Rattle.std.proofs.Common.{◌≡◌, ◌≢◌, refl, sym, ap, ◌∙◌, subst, ◌+◌, ◌<◌, ◌≤◌, ◌++◌, ◌∷◌, [], List, ℕ, Bool, true, false, Option, None, Some, length, take, drop, arith, length-append, append_assoc, map, IfSome}
+use Rattle.std.specs.Prelude.{◌==◌, slice_index, slice_index_or}
 use Rattle.std.specs.Borrow.{Bor}
 use Rattle.std.specs.Option.{MatchOption}
 use Rattle.std.specs.Str.{NoCharPasses}
 use Rattle.std.specs.Str.Parse.{AllDigits}
 use Rattle.std.specs.Str.Pattern.{RFindsChar}
 use Rattle.std.proofs.Math.Seq.{get_or-append_seam}
-use Rattle.std.proofs.lemmas.List.{take-append-drop}
+use Rattle.std.proofs.lemmas.List.{take-append-drop, take_more, get_or-map, map-append, length-map}
 use Rattle.std.proofs.lemmas.Str.Parse.{digit_at}
 use Rattle.std.proofs.lemmas.Str.Pattern.{NoCharPasses-char, drop_at_char}
 use Rattle.feed_answer.specs.Place.{is_host}
-use Rattle.feed_cli.specs.Addresses.{IsPort, IsAddress, IsBad, AreAddresses}
+use Rattle.std.specs.List.{AllWithin, HoldsAt}
+use Rattle.feed_cli.specs.Addresses.{IsPort, IsAddress, IsGood, IsBad, IsFirstBad, AreGood, AreAddresses}
 
 -- the byte is not in the text
 abbrev pub Lacks : ℕ → List ℕ → Type 0
@@ -34,7 +35,7 @@ last_cut c text (Some x) h low = (
 not_in : (c : ℕ) (text xs ys : List ℕ) → Lacks c text → text ≡ xs ++ c ∷ ys → ⊥
 not_in c text xs ys lacks e =
     let here : slice_index text (length xs) ≡ c = ap (λ l. slice_index l (length xs)) e ∙ get_or-append_seam xs c ys 0 in
-    let inside : length xs < length text = let n = ap length e in grind (arith) in
+    let inside : length xs < length text = omega (arith, ap length e, length-append xs (c ∷ ys)) in
     lacks (length xs) inside here
 
 -- a text is cut at the last such byte in one way
@@ -66,6 +67,12 @@ bad_port text host digits is lacks none good =
     let same = same_cut 58 host digits good.0.0 good.1.digits (sym is ∙ good.1.is) lacks (digits_lack good.1.digits good.1.port.digits) in
     none good.0.1 (subst (λ d. IsPort d good.0.1) (sym same.1) good.1.port)
 
+-- the first part that a search finds is the first that is no address
+pub first_of : (all : List (List ℕ)) (r : Option ℕ) → MatchOption r (AreGood all) (λ i. (i < length all) × HoldsAt IsBad all i × AllWithin IsGood all 0 i)
+    → IfSome r (IsFirstBad all) × (r ≡ None → AreGood all)
+first_of all None h = (tt, λ e. h)
+first_of all (Some i) h = (record { inside = h.0; bad = h.1; earlier = h.2 }, λ e. absurd (cc))
+
 -- one more part is an address
 pub are_more : (parts : List (List ℕ)) (part : List ℕ) (addresses : List (List ℕ × ℕ)) (address : List ℕ × ℕ) → AreAddresses parts addresses → IsAddress part address
     → AreAddresses (parts ++ part ∷ []) (addresses ++ address ∷ [])
@@ -78,4 +85,18 @@ pub as_many : (parts : List (List ℕ)) (addresses : List (List ℕ × ℕ)) →
 as_many [] [] are = refl
 as_many [] (a ∷ addresses) are = absurd are
 as_many (p ∷ parts) [] are = absurd are
-as_many (p ∷ parts) (a ∷ addresses) are = ap (λ n. n + 1) (as_many parts addresses are.1)
+as_many (p ∷ parts) (a ∷ addresses) are = omega (arith, as_many parts addresses are.1)
+
+module _ {X Y : Type 0} (f : X → Y) (xs : List X) (i : ℕ) (d x : X) (inside : i < length xs) (is : slice_index_or xs i d ≡ x) where
+  pub mapped_at : (e : Y) → slice_index_or (map f xs) i e ≡ f x
+  mapped_at e = get_or-map f xs i d e inside ∙ ap f is
+
+  pub mapped_next : take (i + 1) (map f xs) ≡ take i (map f xs) ++ f x ∷ []
+  mapped_next = take_more (map f xs) i (f d) (omega (arith, inside, length-map xs f)) ∙ ap (λ y. take i (map f xs) ++ y ∷ []) (mapped_at (f d))
+
+  -- what was made of the elements so far, and of this one
+  pub more_mapped : {Z : Type 0} (g : Y → Z) (before middle now : List Z) → middle ≡ before ++ map g (take i (map f xs)) → now ≡ middle ++ g (f x) ∷ []
+      → now ≡ before ++ map g (take (i + 1) (map f xs))
+  more_mapped g before middle now so_far more =
+      more ∙ ap (λ l. l ++ g (f x) ∷ []) so_far ∙ append_assoc before (map g (take i (map f xs))) (g (f x) ∷ [])
+      ∙ ap (λ l. before ++ l) (sym (map-append g (take i (map f xs)) (f x ∷ [])) ∙ ap (map g) (sym mapped_next))

@@ -1,7 +1,8 @@
 -- Lemmas on what the command `pull` prints.
-use Rattle.std.proofs.Common.{◌≡◌, ◌≢◌, ◌⊎◌, inl, inr, refl, sym, ap, ◌∙◌, subst, Bool, true, false, IfErr, List, ℕ, Option, None, Some, Result, Ok, Err, is_some}
+use Rattle.std.proofs.Common.{◌≡◌, ◌≢◌, ◌⊎◌, inl, inr, refl, sym, ap, ◌∙◌, subst, Bool, true, false, IfErr, IsErrOf, List, ℕ, Option, None, Some, Result, Ok, Err, is_some}
 use Rattle.std.specs.Prelude.{if◌then◌else◌, option_map, unwrap_or}
-use Rattle.std.specs.Io.KnownBytes.{Appends}
+use Rattle.std.specs.Io.KnownBytes.{Appends, Keeps}
+use Rattle.feed_http.specs.Device.{AppendsFront}
 use Rattle.feed_note.specs.Publishing.{Published}
 use Rattle.feed_note.specs.Texts.{published_text}
 use Rattle.feed_node.specs.States.{token_of}
@@ -80,3 +81,31 @@ module _ {R W : Type 0} (devices : Devices R W) (places : List Place) (turns : �
       by false e2 = (printed_pulled attempts (Ok tt) follows e printed, nothing_where end.mirror.node.published (sym told ∙ e2))
   pull_err attempts (Err why) result is_published follows e other printed told is = subst (λ r. IfErr r (λ w. PullFails devices places turns w start end old new)) (sym is)
       (fails why (of_last (last_outcome attempts) why (sym e)) (λ m. other (cc)) (printed_pulled attempts (Err why) follows e printed))
+
+  -- the snapshot could not be printed, or only a front of it
+  pub snapshot_fails : (attempts : List Attempt) → FollowsFirst devices places turns start attempts end → (r : Result (Unit {0}) Fault) → IfErr r (λ why. (why ≡ fault.Write) ⊎ (why ≡ fault.Memory))
+      → (IsErrOf r fault.Write → AppendsFront old new (published_text end.mirror.node.published)) → (IsErrOf r fault.Memory → Keeps old new)
+      → IfErr r (λ why. PullFails devices places turns why start end old new)
+  snapshot_fails attempts follows (Ok all) faults front none = tt
+  snapshot_fails attempts follows (Err fault.Write) faults front none = record {
+    ended = outcome_of_pull attempts;
+    has = record { attempts = attempts; follows = follows; came = refl };
+    printed = front refl;
+  }
+  snapshot_fails attempts follows (Err fault.Memory) faults front none = none refl
+  snapshot_fails attempts follows (Err (fault.Remote r)) (inl e) front none = absurd (cc)
+  snapshot_fails attempts follows (Err (fault.Remote r)) (inr e) front none = absurd (cc)
+  snapshot_fails attempts follows (Err fault.Unpublished) (inl e) front none = absurd (cc)
+  snapshot_fails attempts follows (Err fault.Unpublished) (inr e) front none = absurd (cc)
+  snapshot_fails attempts follows (Err fault.Read) (inl e) front none = absurd (cc)
+  snapshot_fails attempts follows (Err fault.Read) (inr e) front none = absurd (cc)
+  snapshot_fails attempts follows (Err fault.Turns) (inl e) front none = absurd (cc)
+  snapshot_fails attempts follows (Err fault.Turns) (inr e) front none = absurd (cc)
+  snapshot_fails attempts follows (Err fault.TooLong) (inl e) front none = absurd (cc)
+  snapshot_fails attempts follows (Err fault.TooLong) (inr e) front none = absurd (cc)
+  snapshot_fails attempts follows (Err (fault.Feed w)) (inl e) front none = absurd (cc)
+  snapshot_fails attempts follows (Err (fault.Feed w)) (inr e) front none = absurd (cc)
+  snapshot_fails attempts follows (Err (fault.Survey w)) (inl e) front none = absurd (cc)
+  snapshot_fails attempts follows (Err (fault.Survey w)) (inr e) front none = absurd (cc)
+  snapshot_fails attempts follows (Err (fault.Play w)) (inl e) front none = absurd (cc)
+  snapshot_fails attempts follows (Err (fault.Play w)) (inr e) front none = absurd (cc)

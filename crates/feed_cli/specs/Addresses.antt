@@ -1,7 +1,8 @@
 -- Addresses of servers, as a list of `host:port` separated by commas.
-use Rattle.std.specs.Prelude.{◌≡◌, ℕ, ◌<◌, ◌≤◌, true, List, [], ◌∷◌, ◌++◌, ◌==◌, length, codes}
+use Rattle.std.specs.Prelude.{◌≡◌, ℕ, ◌<◌, ◌≤◌, true, List, [], ◌∷◌, ◌++◌, ◌==◌, length}
 use Rattle.std.specs.List.{slice_split, AllWithin, HoldsAt}
 use Rattle.std.specs.Str.Parse.{AllDigits, digits_value}
+use Rattle.feed_text.specs.Ascii.{colon, comma}
 use Rattle.feed_answer.specs.Place.{is_host}
 use Rattle.feed_cli.specs.Words.{most_port}
 use Rattle.feed_cli.specs.declared.address.AddressFault.{AddressFault}
@@ -23,7 +24,7 @@ pub record IsPort (text : List ℕ) (port : ℕ) : Type 0 where
 -- a host, a colon and a port; the colon is the last one, since a port has none
 pub record IsAddress (text : List ℕ) (address : List ℕ × ℕ) : Type 0 where
   pub digits : List ℕ
-  pub is : text ≡ address.0 ++ codes ":" ++ digits
+  pub is : text ≡ address.0 ++ colon ∷ digits
   pub host : is_host address.0 ≡ true
   pub port : IsPort digits address.1
 
@@ -36,7 +37,7 @@ IsBad text = ¬ (IsGood text)
 
 -- what stands between the commas
 abbrev pub parts : List ℕ → List (List ℕ)
-parts text = slice_split (λ b. b == 44) text
+parts text = slice_split (λ b. b == comma) text
 
 -- each of these parts is the address at its place
 abbrev pub AreAddresses : List (List ℕ) → List (List ℕ × ℕ) → Type 0

@@ -29,19 +29,22 @@ use Rattle.feed_cli.specs.declared.words.PullOptions.{PullOptions}
 -- ---- what it asks, and starts from
 
 -- a server's host, with its port
-abbrev pub server_text : List ℕ → ℕ → List ℕ
-server_text host port = host ++ codes ":" ++ decimal port
+abbrev pub server_text : List ℕ × ℕ → List ℕ
+server_text address = address.0 ++ codes ":" ++ decimal address.1
+
+-- that of the first server
+abbrev pub host_text : PullOptions → List ℕ
+host_text options = options.host.now ++ codes ":" ++ decimal options.port
 
 -- the place that is asked for the feed at this address
 abbrev pub place_at : PullOptions → List ℕ × ℕ → Result Place PlaceFault
-place_at options address =
-    place_of (server_text address.0 address.1) options.base.now options.contest.now
+place_at options address = place_of (server_text address) options.base.now options.contest.now
 
 -- why there is none
 abbrev pub RefusesServer : PullOptions → List ℕ × ℕ → Fault → Type 0
 RefusesServer options address fault.Memory = Unit {0}
 RefusesServer options address (fault.Remote (remote.Place why)) =
-    RefusesPlace (server_text address.0 address.1) options.base.now options.contest.now why
+    RefusesPlace (server_text address) options.base.now options.contest.now why
 RefusesServer options address why = ⊥
 
 -- the first address

@@ -1,8 +1,8 @@
 //! Addresses of servers.
-ghost use Rattle.std.specs.Prelude.{◌≡◌, ℕ, None, map, length, codes, string_bytes, IfOk, IfErr, IfSome};
+ghost use Rattle.std.specs.Prelude.{◌≡◌, ◌++◌, ◌∷◌, [], ℕ, List, None, true, false, map, length, codes, string_bytes, IfOk, IfErr, IfSome, OnOk};
 ghost use Rattle.std.specs.List.{list_all};
 ghost use Rattle.feed_answer.specs.Place.{is_host as host_of, is_alphanumeric_or};
-ghost use Rattle.feed_cli.specs.Addresses.{parts, IsPort, IsAddress, IsBad, IsFirstBad};
+ghost use Rattle.feed_cli.specs.Addresses.{parts, IsPort, IsAddress, IsGood, IsBad, IsFirstBad};
 ghost use Rattle.feed_cli.specs.Addresses.{AreGood, AreAddresses, IsListOf, RefusesList};
 ghost use Rattle.feed_cli.specs.declared.address.AddressFault.TheVariants as address_fault;
 
@@ -80,12 +80,23 @@ fn address_of(text: &str) -> Option<(&str, u16)>
     Some((host, port))
 }
 
+/// Whether a part is an address.
+fn is_address(part: &str) -> bool
+    ensures good { result ≡ true → IsGood part.now }
+    ensures bad { result ≡ false → IsBad part.now }
+{
+    match address_of(part) {
+        Some(_) => true,
+        None => false,
+    }
+}
+
 /// The number of the first part that is no address.
 fn first_bad(text: &str) -> Option<usize>
     ensures bad { IfSome result (λ number. IsFirstBad (parts text.now) number) }
     ensures good { result ≡ None → AreGood (parts text.now) }
 {
-    text.split(',').position(|part| address_of(part).is_none())
+    text.split(',').position(|part| !is_address(part))
 }
 
 /// How many parts there are.
@@ -102,17 +113,33 @@ fn parts_of(alloc: Global, text: &str) -> Result<Vec<&str>, AllocError>
     text.split(',').collect(alloc)
 }
 
+/// Appends the address that a part is.
+fn push_address(
+    alloc: Global,
+    part: &str,
+    addresses: &mut Vec<(String, u16)>,
+) -> Result<(), AllocError>
+    requires { IsGood part.now }
+    ensures { OnOk result ((address : List ℕ × ℕ) × IsAddress part.now address
+        × (map (λ a. (string_bytes a.0, a.1)) addresses.new.items
+        ≡ map (λ a. (string_bytes a.0, a.1)) addresses.old.items ++ address ∷ [])) }
+{
+    let Some((host, port)) = address_of(part) else {
+        return Err(AllocError);
+    };
+    addresses.push((String::from_str(alloc, host)?, port))?;
+    Ok(())
+}
+
 /// The addresses of which each part is one.
 fn owned(alloc: Global, all: &[&str]) -> Result<Vec<(String, u16)>, AllocError>
     requires { AreGood (map (λ part. part.now) all.now) }
     ensures { IfOk result (λ addresses. AreAddresses (map (λ part. part.now) all.now)
         (map (λ a. (string_bytes a.0, a.1)) addresses.items)) }
 {
-    let mut addresses = Vec::with_capacity(alloc, all.len())?;
+    let mut addresses = Vec::new(alloc);
     'parts: for part in all {
-        if let Some((host, port)) = address_of(part) {
-            addresses.push((String::from_str(alloc, host)?, port))?;
-        }
+        push_address(alloc, part, &mut addresses)?;
     }
     Ok(addresses)
 }

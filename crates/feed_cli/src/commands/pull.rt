@@ -1,11 +1,12 @@
 //! What the feed of the first of several servers publishes, printed.
 ghost use Rattle.std.specs.Prelude.{◌≡◌, ◌⊎◌, ◌++◌, ◌∷◌, [], false, true, map, is_some, string_bytes, IfOk, IfErr, OnOk, Ok, IsErrOf};
-ghost use Rattle.feed_cli.specs.Pull.{server_text as server_at, place_at as place_of, RefusesServer, AreFurther, RefusesFurther};
+ghost use Rattle.feed_cli.specs.Pull.{host_text, first_address, place_at as place_of, RefusesServer, AreFurther, RefusesFurther};
 ghost use Rattle.feed_cli.specs.Pull.{AreServers, RefusesOneOf, HasNoServers, StartsFrom, FailsToStart};
 ghost use Rattle.feed_cli.specs.Pull.{outcome_of_attempt, outcome_of_pull, PrintedPulled, PullFails};
 ghost use Rattle.feed_http.specs.Device.{HasFailed};
 ghost use Rattle.feed_relay.specs.Exchange.{devices_of};
 ghost use Rattle.feed_relay.specs.First.{position};
+ghost use Rattle.feed_answer.specs.Place.{Place as Named};
 
 use crate::address::addresses;
 use crate::fault::Fault;
@@ -28,11 +29,23 @@ pub struct Servers {
     pub places: Vec<Place>,
 }
 
-/// A server's host, with its port.
-fn server_text(alloc: Global, host: &str, port: u16) -> Result<String, AllocError>
-    ensures { IfOk result (λ text. string_bytes text ≡ server_at host.now port) }
+/// The server's host, with its port.
+fn host_and_port(alloc: Global, options: &PullOptions<'_>) -> Result<String, AllocError>
+    ensures { IfOk result (λ text. string_bytes text ≡ host_text options.now) }
 {
-    format!(in alloc; "{}:{}", host, port)
+    format!(in alloc; "{}:{}", options.host, options.port)
+}
+
+/// The place that is asked for the feed at the first address.
+fn first_place(alloc: Global, options: &PullOptions<'_>) -> Result<Place, Fault>
+    ensures ok { IfOk result (λ place. place_of options.now (first_address options.now) ≡ Ok place) }
+    ensures err { IfErr result (λ why. RefusesServer options.now (first_address options.now) why) }
+{
+    let host = host_and_port(alloc, options)?;
+    match Place::new(alloc, host.as_str(), options.base, options.contest) {
+        Ok(place) => Ok(place),
+        Err(fault) => Err(Fault::of_place(fault)),
+    }
 }
 
 /// The place that is asked for the feed at this address.
@@ -40,11 +53,12 @@ fn place_at(alloc: Global, options: &PullOptions<'_>, host: &str, port: u16) -> 
     ensures ok { IfOk result (λ place. place_of options.now (host.now, port) ≡ Ok place) }
     ensures err { IfErr result (λ why. RefusesServer options.now (host.now, port) why) }
 {
-    let server = server_text(alloc, host, port)?;
-    match Place::new(alloc, server.as_str(), options.base, options.contest) {
-        Ok(place) => Ok(place),
-        Err(fault) => Err(Fault::of_place(fault)),
-    }
+    let here = PullOptions {
+        host,
+        port,
+        ..*options
+    };
+    first_place(alloc, &here)
 }
 
 /// Appends that place.
@@ -57,6 +71,7 @@ fn push_place(
 ) -> Result<(), Fault>
     ensures ok { OnOk result (map (λ place. Ok place) places.new.items
         ≡ map (λ place. Ok place) places.old.items ++ place_of options.now (host.now, port) ∷ []) }
+    ensures made { OnOk result ((place : Named) × (place_of options.now (host.now, port) ≡ Ok place)) }
     ensures err { IfErr result (λ why. RefusesServer options.now (host.now, port) why) }
 {
     let place = place_at(alloc, options, host, port)?;
