@@ -12,7 +12,7 @@ use Rattle.std.proofs.lemmas.Str.Parse.{digit_at}
 use Rattle.std.proofs.lemmas.Str.Pattern.{NoCharPasses-char, drop_at_char}
 use Rattle.feed_answer.specs.Place.{is_host}
 use Rattle.std.specs.List.{AllWithin, HoldsAt}
-use Rattle.feed_cli.specs.Addresses.{IsPort, IsAddress, IsGood, IsBad, IsFirstBad, AreGood, AreAddresses}
+use Rattle.feed_cli.specs.Addresses.{parts, IsPort, IsAddress, IsGood, IsBad, IsFirstBad, AreGood, AreAddresses, IsListOf}
 
 -- the byte is not in the text
 abbrev pub Lacks : ℕ → List ℕ → Type 0
@@ -100,3 +100,21 @@ module _ {X Y : Type 0} (f : X → Y) (xs : List X) (i : ℕ) (d x : X) (inside 
   more_mapped g before middle now so_far more =
       more ∙ ap (λ l. l ++ g (f x) ∷ []) so_far ∙ append_assoc before (map g (take i (map f xs))) (g (f x) ∷ [])
       ∙ ap (λ l. before ++ l) (sym (map-append g (take i (map f xs)) (f x ∷ [])) ∙ ap (map g) (sym mapped_next))
+
+-- of parts that are addresses, the one at this place; and what there is once it was taken
+pub good_part : (all : List (Bor (List ℕ))) (i : ℕ) (d : Bor (List ℕ)) → i < length all → AreGood (map (λ part. part.now) all) → IsGood (slice_index_or all i d).now
+good_part all i d inside good =
+    subst IsGood (mapped_at (λ part. part.now) all i d (slice_index_or all i d) inside refl [])
+    (good i [] (omega arith) (omega (arith, inside, length-map all (λ part. part.now))))
+
+pub more_parts : (all : List (Bor (List ℕ))) (i : ℕ) (d : Bor (List ℕ)) (addresses now : List (List ℕ × ℕ)) → i < length all → AreAddresses (take i (map (λ part. part.now) all)) addresses
+    → (address : List ℕ × ℕ) × IsAddress (slice_index_or all i d).now address × (now ≡ addresses ++ address ∷ []) → AreAddresses (take (i + 1) (map (λ part. part.now) all)) now
+more_parts all i d addresses now inside are more =
+    subst (λ l. AreAddresses l now) (sym (mapped_next (λ part. part.now) all i d (slice_index_or all i d) inside refl))
+    (subst (λ l. AreAddresses (take i (map (λ part. part.now) all) ++ (slice_index_or all i d).now ∷ []) l) (sym more.2)
+    (are_more (take i (map (λ part. part.now) all)) (slice_index_or all i d).now addresses more.0 are more.1))
+
+pub list_of : (text : List ℕ) (found : List (List ℕ)) (addresses : List (List ℕ × ℕ)) → found ≡ parts text → AreAddresses found addresses → length (parts text) ≤ 16 → IsListOf text addresses
+list_of text found addresses is are few =
+    let all = subst (λ l. AreAddresses l addresses) is are in
+    record { all = all; few = omega (arith, as_many (parts text) addresses all, few) }

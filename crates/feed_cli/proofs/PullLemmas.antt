@@ -1,5 +1,5 @@
 -- Lemmas on what the command `pull` prints.
-use Rattle.std.proofs.Common.{◌≡◌, ◌≢◌, ◌⊎◌, inl, inr, refl, sym, ap, ◌∙◌, subst, Bool, true, false, IfErr, IsErrOf, List, ℕ, Option, None, Some, Result, Ok, Err, is_some}
+use Rattle.std.proofs.Common.{◌≡◌, ◌≢◌, ◌⊎◌, inl, inr, refl, sym, ap, ◌∙◌, subst, Bool, true, false, IfErr, IsErrOf, [], append-nil, List, ℕ, Option, None, Some, Result, Ok, Err, is_some}
 use Rattle.std.specs.Prelude.{if◌then◌else◌, option_map, unwrap_or}
 use Rattle.std.specs.Io.KnownBytes.{Appends, Keeps}
 use Rattle.feed_http.specs.Device.{AppendsFront}
@@ -54,6 +54,11 @@ of_last : (last : Option AttemptEnd) (why : Fault) → unwrap_or (option_map out
 of_last None why e = absurd (cc)
 of_last (Some end) why e = of_attempt end why e
 
+kept : (old new : Option (List ℕ)) → Appends old new [] → Keeps old new
+kept None new h = tt
+kept (Some xs) None h = h
+kept (Some xs) (Some ys) h = h ∙ append-nil xs
+
 nothing_where : (shown : Option Published) → is_some (token_of shown) ≡ false → shown ≡ None
 nothing_where None e = refl
 nothing_where (Some pair) e = absurd (cc)
@@ -84,7 +89,7 @@ module _ {R W : Type 0} (devices : Devices R W) (places : List Place) (turns : �
 
   -- the snapshot could not be printed, or only a front of it
   pub snapshot_fails : (attempts : List Attempt) → FollowsFirst devices places turns start attempts end → (r : Result (Unit {0}) Fault) → IfErr r (λ why. (why ≡ fault.Write) ⊎ (why ≡ fault.Memory))
-      → (IsErrOf r fault.Write → AppendsFront old new (published_text end.mirror.node.published)) → (IsErrOf r fault.Memory → Keeps old new)
+      → (IsErrOf r fault.Write → AppendsFront old new (published_text end.mirror.node.published)) → (IsErrOf r fault.Memory → Appends old new [])
       → IfErr r (λ why. PullFails devices places turns why start end old new)
   snapshot_fails attempts follows (Ok all) faults front none = tt
   snapshot_fails attempts follows (Err fault.Write) faults front none = record {
@@ -92,7 +97,7 @@ module _ {R W : Type 0} (devices : Devices R W) (places : List Place) (turns : �
     has = record { attempts = attempts; follows = follows; came = refl };
     printed = front refl;
   }
-  snapshot_fails attempts follows (Err fault.Memory) faults front none = none refl
+  snapshot_fails attempts follows (Err fault.Memory) faults front none = kept old new (none refl)
   snapshot_fails attempts follows (Err (fault.Remote r)) (inl e) front none = absurd (cc)
   snapshot_fails attempts follows (Err (fault.Remote r)) (inr e) front none = absurd (cc)
   snapshot_fails attempts follows (Err fault.Unpublished) (inl e) front none = absurd (cc)
@@ -109,3 +114,13 @@ module _ {R W : Type 0} (devices : Devices R W) (places : List Place) (turns : �
   snapshot_fails attempts follows (Err (fault.Survey w)) (inr e) front none = absurd (cc)
   snapshot_fails attempts follows (Err (fault.Play w)) (inl e) front none = absurd (cc)
   snapshot_fails attempts follows (Err (fault.Play w)) (inr e) front none = absurd (cc)
+
+  -- the snapshot was printed, and an attempt could not be told
+  pub untold : (attempts : List Attempt) → FollowsFirst devices places turns start attempts end → Appends old new (published_text end.mirror.node.published)
+      → (r : Result (Unit {0}) Fault) → IfErr r (λ failed. failed ≡ fault.Write) → IfErr r (λ why. PullFails devices places turns why start end old new)
+  untold attempts follows printed (Ok all) is = tt
+  untold attempts follows printed (Err why) is = subst (λ w. PullFails devices places turns w start end old new) (sym is) (record {
+    ended = outcome_of_pull attempts;
+    has = record { attempts = attempts; follows = follows; came = refl };
+    printed = (published_text end.mirror.node.published, [], sym (append-nil (published_text end.mirror.node.published)), printed);
+  })

@@ -1,4 +1,4 @@
-use Rattle.std.proofs.Common.{ap, sym, subst, ◌≡◌, ◌∙◌, ◌<◌, ◌++◌, ◌∷◌, [], Ok, length, map, string_bytes, arith}
+use Rattle.std.proofs.Common.{ap, sym, subst, ◌≡◌, ◌∙◌, ◌<◌, ◌++◌, ◌∷◌, [], Ok, List, ℕ, length, map, string_bytes, arith}
 use Rattle.std.proofs.lemmas.List.{length-map}
 use Rattle.std.proofs.lemmas.Result.{err_from_is_err_and}
 use Rattle.feed_cli.specs.Pull.{place_at, RefusesServer}
@@ -14,7 +14,7 @@ returns-in_err-push_place-clause-err c =
       (string_bytes x.0, x.1),
       (
         c.addresses.host-index,
-        omega (arith, lt, length-map c.args.addresses.now (λ a. (string_bytes a.0, a.1))),
+        omega (arith, lt, length-map {B = List ℕ × ℕ} c.args.addresses.now (λ a. (string_bytes a.0, a.1))),
         mapped_at _ c.args.addresses.now c.addresses.host-index _ x lt (sym c.addresses-item.is) _,
       ),
       subst (λ h. RefusesServer c.args.options.now (h, x.1) _) c.as_str.ensures.value c.in_err-push_place.ensures.err,

@@ -1,4 +1,4 @@
-use Rattle.std.proofs.Common.{subst, inl, inr, map, string_bytes}
+use Rattle.std.proofs.Common.{subst, inl, inr, List, ℕ, map, string_bytes}
 use Rattle.std.proofs.lemmas.Result.{err_from_is_err_and}
 use Rattle.feed_cli.specs.Pull.{RefusesOneOf}
 use Rattle.feed_cli.proofs.commands.pull.servers_of.Goals as goal
@@ -19,6 +19,6 @@ returns-in_err-push_places-clause-err c =
       inr (
         _,
         c.in_ok-further.ensures.ok,
-        subst (λ l. RefusesOneOf c.args.options.now (map (λ a. (string_bytes a.0, a.1)) l) _) c.deref.ensures.value c.in_err-push_places.ensures.err,
+        subst (λ l. RefusesOneOf c.args.options.now (map {B = List ℕ × ℕ} (λ a. (string_bytes a.0, a.1)) l) c.in_err-push_places.field-0.0) c.deref.ensures.value c.in_err-push_places.ensures.err,
       ),
     ))
