@@ -17,7 +17,7 @@ returns-in_err-push_place-clause-err c =
         omega (arith, lt, length-map {B = List ℕ × ℕ} c.args.addresses.now (λ a. (string_bytes a.0, a.1))),
         mapped_at _ c.args.addresses.now c.addresses.host-index _ x lt (sym c.addresses-item.is) _,
       ),
-      subst (λ h. RefusesServer c.args.options.now (h, x.1) _) c.as_str.ensures.value c.in_err-push_place.ensures.err,
+      subst (λ h. RefusesServer c.args.options.now (h, x.1) c.in_err-push_place.field-0.0) c.as_str.ensures.value c.in_err-push_place.ensures.err,
     )
 
 pub addresses-preserved : goal.addresses-preserved
