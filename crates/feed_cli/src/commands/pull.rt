@@ -38,7 +38,8 @@ fn host_and_port(alloc: Global, options: &PullOptions<'_>) -> Result<String, All
 
 /// The place that is asked for the feed at the first address.
 fn first_place(alloc: Global, options: &PullOptions<'_>) -> Result<Place, Fault>
-    ensures ok { IfOk result (λ place. place_of options.now (first_address options.now) ≡ Ok place) }
+    ensures ok { IfOk result (λ place.
+        place_of options.now (first_address options.now) ≡ Ok place) }
     ensures err { IfErr result (λ why. RefusesServer options.now (first_address options.now) why) }
 {
     let host = host_and_port(alloc, options)?;
@@ -71,7 +72,8 @@ fn push_place(
 ) -> Result<(), Fault>
     ensures ok { OnOk result (map (λ place. Ok place) places.new.items
         ≡ map (λ place. Ok place) places.old.items ++ place_of options.now (host.now, port) ∷ []) }
-    ensures made { OnOk result ((place : Named) × (place_of options.now (host.now, port) ≡ Ok place)) }
+    ensures made { OnOk result
+        ((place : Named) × (place_of options.now (host.now, port) ≡ Ok place)) }
     ensures err { IfErr result (λ why. RefusesServer options.now (host.now, port) why) }
 {
     let place = place_at(alloc, options, host, port)?;
@@ -156,8 +158,8 @@ pub fn start_mirror<R: FeedRead>(
     }
 }
 
-/// The fault that an attempt came to: that there was no connection, and a response that ended in its
-/// head, are faults, too.
+/// The fault that an attempt came to: that there was no connection, and a response that ended in
+/// its head, are faults, too.
 pub(crate) fn attempt_outcome(outcome: AttemptEnd) -> Result<(), Fault>
     ensures { result ≡ outcome_of_attempt outcome }
 {
