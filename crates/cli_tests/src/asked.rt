@@ -102,6 +102,8 @@ fn pulls_as_asked(alloc: Global) -> Option<bool> {
             "/b",
             "--turns",
             "5",
+            "--from",
+            "a:1,b",
             "--host",
             "h",
             "--port",
@@ -115,10 +117,12 @@ fn pulls_as_asked(alloc: Global) -> Option<bool> {
     Some(
         least.host == "h"
             && least.port == 8
+            && least.from == None
             && least.base.is_empty()
             && least.contest == "c"
             && least.turns == 1_000_000
             && !least.resume
+            && most.from == Some("a:1,b")
             && most.base == "/b"
             && most.turns == 5
             && most.resume,
@@ -159,12 +163,14 @@ fn relays_as_asked(alloc: Global) -> Option<bool> {
             "--count",
             "2",
             "--chunked",
+            "--from=",
         ],
     ) else {
         return None;
     };
     Some(
         asked.pull.host == "h"
+            && asked.pull.from == Some("")
             && asked.pull.port == 8
             && asked.pull.contest == "c"
             && asked.pull.resume

@@ -1,3 +1,4 @@
+mod AddressLemmas
 mod CheckLemmas
 mod CommandLemmas
 mod PlayLemmas

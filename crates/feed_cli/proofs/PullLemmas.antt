@@ -1,23 +1,25 @@
 -- Lemmas on what the command `pull` prints.
-use Rattle.std.proofs.Common.{◌≡◌, ◌≢◌, ◌⊎◌, inl, inr, refl, sym, ap, ◌∙◌, subst, Bool, true, false, IfErr, List, ℕ, Option, None, Some, Result, Ok, Err, is_some}
-use Rattle.std.specs.Prelude.{if◌then◌else◌}
-use Rattle.std.specs.Io.KnownBytes.{Appends}
+use Rattle.std.proofs.Common.{◌≡◌, ◌≢◌, ◌⊎◌, inl, inr, refl, sym, ap, ◌∙◌, subst, Bool, true, false, IfErr, IsErrOf, [], append-nil, List, ℕ, Option, None, Some, Result, Ok, Err, is_some}
+use Rattle.std.specs.Prelude.{if◌then◌else◌, option_map, unwrap_or}
+use Rattle.std.specs.Io.KnownBytes.{Appends, Keeps}
+use Rattle.feed_http.specs.Device.{AppendsFront}
 use Rattle.feed_note.specs.Publishing.{Published}
 use Rattle.feed_note.specs.Texts.{published_text}
-use Rattle.feed_node.specs.Mirroring.{MirrorState}
 use Rattle.feed_node.specs.States.{token_of}
 use Rattle.feed_answer.specs.Place.{Place}
-use Rattle.feed_http.specs.declared.fault.Followed.{Followed}
 use Rattle.feed_http.specs.declared.fault.Followed.TheVariants as followed
 use Rattle.feed_relay.specs.Exchange.{Devices}
 use Rattle.feed_relay.specs.Fault.{is_memory}
-use Rattle.feed_relay.specs.Pulling.{Pulls}
+use Rattle.feed_relay.specs.First.{Position, FollowsFirst, last_outcome}
+use Rattle.feed_relay.specs.declared.first.Attempt.{Attempt}
+use Rattle.feed_relay.specs.declared.first.AttemptEnd.{AttemptEnd}
+use Rattle.feed_relay.specs.declared.first.AttemptEnd.TheVariants.{NoLink, Followed, Failed}
 use Rattle.feed_relay.specs.declared.fault.NetworkFault.{NetworkFault}
 use Rattle.feed_relay.specs.declared.fault.NetworkFault.TheVariants as network
 use Rattle.feed_http.specs.declared.fault.EngineFault.TheVariants as engine
 use Rattle.feed_follow.specs.declared.fault.FollowFault.TheVariants.{BadHead}
 use Rattle.feed_cli.specs.Fault.{fault_of_network}
-use Rattle.feed_cli.specs.Pull.{HasPulled, PrintedPulled, PullFails, outcome_of_pull}
+use Rattle.feed_cli.specs.Pull.{HasPulled, PrintedPulled, PullFails, outcome_of_attempt, outcome_of_pull}
 use Rattle.feed_cli.specs.Tables.{outcome_of}
 use Rattle.feed_cli.specs.declared.fault.Fault.{Fault}
 use Rattle.feed_cli.specs.declared.fault.Fault.TheVariants as fault
@@ -39,33 +41,86 @@ err_of : Result (Unit {0}) Fault → Fault
 err_of (Err why) = why
 err_of (Ok all) = fault.Memory
 
-of_pull : (pulled : Result Followed NetworkFault) (why : Fault) → outcome_of_pull pulled ≡ Err why → IsOfNetwork why
+of_attempt : (end : AttemptEnd) (why : Fault) → outcome_of_attempt end ≡ Err why → IsOfNetwork why
 unfolding err_of
-of_pull (Ok followed.Early) why e = subst IsOfNetwork (ap err_of e) (of_network (network.Engine (engine.Follow BadHead)))
-of_pull (Ok followed.Ended) why e = absurd (cc)
-of_pull (Ok followed.Done) why e = absurd (cc)
-of_pull (Ok followed.TokenRefused) why e = absurd (cc)
-of_pull (Err w) why e = subst IsOfNetwork (ap err_of e) (of_network w)
+of_attempt NoLink why e = subst IsOfNetwork (ap err_of e) (of_network network.Connect)
+of_attempt (Followed followed.Early) why e = subst IsOfNetwork (ap err_of e) (of_network (network.Engine (engine.Follow BadHead)))
+of_attempt (Followed followed.Ended) why e = absurd (cc)
+of_attempt (Followed followed.Done) why e = absurd (cc)
+of_attempt (Followed followed.TokenRefused) why e = absurd (cc)
+of_attempt (Failed w) why e = subst IsOfNetwork (ap err_of e) (of_network (network.Engine w))
+
+of_last : (last : Option AttemptEnd) (why : Fault) → unwrap_or (option_map outcome_of_attempt last) (Ok tt) ≡ Err why → IsOfNetwork why
+of_last None why e = absurd (cc)
+of_last (Some end) why e = of_attempt end why e
+
+kept : (old new : Option (List ℕ)) → Appends old new [] → Keeps old new
+kept None new h = tt
+kept (Some xs) None h = h
+kept (Some xs) (Some ys) h = h ∙ append-nil xs
 
 nothing_where : (shown : Option Published) → is_some (token_of shown) ≡ false → shown ≡ None
 nothing_where None e = refl
 nothing_where (Some pair) e = absurd (cc)
 
-module _ {R W : Type 0} (devices : Devices R W) (place : Place) (turns : ℕ) (start mirror : MirrorState) (old new : Option (List ℕ)) where
-  fails : (why : Fault) → IsOfNetwork why → why ≢ fault.Memory → PrintedPulled devices place turns start (Err why) mirror old new
-      → PullFails devices place turns why start mirror old new
+module _ {R W : Type 0} (devices : Devices R W) (places : List Place) (turns : ℕ) (start end : Position) (old new : Option (List ℕ)) where
+  fails : (why : Fault) → IsOfNetwork why → why ≢ fault.Memory → PrintedPulled devices places turns start (Err why) end old new
+      → PullFails devices places turns why start end old new
   fails why (inl e) other printed = absurd (other e)
-  fails why (inr (r, e)) other printed = subst (λ w. PullFails devices place turns w start mirror old new) (sym e)
-      (subst (λ w. PrintedPulled devices place turns start (Err w) mirror old new) e printed)
+  fails why (inr (r, e)) other printed = subst (λ w. PullFails devices places turns w start end old new) (sym e)
+      (subst (λ w. PrintedPulled devices places turns start (Err w) end old new) e printed)
 
-  pub pull_err : (pulled : Result Followed NetworkFault) (ended result : Result (Unit {0}) Fault) (is_published : Bool)
-      → Pulls devices place turns start pulled mirror → ended ≡ outcome_of_pull pulled → ended ≢ Err fault.Memory
-      → Appends old new (published_text mirror.node.published) → is_published ≡ is_some (token_of mirror.node.published) → result ≡ outcome_of ended is_published
-      → IfErr result (λ why. PullFails devices place turns why start mirror old new)
-  pull_err pulled (Ok all) result is_published pulls e other printed told is = subst (λ r. IfErr r (λ why. PullFails devices place turns why start mirror old new)) (sym is) (by is_published refl)
+  -- a pull of these attempts came to this, and the snapshot of what the mirror shows was printed
+  pub printed_pulled : (attempts : List Attempt) (ended : Result (Unit {0}) Fault) → FollowsFirst devices places turns start attempts end
+      → ended ≡ outcome_of_pull attempts → Appends old new (published_text end.mirror.node.published) → PrintedPulled devices places turns start ended end old new
+  printed_pulled attempts ended follows e printed = record { has = record { attempts = attempts; follows = follows; came = sym e }; printed = printed }
+
+  pub pull_err : (attempts : List Attempt) (ended result : Result (Unit {0}) Fault) (is_published : Bool)
+      → FollowsFirst devices places turns start attempts end → ended ≡ outcome_of_pull attempts → ended ≢ Err fault.Memory
+      → Appends old new (published_text end.mirror.node.published) → is_published ≡ is_some (token_of end.mirror.node.published) → result ≡ outcome_of ended is_published
+      → IfErr result (λ why. PullFails devices places turns why start end old new)
+  pull_err attempts (Ok all) result is_published follows e other printed told is = subst (λ r. IfErr r (λ why. PullFails devices places turns why start end old new)) (sym is) (by is_published refl)
     where
-      by : (t : Bool) → is_published ≡ t → IfErr (outcome_of (Ok all) t) (λ why. PullFails devices place turns why start mirror old new)
+      by : (t : Bool) → is_published ≡ t → IfErr (outcome_of (Ok all) t) (λ why. PullFails devices places turns why start end old new)
       by true e2 = tt
-      by false e2 = (record { has = record { pulled = pulled; pulls = pulls; came = sym e }; printed = printed }, nothing_where mirror.node.published (sym told ∙ e2))
-  pull_err pulled (Err why) result is_published pulls e other printed told is = subst (λ r. IfErr r (λ w. PullFails devices place turns w start mirror old new)) (sym is)
-      (fails why (of_pull pulled why (sym e)) (λ m. other (cc)) (record { has = record { pulled = pulled; pulls = pulls; came = sym e }; printed = printed }))
+      by false e2 = (printed_pulled attempts (Ok tt) follows e printed, nothing_where end.mirror.node.published (sym told ∙ e2))
+  pull_err attempts (Err why) result is_published follows e other printed told is = subst (λ r. IfErr r (λ w. PullFails devices places turns w start end old new)) (sym is)
+      (fails why (of_last (last_outcome attempts) why (sym e)) (λ m. other (cc)) (printed_pulled attempts (Err why) follows e printed))
+
+  -- the snapshot could not be printed, or only a front of it
+  pub snapshot_fails : (attempts : List Attempt) → FollowsFirst devices places turns start attempts end → (r : Result (Unit {0}) Fault) → IfErr r (λ why. (why ≡ fault.Write) ⊎ (why ≡ fault.Memory))
+      → (IsErrOf r fault.Write → AppendsFront old new (published_text end.mirror.node.published)) → (IsErrOf r fault.Memory → Appends old new [])
+      → IfErr r (λ why. PullFails devices places turns why start end old new)
+  snapshot_fails attempts follows (Ok all) faults front none = tt
+  snapshot_fails attempts follows (Err fault.Write) faults front none = record {
+    ended = outcome_of_pull attempts;
+    has = record { attempts = attempts; follows = follows; came = refl };
+    printed = front refl;
+  }
+  snapshot_fails attempts follows (Err fault.Memory) faults front none = kept old new (none refl)
+  snapshot_fails attempts follows (Err (fault.Remote r)) (inl e) front none = absurd (cc)
+  snapshot_fails attempts follows (Err (fault.Remote r)) (inr e) front none = absurd (cc)
+  snapshot_fails attempts follows (Err fault.Unpublished) (inl e) front none = absurd (cc)
+  snapshot_fails attempts follows (Err fault.Unpublished) (inr e) front none = absurd (cc)
+  snapshot_fails attempts follows (Err fault.Read) (inl e) front none = absurd (cc)
+  snapshot_fails attempts follows (Err fault.Read) (inr e) front none = absurd (cc)
+  snapshot_fails attempts follows (Err fault.Turns) (inl e) front none = absurd (cc)
+  snapshot_fails attempts follows (Err fault.Turns) (inr e) front none = absurd (cc)
+  snapshot_fails attempts follows (Err fault.TooLong) (inl e) front none = absurd (cc)
+  snapshot_fails attempts follows (Err fault.TooLong) (inr e) front none = absurd (cc)
+  snapshot_fails attempts follows (Err (fault.Feed w)) (inl e) front none = absurd (cc)
+  snapshot_fails attempts follows (Err (fault.Feed w)) (inr e) front none = absurd (cc)
+  snapshot_fails attempts follows (Err (fault.Survey w)) (inl e) front none = absurd (cc)
+  snapshot_fails attempts follows (Err (fault.Survey w)) (inr e) front none = absurd (cc)
+  snapshot_fails attempts follows (Err (fault.Play w)) (inl e) front none = absurd (cc)
+  snapshot_fails attempts follows (Err (fault.Play w)) (inr e) front none = absurd (cc)
+
+  -- the snapshot was printed, and an attempt could not be told
+  pub untold : (attempts : List Attempt) → FollowsFirst devices places turns start attempts end → Appends old new (published_text end.mirror.node.published)
+      → (r : Result (Unit {0}) Fault) → IfErr r (λ failed. failed ≡ fault.Write) → IfErr r (λ why. PullFails devices places turns why start end old new)
+  untold attempts follows printed (Ok all) is = tt
+  untold attempts follows printed (Err why) is = subst (λ w. PullFails devices places turns w start end old new) (sym is) (record {
+    ended = outcome_of_pull attempts;
+    has = record { attempts = attempts; follows = follows; came = refl };
+    printed = (published_text end.mirror.node.published, [], sym (append-nil (published_text end.mirror.node.published)), printed);
+  })

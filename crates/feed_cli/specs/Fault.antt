@@ -15,6 +15,8 @@ use Rattle.feed_play.specs.Fault.{is_memory}
 use Rattle.feed_relay.specs.Fault.{is_memory as is_network_memory}
 use Rattle.feed_relay.specs.declared.fault.NetworkFault.{NetworkFault}
 use Rattle.feed_relay.specs.declared.fault.NetworkFault.TheVariants as network
+use Rattle.feed_cli.specs.declared.address.AddressFault.{AddressFault}
+use Rattle.feed_cli.specs.declared.address.AddressFault.TheVariants as address
 use Rattle.feed_cli.specs.declared.fault.RemoteFault.{RemoteFault}
 use Rattle.feed_cli.specs.declared.fault.RemoteFault.TheVariants as remote
 use Rattle.feed_cli.specs.declared.fault.Fault.{Fault}
@@ -43,6 +45,10 @@ abbrev pub fault_of_place : PlaceFault → Fault
 fault_of_place place.Memory = fault.Memory
 fault_of_place why = fault.Remote (remote.Place why)
 
+abbrev pub fault_of_addresses : AddressFault → Fault
+fault_of_addresses address.Memory = fault.Memory
+fault_of_addresses why = fault.Remote (remote.Address why)
+
 abbrev pub fault_of_batches : LineStop → Fault
 fault_of_batches stop.Memory = fault.Memory
 fault_of_batches why = fault.Remote (remote.Batch why)
@@ -65,9 +71,10 @@ abbrev pub status_of_network : NetworkFault → ℕ
 status_of_network (network.Engine why) = status_of_engine why
 status_of_network why = 4
 
--- 1 for a server that can't be named so, 2 for a faulty input or response, 4 for a device's fault
+-- 1 for servers that can't be named so, 2 for a faulty input or response, 4 for a device's fault
 abbrev pub status_of_remote : RemoteFault → ℕ
 status_of_remote (remote.Place why) = 1
+status_of_remote (remote.Address why) = 1
 status_of_remote (remote.Batch why) = 2
 status_of_remote (remote.Commit why) = 2
 status_of_remote (remote.Network why) = status_of_network why

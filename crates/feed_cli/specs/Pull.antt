@@ -1,20 +1,24 @@
 -- What the command `pull` starts from, follows and prints.
-use Rattle.std.specs.Prelude.{◌≡◌, ℕ, Bool, true, false, List, ◌++◌, Option, None, Result, Ok, Err}
-use Rattle.std.specs.Prelude.{codes, decimal, is_some}
+use Rattle.std.specs.Prelude.{◌≡◌, ◌⊎◌, ℕ, Bool, true, false, List, [], ◌∷◌, ◌++◌, map, Option, Some, None, Result, Ok, Err}
+use Rattle.std.specs.Prelude.{codes, decimal, Contains, IsSomeAnd, option_map, unwrap_or}
+use Rattle.std.specs.Borrow.{Bor}
 use Rattle.std.specs.Io.KnownBytes.{Appends, Keeps}
 use Rattle.feed_note.specs.Texts.{published_text}
 use Rattle.feed_node.specs.Limits.{Limits}
 use Rattle.feed_node.specs.Mirroring.{MirrorState, IsRestored, FailsToRestore, new_mirror}
 use Rattle.feed_answer.specs.Place.{Place, RefusesPlace, place_of}
+use Rattle.feed_answer.specs.declared.place.PlaceFault.{PlaceFault}
 use Rattle.feed_follow.specs.declared.fault.FollowFault.TheVariants.{BadHead}
 use Rattle.feed_http.specs.Device.{AppendsFront}
 use Rattle.feed_http.specs.declared.fault.EngineFault.TheVariants.{Follow}
-use Rattle.feed_http.specs.declared.fault.Followed.{Followed}
 use Rattle.feed_http.specs.declared.fault.Followed.TheVariants as followed
 use Rattle.feed_relay.specs.Exchange.{Devices}
-use Rattle.feed_relay.specs.Pulling.{Pulls}
-use Rattle.feed_relay.specs.declared.fault.NetworkFault.{NetworkFault}
-use Rattle.feed_relay.specs.declared.fault.NetworkFault.TheVariants.{Engine}
+use Rattle.feed_relay.specs.First.{Position, FollowsFirst, last_outcome}
+use Rattle.feed_relay.specs.declared.fault.NetworkFault.TheVariants.{Connect, Engine}
+use Rattle.feed_relay.specs.declared.first.Attempt.{Attempt}
+use Rattle.feed_relay.specs.declared.first.AttemptEnd.{AttemptEnd}
+use Rattle.feed_relay.specs.declared.first.AttemptEnd.TheVariants.{NoLink, Followed, Failed}
+use Rattle.feed_cli.specs.Addresses.{IsListOf, RefusesList}
 use Rattle.feed_cli.specs.Check.{IsWhole, InputTooLong}
 use Rattle.feed_cli.specs.Fault.{fault_of_network}
 use Rattle.feed_cli.specs.declared.fault.Fault.{Fault}
@@ -22,23 +26,64 @@ use Rattle.feed_cli.specs.declared.fault.Fault.TheVariants as fault
 use Rattle.feed_cli.specs.declared.fault.RemoteFault.TheVariants as remote
 use Rattle.feed_cli.specs.declared.words.PullOptions.{PullOptions}
 
--- ---- what it starts from
+-- ---- what it asks, and starts from
 
--- the server's host, with its port
+-- a server's host, with its port
+abbrev pub server_text : List ℕ × ℕ → List ℕ
+server_text address = address.0 ++ codes ":" ++ decimal address.1
+
+-- that of the first server
 abbrev pub host_text : PullOptions → List ℕ
 host_text options = options.host.now ++ codes ":" ++ decimal options.port
 
--- the place that is asked
-abbrev pub IsPlaceOf : PullOptions → Place → Type 0
-IsPlaceOf options place =
-    place_of (host_text options) options.base.now options.contest.now ≡ Ok place
+-- the place that is asked for the feed at this address
+abbrev pub place_at : PullOptions → List ℕ × ℕ → Result Place PlaceFault
+place_at options address = place_of (server_text address) options.base.now options.contest.now
 
 -- why there is none
-abbrev pub HasNoPlace : PullOptions → Fault → Type 0
-HasNoPlace options fault.Memory = Unit {0}
-HasNoPlace options (fault.Remote (remote.Place why)) =
-    RefusesPlace (host_text options) options.base.now options.contest.now why
-HasNoPlace options why = ⊥
+abbrev pub RefusesServer : PullOptions → List ℕ × ℕ → Fault → Type 0
+RefusesServer options address fault.Memory = Unit {0}
+RefusesServer options address (fault.Remote (remote.Place why)) =
+    RefusesPlace (server_text address) options.base.now options.contest.now why
+RefusesServer options address why = ⊥
+
+-- the first address
+abbrev pub first_address : PullOptions → List ℕ × ℕ
+first_address options = (options.host.now, options.port)
+
+-- the addresses behind it
+abbrev pub AreFurther : Option (Bor (List ℕ)) → List (List ℕ × ℕ) → Type 0
+AreFurther None further = further ≡ []
+AreFurther (Some text) further = IsListOf text.now further
+
+-- why there are none
+abbrev pub RefusesFurther : Option (Bor (List ℕ)) → Fault → Type 0
+RefusesFurther from fault.Memory = Unit {0}
+RefusesFurther from (fault.Remote (remote.Address why)) =
+    IsSomeAnd from (λ text. RefusesList text.now why)
+RefusesFurther from why = ⊥
+
+-- the servers at these further addresses are asked, too, and these are the places of all of them
+pub record AreServers (options : PullOptions) (further : List (List ℕ × ℕ)) (places : List Place)
+    : Type 0 where
+  pub listed : AreFurther options.from further
+  pub asked : map (λ place. Ok place) places
+      ≡ map (place_at options) (first_address options ∷ further)
+
+-- one of these addresses is refused
+abbrev pub RefusesOneOf : PullOptions → List (List ℕ × ℕ) → Fault → Type 0
+RefusesOneOf options addresses why =
+    (address : List ℕ × ℕ) × Contains addresses address × RefusesServer options address why
+
+-- why there are no such servers: the first address is refused; or it is not, but the list of the
+-- further ones, or one of those
+abbrev pub HasNoServers : PullOptions → Fault → Type 0
+HasNoServers options why =
+    RefusesServer options (first_address options) why
+    ⊎ ((place : Place) × (place_at options (first_address options) ≡ Ok place)
+    × (RefusesFurther options.from why
+    ⊎ ((further : List (List ℕ × ℕ)) × AreFurther options.from further
+    × RefusesOneOf options further why)))
 
 -- the mirror is new; or, where it resumes, the whole input was read, and restores it
 abbrev pub StartsFrom : Bool → Limits → Option (List ℕ) → Option (List ℕ) → MirrorState → Type 0
@@ -58,43 +103,50 @@ FailsToStart limits why old new = ⊥
 
 -- ---- what is printed
 
--- what a pull came to: a response that ended in its head is a fault
-abbrev pub outcome_of_pull : Result Followed NetworkFault → Result (Unit {0}) Fault
-outcome_of_pull (Ok followed.Early) = Err (fault_of_network (Engine (Follow BadHead)))
-outcome_of_pull (Ok other) = Ok tt
-outcome_of_pull (Err why) = Err (fault_of_network why)
+-- what an attempt came to: that there was no connection, and a response that ended in its head, are
+-- faults, too
+abbrev pub outcome_of_attempt : AttemptEnd → Result (Unit {0}) Fault
+outcome_of_attempt NoLink = Err (fault_of_network Connect)
+outcome_of_attempt (Followed followed.Early) = Err (fault_of_network (Engine (Follow BadHead)))
+outcome_of_attempt (Followed other) = Ok tt
+outcome_of_attempt (Failed why) = Err (fault_of_network (Engine why))
+
+-- what a pull came to: what its last attempt did
+abbrev pub outcome_of_pull : List Attempt → Result (Unit {0}) Fault
+outcome_of_pull attempts =
+    unwrap_or (option_map outcome_of_attempt (last_outcome attempts)) (Ok tt)
 
 module _ {R W : Type 0} where
-  -- what was pulled, that it came to this, and what the mirror is then
-  pub record HasPulled (devices : Devices R W) (place : Place) (turns : ℕ) (start : MirrorState)
-      (ended : Result (Unit {0}) Fault) (mirror : MirrorState) : Type 0 where
-    pub pulled : Result Followed NetworkFault
-    pub pulls : Pulls devices place turns start pulled mirror
-    pub came : outcome_of_pull pulled ≡ ended
+  -- which places were asked, what that came to, and what the mirror is then
+  pub record HasPulled (devices : Devices R W) (places : List Place) (turns : ℕ) (start : Position)
+      (ended : Result (Unit {0}) Fault) (end : Position) : Type 0 where
+    pub attempts : List Attempt
+    pub follows : FollowsFirst devices places turns start attempts end
+    pub came : outcome_of_pull attempts ≡ ended
 
   -- the same, and the snapshot of what the mirror shows was printed
-  pub record PrintedPulled (devices : Devices R W) (place : Place) (turns : ℕ) (start : MirrorState)
-      (ended : Result (Unit {0}) Fault) (mirror : MirrorState) (old new : Option (List ℕ)) : Type 0
-    where
-      pub has : HasPulled devices place turns start ended mirror
-      pub printed : Appends old new (published_text mirror.node.published)
+  pub record PrintedPulled (devices : Devices R W) (places : List Place) (turns : ℕ)
+      (start : Position) (ended : Result (Unit {0}) Fault) (end : Position)
+      (old new : Option (List ℕ)) : Type 0 where
+    pub has : HasPulled devices places turns start ended end
+    pub printed : Appends old new (published_text end.mirror.node.published)
 
   -- the same, and a front of the snapshot was printed
-  pub record PrintedFrontPulled (devices : Devices R W) (place : Place) (turns : ℕ)
-      (start mirror : MirrorState) (old new : Option (List ℕ)) : Type 0 where
+  pub record PrintedFrontPulled (devices : Devices R W) (places : List Place) (turns : ℕ)
+      (start end : Position) (old new : Option (List ℕ)) : Type 0 where
     pub ended : Result (Unit {0}) Fault
-    pub has : HasPulled devices place turns start ended mirror
-    pub printed : AppendsFront old new (published_text mirror.node.published)
+    pub has : HasPulled devices places turns start ended end
+    pub printed : AppendsFront old new (published_text end.mirror.node.published)
 
   -- what was pulled and printed where the command fails
-  abbrev pub PullFails : Devices R W → Place → ℕ → Fault → MirrorState → MirrorState
+  abbrev pub PullFails : Devices R W → List Place → ℕ → Fault → Position → Position
       → Option (List ℕ) → Option (List ℕ) → Type 0
-  PullFails devices place turns fault.Memory start mirror old new = Keeps old new
-  PullFails devices place turns fault.Write start mirror old new =
-      PrintedFrontPulled devices place turns start mirror old new
-  PullFails devices place turns fault.Unpublished start mirror old new =
-      PrintedPulled devices place turns start (Ok tt) mirror old new
-      × (mirror.node.published ≡ None)
-  PullFails devices place turns (fault.Remote why) start mirror old new =
-      PrintedPulled devices place turns start (Err (fault.Remote why)) mirror old new
-  PullFails devices place turns why start mirror old new = ⊥
+  PullFails devices places turns fault.Memory start end old new = Keeps old new
+  PullFails devices places turns fault.Write start end old new =
+      PrintedFrontPulled devices places turns start end old new
+  PullFails devices places turns fault.Unpublished start end old new =
+      PrintedPulled devices places turns start (Ok tt) end old new
+      × (end.mirror.node.published ≡ None)
+  PullFails devices places turns (fault.Remote why) start end old new =
+      PrintedPulled devices places turns start (Err (fault.Remote why)) end old new
+  PullFails devices places turns why start end old new = ⊥

@@ -92,6 +92,9 @@ back = with_default (codes "0") (number_between (codes "back") 0 most_commits)
 abbrev pub host : Rule
 host = needed (text_option (codes "host"))
 
+abbrev pub from : Rule
+from = text_option (codes "from")
+
 abbrev pub base : Rule
 base = with_default [] (text_option (codes "base"))
 
@@ -107,7 +110,7 @@ with_limits command = with_rule (with_rule command history) staged
 
 -- a command with the options that say what is followed
 abbrev pub with_place : App → App
-with_place command = with_rule (with_rule (with_rule command host) port) contest
+with_place command = with_rule (with_rule (with_rule (with_rule command host) port) from) contest
 
 -- a command with the options of `pull`
 abbrev pub with_pull : App → App
@@ -218,6 +221,7 @@ pub record AsksServe (rows : List Row) (options : ServeOptions) : Type 0 where
 pub record AsksPull (rows : List Row) (options : PullOptions) : Type 0 where
   pub host_is : text_at (codes "host") rows ≡ Some options.host.now
   pub port_is : IsNumber (codes "port") most_port rows options.port
+  pub from_is : text_at (codes "from") rows ≡ option_map (λ text. text.now) options.from
   pub base_is : text_at (codes "base") rows ≡ Some options.base.now
   pub contest_is : text_at (codes "contest") rows ≡ Some options.contest.now
   pub turns_are : IsNumber (codes "turns") most_rounds rows options.turns

@@ -1,6 +1,7 @@
 //! Why a command fails: the texts that tell it, and the statuses that it ends with.
 ghost use Rattle.std.specs.Prelude.{◌≡◌};
 
+use crate::address::AddressFault;
 use crate::input::InputFault;
 use feed_http::{EngineFault, PlaceFault};
 use feed_node::{CommitFault, FeedFault};
@@ -60,6 +61,9 @@ pub enum RemoteFault {
     /// The server that is to be followed can't be named like this.
     #[error("{0}")]
     Place(PlaceFault),
+    /// The further servers that are to be followed can't be addressed like this.
+    #[error("{0}")]
+    Address(AddressFault),
     /// A line of the input can't be read.
     #[error("{0}")]
     Batch(LineStop),
@@ -79,7 +83,7 @@ impl RemoteFault {
         ensures { result ≡ status_of_remote self }
     {
         match self {
-            RemoteFault::Place(_) => 1,
+            RemoteFault::Place(_) | RemoteFault::Address(_) => 1,
             RemoteFault::Batch(_) | RemoteFault::Commit(_) => 2,
             RemoteFault::Network(NetworkFault::Engine(fault)) => match fault {
                 EngineFault::Commit(_) | EngineFault::Follow(_) => 2,
@@ -106,7 +110,7 @@ impl RemoteFault {
 
 impl Fault {
     ghost use Rattle.feed_cli.specs.Fault.{status_of, fault_of_input, fault_of_feed, fault_of_survey};
-    ghost use Rattle.feed_cli.specs.Fault.{fault_of_place, fault_of_batches, fault_of_commit, fault_of_network, is_one_connections};
+    ghost use Rattle.feed_cli.specs.Fault.{fault_of_place, fault_of_addresses, fault_of_batches, fault_of_commit, fault_of_network, is_one_connections};
 
     /// The status that a program with this fault ends with.
     pub fn status(self) -> u8
@@ -170,6 +174,16 @@ impl Fault {
         match fault {
             PlaceFault::Memory => Fault::Memory,
             _ => Fault::Remote(RemoteFault::Place(fault)),
+        }
+    }
+
+    /// The fault of a command whose further servers can't be addressed like this.
+    pub fn of_addresses(fault: AddressFault) -> Fault
+        ensures { result ≡ fault_of_addresses fault }
+    {
+        match fault {
+            AddressFault::Memory => Fault::Memory,
+            _ => Fault::Remote(RemoteFault::Address(fault)),
         }
     }
 

@@ -1,6 +1,7 @@
 //! The commands, over devices.
 #![tactic(auto)]
 
+mod address;
 mod commands;
 mod fault;
 mod input;
@@ -9,7 +10,8 @@ mod snapshot;
 mod telling;
 mod words;
 
-pub use commands::pull::{place_of, print_pulled, pull_outcome, start_mirror};
+pub use address::{AddressFault, addresses};
+pub use commands::pull::{Servers, print_pulled, pull_outcome, servers_of, start_mirror};
 pub use commands::relay::print_relayed;
 pub use commands::serve::{Source, serve_all, start_source};
 pub use commands::{perform, run};

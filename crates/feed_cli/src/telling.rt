@@ -2,8 +2,10 @@
 ghost use Rattle.std.specs.Prelude.{◌≡◌, IfErr};
 ghost use Rattle.feed_cli.specs.Fault.{IsToldStatus};
 
+use crate::commands::pull::attempt_outcome;
 use crate::fault::{Fault, FeedStop};
 use feed_http::device::{FeedWrite, write_all};
+use feed_relay::Attempt;
 use std::fmt;
 use std::fmt::Write;
 
@@ -92,9 +94,27 @@ impl<'a, E: FeedWrite> Teller<'a, E> {
         }
     }
 
+    /// Tells why these attempts failed.
+    pub(crate) fn tell_attempts(&mut self, attempts: &[Attempt]) {
+        for attempt in attempts {
+            if let Err(fault) = attempt_outcome(attempt.outcome) {
+                self.tell(fault);
+            }
+        }
+    }
+
+    /// The same of all but the last one.
+    pub(crate) fn tell_earlier(&mut self, attempts: &[Attempt]) {
+        if let Some((_, earlier)) = attempts.split_last() {
+            self.tell_attempts(earlier);
+        }
+    }
+
     /// What the command comes to that has gone on to its end: a device's fault where something could
     /// not be told.
-    pub(crate) fn outcome(&self) -> Result<(), Fault> {
+    pub(crate) fn outcome(&self) -> Result<(), Fault>
+        ensures { IfErr result (λ failed. failed ≡ Fault.Write) }
+    {
         if self.failed {
             Err(Fault::Write)
         } else {

@@ -53,6 +53,8 @@ pub struct PullOptions<'a> {
     pub host: &'a str,
     /// The server's port, 1 to 65,535.
     pub port: u16,
+    /// The addresses of further servers, which are asked where those before fail. Any text will do.
+    pub from: Option<&'a str>,
     /// What stands before `/contests` in the path of the feed.
     pub base: &'a str,
     /// The contest whose feed is followed.

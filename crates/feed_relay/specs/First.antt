@@ -1,5 +1,6 @@
 -- How the first of several places that serves is found, and followed.
-use Rattle.std.specs.Prelude.{◌≡◌, ◌≢◌, ◌⊎◌, ℕ, Bool, true, false, List, [], ◌∷◌, ◌++◌, length, Ok, Err}
+use Rattle.std.specs.Prelude.{◌≡◌, ◌≢◌, ◌⊎◌, ℕ, ◌-◌, Bool, true, false, List, [], ◌∷◌, ◌++◌, length, Ok, Err}
+use Rattle.std.specs.Prelude.{Option, option_map, slice_get, unwrap_or}
 use Rattle.feed_node.specs.Mirroring.{MirrorState}
 use Rattle.feed_answer.specs.Place.{Place}
 use Rattle.feed_http.specs.declared.fault.Followed.TheVariants as followed
@@ -19,12 +20,25 @@ pub record Position : Type 0 where
 abbrev pub position : MirrorState → ℕ → Position
 position mirror misses = record { mirror = mirror; misses = misses }
 
+-- memory ran out
+abbrev pub is_want_of_memory : AttemptEnd → Bool
+is_want_of_memory (Failed fault) = is_engine_memory fault
+is_want_of_memory _ = false
+
+-- what the last of these attempts came to
+abbrev pub last_outcome : List Attempt → Option AttemptEnd
+last_outcome attempts =
+    option_map (λ attempt. attempt.outcome) (slice_get attempts (length attempts - 1))
+
+-- memory ran out at the last of these attempts
+abbrev pub ran_out : List Attempt → Bool
+ran_out attempts = unwrap_or (option_map is_want_of_memory (last_outcome attempts)) false
+
 -- no further place is asked behind this: a feed was followed to its end, or memory ran out
 abbrev pub is_last : AttemptEnd → Bool
 is_last (Followed followed.Ended) = true
 is_last (Followed followed.Done) = true
-is_last (Failed fault) = is_engine_memory fault
-is_last _ = false
+is_last other = is_want_of_memory other
 
 abbrev pub attempt_at : ℕ → AttemptEnd → Attempt
 attempt_at place outcome = record { place = place; outcome = outcome }

@@ -1,5 +1,5 @@
 -- How a mirror pulls what it lacks from a server (CLICS Contest API 2023-06, reconnection).
-use Rattle.std.specs.Prelude.{◌≡◌, ◌≢◌, ◌⊎◌, ℕ, List, Result, Ok, Err}
+use Rattle.std.specs.Prelude.{◌≡◌, ◌≢◌, ℕ, List, Result, Ok, Err}
 use Rattle.std.specs.Io.KnownBytes.{Appends}
 use Rattle.feed_node.specs.Mirroring.{MirrorState}
 use Rattle.feed_follow.specs.declared.fault.FollowFault.TheVariants.{Closed}
@@ -9,11 +9,8 @@ use Rattle.feed_answer.specs.RequestText.{request_text}
 use Rattle.feed_http.specs.declared.fault.EngineFault.{EngineFault}
 use Rattle.feed_http.specs.declared.fault.EngineFault.TheVariants.{Read, Write, Turns, Commit, Follow, Memory}
 use Rattle.feed_http.specs.declared.fault.Followed.{Followed}
-use Rattle.feed_http.specs.declared.fault.Followed.TheVariants.{TokenRefused}
 use Rattle.feed_http.specs.Device.{HasFailed, AppendsFront, RoseBy, RoseAtMost}
 use Rattle.feed_http.specs.Following.{EndsAs, WasFollowed, BrokeOff, MetFault}
-use Rattle.feed_relay.specs.declared.fault.NetworkFault.{NetworkFault}
-use Rattle.feed_relay.specs.declared.fault.NetworkFault.TheVariants.{Connect, Bind, Accept, Engine}
 use Rattle.feed_relay.specs.Exchange.{Exchange, Devices, exchange}
 
 -- ---- on one connection
@@ -56,7 +53,7 @@ pub record PullsOnce (place : Place) (turns : ℕ) (spoken : Exchange) (start : 
   pub came : IsFollowed turns spoken start pulled mirror
   pub reads : RoseAtMost spoken.reads_old spoken.reads_new turns
 
--- ---- on dialed connections
+-- ---- on some connection
 
 module _ {R W : Type 0} where
   -- what comes of it on some connection, on which no more is sent or read then
@@ -65,22 +62,3 @@ module _ {R W : Type 0} where
   Speaks devices place turns start pulled mirror =
       (reader : R) × (left : R) × (writer : W) × (written : W)
       × PullsOnce place turns (exchange devices reader left writer written) start pulled mirror
-
-  -- a connection is dialed, and that comes of it; where there is none, the mirror is what it was
-  abbrev pub Tries : Devices R W → Place → ℕ → MirrorState → Result Followed NetworkFault
-      → MirrorState → Type 0
-  Tries devices place turns start (Ok followed) mirror =
-      Speaks devices place turns start (Ok followed) mirror
-  Tries devices place turns start (Err (Engine fault)) mirror =
-      Speaks devices place turns start (Err fault) mirror
-  Tries devices place turns start (Err Connect) mirror = mirror ≡ start
-  Tries devices place turns start (Err Bind) mirror = ⊥
-  Tries devices place turns start (Err Accept) mirror = ⊥
-
-  -- a pull is one try, or, where the token was refused, another one
-  abbrev pub Pulls : Devices R W → Place → ℕ → MirrorState → Result Followed NetworkFault
-      → MirrorState → Type 0
-  Pulls devices place turns start pulled mirror =
-      Tries devices place turns start pulled mirror
-      ⊎ ((refused : MirrorState) × Tries devices place turns start (Ok TokenRefused) refused
-      × Tries devices place turns refused pulled mirror)

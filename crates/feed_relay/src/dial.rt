@@ -2,8 +2,8 @@
 ghost use Rattle.std.specs.Prelude.{◌≡◌, ℕ};
 ghost use Rattle.feed_relay.specs.Dialing.{misses_after};
 
-use crate::fault::NetworkFault;
-use feed_http::{FeedRead, FeedWrite, Followed};
+use crate::first::Attempt;
+use feed_http::{FeedRead, FeedWrite};
 
 /// What opens connections to servers.
 pub trait Dial {
@@ -32,10 +32,7 @@ pub trait Accept {
     // How many calls accepted none. The count stays at `u64::MAX`.
     ghost misses: { Self → ℕ };
 
-    /// Waits for the next follower. What the pull before that came to is there to be told first.
-    fn accept(
-        &mut self,
-        pulled: &Result<Followed, NetworkFault>,
-    ) -> Option<(Self::Reader, Self::Writer)>
+    /// Waits for the next follower. The attempts to pull before that are there to be told first.
+    fn accept(&mut self, attempts: &[Attempt]) -> Option<(Self::Reader, Self::Writer)>
         ensures misses { misses self.new ≡ misses_after (misses self.old) result };
 }

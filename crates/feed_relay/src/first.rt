@@ -3,7 +3,8 @@ ghost use Rattle.std.specs.Prelude.{◌≡◌, ◌≢◌, ◌+◌, ◌≤◌, �
 ghost use Rattle.std.specs.Vec.{vec_capacity};
 ghost use Rattle.feed_relay.specs.declared.first.Attempt.{Attempt as Tried};
 ghost use Rattle.feed_relay.specs.Exchange.{devices_of};
-ghost use Rattle.feed_relay.specs.First.{position, is_last, Attempts, AsksPlace};
+ghost use Rattle.feed_relay.specs.First.{position, is_last, is_want_of_memory, ran_out};
+ghost use Rattle.feed_relay.specs.First.{Attempts, AsksPlace};
 ghost use Rattle.feed_relay.specs.First.{FollowsFirst};
 
 use crate::dial::Dial;
@@ -34,15 +35,34 @@ pub struct Attempt {
 }
 
 impl AttemptEnd {
+    /// Whether memory ran out.
+    fn is_want_of_memory(self) -> bool
+        ensures { result ≡ is_want_of_memory self }
+    {
+        match self {
+            AttemptEnd::Failed(fault) => NetworkFault::Engine(fault).is_want_of_memory(),
+            _ => false,
+        }
+    }
+
     /// Whether no further place is asked then: a feed was followed to its end, or memory ran out.
     pub fn is_last(self) -> bool
         ensures { result ≡ is_last self }
     {
         match self {
             AttemptEnd::Followed(Followed::Ended | Followed::Done) => true,
-            AttemptEnd::Failed(fault) => NetworkFault::Engine(fault).is_want_of_memory(),
-            _ => false,
+            other => other.is_want_of_memory(),
         }
+    }
+}
+
+/// Whether memory ran out at the last of these attempts.
+pub(crate) fn has_run_out(attempts: &[Attempt]) -> bool
+    ensures { result ≡ ran_out attempts.now }
+{
+    match attempts.last() {
+        Some(attempt) => attempt.outcome.is_want_of_memory(),
+        None => false,
     }
 }
 

@@ -12,5 +12,5 @@ pub use commits::{commit_all, feed_batches};
 pub use dial::{Accept, Dial};
 pub use fault::NetworkFault;
 pub use first::{Attempt, AttemptEnd, follow_first};
-pub use pulling::{pull, pull_once};
+pub use pulling::pull_once;
 pub use round::{ENGINE_TURNS, Round, relay_round};

@@ -1,28 +1,27 @@
 //! One round of a relay.
-ghost use Rattle.std.specs.Prelude.{◌≡◌, true, false, Err, IfErr, IsErrOf};
+ghost use Rattle.std.specs.Prelude.{◌≡◌, not, None, is_some, IfOk, IfSome, OnErr, IsErrOf};
 ghost use Rattle.feed_http.specs.Device.{HasFailed};
 ghost use Rattle.feed_relay.specs.Exchange.{devices_of, exchange};
-ghost use Rattle.feed_relay.specs.Fault.{is_memory};
-ghost use Rattle.feed_relay.specs.Pulling.{Pulls};
+ghost use Rattle.feed_relay.specs.First.{position, ran_out, FollowsFirst};
 ghost use Rattle.feed_relay.specs.Round.{ServesOnce, ServesNext};
 
 use crate::dial::{Accept, Dial};
 use crate::fault::NetworkFault;
-use crate::pulling::pull;
-use feed_http::{EngineFault, FeedRead, FeedWrite, Followed, Framing, Place, Served, serve_node};
+use crate::first::{Attempt, follow_first, has_run_out};
+use feed_http::{EngineFault, FeedRead, FeedWrite, Framing, Place, Served, serve_node};
 use feed_node::{Mirror, Node};
-use std::alloc::Global;
+use std::alloc::{AllocError, Global};
 
 /// The most reads of the head of a request.
 pub const ENGINE_TURNS: u64 = 1_000_000;
 
 /// What one round of a relay came to.
-#[derive(Clone, Copy, Debug, PartialEq, Eq)]
+#[derive(Drop)]
 pub struct Round {
-    /// What was pulled.
-    pub pulled: Result<Followed, NetworkFault>,
-    /// What was served then.
-    pub served: Result<Served, NetworkFault>,
+    /// The attempts to follow a place, in order.
+    pub attempts: Vec<Attempt>,
+    /// What was served then; none where memory ran out before.
+    pub served: Option<Result<Served, NetworkFault>>,
 }
 
 /// Serves a node on one connection, from the token that is asked with on.
@@ -55,7 +54,7 @@ fn serve_once<R: FeedRead, W: FeedWrite>(
 fn serve_next<A: Accept>(
     alloc: Global,
     downstream: &mut A,
-    pulled: &Result<Followed, NetworkFault>,
+    attempts: &[Attempt],
     node: &Node,
     contest: &str,
     framing: Framing,
@@ -66,7 +65,7 @@ fn serve_next<A: Accept>(
     ensures accept { IsErrOf result NetworkFault.Accept → HasFailed (A.misses downstream.old)
         (A.misses downstream.new) }
 {
-    let Some((reader, writer)) = downstream.accept(pulled) else {
+    let Some((reader, writer)) = downstream.accept(attempts) else {
         return Err(NetworkFault::Accept);
     };
     let mut reader = reader;
@@ -77,36 +76,51 @@ fn serve_next<A: Accept>(
     }
 }
 
-/// Pulls what a mirror lacks, as [`pull`](crate::pull) does, and then, whatever that came to but
-/// want of memory, serves the mirror's node on the next connection, as
-/// [`serve_node`](feed_http::serve_node) does, in at most 1,000,000 reads. After a pull that ran
-/// out of memory nobody is accepted, and that is what serving came to, too.
+/// Follows the first of these places that serves, as [`follow_first`] does, and then, whatever that
+/// came to but want of memory, serves the mirror's node on the next connection, as
+/// [`serve_node`](feed_http::serve_node) does, in at most 1,000,000 reads. After an attempt that ran
+/// out of memory nobody is accepted. Where there is no room for the attempts, nobody is asked or
+/// accepted.
 pub fn relay_round<D: Dial, A: Accept>(
     alloc: Global,
     upstream: &mut D,
-    place: &Place,
+    places: &[Place],
     mirror: &mut Mirror,
     turns: u64,
     downstream: &mut A,
     contest: &str,
     framing: Framing,
-) -> Round
-    ensures pulled { let devices = devices_of D.Reader.remaining D.Reader.reads D.Reader.failures
-        D.Writer.contents D.Writer.failures in
-        Pulls devices place.now turns mirror.old result.pulled mirror.new }
+) -> Result<Round, AllocError>
+    ensures followed { let devices = devices_of D.Reader.remaining D.Reader.reads
+        D.Reader.failures D.Writer.contents D.Writer.failures in
+        IfOk result (λ round. FollowsFirst devices places.now turns
+        (position mirror.old (D.misses upstream.old)) round.attempts.items
+        (position mirror.new (D.misses upstream.new))) }
     ensures served { let devices = devices_of A.Reader.remaining A.Reader.reads A.Reader.failures
         A.Writer.contents A.Writer.failures in
-        IfErr result.pulled (λ fault. is_memory fault ≡ false)
-        → ServesNext devices contest.now mirror.new.node framing ENGINE_TURNS result.served }
-    ensures accept { IsErrOf result.served NetworkFault.Accept
-        → HasFailed (A.misses downstream.old) (A.misses downstream.new) }
-    ensures memory { IfErr result.pulled (λ fault. is_memory fault ≡ true
-        → (result.served ≡ Err fault) × (downstream.new ≡ downstream.old)) }
+        IfOk result (λ round. IfSome round.served
+        (ServesNext devices contest.now mirror.new.node framing ENGINE_TURNS)) }
+    ensures accept { IfOk result (λ round. IfSome round.served
+        (λ served. IsErrOf served NetworkFault.Accept
+        → HasFailed (A.misses downstream.old) (A.misses downstream.new))) }
+    ensures memory { IfOk result (λ round. is_some round.served ≡ not (ran_out round.attempts.items)) }
+    ensures unserved { IfOk result (λ round. round.served ≡ None
+        → downstream.new ≡ downstream.old) }
+    ensures untried { OnErr result ((mirror.new ≡ mirror.old) × (upstream.new ≡ upstream.old)
+        × (downstream.new ≡ downstream.old)) }
 {
-    let pulled = pull(alloc, upstream, place, mirror, turns);
-    let served = match pulled {
-        Err(fault) if fault.is_want_of_memory() => Err(fault),
-        _ => serve_next(alloc, downstream, &pulled, mirror.node(), contest, framing),
+    let attempts = follow_first(alloc, upstream, places, mirror, turns)?;
+    let served = if has_run_out(&attempts) {
+        None
+    } else {
+        Some(serve_next(
+            alloc,
+            downstream,
+            &attempts,
+            mirror.node(),
+            contest,
+            framing,
+        ))
     };
-    Round { pulled, served }
+    Ok(Round { attempts, served })
 }

@@ -1,8 +1,8 @@
 //! Connections over memory.
 
 use feed_http::device::Failed;
-use feed_http::{FeedRead, FeedWrite, Followed, MemReader, MemWriter};
-use feed_relay::{Accept, Dial, NetworkFault};
+use feed_http::{FeedRead, FeedWrite, MemReader, MemWriter};
+use feed_relay::{Accept, Attempt, AttemptEnd, Dial};
 use std::alloc::Global;
 use std::collections::VecDeque;
 
@@ -59,20 +59,24 @@ impl FeedWrite for Lent<'_> {
     }
 }
 
-/// What a follower is told. A function of its own, so that no other proof goes through each fault.
-fn note(
-    told: &mut Option<Result<Followed, NetworkFault>>,
-    pulled: &Result<Followed, NetworkFault>,
-) {
-    *told = Some(*pulled);
+/// What a follower is told: what the last attempt came to. A function of its own, so that no other
+/// proof goes through each fault.
+fn note(told: &mut Option<AttemptEnd>, attempts: &[Attempt]) {
+    *told = last_of(attempts);
+}
+
+/// What the last of these attempts came to.
+pub(crate) fn last_of(attempts: &[Attempt]) -> Option<AttemptEnd> {
+    let last = attempts.last()?;
+    Some(last.outcome)
 }
 
 /// One follower, at most.
 #[derive(Drop)]
 pub(crate) struct Follower<'a> {
     conn: Option<(MemReader, Lent<'a>)>,
-    /// What was pulled before it came.
-    pub(crate) told: Option<Result<Followed, NetworkFault>>,
+    /// What was tried last before it came.
+    pub(crate) told: Option<AttemptEnd>,
     misses: u64,
 }
 
@@ -94,8 +98,8 @@ impl<'a> Accept for Follower<'a> {
 
     ghost misses = { λ f. f.misses };
 
-    fn accept(&mut self, pulled: &Result<Followed, NetworkFault>) -> Option<(MemReader, Lent<'a>)> {
-        note(&mut self.told, pulled);
+    fn accept(&mut self, attempts: &[Attempt]) -> Option<(MemReader, Lent<'a>)> {
+        note(&mut self.told, attempts);
         let conn = self.conn.take();
         if conn.is_none() {
             self.misses = self.misses.saturating_add(1);

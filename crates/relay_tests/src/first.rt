@@ -1,8 +1,10 @@
 //! Following the first of several places that serves.
 
-use crate::nodes::{CLOSE_TEXT, NOT_HELD, NOTHING_PUBLISHED, empty_mirror, finals, is_at, mirror_at_x};
+use crate::nodes::{
+    CLOSE_TEXT, NOT_HELD, NOTHING_PUBLISHED, are_made, empty_mirror, is_at, mirror_at_x, places,
+};
 use feed_http::{EngineFault, FollowFault, Followed, MemReader, MemWriter};
-use feed_relay::{Attempt, AttemptEnd, Dial, follow_first};
+use feed_relay::{AttemptEnd, Dial, follow_first};
 use std::alloc::Global;
 
 /// What the places answer: the number of a place, and the response of one connection to it.
@@ -62,11 +64,9 @@ const EARLY: AttemptEnd = AttemptEnd::Followed(Followed::Early);
 
 const REFUSED: AttemptEnd = AttemptEnd::Followed(Followed::TokenRefused);
 
-const STATUS_400: AttemptEnd =
-    AttemptEnd::Failed(EngineFault::Follow(FollowFault::Status(400)));
+const STATUS_400: AttemptEnd = AttemptEnd::Failed(EngineFault::Follow(FollowFault::Status(400)));
 
-const STATUS_503: AttemptEnd =
-    AttemptEnd::Failed(EngineFault::Follow(FollowFault::Status(503)));
+const STATUS_503: AttemptEnd = AttemptEnd::Failed(EngineFault::Follow(FollowFault::Status(503)));
 
 const CASES: &[Case] = &[
     Case(
@@ -126,24 +126,8 @@ const CASES: &[Case] = &[
     Case(0, "x", &[(0, CLOSE_TEXT)], &[], "x", 0),
 ];
 
-/// Whether these attempts were told.
-fn are_told(attempts: &[Attempt], told: &[(usize, AttemptEnd)]) -> bool {
-    if attempts.len() != told.len() {
-        return false;
-    }
-    for (attempt, (place, outcome)) in attempts.iter().zip(told) {
-        if attempt.place != *place || attempt.outcome != *outcome {
-            return false;
-        }
-    }
-    true
-}
-
 fn comes_to(alloc: Global, case: &Case) -> Option<bool> {
-    let mut places = Vec::new(alloc);
-    for _ in 0..case.0 {
-        places.push(finals(alloc)?).ok()?;
-    }
+    let places = places(alloc, case.0)?;
     let mut mirror = if case.1 == "x" {
         mirror_at_x(alloc)?
     } else {
@@ -156,8 +140,8 @@ fn comes_to(alloc: Global, case: &Case) -> Option<bool> {
         misses: 0,
     };
     let attempts = follow_first(alloc, &mut dial, places.as_slice(), &mut mirror, 1000).ok()?;
-    let is_told = are_told(attempts.as_slice(), case.3);
-    Some(is_told && is_at(&mirror, case.4) && dial.next == case.5)
+    let is_made = are_made(attempts.as_slice(), case.3);
+    Some(is_made && is_at(&mirror, case.4) && dial.next == case.5)
 }
 
 #[test]

@@ -1,10 +1,10 @@
 //! A relay whose followers, and whose server, are sockets.
 
 use crate::devices::Server;
-use crate::nodes::{CLOSE_TEXT, FRESH, empty_mirror, finals, told};
+use crate::nodes::{CLOSE_TEXT, FRESH, are_made, empty_mirror, places, told};
 use feed_http::stream::Stream;
 use feed_http::{Followed, Framing};
-use feed_relay::{Accept, Dial, NetworkFault, Round, relay_round};
+use feed_relay::{Accept, Attempt, AttemptEnd, Dial, Round, relay_round};
 use std::io::{Read, Write};
 use std::net::{SocketAddr, TcpListener, TcpStream};
 
@@ -28,10 +28,7 @@ impl Accept for Listener<'_> {
 
     ghost misses = { λ l. l.misses };
 
-    fn accept(
-        &mut self,
-        _pulled: &Result<Followed, NetworkFault>,
-    ) -> Option<(Stream<TcpStream>, Stream<TcpStream>)> {
+    fn accept(&mut self, _attempts: &[Attempt]) -> Option<(Stream<TcpStream>, Stream<TcpStream>)> {
         let accepted = match self.listener.accept() {
             Ok((stream, _)) => both_ways(stream),
             Err(_) => None,
@@ -77,10 +74,15 @@ fn follower(rt: &HostRuntime, address: SocketAddr) -> Option<TcpStream> {
     Some(stream)
 }
 
+/// Whether a round made this one attempt, and then served a follower.
+fn came_to(round: &Round, outcome: AttemptEnd) -> bool {
+    are_made(&round.attempts, &[(0, outcome)]) && round.served == Some(Ok(told(200)))
+}
+
 /// Two rounds: in the first a server answers, in the second none does.
 fn rounds(rt: &HostRuntime) -> Option<bool> {
     let alloc = rt.alloc();
-    let place = finals(alloc)?;
+    let places = places(alloc, 1)?;
     let listener = TcpListener::bind(rt, "127.0.0.1:0").ok()?;
     let address = listener.local_addr().ok()?;
     let closed = TcpListener::bind(rt, "127.0.0.1:0")
@@ -102,38 +104,32 @@ fn rounds(rt: &HostRuntime) -> Option<bool> {
     let first = relay_round(
         alloc,
         &mut first,
-        &place,
+        &places,
         &mut mirror,
         1000,
         &mut downstream,
         "finals",
         Framing::Close,
-    );
+    )
+    .ok()?;
     let mut other = follower(rt, address)?;
     let second = relay_round(
         alloc,
         &mut second,
-        &place,
+        &places,
         &mut mirror,
         1000,
         &mut downstream,
         "finals",
         Framing::Close,
-    );
+    )
+    .ok()?;
     let mut text = Vec::new(alloc);
     one.read_to_end(&mut text).ok()?;
     let mut again = Vec::new(alloc);
     other.read_to_end(&mut again).ok()?;
-    let is_first = first
-        == Round {
-            pulled: Ok(Followed::Ended),
-            served: Ok(told(200)),
-        };
-    let is_second = second
-        == Round {
-            pulled: Err(NetworkFault::Connect),
-            served: Ok(told(200)),
-        };
+    let is_first = came_to(&first, AttemptEnd::Followed(Followed::Ended));
+    let is_second = came_to(&second, AttemptEnd::NoLink);
     Some(is_first && is_second && text.as_slice() == CLOSE_TEXT && again.as_slice() == CLOSE_TEXT)
 }
 

@@ -2,6 +2,7 @@
 
 use feed_http::{Framing, MemReader, MemWriter, Place, Served, serve_node};
 use feed_node::{Limits, Mirror, Node, Primary};
+use feed_relay::{Attempt, AttemptEnd};
 use std::alloc::Global;
 
 /// A request for everything.
@@ -40,9 +41,31 @@ pub(crate) fn finals(alloc: Global) -> Option<Place> {
     place(alloc, "h", "", "finals")
 }
 
+/// That place, so many times.
+pub(crate) fn places(alloc: Global, count: usize) -> Option<Vec<Place>> {
+    let mut places = Vec::new(alloc);
+    for _ in 0..count {
+        places.push(finals(alloc)?).ok()?;
+    }
+    Some(places)
+}
+
 /// A place, whose proof reads no letter of its texts.
 fn place(alloc: Global, host: &str, base: &str, contest: &str) -> Option<Place> {
     Place::new(alloc, host, base, contest).ok()
+}
+
+/// Whether these attempts were made: the number of a place, and what came of it.
+pub(crate) fn are_made(attempts: &[Attempt], made: &[(usize, AttemptEnd)]) -> bool {
+    if attempts.len() != made.len() {
+        return false;
+    }
+    for (attempt, (place, outcome)) in attempts.iter().zip(made) {
+        if attempt.place != *place || attempt.outcome != *outcome {
+            return false;
+        }
+    }
+    true
 }
 
 /// A primary without commits.

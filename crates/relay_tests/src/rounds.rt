@@ -1,24 +1,25 @@
 //! Rounds of a relay.
 
-use crate::devices::{Follower, Server};
+use crate::devices::{Follower, Server, last_of};
 use crate::nodes::{
-    CHUNKED_TEXT, CLOSE_TEXT, FRESH, NOT_HELD, NOTHING_PUBLISHED, empty_mirror, finals, is_at,
-    mirror_at_x, new_primary, told, written,
+    CHUNKED_TEXT, CLOSE_TEXT, FRESH, NOT_HELD, NOTHING_PUBLISHED, are_made, empty_mirror, is_at,
+    mirror_at_x, new_primary, places, told, written,
 };
 use feed_http::{EngineFault, FollowFault, Followed, Framing, MemWriter};
 use feed_node::{FeedFault, Mirror};
 use feed_note::LineFault;
-use feed_relay::{Accept, NetworkFault, Round, commit_all, feed_batches, relay_round};
+use feed_relay::{Accept, AttemptEnd, NetworkFault, Round, commit_all, feed_batches, relay_round};
 use std::alloc::Global;
 
 /// What a round comes to, and what it writes to a follower.
 #[derive(Drop)]
 struct End(Round, Vec<u8>);
 
-/// A round of a mirror whose server gives these responses, one after another, and behind which a
-/// follower comes that sends this head.
+/// A round over so many places of a mirror whose servers give these responses, one after another,
+/// and behind which a follower comes that sends this head.
 fn round(
     alloc: Global,
+    count: usize,
     mirror: &mut Mirror,
     responses: &[&[u8]],
     head: &[u8],
@@ -27,18 +28,19 @@ fn round(
     let mut server = Server::new(alloc, responses)?;
     let mut writer = MemWriter::new(alloc, 3);
     let mut follower = Follower::new(alloc, head, &mut writer)?;
-    let place = finals(alloc)?;
+    let places = places(alloc, count)?;
     let round = relay_round(
         alloc,
         &mut server,
-        &place,
+        &places,
         mirror,
         1000,
         &mut follower,
         "finals",
         framing,
-    );
-    let is_told = follower.told == Some(round.pulled);
+    )
+    .ok()?;
+    let is_told = follower.told == last_of(&round.attempts);
     drop(follower);
     if is_told {
         Some(End(round, writer.written().to_vec(alloc).ok()?))
@@ -47,13 +49,14 @@ fn round(
     }
 }
 
-/// The mirror at the beginning, which is empty or at "x"; what its server gives; and what comes of
-/// that: what is pulled, the mirror's token, and the status and text for a follower that asks for
-/// everything.
+/// The mirror at the beginning, which is empty or at "x"; how many places there are, and what they
+/// give; and what comes of that: the attempts, the mirror's token, and the status and text for a
+/// follower that asks for everything.
 struct Case(
     &'static str,
+    usize,
     &'static [&'static [u8]],
-    Result<Followed, NetworkFault>,
+    &'static [(usize, AttemptEnd)],
     &'static str,
     u16,
     &'static [u8],
@@ -64,77 +67,122 @@ const X_TEXT: &[u8] = b"HTTP/1.1 200 OK\r\nContent-Type: application/x-ndjson\r\
       Connection: close\r\n\r\n\
       {\"type\":\"contest\",\"id\":null,\"data\":null,\"token\":\"x\"}\n\n";
 
-const MISSED: Result<Followed, NetworkFault> = Err(NetworkFault::Connect);
+const ENDED: AttemptEnd = AttemptEnd::Followed(Followed::Ended);
 
-const REFUSED: Result<Followed, NetworkFault> = Err(NetworkFault::Engine(EngineFault::Follow(
-    FollowFault::Status(400),
-)));
+const DONE: AttemptEnd = AttemptEnd::Followed(Followed::Done);
 
-const NOTHING: Result<Followed, NetworkFault> = Err(NetworkFault::Engine(EngineFault::Follow(
-    FollowFault::Status(503),
-)));
+const EARLY: AttemptEnd = AttemptEnd::Followed(Followed::Early);
 
-const BAD_LINE: Result<Followed, NetworkFault> = Err(NetworkFault::Engine(EngineFault::Follow(
-    FollowFault::Feed(FeedFault::Line(LineFault::Syntax)),
+const REFUSED: AttemptEnd = AttemptEnd::Followed(Followed::TokenRefused);
+
+const STATUS_400: AttemptEnd = AttemptEnd::Failed(EngineFault::Follow(FollowFault::Status(400)));
+
+const STATUS_503: AttemptEnd = AttemptEnd::Failed(EngineFault::Follow(FollowFault::Status(503)));
+
+const BAD_LINE: AttemptEnd = AttemptEnd::Failed(EngineFault::Follow(FollowFault::Feed(
+    FeedFault::Line(LineFault::Syntax),
 )));
 
 const CASES: &[Case] = &[
-    Case("", &[CLOSE_TEXT], Ok(Followed::Ended), "0", 200, CLOSE_TEXT),
+    Case("", 1, &[CLOSE_TEXT], &[(0, ENDED)], "0", 200, CLOSE_TEXT),
+    Case("", 1, &[CHUNKED_TEXT], &[(0, DONE)], "0", 200, CLOSE_TEXT),
+    Case("x", 1, &[CLOSE_TEXT], &[(0, ENDED)], "0", 200, CLOSE_TEXT),
+    // Nobody answers.
     Case(
         "",
-        &[CHUNKED_TEXT],
-        Ok(Followed::Done),
-        "0",
-        200,
-        CLOSE_TEXT,
+        1,
+        &[],
+        &[(0, AttemptEnd::NoLink)],
+        "",
+        503,
+        NOTHING_PUBLISHED,
     ),
+    Case("x", 1, &[], &[(0, AttemptEnd::NoLink)], "x", 200, X_TEXT),
     Case(
         "x",
-        &[CLOSE_TEXT],
-        Ok(Followed::Ended),
+        2,
+        &[],
+        &[(0, AttemptEnd::NoLink), (1, AttemptEnd::NoLink)],
+        "x",
+        200,
+        X_TEXT,
+    ),
+    // There are no places.
+    Case("x", 0, &[CLOSE_TEXT], &[], "x", 200, X_TEXT),
+    // The first has nothing published.
+    Case(
+        "x",
+        2,
+        &[NOTHING_PUBLISHED, CLOSE_TEXT],
+        &[(0, STATUS_503), (1, ENDED)],
         "0",
         200,
         CLOSE_TEXT,
     ),
-    // Nobody answers.
-    Case("", &[], MISSED, "", 503, NOTHING_PUBLISHED),
-    Case("x", &[], MISSED, "x", 200, X_TEXT),
     // The token is refused.
     Case(
         "x",
+        1,
         &[NOT_HELD, CLOSE_TEXT],
-        Ok(Followed::Ended),
+        &[(0, REFUSED), (0, ENDED)],
         "0",
         200,
         CLOSE_TEXT,
     ),
-    Case("x", &[NOT_HELD], MISSED, "x", 200, X_TEXT),
-    Case("x", &[NOT_HELD, NOT_HELD], REFUSED, "x", 200, X_TEXT),
-    Case("x", &[NOTHING_PUBLISHED], NOTHING, "x", 200, X_TEXT),
+    Case(
+        "x",
+        1,
+        &[NOT_HELD],
+        &[(0, REFUSED), (0, AttemptEnd::NoLink)],
+        "x",
+        200,
+        X_TEXT,
+    ),
+    Case(
+        "x",
+        1,
+        &[NOT_HELD, NOT_HELD],
+        &[(0, REFUSED), (0, STATUS_400)],
+        "x",
+        200,
+        X_TEXT,
+    ),
+    Case(
+        "x",
+        1,
+        &[NOTHING_PUBLISHED],
+        &[(0, STATUS_503)],
+        "x",
+        200,
+        X_TEXT,
+    ),
     // The server dies: in the head, within the first line, and within the second.
     Case(
         "x",
+        1,
         &[b"HTTP/1.1 200 O"],
-        Ok(Followed::Early),
+        &[(0, EARLY)],
         "x",
         200,
         X_TEXT,
     ),
     Case(
         "",
+        1,
         &[b"HTTP/1.1 200 OK\r\n\r\n{\"type\":\"t\",\"id\":null,\"data\":[],\"tok"],
-        Ok(Followed::Ended),
+        &[(0, ENDED)],
         "",
         503,
         NOTHING_PUBLISHED,
     ),
     Case(
         "x",
+        1,
         &[
             b"HTTP/1.1 200 OK\r\n\r\n{\"type\":\"t\",\"id\":null,\"data\":[],\"token\":\"0\"}\n\
           {\"type\":\"t\",\"i",
         ],
-        Ok(Followed::Ended),
+        &[(0, ENDED)],
         "0",
         200,
         b"HTTP/1.1 200 OK\r\nContent-Type: application/x-ndjson\r\nConnection: close\r\n\r\n\
@@ -143,8 +191,9 @@ const CASES: &[Case] = &[
     // A line is bad.
     Case(
         "",
+        1,
         &[b"HTTP/1.1 200 OK\r\n\r\n{\"type\":\"t\",\"id\":null,\"data\":[],\"token\":\"0\"}\n{\n"],
-        BAD_LINE,
+        &[(0, BAD_LINE)],
         "0",
         200,
         b"HTTP/1.1 200 OK\r\nContent-Type: application/x-ndjson\r\nConnection: close\r\n\r\n\
@@ -158,13 +207,10 @@ fn comes_to(alloc: Global, case: &Case) -> Option<bool> {
     } else {
         empty_mirror(alloc)?
     };
-    let End(round, text) = round(alloc, &mut mirror, case.1, FRESH, Framing::Close)?;
-    let is_round = round
-        == Round {
-            pulled: case.2,
-            served: Ok(told(case.4)),
-        };
-    Some(is_round && is_at(&mirror, case.3) && text.as_slice() == case.5)
+    let End(round, text) = round(alloc, case.1, &mut mirror, case.2, FRESH, Framing::Close)?;
+    let is_made = are_made(&round.attempts, case.3);
+    let is_served = round.served == Some(Ok(told(case.5)));
+    Some(is_made && is_served && is_at(&mirror, case.4) && text.as_slice() == case.6)
 }
 
 #[test]
@@ -176,8 +222,15 @@ fn relays(rt: HostRuntime) {
 
 fn relays_in_chunks(alloc: Global) -> Option<bool> {
     let mut mirror = empty_mirror(alloc)?;
-    let End(round, text) = round(alloc, &mut mirror, &[CLOSE_TEXT], FRESH, Framing::Chunked)?;
-    Some(round.served == Ok(told(200)) && text.as_slice() == CHUNKED_TEXT)
+    let End(round, text) = round(
+        alloc,
+        1,
+        &mut mirror,
+        &[CLOSE_TEXT],
+        FRESH,
+        Framing::Chunked,
+    )?;
+    Some(round.served == Some(Ok(told(200))) && text.as_slice() == CHUNKED_TEXT)
 }
 
 #[test]
@@ -190,21 +243,22 @@ fn waits_for_nobody(alloc: Global) -> Option<bool> {
     let mut server = Server::new(alloc, &[CLOSE_TEXT])?;
     let mut writer = MemWriter::new(alloc, 3);
     let mut nobody = Follower::new(alloc, FRESH, &mut writer)?;
-    nobody.accept(&MISSED)?;
-    let place = finals(alloc)?;
+    nobody.accept(&[])?;
+    let places = places(alloc, 1)?;
     let mut mirror = empty_mirror(alloc)?;
     let round = relay_round(
         alloc,
         &mut server,
-        &place,
+        &places,
         &mut mirror,
         1000,
         &mut nobody,
         "finals",
         Framing::Close,
-    );
-    let is_pulled = round.pulled == Ok(Followed::Ended) && is_at(&mirror, "0");
-    Some(is_pulled && round.served == Err(NetworkFault::Accept))
+    )
+    .ok()?;
+    let is_pulled = are_made(&round.attempts, &[(0, ENDED)]) && is_at(&mirror, "0");
+    Some(is_pulled && round.served == Some(Err(NetworkFault::Accept)))
 }
 
 #[test]
@@ -231,11 +285,11 @@ fn behind_relays(alloc: Global, relays: usize, framing: Framing) -> Option<Vec<u
     let mut text = written(alloc, primary.node(), framing)?;
     for _ in 0..relays {
         let mut relay = empty_mirror(alloc)?;
-        let End(_, behind) = round(alloc, &mut relay, &[text.as_slice()], FRESH, framing)?;
+        let End(_, behind) = round(alloc, 1, &mut relay, &[text.as_slice()], FRESH, framing)?;
         text = behind;
     }
     let mut screen = empty_mirror(alloc)?;
-    round(alloc, &mut screen, &[text.as_slice()], FRESH, framing)?;
+    round(alloc, 1, &mut screen, &[text.as_slice()], FRESH, framing)?;
     screen.save(alloc).ok()
 }
 

@@ -2,26 +2,52 @@
 ghost use Rattle.std.specs.Prelude.{◌≡◌};
 
 use feed_cli::stream::Stream;
-use feed_cli::{Dial, Fault, Listen, NetworkFault};
+use feed_cli::{Dial, Fault, Listen, NetworkFault, PullOptions};
 use std::net::{Ipv4Addr, TcpListener, TcpStream};
 
-/// A server that is connected to by its address or name.
+/// Servers that are connected to by their addresses or names.
 #[derive(Drop)]
-pub(crate) struct Server<'a> {
+pub(crate) struct Dialer<'a> {
     rt: &'a HostRuntime,
     host: &'a str,
     port: u16,
+    further: &'a [(String, u16)],
     misses: u64,
 }
 
-impl<'a> Server<'a> {
+impl<'a> Dialer<'a> {
     /// No connection was asked for yet. An address of IPv6 may stand in brackets.
-    pub(crate) fn new(rt: &'a HostRuntime, host: &'a str, port: u16) -> Server<'a> {
-        Server {
+    pub(crate) fn new(
+        rt: &'a HostRuntime,
+        options: &PullOptions<'a>,
+        further: &'a [(String, u16)],
+    ) -> Dialer<'a> {
+        Dialer {
             rt,
-            host: without_brackets(host),
-            port,
+            host: options.host,
+            port: options.port,
+            further,
             misses: 0,
+        }
+    }
+
+    /// The address of the server with this number: the first one's, or the next further one's.
+    fn address(&self, number: usize) -> Option<(&str, u16)> {
+        match number.checked_sub(1) {
+            None => Some((self.host, self.port)),
+            Some(behind) => {
+                let (host, port) = self.further.get(behind)?;
+                Some((host.as_str(), *port))
+            }
+        }
+    }
+
+    /// Connects to the server with this number.
+    fn open(&self, number: usize) -> Option<(Stream<TcpStream>, Stream<TcpStream>)> {
+        let (host, port) = self.address(number)?;
+        match TcpStream::connect(self.rt, (without_brackets(host), port)) {
+            Ok(socket) => both_ways(socket),
+            Err(_) => None,
         }
     }
 }
@@ -34,18 +60,15 @@ fn without_brackets(host: &str) -> &str {
     }
 }
 
-impl Dial for Server<'_> {
+impl Dial for Dialer<'_> {
     type Reader = Stream<TcpStream>;
 
     type Writer = Stream<TcpStream>;
 
     ghost misses = { λ s. s.misses };
 
-    fn dial(&mut self, _place: usize) -> Option<(Stream<TcpStream>, Stream<TcpStream>)> {
-        let opened = match TcpStream::connect(self.rt, (self.host, self.port)) {
-            Ok(socket) => both_ways(socket),
-            Err(_) => None,
-        };
+    fn dial(&mut self, place: usize) -> Option<(Stream<TcpStream>, Stream<TcpStream>)> {
+        let opened = self.open(place);
         if opened.is_none() {
             self.misses = self.misses.saturating_add(1);
         }

@@ -1,35 +1,22 @@
 //! A server's feed, followed and served in turns.
 ghost use Rattle.std.specs.Prelude.{◌≡◌};
 
-use crate::commands::pull::pull_outcome;
 use crate::fault::Fault;
 use crate::listen::Listen;
 use crate::snapshot::print_snapshot;
 use crate::telling::Teller;
 use crate::words::RelayOptions;
+use feed_http::Place;
 use feed_http::device::FeedWrite;
-use feed_http::{Followed, Place};
 use feed_node::Mirror;
-use feed_relay::{Accept, Dial, NetworkFault, relay_round};
+use feed_relay::{Accept, Attempt, Dial, Round, relay_round};
 use std::alloc::Global;
 
-/// Followers that are waited for once it was told why a pull failed.
+/// Followers that are waited for once it was told why attempts failed.
 #[derive(Drop)]
 struct Followers<'l, 'e, L, E> {
     listener: &'l mut L,
     teller: Teller<'e, E>,
-}
-
-impl<L: Listen, E: FeedWrite> Followers<'_, '_, L, E> {
-    /// Tells a fault that doesn't end the rounds.
-    fn tell(&mut self, fault: Fault) {
-        self.teller.tell(fault);
-    }
-
-    /// What the rounds come to that were all made.
-    fn outcome(&self) -> Result<(), Fault> {
-        self.teller.outcome()
-    }
 }
 
 impl<L: Listen, E: FeedWrite> Accept for Followers<'_, '_, L, E> {
@@ -39,24 +26,41 @@ impl<L: Listen, E: FeedWrite> Accept for Followers<'_, '_, L, E> {
 
     ghost misses = { λ f. L.misses f.listener.now };
 
-    fn accept(
-        &mut self,
-        pulled: &Result<Followed, NetworkFault>,
-    ) -> Option<(L::Reader, L::Writer)> {
-        if let Err(fault) = pull_outcome(pulled) {
-            self.teller.tell(fault);
-        }
+    fn accept(&mut self, attempts: &[Attempt]) -> Option<(L::Reader, L::Writer)> {
+        self.teller.tell_attempts(attempts);
         self.listener.accept()
     }
 }
 
-/// Makes one round after another, each of which pulls what a mirror lacks and then serves one
-/// connection. A connection's fault is told, and the rounds go on. At the end the snapshot of what
-/// the mirror shows is printed.
+/// Tells what a round came to, unless that ends the rounds.
+fn end_round<L: Listen, E: FeedWrite>(
+    followers: &mut Followers<'_, '_, L, E>,
+    round: &Round,
+) -> Result<(), Fault> {
+    match round.served {
+        Some(Ok(_)) => Ok(()),
+        Some(Err(fault)) => {
+            let fault = Fault::of_network(fault);
+            if !fault.is_of_a_connection() {
+                return Err(fault);
+            }
+            followers.teller.tell(fault);
+            Ok(())
+        }
+        None => {
+            followers.teller.tell_earlier(&round.attempts);
+            Err(Fault::Memory)
+        }
+    }
+}
+
+/// Makes one round after another, each of which follows the first of these places that serves, and
+/// then serves one connection. Failed attempts and a connection's fault are told, and the rounds go
+/// on. At the end the snapshot of what the mirror shows is printed.
 pub fn print_relayed<D: Dial, L: Listen, W: FeedWrite, E: FeedWrite>(
     alloc: Global,
     options: &RelayOptions<'_>,
-    place: &Place,
+    places: &[Place],
     mirror: &mut Mirror,
     server: &mut D,
     listener: &mut L,
@@ -69,21 +73,15 @@ pub fn print_relayed<D: Dial, L: Listen, W: FeedWrite, E: FeedWrite>(
         let round = relay_round(
             alloc,
             server,
-            place,
+            places,
             mirror,
             options.pull.turns,
             &mut followers,
             options.pull.contest,
             options.framing,
-        );
-        if let Err(fault) = round.served {
-            let fault = Fault::of_network(fault);
-            if !fault.is_of_a_connection() {
-                return Err(fault);
-            }
-            followers.tell(fault);
-        }
+        )?;
+        end_round(&mut followers, &round)?;
     }
     print_snapshot(alloc, mirror, out)?;
-    followers.outcome()
+    followers.teller.outcome()
 }

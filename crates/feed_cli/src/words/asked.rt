@@ -1,5 +1,5 @@
 //! What the options of a command ask for.
-ghost use Rattle.std.specs.Prelude.{◌≡◌, Some, IfSome};
+ghost use Rattle.std.specs.Prelude.{◌≡◌, Some, option_map, IfSome};
 ghost use Rattle.clap.specs.Matches.{found_of};
 ghost use Rattle.clap.specs.Words.{rows_of, subcommand_rows_of};
 ghost use Rattle.feed_cli.specs.Words.{most_port, text_at, IsNumber, IsNumberUpTo, IsNumberIfGiven, IsGiven, IsFramed};
@@ -50,6 +50,13 @@ fn port(matches: &ArgMatches<'_>, name: &str) -> Option<u16>
 /// The text of an option's value.
 fn text<'a>(matches: &ArgMatches<'a>, name: &str) -> Option<&'a str>
     ensures { IfSome result (λ t. text_at name.now (rows_of (found_of matches.now)) ≡ Some t.now) }
+{
+    matches.get_str(name)
+}
+
+/// The same of an option that may be left out.
+fn text_if_given<'a>(matches: &ArgMatches<'a>, name: &str) -> Option<&'a str>
+    ensures { text_at name.now (rows_of (found_of matches.now)) ≡ option_map (λ t. t.now) result }
 {
     matches.get_str(name)
 }
@@ -119,6 +126,7 @@ fn pull_options<'a>(matches: &ArgMatches<'a>) -> Option<PullOptions<'a>>
 {
     let host = text(matches, "host")?;
     let port = port(matches, "port")?;
+    let from = text_if_given(matches, "from");
     let base = text(matches, "base")?;
     let contest = text(matches, "contest")?;
     let turns = number(matches, "turns", MOST_ROUNDS)?;
@@ -126,6 +134,7 @@ fn pull_options<'a>(matches: &ArgMatches<'a>) -> Option<PullOptions<'a>>
     Some(PullOptions {
         host,
         port,
+        from,
         base,
         contest,
         turns,

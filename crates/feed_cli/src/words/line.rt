@@ -73,6 +73,7 @@ fn with_place<'a>(alloc: Global, command: Command<'a>) -> Result<Command<'a>, Al
     let help = "The port of the server that is followed";
     let placed = add_option(command, options::host(alloc))?;
     let placed = add_option(placed, options::port(alloc, help))?;
+    let placed = add_option(placed, options::from(alloc))?;
     add_option(placed, options::contest(alloc))
 }
 

@@ -165,6 +165,16 @@ pub(crate) fn host<'a>(alloc: Global) -> Arg<'a>
         .required(true)
 }
 
+/// `--from LIST`.
+pub(crate) fn from<'a>(alloc: Global) -> Arg<'a>
+    ensures rule { rule_of result ≡ words.from }
+    ensures local { result.global ≡ false }
+{
+    text(alloc, "from", "LIST").help(
+        "Further servers, as host:port,host:port, of which each is asked where those before fail",
+    )
+}
+
 /// `--base B`.
 pub(crate) fn base<'a>(alloc: Global) -> Arg<'a>
     ensures rule { rule_of result ≡ words.base }

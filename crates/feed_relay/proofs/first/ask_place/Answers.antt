@@ -15,8 +15,7 @@ returns-clause-asked g c =
     let again = attempt_at c.args.number c.try_place-again.result in
     let start = position c.args.mirror.now (misses c.args.dial.now) in
     let middle = position c.try_place-outcome.new.mirror (misses c.try_place-outcome.new.dial) in
-    let is : c.try_place-outcome.result ≡ Followed TokenRefused = search rules in
-    (
+    let is : c.try_place-outcome.result ≡ Followed TokenRefused = search rules in (
       first ∷ again ∷ [],
       c.push_reserved-2.ensures.items ∙ ap (λ l. l ++ again ∷ []) c.push_reserved.ensures.items ∙ append_assoc c.args.attempts.now.items (first ∷ []) (again ∷ []),
       omega arith,
