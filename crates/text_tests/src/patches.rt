@@ -156,3 +156,85 @@ fn makes_staged_changes(rt: HostRuntime) {
         assert_eq!(rt; is_right, true, "row {row}");
     }
 }
+
+/// Whether a patch says that there are more types and objects after it than each number that is less
+/// than its size, and not more than its size.
+fn says_by_how_many(alloc: Global, base: &[Step], steps: &[Step]) -> Option<bool> {
+    let tables = tables(alloc, base)?;
+    let patch = staged(alloc, &tables, steps)?;
+    let size = patch.size_over(&tables);
+    for most in 0..size {
+        if !patch.exceeds(&tables, most) {
+            return Some(false);
+        }
+    }
+    Some(!patch.exceeds(&tables, size) && !patch.exceeds(&tables, usize::MAX))
+}
+
+#[test]
+fn exceeds_less_than_its_size(rt: HostRuntime) {
+    for (row, (base, steps, _want, _size, _adds)) in ROWS.iter().enumerate() {
+        assert_eq!(rt; says_by_how_many(rt.alloc(), base, steps), Some(true), "row {row}");
+    }
+}
+
+/// Tables, changes that are staged on them, and other tables on which they are put then: a patch has
+/// what its changes made of the first ones.
+const ELSEWHERE: [(&[Step], &[Step], &[Step], &[Step]); 3] = [
+    // Objects change in a collection that is another one there, or is none.
+    (
+        &BASE,
+        &[Set("teams", "1", r#"{"n":1}"#), Remove("teams", "2")],
+        &[Set("teams", "2", "{}"), Set("teams", "4", "{}")],
+        &[
+            Empty("teams"),
+            Set("teams", "1", r#"{"n":1}"#),
+            Set("teams", "4", "{}"),
+        ],
+    ),
+    (
+        &BASE,
+        &[Set("teams", "1", "{}")],
+        &[Single("teams", "{}")],
+        &[Single("teams", "{}")],
+    ),
+    // A table of its own takes the place of any.
+    (
+        &BASE,
+        &[Clear("teams"), Set("teams", "3", "{}")],
+        &[Single("teams", "{}"), Single("state", "{}")],
+        &[
+            Single("state", "{}"),
+            Empty("teams"),
+            Set("teams", "3", "{}"),
+        ],
+    ),
+];
+
+fn put_elsewhere(
+    alloc: Global,
+    base: &[Step],
+    steps: &[Step],
+    other: &[Step],
+) -> Option<Vec<Change>> {
+    let base = tables(alloc, base)?;
+    let patch = staged(alloc, &base, steps)?;
+    let mut other = tables(alloc, other)?;
+    let size = patch.size_over(&other);
+    patch.put(&mut other);
+    if other.size() != size {
+        return None;
+    }
+    other.snapshot(alloc).ok()
+}
+
+#[test]
+fn is_put_on_other_tables(rt: HostRuntime) {
+    for (row, (base, steps, other, want)) in ELSEWHERE.iter().enumerate() {
+        let is_right = match put_elsewhere(rt.alloc(), base, steps, other) {
+            Some(snapshot) => are_steps(&snapshot, want),
+            None => false,
+        };
+        assert_eq!(rt; is_right, true, "row {row}");
+    }
+}
