@@ -89,9 +89,12 @@ objects_at {d = d} {box = box} view_is is e f g h e_is f_is g_is h_is left id ob
     let all : AreObjects (box.value.left ++ (box.value.id, box.value.item) ∷ box.value.right) =
     all-append (λ x. IsName x.0 × IsObjectText x.1) box.value.left
     ((box.value.id, box.value.item) ∷ box.value.right)
-    (subst (λ (k : Fork (List ℕ)). AreObjects k.left) e_is left)
-    ((subst (λ (k : Fork (List ℕ)). IsName k.id) f_is id,
-    subst (λ (k : Fork (List ℕ)). IsObjectText k.item) g_is object),
-    subst (λ (k : Fork (List ℕ)). AreObjects k.right) h_is right) in
+    (subst (λ (k : Fork (List ℕ)). AreObjects k.left) e_is left) (
+      (
+        subst (λ (k : Fork (List ℕ)). IsName k.id) f_is id,
+        subst (λ (k : Fork (List ℕ)). IsObjectText k.item) g_is object,
+      ),
+      subst (λ (k : Fork (List ℕ)). AreObjects k.right) h_is right,
+    ) in
     subst (λ (es : List (List ℕ × List ℕ)). AreObjects es) (sym whole) all
 objects_at view_is is e f g h e_is f_is g_is h_is left id object (Err x) right = tt

@@ -203,7 +203,10 @@ impl Patch {
     pub fn exceeds(&self, base: &Tables, most: usize) -> bool
         ensures { result ≡ nat_lt most (min (size (over base.now.contents self.now)) usize.MAX) }
     {
-        let come = self.tables.weigh(&ByObjects).saturating_add(self.ids.count_sets());
+        let come = self
+            .tables
+            .weigh(&ByObjects)
+            .saturating_add(self.ids.count_sets());
         if base.size().saturating_add(come) <= most {
             return false;
         }

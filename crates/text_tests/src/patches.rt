@@ -174,7 +174,11 @@ fn says_by_how_many(alloc: Global, base: &[Step], steps: &[Step]) -> Option<bool
 #[test]
 fn exceeds_less_than_its_size(rt: HostRuntime) {
     for (row, (base, steps, _want, _size, _adds)) in ROWS.iter().enumerate() {
-        assert_eq!(rt; says_by_how_many(rt.alloc(), base, steps), Some(true), "row {row}");
+        assert_eq!(rt;
+            says_by_how_many(rt.alloc(), base, steps),
+            Some(true),
+            "row {row}"
+        );
     }
 }
 
