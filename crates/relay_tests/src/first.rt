@@ -1,5 +1,7 @@
 //! Following the first of several places that serves.
 
+ghost use Rattle.std.specs.Prelude.{◌≡◌};
+
 use crate::nodes::{
     CLOSE_TEXT, NOT_HELD, NOTHING_PUBLISHED, are_made, empty_mirror, is_at, mirror_at_x, places,
 };
@@ -20,7 +22,9 @@ struct Places {
 }
 
 impl Places {
-    fn open(&mut self, place: usize) -> Option<(MemReader, MemWriter)> {
+    fn open(&mut self, place: usize) -> Option<(MemReader, MemWriter)>
+        ensures { self.new.misses ≡ self.old.misses }
+    {
         let (number, response) = self.answers.get(self.next)?;
         if *number != place {
             return None;
