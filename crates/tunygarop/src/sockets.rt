@@ -7,21 +7,21 @@ use std::net::{Ipv4Addr, TcpListener, TcpStream};
 
 /// Servers that are connected to by their addresses or names.
 #[derive(Drop)]
-pub(crate) struct Dialer<'a> {
-    rt: &'a HostRuntime,
-    host: &'a str,
+pub(crate) struct Dialer<'r, 'o, 'f> {
+    rt: &'r HostRuntime,
+    host: &'o str,
     port: u16,
-    further: &'a [(String, u16)],
+    further: &'f [(String, u16)],
     misses: u64,
 }
 
-impl<'a> Dialer<'a> {
+impl<'r, 'o, 'f> Dialer<'r, 'o, 'f> {
     /// No connection was asked for yet. An address of IPv6 may stand in brackets.
     pub(crate) fn new(
-        rt: &'a HostRuntime,
-        options: &PullOptions<'a>,
-        further: &'a [(String, u16)],
-    ) -> Dialer<'a> {
+        rt: &'r HostRuntime,
+        options: &PullOptions<'o>,
+        further: &'f [(String, u16)],
+    ) -> Dialer<'r, 'o, 'f> {
         Dialer {
             rt,
             host: options.host,
@@ -31,20 +31,18 @@ impl<'a> Dialer<'a> {
         }
     }
 
-    /// The address of the server with this number: the first one's, or the next further one's.
-    fn address(&self, number: usize) -> Option<(&str, u16)> {
+    /// Connects to the server with this number: the first one, or the next further one.
+    fn open(&self, number: usize) -> Option<(Stream<TcpStream>, Stream<TcpStream>)> {
         match number.checked_sub(1) {
-            None => Some((self.host, self.port)),
+            None => self.connect(self.host, self.port),
             Some(behind) => {
                 let (host, port) = self.further.get(behind)?;
-                Some((host.as_str(), *port))
+                self.connect(host.as_str(), *port)
             }
         }
     }
 
-    /// Connects to the server with this number.
-    fn open(&self, number: usize) -> Option<(Stream<TcpStream>, Stream<TcpStream>)> {
-        let (host, port) = self.address(number)?;
+    fn connect(&self, host: &str, port: u16) -> Option<(Stream<TcpStream>, Stream<TcpStream>)> {
         match TcpStream::connect(self.rt, (without_brackets(host), port)) {
             Ok(socket) => both_ways(socket),
             Err(_) => None,
@@ -60,7 +58,7 @@ fn without_brackets(host: &str) -> &str {
     }
 }
 
-impl Dial for Dialer<'_> {
+impl Dial for Dialer<'_, '_, '_> {
     type Reader = Stream<TcpStream>;
 
     type Writer = Stream<TcpStream>;

@@ -8,15 +8,15 @@ pub returns-clause-ok : goal.returns-clause-ok
 returns-clause-ok g c =
     let shown = c.feed_all-fed.new.mirror.node.published in
     let limits : c.begin.new.self.limits ≡ c.args.options.limits = c.begin.ensures.limits ∙ ap (λ m. m.limits) c.in_ok-mirror.ensures in
-    printed_ok c.args.options.limits _ _ c.as_slice.result.now c.in_ok-text.text.items c.feed_all-fed.result c.outcome.result shown c.is_some.result
-    (c.feed_all-fed.ensures.fed (search rules)) limits c.as_slice.ensures.value c.in_ok-text.ensures.text (search rules) (c.is_some.ensures ∙ is_some_kept _ c.token.result ∙ ap is_some (c.token.ensures ∙ ap published_token c.node.ensures.node)) c.outcome.ensures
+    printed_ok c.args.options.limits _ _ c.as_slice.result.now c.in_ok-text.text.items c.feed_all-fed.result c.outcome.result shown c.is_some-is_published.result
+    (c.feed_all-fed.ensures.fed (search rules)) limits c.as_slice.ensures.value c.in_ok-text.ensures.text (search rules) (c.is_some-is_published.ensures ∙ is_some_kept _ c.token.result ∙ ap is_some (c.token.ensures ∙ ap published_token c.node.ensures.node)) c.outcome.ensures
 
 pub returns-clause-err : goal.returns-clause-err
 returns-clause-err g c =
     let shown = c.feed_all-fed.new.mirror.node.published in
     let limits : c.begin.new.self.limits ≡ c.args.options.limits = c.begin.ensures.limits ∙ ap (λ m. m.limits) c.in_ok-mirror.ensures in
-    printed_err c.args.options.limits _ _ c.as_slice.result.now c.in_ok-text.text.items c.feed_all-fed.result c.outcome.result shown c.is_some.result
-    (c.feed_all-fed.ensures.fed (search rules)) limits c.as_slice.ensures.value c.in_ok-text.ensures.text (search rules) (c.is_some.ensures ∙ is_some_kept _ c.token.result ∙ ap is_some (c.token.ensures ∙ ap published_token c.node.ensures.node)) c.outcome.ensures
+    printed_err c.args.options.limits _ _ c.as_slice.result.now c.in_ok-text.text.items c.feed_all-fed.result c.outcome.result shown c.is_some-is_published.result
+    (c.feed_all-fed.ensures.fed (search rules)) limits c.as_slice.ensures.value c.in_ok-text.ensures.text (search rules) (c.is_some-is_published.ensures ∙ is_some_kept _ c.token.result ∙ ap is_some (c.token.ensures ∙ ap published_token c.node.ensures.node)) c.outcome.ensures
 
 pub returns-in-Err-clause-err : goal.returns-in-Err-clause-err
 returns-in-Err-clause-err g c =
@@ -26,12 +26,12 @@ returns-in-Err-clause-err g c =
 
 pub returns-clause-turns : goal.returns-clause-turns
 returns-clause-turns g c = λ told.
-    c.feed_all-fed.ensures.turns (came_of_feeding c.feed_all-fed.result c.is_some.result fault.Turns (λ e. absurd (cc)) (sym c.outcome.ensures ∙ told))
+    c.feed_all-fed.ensures.turns (came_of_feeding c.feed_all-fed.result c.is_some-is_published.result fault.Turns (λ e. absurd (cc)) (sym c.outcome.ensures ∙ told))
 
 pub returns-clause-read : goal.returns-clause-read
 returns-clause-read g c = λ told.
-    c.feed_all-fed.ensures.failed (came_of_feeding c.feed_all-fed.result c.is_some.result fault.Read (λ e. absurd (cc)) (sym c.outcome.ensures ∙ told))
+    c.feed_all-fed.ensures.failed (came_of_feeding c.feed_all-fed.result c.is_some-is_published.result fault.Read (λ e. absurd (cc)) (sym c.outcome.ensures ∙ told))
 
 pub returns-clause-write : goal.returns-clause-write
 returns-clause-write g c = λ told.
-    absurd (feeding_writes_nothing _ c.feed_all-fed.result _ _ _ c.feed_all-fed.ensures.fed (came_of_feeding c.feed_all-fed.result c.is_some.result fault.Write (λ e. absurd (cc)) (sym c.outcome.ensures ∙ told)))
+    absurd (feeding_writes_nothing _ c.feed_all-fed.result _ _ _ c.feed_all-fed.ensures.fed (came_of_feeding c.feed_all-fed.result c.is_some-is_published.result fault.Write (λ e. absurd (cc)) (sym c.outcome.ensures ∙ told)))
