@@ -1,9 +1,8 @@
 //! How much items weigh under their names.
 
-ghost use Rattle.std.specs.Prelude.{◌≡◌, ◌+◌, ℕ, List, min};
-ghost use Rattle.std.specs.FinMap as map;
-ghost use Rattle.feed_tables.specs.Patches.{count_after};
-ghost use Rattle.feed_tables.specs.Tables.{object_count};
+ghost use Rattle.std.specs.Prelude.{◌≡◌, ℕ, List, min};
+ghost use Rattle.feed_tables.specs.Patches.{after_ids};
+ghost use Rattle.feed_tables.specs.Walks.{each_one, by_objects};
 
 use crate::ids::Ids;
 use crate::map::Map;
@@ -25,7 +24,7 @@ pub trait Scale<V> {
 pub struct EachOne;
 
 impl Scale<ObjectText> for EachOne {
-    ghost weight = { λ _ name object. 1 };
+    ghost weight = { λ _. each_one };
 
     fn weigh(&self, _name: &str, _object: &ObjectText) -> usize {
         1
@@ -37,7 +36,7 @@ impl Scale<ObjectText> for EachOne {
 pub struct ByObjects;
 
 impl Scale<Table> for ByObjects {
-    ghost weight = { λ _ kind table. object_count table + 1 };
+    ghost weight = { λ _. by_objects };
 
     fn weigh(&self, _kind: &str, table: &Table) -> usize {
         table.weight()
@@ -51,7 +50,7 @@ pub struct AfterIds<'a> {
 }
 
 impl<'a> Scale<Table> for AfterIds<'a> {
-    ghost weight = { λ s kind table. count_after table (map.get s.changed.now kind) + 1 };
+    ghost weight = { λ s. after_ids s.changed.now };
 
     fn weigh(&self, kind: &str, table: &Table) -> usize {
         match self.changed.get(kind) {
