@@ -4,7 +4,7 @@ use Rattle.std.specs.declared.alloc.Global.{Global}
 use Rattle.std.specs.declared.boxed.Box.{Box}
 use Rattle.std.specs.Ordering.{is_lt, eq_by_cmp}
 use Rattle.std.proofs.lemmas.Bool.{le-ltb}
-use Rattle.std.specs.FinMap.{FinMap, find, get, insert, entries, entries_sorted, from_sorted, entries-from_sorted, get-from_sorted, get-entries, get_tied, is_sorted, len, len-entries}
+use Rattle.std.specs.FinMap.{FinMap, find, get, entries, entries_sorted, from_sorted, entries-from_sorted, get-from_sorted, get-entries, get_tied, is_sorted, len, len-entries}
 use Rattle.std.specs.FinMap.Entries.{below_all}
 use Rattle.feed_tables.specs.Bytes.{byte_order, IsInOrder}
 use Rattle.feed_tables.specs.Map.{map_over, map_less}

@@ -1,5 +1,5 @@
 -- What is held under a name where some items are taken away, and then some put in.
-use Rattle.std.proofs.Common.{Bool, true, false, cond, ◌≡◌, ℕ, List, Option, None, Some, sym, ap, ◌∙◌}
+use Rattle.std.proofs.Common.{Bool, true, false, cond, ◌≡◌, ℕ, List, Option, None, Some, ap, ◌∙◌}
 use Rattle.std.specs.Option.{option_or, is_some}
 use Rattle.std.specs.FinMap.{FinMap, get}
 use Rattle.feed_tables.specs.Bytes.{byte_order}

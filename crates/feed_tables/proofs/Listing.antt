@@ -1,13 +1,13 @@
 -- A snapshot's changes, made of empty tables, give the tables that it lists.
-use Rattle.std.proofs.Common.{◌≡◌, refl, sym, ap, ◌∙◌, ℕ, Bool, true, false, cond, T, List, [], ◌∷◌, ◌++◌, length, Option, Some, None, flat_map, codes}
+use Rattle.std.proofs.Common.{◌≡◌, ◌<◌, refl, sym, ap, ◌∙◌, subst, arith, ℕ, Bool, true, false, cond, T, List, [], ◌∷◌, ◌++◌, length, Option, Some, None, flat_map, fold, codes, append_assoc, append-nil}
 use Rattle.std.specs.Ordering.{eq_by_cmp, is_eq}
-use Rattle.std.specs.FinMap.{FinMap, empty, get, insert, remove, entries, entries_sorted, find, is_sorted, get-entries, get-empty, get-insert, get-remove, same_map, empty_of_len, len-entries}
+use Rattle.std.specs.FinMap.{FinMap, empty, get, insert, remove, entries, entries_sorted, find, is_sorted, len, get-entries, get-empty, get-insert, get-remove, same_map, empty_of_len, len-entries}
 use Rattle.std.proofs.lemmas.Cmp.{tied_itself}
 use Rattle.std.proofs.lemmas.List.Sums.{fold-append}
 use Rattle.feed_tables.specs.Bytes.{byte_order}
-use Rattle.feed_tables.specs.Changes.{sets}
+use Rattle.feed_tables.specs.Changes.{sets, with_change}
 use Rattle.feed_tables.specs.declared.change.Change.{Change}
-use Rattle.feed_tables.specs.declared.change.Change.TheVariants.{Set}
+use Rattle.feed_tables.specs.declared.change.Change.TheVariants.{Set, Clear}
 use Rattle.feed_tables.specs.declared.tables.Table.{Table}
 use Rattle.feed_tables.specs.declared.tables.Table.TheVariants.{One, Many}
 use Rattle.feed_tables.specs.Tables.{Objects, Contents, no_objects, no_tables, objects_or_none, after, after_all, listed, or_clear, listing}
@@ -109,3 +109,24 @@ restored contents (p ∷ es) e =
 
 pub listing_restores : (contents : Contents) → after_all no_tables (listing contents) ≡ contents
 listing_restores contents = restored contents (entries contents) refl
+
+-- ---- what a listing of types is, and of none
+
+some_listed : (es : List (List ℕ × Table)) → 0 < length es → or_clear (flat_map listed es) ≡ flat_map listed es
+some_listed [] h = absurd (omega (arith, h))
+some_listed (e ∷ es) h = or_clear-listed e (flat_map listed es)
+
+none_listed : (es : List (List ℕ × Table)) → length es ≡ 0 → or_clear (flat_map listed es) ≡ Clear (codes "contest") ∷ []
+none_listed [] h = refl
+none_listed (e ∷ es) h = absurd (omega (arith, h))
+
+pub listing_of_some : (contents : Contents) → 0 < len contents → listing contents ≡ flat_map listed (entries contents)
+listing_of_some contents h = some_listed (entries contents) (subst (λ n. 0 < n) (len-entries contents) h)
+
+pub listing_of_none : (contents : Contents) → len contents ≡ 0 → listing contents ≡ Clear (codes "contest") ∷ []
+listing_of_none contents h = none_listed (entries contents) (sym (len-entries contents) ∙ h)
+
+-- changes that are kept one after the other
+pub fold-with_change : (kept changes : List Change) → fold with_change kept changes ≡ kept ++ changes
+fold-with_change kept [] = sym (append-nil kept)
+fold-with_change kept (c ∷ cs) = fold-with_change (kept ++ c ∷ []) cs ∙ append_assoc kept (c ∷ []) cs

@@ -2,7 +2,7 @@
 use Rattle.std.proofs.Common.{Bool, true, false, cond, not, min, T, Less, ◌≡◌, ℕ, ◌+◌, ◌-◌, ◌<◌, List, [], ◌∷◌, ◌++◌, Option, None, Some, fold, sym, ap, ◌∙◌, refl, arith}
 use Rattle.std.specs.Option.{is_some}
 use Rattle.std.specs.Ordering.{is_eq, eq_by_cmp}
-use Rattle.std.specs.FinMap.{FinMap, empty, get, insert, remove, entries, entries_sorted, from_sorted, entries-from_sorted, get-from_sorted, get-insert, get-remove, get_tied, find}
+use Rattle.std.specs.FinMap.{FinMap, empty, get, insert, remove, entries, entries_sorted, from_sorted, get-from_sorted, get-insert, get-remove, get_tied, find}
 use Rattle.std.specs.FinMap.Entries.{below_all, find-where_key, is_sorted-where_key}
 use Rattle.std.proofs.lemmas.List.Elements.{filter-append}
 use Rattle.feed_tables.specs.Bytes.{byte_order, IsInOrder}

@@ -1,5 +1,5 @@
 -- What items by name weigh, before and after one changes.
-use Rattle.std.proofs.Common.{cond, not, ◌≡◌, ◌≤◌, ℕ, ◌+◌, List, [], ◌∷◌, Option, None, Some, sym, ap, ◌∙◌, refl, arith}
+use Rattle.std.proofs.Common.{cond, not, ◌≡◌, ◌≤◌, ℕ, ◌+◌, List, [], ◌∷◌, None, Some, sym, ap, ◌∙◌, refl, arith}
 use Rattle.std.specs.Ordering.{is_eq}
 use Rattle.std.specs.declared.cmp.Ordering.TheVariants.{Less, Equal, Greater}
 use Rattle.std.specs.FinMap.{FinMap, find, put, empty, get, insert, remove, entries, entries_sorted, get-entries, entries-insert, entries-from_sorted, from_sorted, same_entries_map, len-entries}

@@ -18,6 +18,7 @@ use Rattle.std.specs.declared.boxed.Box.{Box}
 use Rattle.feed_tables.specs.Objects.{AreObjects}
 use Rattle.feed_tables.specs.Tables.{Contents, listed, or_clear, listing, IsTable, AreTypes}
 use Rattle.feed_tables.specs.declared.change.Change.{Change}
+use Rattle.feed_tables.specs.declared.change.Change.TheVariants.{Clear}
 use Rattle.feed_tables.specs.declared.tables.Table.{Table}
 use Rattle.feed_tables.specs.declared.tables.Table.TheVariants.{One, Many}
 use Rattle.feed_text.proofs.Lists.{all-append}
@@ -73,6 +74,10 @@ contest = (IsUtf8-from_ascii (codes "contest") (search rules), omega arith)
 all_or_clear : (changes : List Change) → AllByRecursion IsChange changes → AllByRecursion IsChange (or_clear changes)
 all_or_clear [] p = (contest, tt)
 all_or_clear (c ∷ cs) p = p
+
+-- without types there is one change
+pub clear_within : All IsChange (Clear (codes "contest") ∷ [])
+clear_within = All-from_recursion IsChange (Clear (codes "contest") ∷ []) (contest, tt)
 
 pub listing_within : (contents : Contents) → AreTypes (entries contents) → All IsChange (listing contents)
 listing_within contents p = All-from_recursion IsChange _ (all_or_clear _ (all_listings (entries contents) p))

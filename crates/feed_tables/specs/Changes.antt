@@ -1,5 +1,5 @@
 -- What a notification does (CLICS Contest API 2023-06, notification format).
-use Rattle.std.specs.Prelude.{ℕ, List, map}
+use Rattle.std.specs.Prelude.{ℕ, List, [], ◌∷◌, ◌++◌, map}
 use Rattle.feed_text.specs.Objects.{IsObjectText}
 use Rattle.feed_tables.specs.Names.{IsName}
 use Rattle.feed_tables.specs.declared.change.Change.{Change}
@@ -24,3 +24,7 @@ IsChange (Clear kind) = IsName kind
 -- one Set for each object of a collection, in the order of the entries
 abbrev pub sets : List ℕ → List (List ℕ × List ℕ) → List Change
 sets kind entries = map (λ e. Set kind e.0 e.1) entries
+
+-- the changes, and one more at their end
+abbrev pub with_change : List Change → Change → List Change
+with_change changes change = changes ++ change ∷ []

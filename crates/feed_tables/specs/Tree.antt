@@ -21,10 +21,6 @@ entries_of (Fork fork) = parts fork.value
 abbrev pub count_of : {V : Type 0} → List (List ℕ × V) → ℕ
 count_of entries = min (length entries) 18446744073709551615
 
--- the fork with the count of its items
-abbrev pub counted : {V : Type 0} → ForkOf V → ForkOf V
-counted fork = record fork { count = count_of (parts fork) }
-
 -- the fork with another item
 abbrev pub with_item : {V : Type 0} → ForkOf V → V → ForkOf V
 with_item fork item = record fork { item = item }

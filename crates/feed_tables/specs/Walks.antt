@@ -2,7 +2,7 @@
 use Rattle.std.specs.Prelude.{◌≡◌, Bool, not, ℕ, ◌+◌, List, [], ◌∷◌, Option, None, Some}
 use Rattle.std.specs.Option.{is_some}
 use Rattle.std.specs.List.{AllByRecursion}
-use Rattle.std.specs.FinMap.{FinMap, get, entries}
+use Rattle.std.specs.FinMap.{FinMap, get}
 use Rattle.std.specs.FinMap.Entries.{where_key}
 use Rattle.feed_tables.specs.Bytes.{byte_order}
 use Rattle.feed_tables.specs.Tables.{object_count}

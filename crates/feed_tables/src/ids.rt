@@ -59,13 +59,13 @@ impl Ids {
             ≡ map.remove (over_ids objects.now self.old) id.now) }
         ensures err { OnErr result (self.new ≡ self.old) }
     {
-        if objects.get(id.text()).is_none() {
-            self.sets.remove(id.text());
+        if objects.get(&id.key()).is_none() {
+            self.sets.remove(&id.key());
             return Ok(());
         }
         let node = Fork::new(alloc, id.copy()?, ())?;
         self.gone.insert(node);
-        self.sets.remove(id.text());
+        self.sets.remove(&id.key());
         Ok(())
     }
 

@@ -4,6 +4,7 @@
 mod change;
 mod ids;
 mod laws;
+mod lister;
 mod map;
 mod name;
 mod numbers;
@@ -14,6 +15,7 @@ mod tree;
 
 pub use change::{Change, Changes};
 pub use laws::table_laws;
+pub use lister::Lister;
 pub use name::{NAME_BYTES, Name, NameFault};
 pub use numbers::{Numbers, Slot};
 pub use patch::Patch;

@@ -1,6 +1,6 @@
 //! Items by name, seen as a finite map.
 
-ghost use Rattle.std.specs.Prelude.{◌≡◌, ◌++◌, ◌↔◌, min, flat_map, IfOk, OnOk, IsTrue};
+ghost use Rattle.std.specs.Prelude.{◌≡◌, ◌↔◌, min, flat_map, fold, IfOk, OnOk, IsTrue};
 ghost use Rattle.std.specs.Option.{option_copied};
 ghost use Rattle.std.specs.FinMap as map;
 ghost use Rattle.feed_tables.specs.Changes.{sets};
@@ -10,9 +10,9 @@ ghost use Rattle.feed_tables.specs.Patches.{sets_in};
 ghost use Rattle.feed_tables.specs.Tables.{listed, AreTypes};
 ghost use Rattle.feed_tables.specs.Walks.{weighed, weighed_in};
 
-use crate::change::Change;
 use crate::ids::Ids;
-use crate::name::Name;
+use crate::lister::Lister;
+use crate::name::{Key, Name};
 use crate::scale::Scale;
 use crate::tables::Table;
 use crate::tree::{Fork, Tree};
@@ -56,14 +56,14 @@ impl<V: Drop> Map<V> {
     }
 
     /// The item of a name.
-    pub fn get(&self, id: &str) -> Option<&V>
+    pub fn get(&self, id: &Key<'_>) -> Option<&V>
         ensures { option_copied result ≡ map.get self.now id.now }
     {
         self.tree.get(id)
     }
 
     /// Exchanges the item of a name with this one, and answers whether there is one.
-    pub fn swap(&mut self, id: &str, item: &mut V) -> bool
+    pub fn swap(&mut self, id: &Key<'_>, item: &mut V) -> bool
         ensures { Exchanges id.now self.old self.new item.old item.new result }
     {
         self.tree.swap(id, item)
@@ -77,7 +77,7 @@ impl<V: Drop> Map<V> {
     }
 
     /// Takes the item of this name away, where there is one.
-    pub fn remove(&mut self, id: &str)
+    pub fn remove(&mut self, id: &Key<'_>)
         ensures { self.new ≡ map.remove self.old id.now }
     {
         self.tree.remove(id);
@@ -153,7 +153,7 @@ pub fn held_in<'a, V: Drop>(
     items: &'a Map<V>,
     gone: &Map<()>,
     held: &'a Map<V>,
-    name: &str,
+    name: &Key<'_>,
 ) -> Option<&'a V>
     ensures { option_copied result
         ≡ map.get (map_over items.now (map_less gone.now held.now)) name.now }
@@ -236,13 +236,13 @@ impl<V: Held> Map<V> {
 }
 
 impl Map<Table> {
-    /// Appends the changes that make the tables, type by type.
-    pub fn list(&self, changes: &mut Vec<Change>) -> Result<(), AllocError>
-        ensures list { OnOk result (changes.new.items
-            ≡ changes.old.items ++ flat_map listed (map.entries self.now)) }
+    /// Lists the changes that make the tables, type by type.
+    pub fn list<L: Lister>(&self, lister: &mut L) -> Result<(), AllocError>
+        ensures list { OnOk result (lister.new
+            ≡ fold L.after lister.old (flat_map listed (map.entries self.now))) }
         ensures within { OnOk result (AreTypes (map.entries self.now)) }
     {
-        self.tree.list(changes)
+        self.tree.list(lister)
     }
 }
 
@@ -256,12 +256,12 @@ impl Map<Ids> {
 }
 
 impl Map<ObjectText> {
-    /// Appends a change for each object, in byte order of the ids.
-    pub fn list(&self, kind: &Name, changes: &mut Vec<Change>) -> Result<(), AllocError>
-        ensures list { OnOk result (changes.new.items
-            ≡ changes.old.items ++ sets kind.now (map.entries self.now)) }
+    /// Lists a change for each object, in byte order of the ids.
+    pub fn list<L: Lister>(&self, kind: &Name, lister: &mut L) -> Result<(), AllocError>
+        ensures list { OnOk result (lister.new
+            ≡ fold L.after lister.old (sets kind.now (map.entries self.now))) }
         ensures within { OnOk result (AreObjects (map.entries self.now)) }
     {
-        self.tree.list(kind, changes)
+        self.tree.list(kind, lister)
     }
 }

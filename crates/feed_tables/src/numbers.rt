@@ -4,7 +4,7 @@ ghost use Rattle.std.specs.Prelude.{◌≡◌, IfOk};
 ghost use Rattle.std.specs.FinMap as map;
 
 use crate::map::Map;
-use crate::name::Name;
+use crate::name::{Key, Name};
 use crate::tree::Fork;
 use std::alloc::{AllocError, Global};
 use std::marker::Model;
@@ -67,7 +67,7 @@ impl Numbers {
     pub fn get(&self, name: &str) -> Option<usize>
         ensures { result ≡ map.get self.now name.now }
     {
-        self.by_name.get(name).copied()
+        self.by_name.get(&Key::of(name)).copied()
     }
 
     /// Gives the slot's name this number, in the place of the one that it has.
@@ -83,6 +83,6 @@ impl Numbers {
     pub fn remove(&mut self, name: &str)
         ensures { self.new ≡ map.remove self.old name.now }
     {
-        self.by_name.remove(name);
+        self.by_name.remove(&Key::of(name));
     }
 }

@@ -10,7 +10,7 @@ ghost use Rattle.feed_tables.specs.Tables.{Contents, after, with_object, without
 use crate::change::Change;
 use crate::ids::Ids;
 use crate::map::{Map, held_in};
-use crate::name::Name;
+use crate::name::{Key, Name};
 use crate::scale::{AfterIds, ByObjects};
 use crate::tables::{Table, Tables};
 use crate::tree::Fork;
@@ -82,7 +82,7 @@ impl Patch {
     {
         let node = Fork::new(alloc, kind.copy()?, table)?;
         self.tables.insert(node);
-        self.ids.remove(kind.text());
+        self.ids.remove(&kind.key());
         Ok(())
     }
 
@@ -92,13 +92,13 @@ impl Patch {
             ≡ map.remove (over base.now.contents self.old) kind.now) }
         ensures err { OnErr result (self.new ≡ self.old) }
     {
-        if base.table(kind.text()).is_none() {
-            self.tables.remove(kind.text());
+        if base.table(&kind.key()).is_none() {
+            self.tables.remove(&kind.key());
             return Ok(());
         }
         let node = Fork::new(alloc, kind.copy()?, ())?;
         self.gone.insert(node);
-        self.tables.remove(kind.text());
+        self.tables.remove(&kind.key());
         Ok(())
     }
 
@@ -116,13 +116,13 @@ impl Patch {
         ensures err { OnErr result (self.new ≡ self.old) }
     {
         let node = Fork::new(alloc, id.copy()?, object.copy()?)?;
-        if objects_of(&self.tables, &self.gone, base, kind.text()).is_none() {
+        if objects_of(&self.tables, &self.gone, base, &kind.key()).is_none() {
             return self.begin(alloc, base, kind, node);
         }
         let mut ids = Ids::new();
-        if self.ids.swap(kind.text(), &mut ids) {
+        if self.ids.swap(&kind.key(), &mut ids) {
             ids.set(node);
-            let _there = self.ids.swap(kind.text(), &mut ids);
+            let _there = self.ids.swap(&kind.key(), &mut ids);
             return Ok(());
         }
         ids.set(node);
@@ -166,13 +166,13 @@ impl Patch {
             (map.get (over base.now.contents self.old) kind.now)) }
         ensures err { OnErr result (self.new ≡ self.old) }
     {
-        let Some(objects) = objects_of(&self.tables, &self.gone, base, kind.text()) else {
+        let Some(objects) = objects_of(&self.tables, &self.gone, base, &kind.key()) else {
             return Ok(());
         };
         let mut ids = Ids::new();
-        if self.ids.swap(kind.text(), &mut ids) {
+        if self.ids.swap(&kind.key(), &mut ids) {
             let done = ids.take(alloc, objects, id);
-            let _there = self.ids.swap(kind.text(), &mut ids);
+            let _there = self.ids.swap(&kind.key(), &mut ids);
             return done;
         }
         ids.take(alloc, objects, id)?;
@@ -242,7 +242,7 @@ fn change_all(mut ids: Map<Ids>, tables: &mut Tables)
 {
     'types: while let Some(node) = ids.take_first() {
         let (kind, ids) = node.into_parts();
-        tables.change(kind.text(), ids);
+        tables.change(&kind.key(), ids);
     }
 }
 
@@ -251,7 +251,7 @@ fn objects_of<'a>(
     tables: &'a Map<Table>,
     gone: &Map<()>,
     base: &'a Tables,
-    kind: &str,
+    kind: &Key<'_>,
 ) -> Option<&'a Map<ObjectText>>
     ensures { option_copied result ≡ collection_of
         (map.get (map_over tables.now (map_less gone.now base.now.contents)) kind.now) }

@@ -6,6 +6,7 @@ ghost use Rattle.feed_tables.specs.Walks.{each_one, by_objects};
 
 use crate::ids::Ids;
 use crate::map::Map;
+use crate::name::Key;
 use crate::tables::Table;
 use feed_text::ObjectText;
 
@@ -15,7 +16,7 @@ pub trait Scale<V> {
     ghost weight: { Self → List ℕ → V → ℕ };
 
     /// How much an item weighs under its name, or `usize::MAX` where it is more.
-    fn weigh(&self, name: &str, item: &V) -> usize
+    fn weigh(&self, name: &Key<'_>, item: &V) -> usize
         ensures { result ≡ min (weight self.now name.now item.now) usize.MAX };
 }
 
@@ -26,7 +27,7 @@ pub struct EachOne;
 impl Scale<ObjectText> for EachOne {
     ghost weight = { λ _. each_one };
 
-    fn weigh(&self, _name: &str, _object: &ObjectText) -> usize {
+    fn weigh(&self, _name: &Key<'_>, _object: &ObjectText) -> usize {
         1
     }
 }
@@ -38,7 +39,7 @@ pub struct ByObjects;
 impl Scale<Table> for ByObjects {
     ghost weight = { λ _. by_objects };
 
-    fn weigh(&self, _kind: &str, table: &Table) -> usize {
+    fn weigh(&self, _kind: &Key<'_>, table: &Table) -> usize {
         table.weight()
     }
 }
@@ -52,7 +53,7 @@ pub struct AfterIds<'a> {
 impl<'a> Scale<Table> for AfterIds<'a> {
     ghost weight = { λ s. after_ids s.changed.now };
 
-    fn weigh(&self, kind: &str, table: &Table) -> usize {
+    fn weigh(&self, kind: &Key<'_>, table: &Table) -> usize {
         match self.changed.get(kind) {
             Some(ids) => table.count_over(ids).saturating_add(1),
             None => table.weight(),

@@ -7,7 +7,7 @@ ghost use Rattle.std.specs.FinMap.{put, find};
 ghost use Rattle.feed_tables.specs.Bytes.{byte_order, IsInOrder, without};
 ghost use Rattle.feed_tables.specs.Tree.{parts, with_item, Swaps, FirstTaken, put_all, without_all};
 
-use crate::name::Name;
+use crate::name::{Key, Name};
 use std::alloc::{AllocError, Global};
 use std::cmp::Ordering;
 use std::marker::Model;
@@ -33,12 +33,15 @@ enum Node<V> {
 #[cycle(owned_tree)]
 #[derive(Drop)]
 pub struct Fork<V> {
+    // What a search reads on its way stands first.
     left: Tree<V>,
-    id: Name,
-    item: V,
+    right: Tree<V>,
     // How many items there are, or `usize::MAX` where they are more.
     count: usize,
-    right: Tree<V>,
+    // How many nodes stand above each other at most. Nothing but the balance rests on it.
+    height: usize,
+    id: Name,
+    item: V,
 }
 
 impl<V> Model for Tree<V> {
@@ -80,29 +83,29 @@ impl<V: Drop> Tree<V> {
     }
 
     /// The item of a name.
-    pub fn get(&self, id: &str) -> Option<&V>
+    pub fn get(&self, id: &Key<'_>) -> Option<&V>
         requires { IsInOrder self.now }
         ensures { option_copied result ≡ find byte_order id.now self.now }
     {
         match &self.node {
             Node::Leaf => None,
-            Node::Fork(fork) => match fork.id.text().cmp(id) {
-                Ordering::Less => fork.right.get(id),
+            Node::Fork(fork) => match id.compare(&fork.id) {
+                Ordering::Less => fork.left.get(id),
                 Ordering::Equal => Some(&fork.item),
-                Ordering::Greater => fork.left.get(id),
+                Ordering::Greater => fork.right.get(id),
             },
         }
     }
 
     /// Exchanges the item of a name with this one, and answers whether there is one.
-    pub fn swap(&mut self, id: &str, item: &mut V) -> bool
+    pub fn swap(&mut self, id: &Key<'_>, item: &mut V) -> bool
         requires { IsInOrder self.old }
         ensures swapped { Swaps id.now self.old self.new item.old item.new result }
     {
         let Node::Fork(fork) = &mut self.node else {
             return false;
         };
-        match id.cmp(fork.id.text()) {
+        match id.compare(&fork.id) {
             Ordering::Less => return fork.left.swap(id, item),
             Ordering::Greater => return fork.right.swap(id, item),
             Ordering::Equal => {}
@@ -123,7 +126,7 @@ impl<V: Drop> Tree<V> {
                 *self = single(node);
                 1
             }
-            Node::Fork(fork) => match node.id.text().cmp(fork.id.text()) {
+            Node::Fork(fork) => match node.id.compare(&fork.id) {
                 Ordering::Less => {
                     let added = fork.left.insert(node);
                     fork.more_left(added);
@@ -143,13 +146,13 @@ impl<V: Drop> Tree<V> {
     }
 
     /// Takes the item of this name away, where there is one.
-    pub fn remove(&mut self, id: &str)
+    pub fn remove(&mut self, id: &Key<'_>)
         requires { IsInOrder self.old }
         ensures { self.new ≡ without id.now self.old }
     {
         match &mut self.node {
             Node::Leaf => {}
-            Node::Fork(fork) => match id.cmp(fork.id.text()) {
+            Node::Fork(fork) => match id.compare(&fork.id) {
                 Ordering::Less => {
                     fork.left.remove(id);
                     fork.weigh();
@@ -222,7 +225,7 @@ impl<V: Drop> Tree<V> {
                 let left = mem::replace(&mut fork.left, Tree::new());
                 let right = mem::replace(&mut fork.right, Tree::new());
                 left.take_from(other);
-                other.remove(fork.id.text());
+                other.remove(&fork.id.key());
                 right.take_from(other);
             }
         }
@@ -241,6 +244,7 @@ impl<V: Drop> Fork<V> {
                 id,
                 item,
                 count: 1,
+                height: 1,
                 right: Tree::new(),
             },
         )?;
@@ -284,6 +288,7 @@ fn single<V: Drop>(mut node: Box<Fork<V>>) -> Tree<V>
     node.left = Tree::new();
     node.right = Tree::new();
     node.count = 1;
+    node.height = 1;
     Tree {
         node: Node::Fork(node),
     }

@@ -1,7 +1,7 @@
-//! Trees whose sides hold about alike many items.
+//! Trees whose sides are about alike high (Adelson-Velsky and Landis).
 
 ghost use Rattle.std.specs.Prelude.{◌≡◌, ◌+◌, min};
-ghost use Rattle.feed_tables.specs.Tree.{parts, count_of, counted};
+ghost use Rattle.feed_tables.specs.Tree.{parts, count_of};
 
 use crate::tree::{Fork, Node, Tree};
 use std::mem;
@@ -25,11 +25,20 @@ impl<V: Drop> Tree<V> {
         }
     }
 
-    // Whether the right side is the greater one, so that it would be too great next to what a turn puts beside it.
+    // How many nodes stand above each other at most.
+    #[inline(always)]
+    fn height(&self) -> usize {
+        match &self.node {
+            Node::Leaf => 0,
+            Node::Fork(fork) => fork.height,
+        }
+    }
+
+    // Whether the right side is the higher one, so that it would be too high next to what a turn puts beside it.
     fn leans_right(&self) -> bool {
         match &self.node {
             Node::Leaf => false,
-            Node::Fork(fork) => fork.right.count() / 2 >= fork.left.count(),
+            Node::Fork(fork) => fork.right.height() > fork.left.height(),
         }
     }
 
@@ -37,7 +46,7 @@ impl<V: Drop> Tree<V> {
     fn leans_left(&self) -> bool {
         match &self.node {
             Node::Leaf => false,
-            Node::Fork(fork) => fork.left.count() / 2 >= fork.right.count(),
+            Node::Fork(fork) => fork.left.height() > fork.right.height(),
         }
     }
 }
@@ -49,38 +58,43 @@ impl<V: Drop> Fork<V> {
         ensures count { self.new.count ≡ count_of (parts self.old) }
     {
         self.recount();
-        self.lighten_left();
-        self.lighten_right();
+        self.lower_left();
+        self.lower_right();
     }
 
-    // Counts the items that came to the left side, and evens the sides.
+    // Counts the items that came to the left side, and evens the sides. Where that side is still lower than the node was,
+    // the other one isn't looked at.
+    #[inline(always)]
     pub(super) fn more_left(&mut self, added: usize)
         ensures items { parts self.new ≡ parts self.old }
         ensures count { self.new.count ≡ min (self.old.count + added) usize.MAX }
     {
         self.count = self.count.saturating_add(added);
-        if added > 0 {
-            self.lighten_left();
+        if self.left.height() >= self.height {
+            self.rise();
+            self.lower_left();
         }
     }
 
     // Counts the items that came to the right side, and evens the sides.
+    #[inline(always)]
     pub(super) fn more_right(&mut self, added: usize)
         ensures items { parts self.new ≡ parts self.old }
         ensures count { self.new.count ≡ min (self.old.count + added) usize.MAX }
     {
         self.count = self.count.saturating_add(added);
-        if added > 0 {
-            self.lighten_right();
+        if self.right.height() >= self.height {
+            self.rise();
+            self.lower_right();
         }
     }
 
-    // Moves items to the right side where the left one outweighs it.
-    fn lighten_left(&mut self)
+    // Moves items to the right side where the left one is too high.
+    fn lower_left(&mut self)
         ensures items { parts self.new ≡ parts self.old }
         ensures count { self.new.count ≡ self.old.count }
     {
-        if outweighs(self.left.count(), self.count) {
+        if is_too_high(self.left.height(), self.right.height()) {
             if self.left.leans_right() {
                 self.left.turn_left();
             }
@@ -88,12 +102,12 @@ impl<V: Drop> Fork<V> {
         }
     }
 
-    // Moves items to the left side where the right one outweighs it.
-    fn lighten_right(&mut self)
+    // Moves items to the left side where the right one is too high.
+    fn lower_right(&mut self)
         ensures items { parts self.new ≡ parts self.old }
         ensures count { self.new.count ≡ self.old.count }
     {
-        if outweighs(self.right.count(), self.count) {
+        if is_too_high(self.right.height(), self.left.height()) {
             if self.right.leans_left() {
                 self.right.turn_right();
             }
@@ -116,6 +130,7 @@ impl<V: Drop> Fork<V> {
         mem::swap(&mut low.right, &mut self.right);
         low.recount();
         mem::swap(&mut self.left, &mut self.right);
+        self.rise();
     }
 
     // The root of the right side comes to the top.
@@ -133,21 +148,36 @@ impl<V: Drop> Fork<V> {
         mem::swap(&mut low.left, &mut self.left);
         low.recount();
         mem::swap(&mut self.right, &mut self.left);
+        self.rise();
     }
 
-    // Counts the items anew.
+    // Counts the items anew, and measures the height.
     fn recount(&mut self)
-        ensures { self.new ≡ counted self.old }
+        ensures items { parts self.new ≡ parts self.old }
+        ensures count { self.new.count ≡ count_of (parts self.old) }
     {
         self.count = self
             .left
             .count()
             .saturating_add(self.right.count())
             .saturating_add(1);
+        self.rise();
+    }
+
+    // Measures the height.
+    #[inline(always)]
+    fn rise(&mut self)
+        ensures items { parts self.new ≡ parts self.old }
+        ensures count { self.new.count ≡ self.old.count }
+    {
+        let (left, right) = (self.left.height(), self.right.height());
+        let high = if left < right { right } else { left };
+        self.height = high.saturating_add(1);
     }
 }
 
-// Whether a side of a fork has more than three times the items of the other.
-fn outweighs(side: usize, whole: usize) -> bool {
-    side / 3 > whole.saturating_sub(side).saturating_sub(1)
+// Whether a side stands out over the other by more than one.
+#[inline(always)]
+fn is_too_high(side: usize, other: usize) -> bool {
+    side > other.saturating_add(1)
 }

@@ -1,6 +1,6 @@
 //! Walks through items by name.
 
-ghost use Rattle.std.specs.Prelude.{◌≡◌, ◌∷◌, ◌++◌, [], ◌↔◌, Some, min, length, flat_map, IfOk, OnOk, IsTrue};
+ghost use Rattle.std.specs.Prelude.{◌≡◌, ◌∷◌, [], ◌↔◌, Some, min, length, flat_map, fold, IfOk, OnOk, IsTrue};
 ghost use Rattle.std.specs.Option.{option_copied};
 ghost use Rattle.std.specs.FinMap as map;
 ghost use Rattle.feed_tables.specs.Changes.{sets};
@@ -10,10 +10,10 @@ ghost use Rattle.feed_tables.specs.Patches.{sets_in};
 ghost use Rattle.feed_tables.specs.Tables.{listed, AreTypes};
 ghost use Rattle.feed_tables.specs.Walks.{weight, weighed, weighed_in, besides, AreIn};
 
-use crate::change::Change;
 use crate::ids::Ids;
+use crate::lister::Lister;
 use crate::map::{Held, Map, held_in};
-use crate::name::Name;
+use crate::name::{Key, Name};
 use crate::scale::Scale;
 use crate::tables::Table;
 use crate::tree::{Fork, Node, Tree};
@@ -33,6 +33,7 @@ impl<V: Held> Tree<V> {
                     id: fork.id.copy()?,
                     item: fork.item.again(alloc)?,
                     count: fork.count,
+                    height: fork.height,
                     right: fork.right.copy(alloc)?,
                 };
                 let node = Box::new(alloc, fork)?;
@@ -66,7 +67,7 @@ impl<V: Held> Tree<V> {
 fn holds<V: Held>(items: &Map<V>, name: &Name, item: &V) -> bool
     ensures { IsTrue result ↔ (map.get items.now name.now ≡ Some item.now) }
 {
-    match items.get(name.text()) {
+    match items.get(&name.key()) {
         Some(held) => held.is_same(item),
         None => false,
     }
@@ -86,7 +87,7 @@ impl<V: Drop> Tree<V> {
         match &self.node {
             Node::Leaf => 0,
             Node::Fork(fork) => {
-                let weight = weight_besides(gone, others, fork.id.text(), &fork.item, scale);
+                let weight = weight_besides(gone, others, &fork.id.key(), &fork.item, scale);
                 fork.left
                     .weigh_besides(gone, others, scale)
                     .saturating_add(weight)
@@ -110,7 +111,7 @@ impl<V: Drop> Tree<V> {
         match &self.node {
             Node::Leaf => 0,
             Node::Fork(fork) => {
-                let weight = weight_in(items, gone, held, fork.id.text(), scale);
+                let weight = weight_in(items, gone, held, &fork.id.key(), scale);
                 fork.left
                     .weigh_in(items, gone, held, scale)
                     .saturating_add(weight)
@@ -126,7 +127,7 @@ impl<V: Drop> Tree<V> {
         match &self.node {
             Node::Leaf => 0,
             Node::Fork(fork) => {
-                let here: usize = if others.get(fork.id.text()).is_some() {
+                let here: usize = if others.get(&fork.id.key()).is_some() {
                     0
                 } else {
                     1
@@ -145,7 +146,7 @@ fn weight_in<W: Drop, S: Scale<W>>(
     items: &Map<W>,
     gone: &Map<()>,
     held: &Map<W>,
-    name: &str,
+    name: &Key<'_>,
     scale: &S,
 ) -> usize
     ensures { result ≡ min (weight (S.weight scale.now) name.now
@@ -161,7 +162,7 @@ fn weight_in<W: Drop, S: Scale<W>>(
 fn weight_besides<V: Drop, W: Drop, X: Drop, S: Scale<V>>(
     gone: &Map<W>,
     others: &Map<X>,
-    name: &str,
+    name: &Key<'_>,
     item: &V,
     scale: &S,
 ) -> usize
@@ -178,20 +179,20 @@ fn weight_besides<V: Drop, W: Drop, X: Drop, S: Scale<V>>(
 }
 
 impl Tree<Table> {
-    /// Appends the changes that make the tables, type by type.
-    pub fn list(&self, changes: &mut Vec<Change>) -> Result<(), AllocError>
-        ensures list { OnOk result (changes.new.items
-            ≡ changes.old.items ++ flat_map listed self.now) }
+    /// Lists the changes that make the tables, type by type.
+    pub fn list<L: Lister>(&self, lister: &mut L) -> Result<(), AllocError>
+        ensures list { OnOk result (lister.new
+            ≡ fold L.after lister.old (flat_map listed self.now)) }
         ensures within { OnOk result (AreTypes self.now) }
     {
         match &self.node {
             Node::Leaf => Ok(()),
             Node::Fork(fork) => {
-                fork.left.list(changes)?;
+                fork.left.list(lister)?;
                 // What is listed is within the limits.
                 let _kind = fork.id.text();
-                fork.item.list(&fork.id, changes)?;
-                fork.right.list(changes)
+                fork.item.list(&fork.id, lister)?;
+                fork.right.list(lister)
             }
         }
     }
@@ -214,21 +215,20 @@ impl Tree<Ids> {
 }
 
 impl Tree<ObjectText> {
-    /// Appends a change for each object, in the order of their ids.
-    pub fn list(&self, kind: &Name, changes: &mut Vec<Change>) -> Result<(), AllocError>
-        ensures list { OnOk result (changes.new.items
-            ≡ changes.old.items ++ sets kind.now self.now) }
+    /// Lists a change for each object, in the order of their ids.
+    pub fn list<L: Lister>(&self, kind: &Name, lister: &mut L) -> Result<(), AllocError>
+        ensures list { OnOk result (lister.new
+            ≡ fold L.after lister.old (sets kind.now self.now)) }
         ensures within { OnOk result (AreObjects self.now) }
     {
         match &self.node {
             Node::Leaf => Ok(()),
             Node::Fork(fork) => {
-                fork.left.list(kind, changes)?;
+                fork.left.list(kind, lister)?;
                 // What is listed is within the limits.
                 let (_id, _object) = (fork.id.text(), fork.item.bytes());
-                let set = Change::Set(kind.copy()?, fork.id.copy()?, fork.item.copy()?);
-                changes.push(set)?;
-                fork.right.list(kind, changes)
+                lister.set(kind, &fork.id, &fork.item)?;
+                fork.right.list(kind, lister)
             }
         }
     }

@@ -1,6 +1,5 @@
-use Rattle.std.proofs.Common.{◌≡◌, refl, sym, subst, ℕ, List}
+use Rattle.std.proofs.Common.{◌≡◌, refl, sym}
 use Rattle.std.specs.FinMap.{entries}
-use Rattle.feed_tables.specs.Walks.{AreIn}
 use Rattle.feed_tables.proofs.Held.{in_same, same_by_in}
 use Rattle.feed_tables.proofs.MapsOver.{entries_are}
 use Rattle.feed_tables.proofs.map.Map.same.Goals as goal

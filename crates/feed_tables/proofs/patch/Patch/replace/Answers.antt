@@ -11,7 +11,7 @@ returns-clause-ok c =
     let base = c.args.base.now.contents in
     let k = c.args.kind.now in
     changed_replaced p.ids (over_of base p.gone p.tables) k c.remove.new.self (over_of base p.gone c.insert.new.self) c.args.table
-    (c.remove.ensures ∙ ap (λ (q : List ℕ). remove p.ids q) c.text.ensures.text)
+    (c.remove.ensures ∙ ap (λ (q : List ℕ). remove p.ids q) c.key.ensures)
     (over_put base p.gone p.tables c.insert.new.self k c.args.table
     (c.insert.ensures
     ∙ ap (λ (q : List ℕ). insert p.tables q c.in_ok-node.node.value.item) (c.in_ok-node.ensures.0 ∙ c.in_ok-copy.ensures)

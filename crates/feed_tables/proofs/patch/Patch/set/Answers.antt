@@ -1,9 +1,9 @@
-use Rattle.std.proofs.Common.{◌≡◌, None, refl, sym, ap, ◌∙◌, List, ℕ}
+use Rattle.std.proofs.Common.{◌≡◌, ap, ◌∙◌, List, ℕ}
 use Rattle.std.specs.FinMap.{get, insert}
 use Rattle.feed_tables.specs.Patches.{over_ids}
 use Rattle.feed_tables.specs.Tables.{Objects, collection_of}
 use Rattle.feed_tables.specs.declared.ids.Ids.{Ids}
-use Rattle.feed_tables.proofs.Changing.{Changed, held_some, held_none, held_after, held_still, set_again, same_ids}
+use Rattle.feed_tables.proofs.Changing.{Changed, held_some, held_none, held_after, held_still, set_again}
 use Rattle.feed_tables.proofs.Patching.{over_of, exchanged_twice, exchanged_none}
 use Rattle.feed_tables.proofs.patch.Patch.set.Goals as goal
 
@@ -12,7 +12,7 @@ begin-requires c =
     let p = c.args.self.now in
     let m = over_of c.args.base.now.contents p.gone p.tables in
     held_none (get m c.args.kind.now) c.objects_of.result c.if-is_none.ensures
-    (c.objects_of.ensures ∙ ap (λ (q : List ℕ). collection_of (get m q)) c.text.ensures.text)
+    (c.objects_of.ensures ∙ ap (λ (q : List ℕ). collection_of (get m q)) c.key.ensures)
 
 pub returns-then-swap-clause-ok : goal.returns-then-swap-clause-ok
 returns-then-swap-clause-ok c =
@@ -20,11 +20,11 @@ returns-then-swap-clause-ok c =
     let k = c.args.kind.now in
     let m = over_of c.args.base.now.contents p.gone p.tables in
     let held = held_some (get m k) c.objects_of.result c.if-is_none.ensures
-    (c.objects_of.ensures ∙ ap (λ (q : List ℕ). collection_of (get m q)) c.text.ensures.text) in
+    (c.objects_of.ensures ∙ ap (λ (q : List ℕ). collection_of (get m q)) c.key.ensures) in
     let i = c.swap.new.item in
     let j = c.set.new.self in
     let node = c.in_ok-node.node.value in
-    let twice = exchanged_twice c.text-2.result.now c.text-then-swap.result.now k p.ids c.swap.new.self c.swap-there.new.self _ i j c.swap-there.new.item c.swap.result c.swap-there.result c.text-2.ensures.text c.text-then-swap.ensures.text c.if-swap.true c.swap.ensures c.swap-there.ensures in
+    let twice = exchanged_twice c.key-2.result c.key-then-swap.result k p.ids c.swap.new.self c.swap-there.new.self _ i j c.swap-there.new.item c.swap.result c.swap-there.result c.key-2.ensures c.key-then-swap.ensures c.if-swap.true c.swap.ensures c.swap-there.ensures in
     let made : over_ids held.0 j ≡ insert (over_ids held.0 i) c.args.id.now c.args.object.now =
     c.set.ensures held.0
     ∙ ap (λ (q : List ℕ). insert (over_ids held.0 i) q node.item) (c.in_ok-node.ensures.0 ∙ c.in_ok-copy.ensures)
@@ -38,8 +38,8 @@ returns-clause-ok c =
     let k = c.args.kind.now in
     let m = over_of c.args.base.now.contents p.gone p.tables in
     let held = held_some (get m k) c.objects_of.result c.if-is_none.ensures
-    (c.objects_of.ensures ∙ ap (λ (q : List ℕ). collection_of (get m q)) c.text.ensures.text) in
-    let none = exchanged_none c.text-2.result.now k p.ids c.swap.new.self _ c.swap.new.item c.swap.result c.text-2.ensures.text c.if-swap.false c.swap.ensures in
+    (c.objects_of.ensures ∙ ap (λ (q : List ℕ). collection_of (get m q)) c.key.ensures) in
+    let none = exchanged_none c.key-2.result k p.ids c.swap.new.self _ c.swap.new.item c.swap.result c.key-2.ensures c.if-swap.false c.swap.ensures in
     let i = c.swap.new.item in
     let j = c.set-2.new.self in
     let node = c.in_ok-node.node.value in

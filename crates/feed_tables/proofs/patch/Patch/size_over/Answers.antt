@@ -1,4 +1,4 @@
-use Rattle.std.proofs.Common.{◌∙◌, ap, min, arith, ℕ}
+use Rattle.std.proofs.Common.{arith}
 use Rattle.feed_tables.specs.Map.{map_less}
 use Rattle.feed_tables.proofs.ChangedSizes.{size_by_changes, size_by_all}
 use Rattle.feed_tables.proofs.Patching.{over_of}

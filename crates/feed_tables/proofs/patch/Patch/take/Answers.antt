@@ -1,9 +1,9 @@
-use Rattle.std.proofs.Common.{◌≡◌, None, Some, Result, Ok, Err, OnOk, OnErr, refl, sym, ap, ◌∙◌, List, ℕ}
+use Rattle.std.proofs.Common.{◌≡◌, ap, ◌∙◌, List, ℕ}
 use Rattle.std.specs.FinMap.{get, insert, remove}
 use Rattle.feed_tables.specs.Patches.{over_ids}
 use Rattle.feed_tables.specs.Tables.{Objects, collection_of}
 use Rattle.feed_tables.specs.declared.ids.Ids.{Ids}
-use Rattle.feed_tables.proofs.Changing.{Changed, held_is, held_after, held_still, take_done, taken_again, taken_nowhere, none_of, left_ids}
+use Rattle.feed_tables.proofs.Changing.{Changed, held_is, held_still, take_done, taken_again, taken_nowhere, none_of, left_ids}
 use Rattle.feed_tables.proofs.Patching.{over_of, exchanged_twice, exchanged_none}
 use Rattle.feed_tables.proofs.patch.Patch.take.Goals as goal
 
@@ -14,7 +14,7 @@ returns-in_default-clause-ok c =
     let m = over_of c.args.base.now.contents p.gone p.tables in
     taken_nowhere p.ids m k c.args.id.now
     (none_of (get m k) c.objects_of.result c.in_default.not-Some
-    (c.objects_of.ensures ∙ ap (λ (q : List ℕ). collection_of (get m q)) c.text.ensures.text))
+    (c.objects_of.ensures ∙ ap (λ (q : List ℕ). collection_of (get m q)) c.key.ensures))
 
 pub returns-then-swap-clause-ok : goal.returns-then-swap-clause-ok
 returns-then-swap-clause-ok c =
@@ -23,10 +23,10 @@ returns-then-swap-clause-ok c =
     let m = over_of c.args.base.now.contents p.gone p.tables in
     let objects = c.in-Some.objects.now in
     let held = held_is (get m k) c.objects_of.result c.in-Some.objects c.in-Some.is
-    (c.objects_of.ensures ∙ ap (λ (q : List ℕ). collection_of (get m q)) c.text.ensures.text) in
+    (c.objects_of.ensures ∙ ap (λ (q : List ℕ). collection_of (get m q)) c.key.ensures) in
     let i = c.swap.new.item in
     let j = c.take-done.new.self in
-    let twice = exchanged_twice c.text-2.result.now c.text-then-swap.result.now k p.ids c.swap.new.self c.swap-there.new.self _ i j c.swap-there.new.item c.swap.result c.swap-there.result c.text-2.ensures.text c.text-then-swap.ensures.text c.if-swap.true c.swap.ensures c.swap-there.ensures in
+    let twice = exchanged_twice c.key-2.result c.key-then-swap.result k p.ids c.swap.new.self c.swap-there.new.self _ i j c.swap-there.new.item c.swap.result c.swap-there.result c.key-2.ensures c.key-then-swap.ensures c.if-swap.true c.swap.ensures c.swap-there.ensures in
     take_done p.ids m k c.swap-there.new.self objects i j c.args.id.now held twice.0 twice.1 c.take-done.result c.take-done.ensures.ok
 
 pub returns-then-swap-clause-err : goal.returns-then-swap-clause-err
@@ -35,7 +35,7 @@ returns-then-swap-clause-err c =
     let k = c.args.kind.now in
     let i = c.swap.new.item in
     let j = c.take-done.new.self in
-    let twice = exchanged_twice c.text-2.result.now c.text-then-swap.result.now k p.ids c.swap.new.self c.swap-there.new.self _ i j c.swap-there.new.item c.swap.result c.swap-there.result c.text-2.ensures.text c.text-then-swap.ensures.text c.if-swap.true c.swap.ensures c.swap-there.ensures in
+    let twice = exchanged_twice c.key-2.result c.key-then-swap.result k p.ids c.swap.new.self c.swap-there.new.self _ i j c.swap-there.new.item c.swap.result c.swap-there.result c.key-2.ensures c.key-then-swap.ensures c.if-swap.true c.swap.ensures c.swap-there.ensures in
     left_ids p k c.swap-there.new.self i j twice.0 twice.1 c.take-done.result c.take-done.ensures.err
 
 pub returns-clause-ok : goal.returns-clause-ok
@@ -45,8 +45,8 @@ returns-clause-ok c =
     let m = over_of c.args.base.now.contents p.gone p.tables in
     let objects = c.in-Some.objects.now in
     let held = held_is (get m k) c.objects_of.result c.in-Some.objects c.in-Some.is
-    (c.objects_of.ensures ∙ ap (λ (q : List ℕ). collection_of (get m q)) c.text.ensures.text) in
-    let none = exchanged_none c.text-2.result.now k p.ids c.swap.new.self _ c.swap.new.item c.swap.result c.text-2.ensures.text c.if-swap.false c.swap.ensures in
+    (c.objects_of.ensures ∙ ap (λ (q : List ℕ). collection_of (get m q)) c.key.ensures) in
+    let none = exchanged_none c.key-2.result k p.ids c.swap.new.self _ c.swap.new.item c.swap.result c.key-2.ensures c.if-swap.false c.swap.ensures in
     let i = c.swap.new.item in
     let j = c.take.new.self in
     let last = c.in_ok-node.node.value in

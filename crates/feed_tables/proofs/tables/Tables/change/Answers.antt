@@ -1,9 +1,9 @@
-use Rattle.std.proofs.Common.{◌≡◌, ◌+◌, ◌≤◌, Some, None, sym, ap, ◌∙◌, refl, arith}
+use Rattle.std.proofs.Common.{◌≡◌, ◌+◌, sym, ap, ◌∙◌, refl}
 use Rattle.std.specs.FinMap.{get, insert}
-use Rattle.feed_tables.specs.Patches.{merged, with_ids}
+use Rattle.feed_tables.specs.Patches.{with_ids}
 use Rattle.feed_tables.specs.Tables.{Contents, Tables, object_count, size}
 use Rattle.feed_tables.specs.declared.tables.Table.{Table}
-use Rattle.feed_tables.proofs.Patching.{exchanged_twice, exchanged_none}
+use Rattle.feed_tables.proofs.Patching.{exchanged_twice}
 use Rattle.feed_tables.proofs.Sizes.{size-insert, count_within}
 use Rattle.feed_tables.proofs.tables.Tables.change.Goals as goal
 

@@ -10,7 +10,7 @@ returns-then-is_none-clause-ok c =
     let k = c.args.kind.now in
     let id = c.args.id.now in
     let none : object_at held k id ≡ None =
-    ap (λ (q : List ℕ). object_at held q id) (sym c.text.ensures.text)
-    ∙ ap (λ (q : List ℕ). object_at held c.text.result.now q) (sym c.text-2.ensures.text)
-    ∙ sym c.get.ensures ∙ none_copied c.get.result c.if-is_none.ensures in
+    ap (λ (q : List ℕ). object_at held q id) (sym c.key.ensures)
+    ∙ ap (λ (q : List ℕ). object_at held c.key.result q) (sym c.key-2.ensures)
+    ∙ sym c.object.ensures ∙ none_copied c.object.result c.if-is_none.ensures in
     remove_nothing held k id none ∙ ap (after held) (sym c.requires)

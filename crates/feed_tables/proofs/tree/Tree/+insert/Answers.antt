@@ -14,20 +14,20 @@ insert-added-requires-in-Greater g t c κs within =
     let f = at_lent c.self.view_is c.requires c.in-Fork.is c.deref_mut-in-Greater.result.now c.deref_mut-in-Greater.ensures.value in
     (search rules, (within, f.right))
 
-pub returns-after-cmp-clause-put : goal.returns-after-cmp-clause-put
-returns-after-cmp-clause-put g t c =
+pub returns-after-compare-clause-put : goal.returns-after-compare-clause-put
+returns-after-compare-clause-put g t c =
     let k = c.args.node.value.id in
     let v = c.args.node.value.item in
     let fork = c.in-Fork.fork.value in
     let f = at_lent c.self.view_is c.requires c.in-Fork.is fork refl in
-    elim c.match-cmp.branch [
+    elim c.match-compare.branch [
       | in-Less w ↦
-          let order : byte_order k fork.id ≡ Less = cc (c.cmp.ensures, w.in-Less.is, c.text.ensures.text, c.text-in-Fork.ensures.text, c.deref.ensures, c.deref-in-Fork.ensures) in
+          let order : byte_order k fork.id ≡ Less = cc (c.compare.ensures, w.in-Less.is, c.deref.ensures, c.deref-in-Fork.ensures) in
           rw (w.self-inside-is, w.more_left.ensures.items, w.deref_mut-in-Less.ensures.value, w.insert-added.ensures.put, w.deref_mut.ensures.value) (sym (put_before f k v order))
       | in-Equal w ↦
-          let order : byte_order k fork.id ≡ Equal = cc (c.cmp.ensures, w.in-Equal.is, c.text.ensures.text, c.text-in-Fork.ensures.text, c.deref.ensures, c.deref-in-Fork.ensures) in
+          let order : byte_order k fork.id ≡ Equal = cc (c.compare.ensures, w.in-Equal.is, c.deref.ensures, c.deref-in-Fork.ensures) in
           rw (w.self-inside-is, w.take_item.ensures, w.deref_mut-in-Equal.ensures.value) (sym (put_at f k v order))
       | in-Greater w ↦
-          let order : byte_order k fork.id ≡ Greater = cc (c.cmp.ensures, w.in-Greater.is, c.text.ensures.text, c.text-in-Fork.ensures.text, c.deref.ensures, c.deref-in-Fork.ensures) in
+          let order : byte_order k fork.id ≡ Greater = cc (c.compare.ensures, w.in-Greater.is, c.deref.ensures, c.deref-in-Fork.ensures) in
           rw (w.self-inside-is, w.more_right.ensures.items, w.deref_mut-in-Greater-2.ensures.value, w.insert-added-in-Greater.ensures.put, w.deref_mut-in-Greater.ensures.value) (sym (put_after f k v order))
     ]

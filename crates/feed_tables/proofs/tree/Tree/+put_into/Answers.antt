@@ -1,4 +1,4 @@
-use Rattle.std.proofs.Common.{rules, refl, ◌≡◌, ◌<◌, length, [], sym, ap, ◌∙◌, subst, List, ℕ}
+use Rattle.std.proofs.Common.{rules, refl, ◌≡◌, ◌<◌, length, sym, ap, ◌∙◌}
 use Rattle.feed_tables.specs.Bytes.{IsInOrder}
 use Rattle.feed_tables.specs.Tree.{entries_of}
 use Rattle.feed_tables.proofs.Maps.{in_order_put}

@@ -6,45 +6,45 @@ use Rattle.feed_tables.proofs.tree.Tree.+swap.Goals as goal
 
 pub swap-requires : goal.swap-requires
 swap-requires g t c κs within =
-    let f = at_lent c.self.view_is c.requires.1.1.1 c.in-Fork.is c.deref_mut.result.now c.deref_mut.ensures.value in
+    let f = at_lent c.self.view_is c.requires c.in-Fork.is c.deref_mut.result.now c.deref_mut.ensures.value in
     (search rules, (within, f.left))
 
 pub invariant_of-self-in-Less : goal.invariant_of-self-in-Less
 invariant_of-self-in-Less g t c =
     let fork = c.deref_mut.result.now in
-    let f = at_lent c.self.view_is c.requires.1.1.1 c.in-Fork.is fork c.deref_mut.ensures.value in
+    let f = at_lent c.self.view_is c.requires c.in-Fork.is fork c.deref_mut.ensures.value in
     let same : length c.swap.new.self ≡ length fork.left = same_length c.args.id.now fork.left c.swap.new.self c.args.item.now c.swap.new.item c.swap.result f.left c.swap.ensures.swapped in
     counted_at c.self.invariant c.in-Fork.is fork c.deref_mut.ensures.value ∙ sym (count_left fork.left c.swap.new.self fork.right (fork.id, fork.item) same)
 
 pub returns-in-Less : goal.returns-in-Less
 returns-in-Less g t c =
     let fork = c.deref_mut.result.now in
-    let f = at_lent c.self.view_is c.requires.1.1.1 c.in-Fork.is fork c.deref_mut.ensures.value in
+    let f = at_lent c.self.view_is c.requires c.in-Fork.is fork c.deref_mut.ensures.value in
     let order : byte_order c.args.id.now fork.id ≡ Less = cc in
     record { swapped = swaps_before f c.args.id.now c.args.item.now c.swap.new.item c.swap.new.self c.swap.result order c.swap.ensures.swapped }
 
 pub swap-requires-in-Greater : goal.swap-requires-in-Greater
 swap-requires-in-Greater g t c κs within =
-    let f = at_lent c.self.view_is c.requires.1.1.1 c.in-Fork.is c.deref_mut-in-Greater.result.now c.deref_mut-in-Greater.ensures.value in
+    let f = at_lent c.self.view_is c.requires c.in-Fork.is c.deref_mut-in-Greater.result.now c.deref_mut-in-Greater.ensures.value in
     (search rules, (within, f.right))
 
 pub invariant_of-self-in-Greater : goal.invariant_of-self-in-Greater
 invariant_of-self-in-Greater g t c =
     let fork = c.deref_mut-in-Greater.result.now in
-    let f = at_lent c.self.view_is c.requires.1.1.1 c.in-Fork.is fork c.deref_mut-in-Greater.ensures.value in
+    let f = at_lent c.self.view_is c.requires c.in-Fork.is fork c.deref_mut-in-Greater.ensures.value in
     let same : length c.swap-in-Greater.new.self ≡ length fork.right = same_length c.args.id.now fork.right c.swap-in-Greater.new.self c.args.item.now c.swap-in-Greater.new.item c.swap-in-Greater.result f.right c.swap-in-Greater.ensures.swapped in
     counted_at c.self.invariant c.in-Fork.is fork c.deref_mut-in-Greater.ensures.value ∙ sym (count_right fork.left c.swap-in-Greater.new.self fork.right (fork.id, fork.item) same)
 
 pub returns-in-Greater : goal.returns-in-Greater
 returns-in-Greater g t c =
     let fork = c.deref_mut-in-Greater.result.now in
-    let f = at_lent c.self.view_is c.requires.1.1.1 c.in-Fork.is fork c.deref_mut-in-Greater.ensures.value in
+    let f = at_lent c.self.view_is c.requires c.in-Fork.is fork c.deref_mut-in-Greater.ensures.value in
     let order : byte_order c.args.id.now fork.id ≡ Greater = cc in
     record { swapped = swaps_after f c.args.id.now c.args.item.now c.swap-in-Greater.new.item c.swap-in-Greater.new.self c.swap-in-Greater.result order c.swap-in-Greater.ensures.swapped }
 
 pub returns : goal.returns
 returns g t c =
     let fork = c.deref_mut-2.result.now in
-    let f = at_lent c.self.view_is c.requires.1.1.1 c.in-Fork.is fork c.deref_mut-2.ensures.value in
+    let f = at_lent c.self.view_is c.requires c.in-Fork.is fork c.deref_mut-2.ensures.value in
     let order : byte_order c.args.id.now fork.id ≡ Equal = cc in
     record { swapped = (rw c.swap-2.ensures.y_after (find_at f c.args.id.now order), rw c.swap-2.ensures.x_after (sym (put_at f c.args.id.now c.args.item.now order))) }
