@@ -7,6 +7,7 @@ pub mod Answering
 pub mod LineRead
 pub mod WrittenBatches
 pub mod WrittenLines
+pub mod WrittenSnapshots
 pub mod WrittenStrings
 pub mod WrittenTrees
 pub mod Sizes
