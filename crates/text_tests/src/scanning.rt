@@ -5,7 +5,7 @@ use feed_text::{TextFault, nests_to, scan};
 use std::alloc::Global;
 
 /// Lines that hold one object (RFC 8259, sections 2 to 7).
-const OBJECTS: [&str; 16] = [
+const OBJECTS: [&str; 17] = [
     "{}",
     " \t\r\n{ \t\r\n} \t\r\n",
     "{\"\":\"\"}",
@@ -21,6 +21,7 @@ const OBJECTS: [&str; 16] = [
     "{\"s\":\"' /{}[]:,\"}",
     "{\"s\":\"\\\"[[[[\\\\\",\"t\":\"]]]]\"}",
     "{\"k\\\"e\\u0079\":{\"k\":[{\"k\":[{}]}]}}",
+    "{\"a\": { \"b\" :\t1 ,\r\n\"c\" : [ { } , [ ] , \"d\" , true ] } }",
     "{\"type\":\"teams\",\"id\":\"7\",\"data\":{\"id\":\"7\",\"n\": 1.50},\"token\":\"a\"}",
 ];
 
@@ -55,7 +56,7 @@ const NO_OBJECTS: [&str; 26] = [
 ];
 
 /// Texts that are no value (RFC 8259, sections 3 and 5 to 7).
-const NO_VALUES: [&str; 46] = [
+const NO_VALUES: [&str; 60] = [
     "tru",
     "True",
     "falsey",
@@ -102,6 +103,20 @@ const NO_VALUES: [&str; 46] = [
     "\"\t\"",
     "\"\n\"",
     "\"\u{1f}\"",
+    "{",
+    "{\"b\"}",
+    "{\"b\" 1}",
+    "{\"b\",1}",
+    "{\"b\":}",
+    "{\"b\":1,}",
+    "{,\"b\":1}",
+    "{\"b\":1 \"c\":2}",
+    "{b:1}",
+    "{1:1}",
+    "{\"b\":1]",
+    "{\"b\"\0:1}",
+    "[1\u{b},2]",
+    "[1,\u{a0}2]",
 ];
 
 /// Lines that are not UTF-8 (RFC 3629, sections 3 and 4).
@@ -134,10 +149,18 @@ fn scans_objects(rt: HostRuntime) {
     }
 }
 
-/// Whether an object with this as a value is no JSON object.
+/// Whether an object with this as a value is no JSON object, where the value stands in the object
+/// itself, in an object in it, and in an array in it.
 fn is_no_value(alloc: Global, value: &str) -> Option<bool> {
-    let line = format!(in alloc; "{{\"a\":{value}}}").ok()?;
-    Some(is_scanned(alloc, line.as_str(), Some(TextFault::Syntax)))
+    let own = format!(in alloc; "{{\"a\":{value}}}").ok()?;
+    let inner = format!(in alloc; "{{\"a\":{{\"b\":{value}}}}}").ok()?;
+    let item = format!(in alloc; "{{\"a\":[{value}]}}").ok()?;
+    for line in [own.as_str(), inner.as_str(), item.as_str()] {
+        if !is_scanned(alloc, line, Some(TextFault::Syntax)) {
+            return Some(false);
+        }
+    }
+    Some(true)
 }
 
 #[test]

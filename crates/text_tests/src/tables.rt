@@ -6,7 +6,8 @@ use feed_tables::Tables;
 use feed_text::ObjectText;
 use std::alloc::Global;
 
-fn tables(alloc: Global, steps: &[Step]) -> Option<Tables> {
+/// The tables that the steps make.
+pub fn tables(alloc: Global, steps: &[Step]) -> Option<Tables> {
     let mut tables = Tables::new(alloc);
     for step in steps {
         tables.apply(alloc, &change(alloc, *step)?).ok()?;

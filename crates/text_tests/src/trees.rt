@@ -78,8 +78,7 @@ fn standing(alloc: Global, kept: &Tables, made: &Tables) -> Option<usize> {
     Some(count)
 }
 
-/// What is changed of a copy is rewritten where the copy alone holds it, and made anew where it is
-/// shared.
+/// How many numbers stand in a copy as they were, and in what was copied as it was changed since.
 fn standing_after_exchange(alloc: Global) -> Option<usize> {
     let mut made = of_numbers(alloc, 2000, false)?;
     let kept = made.copy(alloc).ok()?;
@@ -93,4 +92,79 @@ fn standing_after_exchange(alloc: Global) -> Option<usize> {
 #[test]
 fn copies_of_many_objects_stand_alone(rt: HostRuntime) {
     assert_eq!(rt; standing_after_exchange(rt.alloc()), Some(5000));
+}
+
+/// Ids in byte order. Most of them are alike in their first eight bytes, or end within these.
+const ORDERED: [&str; 16] = [
+    "",
+    "\0",
+    "\0\0",
+    "a",
+    "a\0",
+    "abcdefg",
+    "abcdefg\0",
+    "abcdefg\0\0",
+    "abcdefgh",
+    "abcdefgh\0",
+    "abcdefghabcdefgh",
+    "abcdefghabcdefghi",
+    "abcdefghi",
+    "abcdefgi",
+    "abcdefg\u{e9}",
+    "\u{e9}",
+];
+
+/// A collection of these ids, set from the last to the first.
+fn of_ordered(alloc: Global) -> Option<Tables> {
+    let mut tables = Tables::new(alloc);
+    for id in ORDERED.iter().rev() {
+        let kind = Name::new(alloc, "teams").ok()?;
+        let object = ObjectText::parse(alloc, b"{}").ok()?;
+        let change = Change::Set(kind, Name::new(alloc, id).ok()?, object);
+        tables.apply(alloc, &change).ok()?;
+    }
+    Some(tables)
+}
+
+/// Whether a change sets the object of this id.
+fn sets(change: &Change, id: &str) -> bool {
+    match change {
+        Change::Set(_, name, _) => name.text() == id,
+        _ => false,
+    }
+}
+
+/// How many of the ids are listed in their places.
+fn in_order(alloc: Global) -> Option<usize> {
+    let changes = of_ordered(alloc)?.snapshot(alloc).ok()?;
+    let (_, listed) = changes.split_first()?;
+    let mut count: usize = 0;
+    for (change, id) in listed.iter().zip(&ORDERED) {
+        if sets(change, id) {
+            count = count.saturating_add(1);
+        }
+    }
+    Some(count)
+}
+
+/// How many of the ids are found, and then are no more once they were removed.
+fn found_and_removed(alloc: Global) -> Option<usize> {
+    let mut tables = of_ordered(alloc)?;
+    let mut count: usize = 0;
+    for id in &ORDERED {
+        let was = tables.get("teams", id).is_some();
+        let kind = Name::new(alloc, "teams").ok()?;
+        let change = Change::Remove(kind, Name::new(alloc, id).ok()?);
+        tables.apply(alloc, &change).ok()?;
+        if was && tables.get("teams", id).is_none() {
+            count = count.saturating_add(1);
+        }
+    }
+    Some(count)
+}
+
+#[test]
+fn tells_ids_apart_behind_their_first_bytes(rt: HostRuntime) {
+    assert_eq!(rt; in_order(rt.alloc()), Some(16));
+    assert_eq!(rt; found_and_removed(rt.alloc()), Some(16));
 }

@@ -1,7 +1,8 @@
 //! Changes and batches, written as lines of a feed.
 
 use crate::changes::{EACH, Step, changes};
-use feed_note::{write_batch, write_line};
+use crate::tables::tables;
+use feed_note::{write_batch, write_line, write_snapshot};
 use feed_tables::{Change, Name};
 use std::alloc::Global;
 
@@ -70,4 +71,52 @@ fn is_batch(alloc: Global, steps: &[Step], want: &str) -> Option<bool> {
 fn ends_a_batch_with_its_token(rt: HostRuntime) {
     assert_eq!(rt; is_batch(rt.alloc(), &[], ""), Some(true));
     assert_eq!(rt; is_batch(rt.alloc(), &EACH, BATCH), Some(true));
+}
+
+/// Steps, and the snapshot of what they make: of no types, of one object, of an empty collection
+/// whose type has to be escaped, and of several types.
+const SNAPSHOTS: [(&[Step], &str); 4] = [
+    (
+        &[],
+        "{\"type\":\"contest\",\"id\":null,\"data\":null,\"token\":\"t\"}\n",
+    ),
+    (
+        &[Step::Single("state", r#"{"ended":null}"#)],
+        "{\"type\":\"state\",\"id\":null,\"data\":{\"ended\":null},\"token\":\"t\"}\n",
+    ),
+    (
+        &[Step::Empty("\\\n")],
+        "{\"type\":\"\\\\\\n\",\"id\":null,\"data\":[],\"token\":\"t\"}\n",
+    ),
+    (
+        &[
+            Step::Set("teams", "9", "{}"),
+            Step::Single("state", r#"{"ended":null}"#),
+            Step::Set("teams", "\"\u{1}", r#"{"n": 1.50}"#),
+            Step::Empty("groups"),
+        ],
+        "{\"type\":\"groups\",\"id\":null,\"data\":[]}\n\
+{\"type\":\"state\",\"id\":null,\"data\":{\"ended\":null}}\n\
+{\"type\":\"teams\",\"id\":null,\"data\":[]}\n\
+{\"type\":\"teams\",\"id\":\"\\\"\\u0001\",\"data\":{\"n\": 1.50}}\n\
+{\"type\":\"teams\",\"id\":\"9\",\"data\":{},\"token\":\"t\"}\n",
+    ),
+];
+
+/// Whether the tables that the steps make are written like this.
+fn is_snapshot(alloc: Global, steps: &[Step], want: &str) -> Option<bool> {
+    let token = Name::new(alloc, "t").ok()?;
+    let text = write_snapshot(alloc, &tables(alloc, steps)?, &token).ok()?;
+    Some(text.as_slice() == want.as_bytes())
+}
+
+#[test]
+fn writes_a_snapshot(rt: HostRuntime) {
+    for (row, (steps, want)) in SNAPSHOTS.iter().enumerate() {
+        assert_eq!(rt;
+            is_snapshot(rt.alloc(), steps, want),
+            Some(true),
+            "row {row}"
+        );
+    }
 }
