@@ -16,6 +16,8 @@ mod mirrors;
 #[cfg(test)]
 mod model;
 #[cfg(test)]
+mod refusals;
+#[cfg(test)]
 mod resending;
 #[cfg(test)]
 mod resends;

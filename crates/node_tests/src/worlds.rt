@@ -1,14 +1,11 @@
 //! What worlds reply and show.
 
 use crate::stage::Step::{
-    self, At, Carries, CarriesNone, Finds, Holds, Lacks, Logs, NoNode, Part, Same, Shows,
-    ShowsNothing,
+    self, At, Carries, CarriesNone, Finds, Holds, Lacks, Logs, Part, Same, Shows,
 };
 use crate::stage::{Course, right};
-use feed_node::{Limits, Pulled};
-use feed_world::{ShapeFault, World};
-use std::alloc::Global;
-use world_scripts::Act::{Commit, Connect, Cut, Deliver, Idle, Restart, Save, Serve};
+use feed_node::Pulled;
+use world_scripts::Act::{Commit, Connect, Cut, Deliver, Idle, Serve};
 use world_scripts::{
     ALL, FOLLOWED, GONE, LOST, RESENT, RESENT_ONE, RESENT_TWICE, STATE, TEAM_1, TEAM_2, Want,
 };
@@ -21,10 +18,10 @@ const UP_TO_DATE: Want = Want::Sent(Pulled::UpToDate);
 const GONE_BY: Want = Want::Sent(Pulled::Gone);
 
 /// The snapshots of no types, of the first team at "1", and of both teams at "2".
-const NO_TYPES: &str = r#"{"type":"contest","id":null,"data":null,"token":"0"}
+pub const NO_TYPES: &str = r#"{"type":"contest","id":null,"data":null,"token":"0"}
 "#;
 
-const ONE_TEAM: &str = r#"{"type":"teams","id":null,"data":[]}
+pub const ONE_TEAM: &str = r#"{"type":"teams","id":null,"data":[]}
 {"type":"teams","id":"1","data":{"id":"1"},"token":"1"}
 "#;
 
@@ -401,109 +398,5 @@ fn shows_what_was_committed(rt: HostRuntime) {
             Some(course.steps.len()),
             "row {row}"
         );
-    }
-}
-
-/// What can't happen, and leaves all as it was.
-const REFUSED: [Course; 4] = [
-    Course {
-        nodes: 2,
-        history: 1,
-        staged: 100,
-        steps: &[
-            Step::Act(Connect(2, 0, 0), Want::NoNode),
-            Step::Act(Connect(0, 1, 0), Want::NoNode),
-            Step::Act(Connect(0, 0, 0), Want::NoNode),
-            Step::Act(Connect(1, 1, 0), Want::NoNode),
-            Step::Act(Connect(1, 2, 0), Want::NoNode),
-            Step::Act(Connect(1, usize::MAX, 0), Want::NoNode),
-            Step::Act(Serve(2), Want::NoNode),
-            Step::Act(Serve(0), Want::NoNode),
-            Step::Act(Idle(2), Want::NoNode),
-            Step::Act(Idle(0), Want::NoNode),
-            Step::Act(Deliver(2, 1), Want::NoNode),
-            Step::Act(Deliver(0, 1), Want::NoNode),
-            Step::Act(Cut(2), Want::NoNode),
-            Step::Act(Cut(0), Want::NoNode),
-            Step::Act(Cut(usize::MAX), Want::NoNode),
-            Step::Act(Save(2), Want::NoNode),
-            Step::Act(Save(0), Want::NoNode),
-            Step::Act(Restart(2, 1), Want::NoNode),
-            Step::Act(Restart(0, 1), Want::NoNode),
-            Step::Act(Serve(1), Want::NoConnection),
-            Step::Act(Idle(1), Want::NoConnection),
-            Step::Act(Deliver(1, 1), Want::NoConnection),
-            Step::Act(Cut(1), Want::NoConnection),
-            Step::Act(Commit(b""), Want::EmptyBatch),
-            Shows(0, NO_TYPES),
-            ShowsNothing(1),
-            Logs(""),
-            CarriesNone(1),
-        ],
-    },
-    // A world without mirrors has the primary alone. The second team makes its tables too large,
-    // and then the first comes again.
-    Course {
-        nodes: 1,
-        history: 2,
-        staged: 2,
-        steps: &[
-            Shows(0, NO_TYPES),
-            NoNode(1),
-            NoNode(usize::MAX),
-            Step::Act(Commit(TEAM_1), Want::Committed("1")),
-            Step::Act(Commit(TEAM_2), Want::TooLarge),
-            At(0, "1"),
-            Shows(0, ONE_TEAM),
-            Step::Act(Commit(TEAM_1), Want::Committed("2")),
-            At(0, "2"),
-        ],
-    },
-    // A connection is cut once. What its mirror shows stays, and is served.
-    Course {
-        nodes: 3,
-        history: 1,
-        staged: 100,
-        steps: &[
-            Step::Act(Connect(1, 0, 0), Want::Opened),
-            Step::Act(Deliver(1, ALL), Want::Delivered(1)),
-            Step::Act(Cut(1), Want::Cut),
-            Step::Act(Cut(1), Want::NoConnection),
-            Step::Act(Serve(1), Want::NoConnection),
-            Shows(1, NO_TYPES),
-            Step::Act(Connect(2, 1, 0), Want::Opened),
-        ],
-    },
-    // The greatest number of mirrors.
-    Course {
-        nodes: 256,
-        history: 1,
-        staged: 1,
-        steps: &[ShowsNothing(255), NoNode(256)],
-    },
-];
-
-#[test]
-fn refuses_what_cannot_happen(rt: HostRuntime) {
-    for (row, course) in REFUSED.iter().enumerate() {
-        assert_eq!(rt;
-            right(rt.alloc(), course),
-            Some(course.steps.len()),
-            "row {row}"
-        );
-    }
-}
-
-/// Numbers of nodes that no world has: none, one too many, and as many as there may be numbers.
-const SHAPES: [usize; 3] = [0, 257, usize::MAX];
-
-fn fault_of(alloc: Global, nodes: usize) -> Option<ShapeFault> {
-    World::new(alloc, nodes, Limits::new(1, 1).ok()?).err()
-}
-
-#[test]
-fn has_a_shape(rt: HostRuntime) {
-    for nodes in SHAPES {
-        assert_eq!(rt; fault_of(rt.alloc(), nodes), Some(ShapeFault::BadShape));
     }
 }

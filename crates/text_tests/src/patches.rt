@@ -2,6 +2,7 @@
 
 use crate::changes::Step::{Clear, Empty, Remove, Set, Single};
 use crate::changes::{Step, are_steps, change};
+use crate::tables::tables;
 use feed_tables::{Change, Patch, Tables};
 use std::alloc::Global;
 
@@ -109,14 +110,6 @@ const BASE_LISTED: [Step; 6] = [
     Set("teams", "1", "{}"),
     Set("teams", "2", "{}"),
 ];
-
-fn tables(alloc: Global, steps: &[Step]) -> Option<Tables> {
-    let mut tables = Tables::new(alloc);
-    for step in steps {
-        tables.apply(alloc, &change(alloc, *step)?).ok()?;
-    }
-    Some(tables)
-}
 
 fn staged(alloc: Global, base: &Tables, steps: &[Step]) -> Option<Patch> {
     let mut patch = Patch::new();
