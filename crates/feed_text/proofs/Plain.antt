@@ -1,11 +1,11 @@
 -- Strings whose bytes all stand for themselves: what is between their quotation marks is what they say.
-use Rattle.std.proofs.Common.{◌≡◌, ℕ, true, false, List, [], ◌∷◌, ◌++◌, Option, Some, None, refl, sym, ap, subst, ◌∙◌, ◌<◌, ◌-◌, arith, leb, length, take, drop, eqb-true, length-append, append-nil}
+use Rattle.std.proofs.Common.{◌≡◌, ℕ, Bool, true, false, cond, inl, inr, List, [], ◌∷◌, ◌++◌, Option, Some, None, refl, sym, ap, subst, ◌∙◌, ◌<◌, ◌≤◌, ◌-◌, arith, leb, length, take, drop, eqb-true, length-append, append-nil}
 use Rattle.std.proofs.Math.Seq.{take-append_seam}
 use Rattle.std.specs.Prelude.{◌&&◌, ◌==◌, not, nat_lt, nat_eq, bytes_eq, IsUtf8}
 use Rattle.std.specs.List.{list_all, flat_map}
 use Rattle.std.specs.Cmp.Lexicographic.{pointwise}
 use Rattle.std.specs.Option.{option_eq}
-use Rattle.std.proofs.lemmas.Bool.{false≢true, leb-true, ne_eqb, le-ltb}
+use Rattle.std.proofs.lemmas.Bool.{false≢true, leb-true, leb-false, lt-ltb, ne_eqb, le-ltb, and_cases, not-false, cond_both}
 use Rattle.std.proofs.lemmas.Option.{cond_some, none-some}
 use Rattle.feed_text.specs.Ascii.{quotation_mark, backslash}
 use Rattle.feed_text.specs.Reading.{is_unescaped, first, front_while, rest_while, plain_content}
@@ -15,7 +15,7 @@ use Rattle.feed_text.proofs.Fronts.{while_parts, while_passes, while_front, whil
 use Rattle.feed_text.proofs.Lines.{no_length}
 use Rattle.feed_text.proofs.Parts.{with_first}
 use Rattle.feed_text.proofs.Scalars.{same_bytes}
-use Rattle.feed_text.specs.Strings.{Says, says, written_byte, written_string, IsPlain}
+use Rattle.feed_text.specs.Strings.{Says, says, short_escape, long_escape, escape_or, written_byte, written_string, IsPlain}
 use Rattle.feed_text.proofs.Strings.{both_true, unescaped_is}
 use Rattle.feed_text.proofs.TreeScalars.{both, unescaped_test, all_bytes, bytes_all}
 use Rattle.feed_text.proofs.Utf8.{utf8_behind, utf8_before}
@@ -68,13 +68,64 @@ quotes_says s content h =
     let written : written_string content ≡ s = ap (λ (t : List ℕ). 34 ∷ (t ++ 34 ∷ [])) (written_bytes content h.unescaped_bytes) ∙ sym h.text in
     subst (λ (t : List ℕ). Says t content) written (written_string_says content)
 
+-- a byte is written as one byte or more, and one that is escaped as two or more
+long_least : (b : ℕ) → 1 ≤ length (long_escape b)
+long_least b = cond_both (nat_lt b 32) _ (b ∷ []) (λ (x : List ℕ). 1 ≤ length x) (λ e. omega arith) (λ e. omega arith)
+
+escape_least : (n : ℕ) (other : List ℕ) (letter : Option ℕ) → n ≤ 2 → n ≤ length other → n ≤ length (escape_or other letter)
+escape_least n other None two h = h
+escape_least n other (Some letter) two h = two
+
+written_some : (b : ℕ) → 1 ≤ length (written_byte b)
+written_some b = escape_least 1 (long_escape b) (short_escape b) (omega arith) (long_least b)
+
+control_longer : (b : ℕ) → nat_lt b 32 ≡ true → 2 ≤ length (written_byte b)
+control_longer b e =
+    let long : 2 ≤ length (long_escape b) = rw e (omega arith) in
+    escape_least 2 (long_escape b) (short_escape b) (omega arith) long
+
+at_longer : (b c : ℕ) → 2 ≤ length (written_byte c) → b ≡ c → 2 ≤ length (written_byte b)
+at_longer b c h e = subst (λ (x : ℕ). 2 ≤ length (written_byte x)) (sym e) h
+
+escaped_longer : (b : ℕ) → is_unescaped b ≡ false → 2 ≤ length (written_byte b)
+escaped_longer b h =
+    elim (and_cases (leb 32 b) _ h) [
+      | inl e ↦ control_longer b (lt-ltb b 32 (leb-false 32 b e))
+      | inr e ↦ elim (and_cases (not (b == 34)) (not (b == 92)) e) [
+          | inl e ↦ at_longer b 34 (omega arith) (eqb-true b 34 (not-false (b == 34) e))
+          | inr e ↦ at_longer b 92 (omega arith) (eqb-true b 92 (not-false (b == 92) e))
+        ]
+    ]
+
+written_long : (text : List ℕ) → length text ≤ length (flat_map written_byte text)
+written_long [] = omega arith
+written_long (b ∷ text) = omega (arith, length-append (written_byte b) (flat_map written_byte text), written_some b, written_long text)
+
+tail_same : (b : ℕ) (xs ys : List ℕ) → (b ∷ xs) ≡ (b ∷ ys) → xs ≡ ys
+tail_same b xs ys e = cc
+
+-- a text that is written as it stands has no byte to escape
+pub same_unescaped : (text : List ℕ) → flat_map written_byte text ≡ text → length (rest_while is_unescaped text) ≡ 0
+same_unescaped [] e = refl
+same_unescaped (b ∷ text) e = by (is_unescaped b) refl (same_unescaped text)
+  where
+    by : (v : Bool) → is_unescaped b ≡ v → (flat_map written_byte text ≡ text → length (rest_while is_unescaped text) ≡ 0) → length (cond v (rest_while is_unescaped text) (b ∷ text)) ≡ 0
+    by true h others = others (tail_same b (flat_map written_byte text) text (ap (λ (t : List ℕ). t ++ flat_map written_byte text) (sym (same_byte b h)) ∙ e))
+    by false h others = absurd (omega (arith, ap length e, length-append (written_byte b) (flat_map written_byte text), escaped_longer b h, written_long text))
+
+rest_unescaped : (text : List ℕ) → length (rest_while is_unescaped text) ≡ 0 → list_all is_unescaped text ≡ true
+rest_unescaped text e =
+    let whole : front_while is_unescaped text ≡ text = sym (while_parts is_unescaped text ∙ ap (λ (t : List ℕ). front_while is_unescaped text ++ t) (no_length (rest_while is_unescaped text) e) ∙ append-nil (front_while is_unescaped text)) in
+    subst (λ (t : List ℕ). list_all is_unescaped t ≡ true) whole (bytes_all is_unescaped (front_while is_unescaped text) (while_passes is_unescaped text))
+
+pub unescaped_same : (text : List ℕ) → length (rest_while is_unescaped text) ≡ 0 → flat_map written_byte text ≡ text
+unescaped_same text e = written_bytes text (rest_unescaped text e)
+
 -- a text without a byte to escape is written as it stands
 pub written_unescaped : (text : List ℕ) → length (rest_while is_unescaped text) ≡ 0 → written_string text ≡ quotation_mark ∷ (text ++ quotation_mark ∷ [])
 unfolding written_string
 written_unescaped text e =
-    let whole : front_while is_unescaped text ≡ text = sym (while_parts is_unescaped text ∙ ap (λ (t : List ℕ). front_while is_unescaped text ++ t) (no_length (rest_while is_unescaped text) e) ∙ append-nil (front_while is_unescaped text)) in
-    let passes : list_all is_unescaped text ≡ true = subst (λ (t : List ℕ). list_all is_unescaped t ≡ true) whole (bytes_all is_unescaped (front_while is_unescaped text) (while_passes is_unescaped text)) in
-    ap (λ (t : List ℕ). 34 ∷ (t ++ 34 ∷ [])) (written_bytes text passes)
+    ap (λ (t : List ℕ). 34 ∷ (t ++ 34 ∷ [])) (unescaped_same text e)
 
 pub content_says : (s content : List ℕ) → plain_content s ≡ Some content → Says s content
 content_says s content e = quotes_says s content (content_quotes s content e)
@@ -150,4 +201,6 @@ pub ruleset plain_texts = (content_text, content_says, content_plain, not_plain)
 
 pub ruleset texts = (content_utf8, content_is_front)
 
-pub ruleset written = (written_is_quoted, written_says, written_unescaped)
+pub ruleset unescaped_texts = (unescaped_same, same_unescaped, written_unescaped)
+
+pub ruleset written = (written_is_quoted, written_says)
