@@ -92,9 +92,9 @@ escaped_longer b h =
     elim (and_cases (leb 32 b) _ h) [
       | inl e ↦ control_longer b (lt-ltb b 32 (leb-false 32 b e))
       | inr e ↦ elim (and_cases (not (b == 34)) (not (b == 92)) e) [
-          | inl e ↦ at_longer b 34 (omega arith) (eqb-true b 34 (not-false (b == 34) e))
-          | inr e ↦ at_longer b 92 (omega arith) (eqb-true b 92 (not-false (b == 92) e))
-        ]
+        | inl e ↦ at_longer b 34 (omega arith) (eqb-true b 34 (not-false (b == 34) e))
+        | inr e ↦ at_longer b 92 (omega arith) (eqb-true b 92 (not-false (b == 92) e))
+      ]
     ]
 
 written_long : (text : List ℕ) → length text ≤ length (flat_map written_byte text)
