@@ -1,6 +1,6 @@
 //! JSON strings, read and written (RFC 8259, section 7).
 
-use feed_text::{decode_string, encode_string};
+use feed_text::{decode_string, encode_string, is_unescaped, written_byte};
 use std::alloc::Global;
 
 /// Strings as they are read; one in which a surrogate stands alone says nothing.
@@ -53,5 +53,84 @@ fn is_written(alloc: Global, text: &str, want: &str) -> Option<bool> {
 fn writes_strings(rt: HostRuntime) {
     for (text, want) in WRITTEN {
         assert_eq!(rt; is_written(rt.alloc(), text, want), Some(true), "{want}");
+    }
+}
+
+/// The bytes that are escaped, and how.
+const ESCAPES: [(u8, &str); 34] = [
+    (0x00, r"\u0000"),
+    (0x01, r"\u0001"),
+    (0x02, r"\u0002"),
+    (0x03, r"\u0003"),
+    (0x04, r"\u0004"),
+    (0x05, r"\u0005"),
+    (0x06, r"\u0006"),
+    (0x07, r"\u0007"),
+    (0x08, r"\b"),
+    (0x09, r"\t"),
+    (0x0a, r"\n"),
+    (0x0b, r"\u000b"),
+    (0x0c, r"\f"),
+    (0x0d, r"\r"),
+    (0x0e, r"\u000e"),
+    (0x0f, r"\u000f"),
+    (0x10, r"\u0010"),
+    (0x11, r"\u0011"),
+    (0x12, r"\u0012"),
+    (0x13, r"\u0013"),
+    (0x14, r"\u0014"),
+    (0x15, r"\u0015"),
+    (0x16, r"\u0016"),
+    (0x17, r"\u0017"),
+    (0x18, r"\u0018"),
+    (0x19, r"\u0019"),
+    (0x1a, r"\u001a"),
+    (0x1b, r"\u001b"),
+    (0x1c, r"\u001c"),
+    (0x1d, r"\u001d"),
+    (0x1e, r"\u001e"),
+    (0x1f, r"\u001f"),
+    (b'"', r#"\""#),
+    (b'\\', r"\\"),
+];
+
+#[test]
+fn escapes_bytes(rt: HostRuntime) {
+    for (byte, want) in ESCAPES {
+        assert_eq!(rt; written_byte(byte).as_slice(), want.as_bytes(), "{want}");
+    }
+}
+
+#[test]
+fn leaves_other_bytes(rt: HostRuntime) {
+    for byte in b' '..=255 {
+        if byte != b'"' && byte != b'\\' {
+            assert_eq!(rt; written_byte(byte).as_slice(), [byte].as_slice(), "{byte}");
+        }
+    }
+}
+
+/// Texts, and whether each is written as it stands. Sixteen bytes are looked at together.
+const UNESCAPED: [(&str, bool); 14] = [
+    ("", true),
+    (" ", true),
+    ("/\u{7f}", true),
+    ("\u{e9}\u{2028}\u{1f600}", true),
+    ("sixteen bytes..!", true),
+    ("sixteen bytes..! and more", true),
+    ("\"", false),
+    ("\\", false),
+    ("\u{0}", false),
+    ("\u{1f}", false),
+    ("\u{e9}\n", false),
+    ("\"ixteen bytes..! and more", false),
+    ("sixteen bytes..\\ and more", false),
+    ("sixteen bytes..! and mor\u{1}", false),
+];
+
+#[test]
+fn tells_unescaped_texts(rt: HostRuntime) {
+    for (text, want) in UNESCAPED {
+        assert_eq!(rt; is_unescaped(text), want, "{text}");
     }
 }
