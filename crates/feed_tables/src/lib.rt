@@ -2,6 +2,7 @@
 #![tactic(auto)]
 
 mod change;
+mod entry;
 mod ids;
 mod laws;
 mod lister;
@@ -14,6 +15,7 @@ mod tables;
 mod tree;
 
 pub use change::{Change, Changes};
+pub use entry::Entry;
 pub use laws::table_laws;
 pub use lister::Lister;
 pub use name::{NAME_BYTES, Name, NameFault};

@@ -4,12 +4,14 @@ ghost use Rattle.std.specs.Prelude.{◌≡◌, ◌↔◌, min, flat_map, fold, I
 ghost use Rattle.std.specs.Option.{option_copied};
 ghost use Rattle.std.specs.FinMap as map;
 ghost use Rattle.feed_tables.specs.Changes.{sets};
+ghost use Rattle.feed_tables.specs.Entries.{with_entry};
 ghost use Rattle.feed_tables.specs.Map.{Exchanges, map_over, map_less, TakesFirst};
 ghost use Rattle.feed_tables.specs.Objects.{AreObjects};
 ghost use Rattle.feed_tables.specs.Patches.{sets_in};
 ghost use Rattle.feed_tables.specs.Tables.{listed, AreTypes};
 ghost use Rattle.feed_tables.specs.Walks.{weighed, weighed_in};
 
+use crate::entry::Entry;
 use crate::ids::Ids;
 use crate::lister::Lister;
 use crate::name::{Key, Name};
@@ -244,6 +246,15 @@ impl Map<Table> {
     {
         self.tree.list(lister)
     }
+
+    /// Lists the entries that make the tables, type by type.
+    pub fn list_entries<'a>(&'a self, entries: &mut Vec<Entry<'a>>) -> Result<(), AllocError>
+        ensures list { OnOk result (entries.new.items
+            ≡ fold with_entry entries.old.items (flat_map listed (map.entries self.now))) }
+        ensures within { OnOk result (AreTypes (map.entries self.now)) }
+    {
+        self.tree.list_entries(entries)
+    }
 }
 
 impl Map<Ids> {
@@ -263,5 +274,18 @@ impl Map<ObjectText> {
         ensures within { OnOk result (AreObjects (map.entries self.now)) }
     {
         self.tree.list(kind, lister)
+    }
+
+    /// Lists an entry for each object, in byte order of the ids.
+    pub fn list_entries<'a>(
+        &'a self,
+        kind: &'a str,
+        entries: &mut Vec<Entry<'a>>,
+    ) -> Result<(), AllocError>
+        ensures list { OnOk result (entries.new.items
+            ≡ fold with_entry entries.old.items (sets kind.now (map.entries self.now))) }
+        ensures within { OnOk result (AreObjects (map.entries self.now)) }
+    {
+        self.tree.list_entries(kind, entries)
     }
 }

@@ -4,12 +4,14 @@ ghost use Rattle.std.specs.Prelude.{◌≡◌, ◌∷◌, [], ◌↔◌, Some, m
 ghost use Rattle.std.specs.Option.{option_copied};
 ghost use Rattle.std.specs.FinMap as map;
 ghost use Rattle.feed_tables.specs.Changes.{sets};
+ghost use Rattle.feed_tables.specs.Entries.{with_entry};
 ghost use Rattle.feed_tables.specs.Map.{map_over, map_less};
 ghost use Rattle.feed_tables.specs.Objects.{AreObjects};
 ghost use Rattle.feed_tables.specs.Patches.{sets_in};
 ghost use Rattle.feed_tables.specs.Tables.{listed, AreTypes};
 ghost use Rattle.feed_tables.specs.Walks.{weight, weighed, weighed_in, besides, AreIn};
 
+use crate::entry::Entry;
 use crate::ids::Ids;
 use crate::lister::Lister;
 use crate::map::{Held, Map, held_in};
@@ -196,6 +198,22 @@ impl Tree<Table> {
             }
         }
     }
+
+    /// Lists the entries that make the tables, type by type.
+    pub fn list_entries<'a>(&'a self, entries: &mut Vec<Entry<'a>>) -> Result<(), AllocError>
+        ensures list { OnOk result (entries.new.items
+            ≡ fold with_entry entries.old.items (flat_map listed self.now)) }
+        ensures within { OnOk result (AreTypes self.now) }
+    {
+        match &self.node {
+            Node::Leaf => Ok(()),
+            Node::Fork(fork) => {
+                fork.left.list_entries(entries)?;
+                fork.item.list_entries(fork.id.text(), entries)?;
+                fork.right.list_entries(entries)
+            }
+        }
+    }
 }
 
 impl Tree<Ids> {
@@ -229,6 +247,26 @@ impl Tree<ObjectText> {
                 let (_id, _object) = (fork.id.text(), fork.item.bytes());
                 lister.set(kind, &fork.id, &fork.item)?;
                 fork.right.list(kind, lister)
+            }
+        }
+    }
+
+    /// Lists an entry for each object, in the order of their ids.
+    pub fn list_entries<'a>(
+        &'a self,
+        kind: &'a str,
+        entries: &mut Vec<Entry<'a>>,
+    ) -> Result<(), AllocError>
+        ensures list { OnOk result (entries.new.items
+            ≡ fold with_entry entries.old.items (sets kind.now self.now)) }
+        ensures within { OnOk result (AreObjects self.now) }
+    {
+        match &self.node {
+            Node::Leaf => Ok(()),
+            Node::Fork(fork) => {
+                fork.left.list_entries(kind, entries)?;
+                entries.push(Entry::object(kind, fork.id.text(), fork.item.bytes()))?;
+                fork.right.list_entries(kind, entries)
             }
         }
     }
