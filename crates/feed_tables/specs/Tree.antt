@@ -5,6 +5,8 @@ use Rattle.std.specs.declared.boxed.Box.{Box}
 use Rattle.std.specs.FinMap.{find, put}
 use Rattle.feed_tables.specs.Bytes.{byte_order, without}
 use Rattle.feed_tables.specs.declared.tree.Fork.{Fork as ForkOf}
+use Rattle.feed_tables.specs.declared.tree.balance.Growth.{Growth}
+use Rattle.feed_tables.specs.declared.tree.balance.Growth.TheVariants.{Same, Wider, Higher}
 use Rattle.feed_tables.specs.declared.tree.Node.{Node}
 use Rattle.feed_tables.specs.declared.tree.Node.TheVariants.{Leaf, Fork}
 
@@ -20,6 +22,12 @@ entries_of (Fork fork) = parts fork.value
 -- how many items are counted
 abbrev pub count_of : {V : Type 0} → List (List ℕ × V) → ℕ
 count_of entries = min (length entries) 18446744073709551615
+
+-- how many items more there are after a node was put in
+abbrev pub came : Growth → ℕ
+came Same = 0
+came Wider = 1
+came Higher = 1
 
 -- the fork with another item
 abbrev pub with_item : {V : Type 0} → ForkOf V → V → ForkOf V

@@ -5,9 +5,10 @@ ghost use Rattle.std.specs.Prelude.{◌≡◌, ◌+◌, ◌≤◌, ◌∷◌, �
 ghost use Rattle.std.specs.Option.{option_copied};
 ghost use Rattle.std.specs.FinMap.{put, find};
 ghost use Rattle.feed_tables.specs.Bytes.{byte_order, IsInOrder, without};
-ghost use Rattle.feed_tables.specs.Tree.{parts, with_item, Swaps, FirstTaken, put_all, without_all};
+ghost use Rattle.feed_tables.specs.Tree.{parts, came, with_item, Swaps, FirstTaken, put_all, without_all};
 
 use crate::name::{Key, Name};
+use crate::tree::balance::{Growth, grow_left, grow_right, weigh};
 use std::alloc::{AllocError, Global};
 use std::cmp::Ordering;
 use std::marker::Model;
@@ -114,32 +115,40 @@ impl<V: Drop> Tree<V> {
         true
     }
 
-    /// Puts a node's item under its name, in the place of the one that is there, and answers how many items more there
-    /// are: one, or none. It takes no memory, and what stands before and after the node is let go.
+    /// Puts a node's item under its name, in the place of the one that is there, and answers how
+    /// many items more there are: one, or none. It takes no memory, and what stands before and
+    /// after the node is let go.
     pub fn insert(&mut self, node: Box<Fork<V>>) -> usize
         requires { IsInOrder self.old }
         ensures put { self.new ≡ put byte_order node.value.id node.value.item self.old }
         ensures added { length self.new ≡ length self.old + result }
     {
+        self.grow(node).added()
+    }
+
+    // The same, and answers what came of it.
+    fn grow(&mut self, node: Box<Fork<V>>) -> Growth
+        requires { IsInOrder self.old }
+        ensures put { self.new ≡ put byte_order node.value.id node.value.item self.old }
+        ensures added { length self.new ≡ length self.old + came result }
+    {
         match &mut self.node {
             Node::Leaf => {
                 *self = single(node);
-                1
+                Growth::Higher
             }
             Node::Fork(fork) => match node.id.compare(&fork.id) {
                 Ordering::Less => {
-                    let added = fork.left.insert(node);
-                    fork.more_left(added);
-                    added
+                    let growth = fork.left.grow(node);
+                    grow_left(fork, growth)
                 }
                 Ordering::Equal => {
                     fork.take_item(node);
-                    0
+                    Growth::Same
                 }
                 Ordering::Greater => {
-                    let added = fork.right.insert(node);
-                    fork.more_right(added);
-                    added
+                    let growth = fork.right.grow(node);
+                    grow_right(fork, growth)
                 }
             },
         }
@@ -155,7 +164,7 @@ impl<V: Drop> Tree<V> {
             Node::Fork(fork) => match id.compare(&fork.id) {
                 Ordering::Less => {
                     fork.left.remove(id);
-                    fork.weigh();
+                    weigh(fork);
                 }
                 Ordering::Equal => {
                     let left = mem::replace(&mut fork.left, Tree::new());
@@ -164,7 +173,7 @@ impl<V: Drop> Tree<V> {
                 }
                 Ordering::Greater => {
                     fork.right.remove(id);
-                    fork.weigh();
+                    weigh(fork);
                 }
             },
         }
@@ -182,7 +191,7 @@ impl<V: Drop> Tree<V> {
                     Some(fork)
                 }
                 Some(first) => {
-                    fork.weigh();
+                    weigh(&mut fork);
                     self.node = Node::Fork(fork);
                     Some(first)
                 }
@@ -303,7 +312,7 @@ fn joined<V: Drop>(left: Tree<V>, mut right: Tree<V>) -> Tree<V>
         Some(mut node) => {
             node.left = left;
             node.right = right;
-            node.weigh();
+            weigh(&mut node);
             Tree {
                 node: Node::Fork(node),
             }

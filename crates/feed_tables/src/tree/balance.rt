@@ -1,10 +1,34 @@
 //! Trees whose sides are about alike high (Adelson-Velsky and Landis).
 
 ghost use Rattle.std.specs.Prelude.{◌≡◌, ◌+◌, min};
-ghost use Rattle.feed_tables.specs.Tree.{parts, count_of};
+ghost use Rattle.feed_tables.specs.Tree.{parts, count_of, came};
 
 use crate::tree::{Fork, Node, Tree};
 use std::mem;
+
+/// What came of a node that was put into a tree.
+#[derive(Clone, Copy)]
+pub(super) enum Growth {
+    /// Its item took the place of another.
+    Same,
+    /// There is one item more, and the tree is as high as before.
+    Wider,
+    /// There is one item more, and the tree is higher.
+    Higher,
+}
+
+impl Growth {
+    // How many items more there are.
+    #[inline(always)]
+    pub(super) fn added(self) -> usize
+        ensures { result ≡ came self }
+    {
+        match self {
+            Growth::Same => 0,
+            Growth::Wider | Growth::Higher => 1,
+        }
+    }
+}
 
 impl<V: Drop> Tree<V> {
     // Turns the root to the left.
@@ -12,7 +36,7 @@ impl<V: Drop> Tree<V> {
         ensures { self.new ≡ self.old }
     {
         if let Node::Fork(fork) = &mut self.node {
-            fork.turn_left();
+            turn_left(fork);
         }
     }
 
@@ -21,7 +45,7 @@ impl<V: Drop> Tree<V> {
         ensures { self.new ≡ self.old }
     {
         if let Node::Fork(fork) = &mut self.node {
-            fork.turn_right();
+            turn_right(fork);
         }
     }
 
@@ -34,7 +58,8 @@ impl<V: Drop> Tree<V> {
         }
     }
 
-    // Whether the right side is the higher one, so that it would be too high next to what a turn puts beside it.
+    // Whether the right side is the higher one, so that it would be too high next to what a turn
+    // puts beside it.
     fn leans_right(&self) -> bool {
         match &self.node {
             Node::Leaf => false,
@@ -52,105 +77,6 @@ impl<V: Drop> Tree<V> {
 }
 
 impl<V: Drop> Fork<V> {
-    // Counts the items anew, and evens the sides.
-    pub(super) fn weigh(&mut self)
-        ensures items { parts self.new ≡ parts self.old }
-        ensures count { self.new.count ≡ count_of (parts self.old) }
-    {
-        self.recount();
-        self.lower_left();
-        self.lower_right();
-    }
-
-    // Counts the items that came to the left side, and evens the sides. Where that side is still lower than the node was,
-    // the other one isn't looked at.
-    #[inline(always)]
-    pub(super) fn more_left(&mut self, added: usize)
-        ensures items { parts self.new ≡ parts self.old }
-        ensures count { self.new.count ≡ min (self.old.count + added) usize.MAX }
-    {
-        self.count = self.count.saturating_add(added);
-        if self.left.height() >= self.height {
-            self.rise();
-            self.lower_left();
-        }
-    }
-
-    // Counts the items that came to the right side, and evens the sides.
-    #[inline(always)]
-    pub(super) fn more_right(&mut self, added: usize)
-        ensures items { parts self.new ≡ parts self.old }
-        ensures count { self.new.count ≡ min (self.old.count + added) usize.MAX }
-    {
-        self.count = self.count.saturating_add(added);
-        if self.right.height() >= self.height {
-            self.rise();
-            self.lower_right();
-        }
-    }
-
-    // Moves items to the right side where the left one is too high.
-    fn lower_left(&mut self)
-        ensures items { parts self.new ≡ parts self.old }
-        ensures count { self.new.count ≡ self.old.count }
-    {
-        if is_too_high(self.left.height(), self.right.height()) {
-            if self.left.leans_right() {
-                self.left.turn_left();
-            }
-            self.turn_right();
-        }
-    }
-
-    // Moves items to the left side where the right one is too high.
-    fn lower_right(&mut self)
-        ensures items { parts self.new ≡ parts self.old }
-        ensures count { self.new.count ≡ self.old.count }
-    {
-        if is_too_high(self.right.height(), self.left.height()) {
-            if self.right.leans_left() {
-                self.right.turn_right();
-            }
-            self.turn_left();
-        }
-    }
-
-    // The root of the left side comes to the top.
-    fn turn_right(&mut self)
-        ensures items { parts self.new ≡ parts self.old }
-        ensures count { self.new.count ≡ self.old.count }
-    {
-        let Node::Fork(low) = &mut self.left.node else {
-            return;
-        };
-        let low = &mut **low;
-        mem::swap(&mut self.id, &mut low.id);
-        mem::swap(&mut self.item, &mut low.item);
-        mem::swap(&mut low.left, &mut low.right);
-        mem::swap(&mut low.right, &mut self.right);
-        low.recount();
-        mem::swap(&mut self.left, &mut self.right);
-        self.rise();
-    }
-
-    // The root of the right side comes to the top.
-    fn turn_left(&mut self)
-        ensures items { parts self.new ≡ parts self.old }
-        ensures count { self.new.count ≡ self.old.count }
-    {
-        let Node::Fork(low) = &mut self.right.node else {
-            return;
-        };
-        let low = &mut **low;
-        mem::swap(&mut self.id, &mut low.id);
-        mem::swap(&mut self.item, &mut low.item);
-        mem::swap(&mut low.left, &mut low.right);
-        mem::swap(&mut low.left, &mut self.left);
-        low.recount();
-        mem::swap(&mut self.right, &mut self.left);
-        self.rise();
-    }
-
     // Counts the items anew, and measures the height.
     fn recount(&mut self)
         ensures items { parts self.new ≡ parts self.old }
@@ -174,6 +100,145 @@ impl<V: Drop> Fork<V> {
         let high = if left < right { right } else { left };
         self.height = high.saturating_add(1);
     }
+}
+
+// Counts the items anew, and evens the sides.
+pub(super) fn weigh<V: Drop>(fork: &mut Box<Fork<V>>)
+    ensures items { parts fork.new.value ≡ parts fork.old.value }
+    ensures count { fork.new.value.count ≡ count_of (parts fork.old.value) }
+{
+    fork.recount();
+    lower_left(fork);
+    lower_right(fork);
+}
+
+// Counts what came to the left side, and evens the sides where that one is higher. Answers what
+// came of it for the fork.
+#[inline(always)]
+pub(super) fn grow_left<V: Drop>(fork: &mut Box<Fork<V>>, growth: Growth) -> Growth
+    ensures items { parts fork.new.value ≡ parts fork.old.value }
+    ensures count { fork.new.value.count ≡ min (fork.old.value.count + came growth) usize.MAX }
+    ensures came { came result ≡ came growth }
+{
+    fork.count = fork.count.saturating_add(growth.added());
+    if let Growth::Higher = growth {
+        return rise_left(fork);
+    }
+    growth
+}
+
+// The same of the right side.
+#[inline(always)]
+pub(super) fn grow_right<V: Drop>(fork: &mut Box<Fork<V>>, growth: Growth) -> Growth
+    ensures items { parts fork.new.value ≡ parts fork.old.value }
+    ensures count { fork.new.value.count ≡ min (fork.old.value.count + came growth) usize.MAX }
+    ensures came { came result ≡ came growth }
+{
+    fork.count = fork.count.saturating_add(growth.added());
+    if let Growth::Higher = growth {
+        return rise_right(fork);
+    }
+    growth
+}
+
+// Evens the sides after the left one became higher. Where that is still lower than the fork was,
+// the other one isn't looked at.
+fn rise_left<V: Drop>(fork: &mut Box<Fork<V>>) -> Growth
+    ensures items { parts fork.new.value ≡ parts fork.old.value }
+    ensures count { fork.new.value.count ≡ fork.old.value.count }
+    ensures came { came result ≡ 1 }
+{
+    let height = fork.height;
+    if fork.left.height() < height {
+        return Growth::Wider;
+    }
+    fork.rise();
+    lower_left(fork);
+    risen(height, fork.height)
+}
+
+// The same after the right one did.
+fn rise_right<V: Drop>(fork: &mut Box<Fork<V>>) -> Growth
+    ensures items { parts fork.new.value ≡ parts fork.old.value }
+    ensures count { fork.new.value.count ≡ fork.old.value.count }
+    ensures came { came result ≡ 1 }
+{
+    let height = fork.height;
+    if fork.right.height() < height {
+        return Growth::Wider;
+    }
+    fork.rise();
+    lower_right(fork);
+    risen(height, fork.height)
+}
+
+// What came of an item more, by the heights before and after.
+#[inline(always)]
+fn risen(before: usize, after: usize) -> Growth
+    ensures { came result ≡ 1 }
+{
+    if before < after {
+        return Growth::Higher;
+    }
+    Growth::Wider
+}
+
+// Moves items to the right side where the left one is too high.
+fn lower_left<V: Drop>(fork: &mut Box<Fork<V>>)
+    ensures items { parts fork.new.value ≡ parts fork.old.value }
+    ensures count { fork.new.value.count ≡ fork.old.value.count }
+{
+    if is_too_high(fork.left.height(), fork.right.height()) {
+        if fork.left.leans_right() {
+            fork.left.turn_left();
+        }
+        turn_right(fork);
+    }
+}
+
+// Moves items to the left side where the right one is too high.
+fn lower_right<V: Drop>(fork: &mut Box<Fork<V>>)
+    ensures items { parts fork.new.value ≡ parts fork.old.value }
+    ensures count { fork.new.value.count ≡ fork.old.value.count }
+{
+    if is_too_high(fork.right.height(), fork.left.height()) {
+        if fork.right.leans_left() {
+            fork.right.turn_right();
+        }
+        turn_left(fork);
+    }
+}
+
+// The root of the left side comes to the top.
+fn turn_right<V: Drop>(top: &mut Box<Fork<V>>)
+    ensures items { parts top.new.value ≡ parts top.old.value }
+    ensures count { top.new.value.count ≡ top.old.value.count }
+{
+    let Node::Fork(mut low) = mem::replace(&mut top.left.node, Node::Leaf) else {
+        return;
+    };
+    low.count = top.count;
+    mem::swap(&mut top.left, &mut low.right);
+    top.recount();
+    mem::swap(top, &mut low);
+    top.right.node = Node::Fork(low);
+    top.rise();
+}
+
+// The root of the right side comes to the top.
+fn turn_left<V: Drop>(top: &mut Box<Fork<V>>)
+    ensures items { parts top.new.value ≡ parts top.old.value }
+    ensures count { top.new.value.count ≡ top.old.value.count }
+{
+    let Node::Fork(mut low) = mem::replace(&mut top.right.node, Node::Leaf) else {
+        return;
+    };
+    low.count = top.count;
+    mem::swap(&mut top.right, &mut low.left);
+    top.recount();
+    mem::swap(top, &mut low);
+    top.left.node = Node::Fork(low);
+    top.rise();
 }
 
 // Whether a side stands out over the other by more than one.

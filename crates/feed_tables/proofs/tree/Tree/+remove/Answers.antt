@@ -19,7 +19,7 @@ returns-in-Less g t c =
     let fork = c.deref_mut.result.now in
     let f = at_lent c.self.view_is c.requires c.in-Fork.is fork (cc (c.deref_mut.ensures.value)) in
     let order : byte_order c.args.id.now fork.id ≡ Less = cc in
-    rw (c.weigh.ensures.items, c.deref_mut-in-Less.ensures.value, c.remove.ensures) (sym (without_before f c.args.id.now order))
+    rw (c.weigh.ensures.items, c.remove.ensures) (sym (without_before f c.args.id.now order))
 
 pub returns-in-Equal : goal.returns-in-Equal
 returns-in-Equal g t c =
@@ -37,4 +37,4 @@ returns-in-Greater g t c =
     let fork = c.deref_mut-in-Greater.result.now in
     let f = at_lent c.self.view_is c.requires c.in-Fork.is fork (cc (c.deref_mut-in-Greater.ensures.value)) in
     let order : byte_order c.args.id.now fork.id ≡ Greater = cc in
-    rw (c.weigh-in-Greater.ensures.items, c.deref_mut-in-Greater-2.ensures.value, c.remove-in-Greater.ensures) (sym (without_after f c.args.id.now order))
+    rw (c.weigh-in-Greater.ensures.items, c.remove-in-Greater.ensures) (sym (without_after f c.args.id.now order))

@@ -1,16 +1,16 @@
 use Rattle.std.proofs.Common.{refl, rules, ◌≡◌, Greater, Less, Equal, sym}
 use Rattle.feed_tables.specs.Bytes.{byte_order}
 use Rattle.feed_tables.proofs.TreeFork.{at_lent, put_before, put_at, put_after}
-use Rattle.feed_tables.proofs.tree.Tree.+insert.Goals as goal
-use Rattle.feed_tables.proofs.tree.Tree.+insert.Goals.{in-Less, in-Equal, in-Greater}
+use Rattle.feed_tables.proofs.tree.Tree.+grow.Goals as goal
+use Rattle.feed_tables.proofs.tree.Tree.+grow.Goals.{in-Less, in-Equal, in-Greater}
 
-pub insert-added-requires : goal.insert-added-requires
-insert-added-requires g t c κs within =
+pub grow-growth-requires : goal.grow-growth-requires
+grow-growth-requires g t c κs within =
     let f = at_lent c.self.view_is c.requires c.in-Fork.is c.deref_mut.result.now c.deref_mut.ensures.value in
     (search rules, (within, f.left))
 
-pub insert-added-requires-in-Greater : goal.insert-added-requires-in-Greater
-insert-added-requires-in-Greater g t c κs within =
+pub grow-growth-requires-in-Greater : goal.grow-growth-requires-in-Greater
+grow-growth-requires-in-Greater g t c κs within =
     let f = at_lent c.self.view_is c.requires c.in-Fork.is c.deref_mut-in-Greater.result.now c.deref_mut-in-Greater.ensures.value in
     (search rules, (within, f.right))
 
@@ -23,11 +23,11 @@ returns-after-compare-clause-put g t c =
     elim c.match-compare.branch [
       | in-Less w ↦
           let order : byte_order k fork.id ≡ Less = cc (c.compare.ensures, w.in-Less.is, c.deref.ensures, c.deref-in-Fork.ensures) in
-          rw (w.self-inside-is, w.more_left.ensures.items, w.deref_mut-in-Less.ensures.value, w.insert-added.ensures.put, w.deref_mut.ensures.value) (sym (put_before f k v order))
+          rw (w.self-inside-is, w.grow_left.ensures.items, w.grow-growth.ensures.put, w.deref_mut.ensures.value) (sym (put_before f k v order))
       | in-Equal w ↦
           let order : byte_order k fork.id ≡ Equal = cc (c.compare.ensures, w.in-Equal.is, c.deref.ensures, c.deref-in-Fork.ensures) in
           rw (w.self-inside-is, w.take_item.ensures, w.deref_mut-in-Equal.ensures.value) (sym (put_at f k v order))
       | in-Greater w ↦
           let order : byte_order k fork.id ≡ Greater = cc (c.compare.ensures, w.in-Greater.is, c.deref.ensures, c.deref-in-Fork.ensures) in
-          rw (w.self-inside-is, w.more_right.ensures.items, w.deref_mut-in-Greater-2.ensures.value, w.insert-added-in-Greater.ensures.put, w.deref_mut-in-Greater.ensures.value) (sym (put_after f k v order))
+          rw (w.self-inside-is, w.grow_right.ensures.items, w.grow-growth-in-Greater.ensures.put, w.deref_mut-in-Greater.ensures.value) (sym (put_after f k v order))
     ]
