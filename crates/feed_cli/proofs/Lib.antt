@@ -2,6 +2,7 @@ mod AddressLemmas
 mod CheckLemmas
 mod CommandLemmas
 mod PlayLemmas
+pub mod PrintingLemmas
 mod PullLemmas
 mod TablesLemmas
 mod WordsLemmas

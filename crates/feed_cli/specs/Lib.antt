@@ -3,6 +3,7 @@ pub mod Check
 pub mod Commands
 pub mod Fault
 pub mod Play
+pub mod Printing
 pub mod Pull
 pub mod Serve
 pub mod Streams

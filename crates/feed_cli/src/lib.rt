@@ -6,6 +6,7 @@ mod commands;
 mod fault;
 mod input;
 mod listen;
+mod printing;
 mod snapshot;
 mod telling;
 mod words;

@@ -6,7 +6,8 @@ ghost use Rattle.feed_note.specs.Texts.{published_text};
 ghost use Rattle.feed_cli.specs.Tables.{outcome_of};
 
 use crate::fault::Fault;
-use feed_http::device::{Failed, FeedWrite, write_all};
+use crate::printing::print_batch;
+use feed_http::device::{Failed, FeedWrite};
 use feed_node::Mirror;
 use std::alloc::Global;
 
@@ -34,8 +35,15 @@ pub(crate) fn print_snapshot<W: FeedWrite>(
         (W.contents out.new) (published_text mirror.now.node.published) }
     ensures none { IsErrOf result Fault.Memory → Appends (W.contents out.old) (W.contents out.new) [] }
 {
-    let text = mirror.save(alloc)?;
-    match write_all(out, text.as_slice()) {
+    let node = mirror.node();
+    let Some(tables) = node.published() else {
+        return Ok(());
+    };
+    let Some(token) = node.token() else {
+        return Ok(());
+    };
+    let entries = tables.entries(alloc)?;
+    match print_batch(out, entries.as_slice(), token.text()) {
         Ok(()) => Ok(()),
         Err(Failed) => Err(Fault::Write),
     }

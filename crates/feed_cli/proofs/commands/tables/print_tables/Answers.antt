@@ -1,5 +1,6 @@
-use Rattle.std.proofs.Common.{rules, ◌≡◌, sym, ap, ◌∙◌, is_some}
+use Rattle.std.proofs.Common.{rules, ◌≡◌, refl, sym, ap, ◌∙◌, is_some}
 use Rattle.feed_node.specs.States.{published_token}
+use Rattle.feed_note.specs.Texts.{published_text}
 use Rattle.feed_cli.proofs.TablesLemmas.{front_of, is_some_kept, printed_ok, printed_err, came_of_feeding, feeding_writes_nothing}
 use Rattle.feed_cli.specs.declared.fault.Fault.TheVariants as fault
 use Rattle.feed_cli.proofs.commands.tables.print_tables.Goals as goal
@@ -8,21 +9,15 @@ pub returns-clause-ok : goal.returns-clause-ok
 returns-clause-ok g c =
     let shown = c.feed_all-fed.new.mirror.node.published in
     let limits : c.begin.new.self.limits ≡ c.args.options.limits = c.begin.ensures.limits ∙ ap (λ m. m.limits) c.in_ok-mirror.ensures in
-    printed_ok c.args.options.limits _ _ c.as_slice.result.now c.in_ok-text.text.items c.feed_all-fed.result c.outcome.result shown c.is_some-is_published.result
-    (c.feed_all-fed.ensures.fed (search rules)) limits c.as_slice.ensures.value c.in_ok-text.ensures.text (search rules) (c.is_some-is_published.ensures ∙ is_some_kept _ c.token.result ∙ ap is_some (c.token.ensures ∙ ap published_token c.node.ensures.node)) c.outcome.ensures
+    printed_ok c.args.options.limits _ _ (published_text shown) _ c.feed_all-fed.result c.outcome.result shown c.is_some-is_published.result
+    (c.feed_all-fed.ensures.fed (search rules)) limits refl refl c.in_ok-print_snapshot.ensures.ok (c.is_some-is_published.ensures ∙ is_some_kept _ c.token.result ∙ ap is_some (c.token.ensures ∙ ap published_token c.node.ensures.node)) c.outcome.ensures
 
 pub returns-clause-err : goal.returns-clause-err
 returns-clause-err g c =
     let shown = c.feed_all-fed.new.mirror.node.published in
     let limits : c.begin.new.self.limits ≡ c.args.options.limits = c.begin.ensures.limits ∙ ap (λ m. m.limits) c.in_ok-mirror.ensures in
-    printed_err c.args.options.limits _ _ c.as_slice.result.now c.in_ok-text.text.items c.feed_all-fed.result c.outcome.result shown c.is_some-is_published.result
-    (c.feed_all-fed.ensures.fed (search rules)) limits c.as_slice.ensures.value c.in_ok-text.ensures.text (search rules) (c.is_some-is_published.ensures ∙ is_some_kept _ c.token.result ∙ ap is_some (c.token.ensures ∙ ap published_token c.node.ensures.node)) c.outcome.ensures
-
-pub returns-in-Err-clause-err : goal.returns-in-Err-clause-err
-returns-in-Err-clause-err g c =
-    let limits : c.begin.new.self.limits ≡ c.args.options.limits = c.begin.ensures.limits ∙ ap (λ m. m.limits) c.in_ok-mirror.ensures in
-    front_of c.args.options.limits _ _ c.as_slice.result.now c.in_ok-text.text.items c.feed_all-fed.result c.feed_all-fed.new.mirror.node.published
-    (c.feed_all-fed.ensures.fed (search rules)) limits c.as_slice.ensures.value c.in_ok-text.ensures.text c.in-Err.ensures.front
+    printed_err c.args.options.limits _ _ (published_text shown) _ c.feed_all-fed.result c.outcome.result shown c.is_some-is_published.result
+    (c.feed_all-fed.ensures.fed (search rules)) limits refl refl c.in_ok-print_snapshot.ensures.ok (c.is_some-is_published.ensures ∙ is_some_kept _ c.token.result ∙ ap is_some (c.token.ensures ∙ ap published_token c.node.ensures.node)) c.outcome.ensures
 
 pub returns-clause-turns : goal.returns-clause-turns
 returns-clause-turns g c = λ told.
