@@ -12,6 +12,8 @@ mod devices;
 #[cfg(test)]
 mod play;
 #[cfg(test)]
+mod printing;
+#[cfg(test)]
 mod run;
 #[cfg(test)]
 mod tables;
