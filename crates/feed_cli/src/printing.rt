@@ -51,6 +51,7 @@ impl Waiting {
     }
 
     /// Has a text wait, and writes it where it is too long.
+    #[inline(always)]
     #[tactic(auto, using(crate::proofs::PrintingLemmas::tells_then))]
     fn put<W: FeedWrite>(&mut self, device: &mut W, text: &[u8])
         ensures { Tells (W.contents device.old) (W.contents device.new)
