@@ -9,7 +9,7 @@ use Rattle.feed_node.specs.States.{token_of}
 use Rattle.feed_note.specs.Publishing.{Published}
 use Rattle.feed_note.specs.Texts.{batch_text, published_text}
 use Rattle.feed_note.specs.Written.{written_members, written_name, written_change, written_token}
-use Rattle.std.proofs.KnownBytes.{Appends-nil, Appends-trans}
+use Rattle.std.proofs.KnownBytes.{Appends-trans}
 use Rattle.feed_http.specs.Device.{AppendsFront, HasFailed}
 use Rattle.feed_tables.specs.declared.change.Change.{Change}
 use Rattle.feed_tables.specs.declared.change.Change.TheVariants.{Set, Remove, Empty, Single, Clear}

@@ -1,4 +1,4 @@
-use Rattle.std.proofs.Common.{sym, ap, ◌∙◌, ◌++◌, take}
+use Rattle.std.proofs.Common.{ap, ◌∙◌, ◌++◌, take}
 use Rattle.std.specs.Prelude.{flat_map}
 use Rattle.feed_text.specs.Strings.{written_byte}
 use Rattle.feed_cli.proofs.PrintingLemmas.{tells_then, tells_as, flat_map_more}

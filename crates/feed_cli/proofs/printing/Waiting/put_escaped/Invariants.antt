@@ -1,5 +1,5 @@
 -- What stands for the bytes so far was told.
-use Rattle.std.proofs.Common.{◌≡◌, take}
+use Rattle.std.proofs.Common.{take}
 use Rattle.std.specs.Prelude.{flat_map}
 use Rattle.feed_text.specs.Strings.{written_byte}
 use Rattle.feed_cli.specs.Printing.{Tells}
