@@ -1,21 +1,22 @@
 -- Lemmas on texts that are told to a device one after the other.
-use Rattle.std.proofs.Common.{◌≡◌, refl, sym, ap, ◌∙◌, ℕ, ◌+◌, ◌<◌, Bool, true, false, List, [], ◌∷◌, ◌++◌, length, take, append_assoc, append-nil, Option, Some, None, ap₂, subst, codes, get_or}
-use Rattle.std.specs.Prelude.{flat_map, map, option_map}
+use Rattle.std.proofs.Common.{Result, Ok, Err, OnErr, ◌≡◌, refl, sym, ap, ◌∙◌, ℕ, ◌+◌, ◌<◌, Bool, true, false, List, [], ◌∷◌, ◌++◌, length, take, get_or, MutBor, append_assoc, append-nil, Option, Some, subst, codes, flat_map}
+use Rattle.std.specs.FinMap.{entries}
+use Rattle.std.specs.Io.KnownBytes.{Appends}
+use Rattle.std.specs.List.{FoldsTo}
 use Rattle.std.proofs.lemmas.List.{take_more}
 use Rattle.std.proofs.lemmas.Grind.{flat_map-append}
 use Rattle.feed_text.specs.Ascii.{quotation_mark, line_feed}
 use Rattle.feed_text.specs.Strings.{written_byte, written_string}
-use Rattle.feed_node.specs.States.{token_of}
-use Rattle.feed_note.specs.Publishing.{Published}
-use Rattle.feed_note.specs.Texts.{batch_text, published_text}
+use Rattle.feed_note.specs.Texts.{batch_text, snapshot_text}
 use Rattle.feed_note.specs.Written.{written_members, written_name, written_change, written_token}
 use Rattle.std.proofs.KnownBytes.{Appends-trans}
 use Rattle.feed_http.specs.Device.{AppendsFront, HasFailed}
 use Rattle.feed_tables.specs.declared.change.Change.{Change}
-use Rattle.feed_tables.specs.declared.change.Change.TheVariants.{Set, Remove, Empty, Single, Clear}
-use Rattle.feed_tables.specs.Entries.{Entry, entry_of}
-use Rattle.feed_tables.specs.Tables.{Contents, listing}
-use Rattle.feed_cli.specs.Printing.{Sends, Tells, members_of, lines_of}
+use Rattle.feed_tables.specs.declared.change.Change.TheVariants.{Clear}
+use Rattle.feed_tables.specs.Listers.{FailsIn}
+use Rattle.feed_tables.specs.Tables.{Contents, or_clear, listed, listing}
+use Rattle.feed_cli.specs.Printing.{Sends, Tells, Prints, PrintsChange, end_before, end_with}
+use Rattle.feed_cli.specs.declared.printing.Printer.{Printer}
 use Rattle.feed_cli.specs.declared.printing.Waiting.{Waiting}
 
 -- more text behind both
@@ -122,102 +123,202 @@ members_told kind id content =
     (sym (append_assoc x (quotation_mark ∷ b ++ id) c)
     ∙ ap (λ l. l ++ c) (sym (append_assoc x (quotation_mark ∷ b) id) ∙ ap (λ l. l ++ id) begun))
 
--- the members of an entry
-pub entry_told : (e : Entry) (kind : List ℕ) (id : Option (List ℕ)) (content : List ℕ) → kind ≡ e.kind
-    → id ≡ e.id → content ≡ e.content
-    → codes "{\"type\":\"" ++ flat_map written_byte kind ++ around (written_name id) ++ content ≡ members_of e
-entry_told e kind id content same_kind same_id same_content =
-    members_told kind (written_name id) content
-    ∙ ap (λ k. written_members (written_string k) (written_name id) content) same_kind
-    ∙ ap (λ i. written_members (written_string e.kind) (written_name i) content) same_id
-    ∙ ap (λ o. written_members (written_string e.kind) (written_name e.id) o) same_content
+-- what holds holds on an error
+pub on_any_err : {A E : Type 0} (r : Result A E) (P : Type 0) → P → OnErr r P
+on_any_err (Ok a) P p = tt
+on_any_err (Err e) P p = p
 
--- one more line
-pub lines_more : (entries : List Entry) (i : ℕ) (d e : Entry) → i < length entries → e ≡ get_or entries i d
-    → lines_of (take i entries) ++ members_of e ++ codes "}\n" ≡ lines_of (take (i + 1) entries)
-lines_more entries i d e h same =
-    append_assoc (lines_of (take i entries)) (members_of e) (codes "}\n")
-    ∙ ap (λ x. lines_of (take i entries) ++ (members_of x ++ codes "}\n")) same
-    ∙ flat_map_more (λ x. members_of x ++ codes "}\n") entries i d h
+-- a line behind what stands before it
+pub line_told : (before kind id content : List ℕ)
+    → before ++ codes "{\"type\":\"" ++ flat_map written_byte kind ++ around id ++ content
+    ≡ before ++ written_members (written_string kind) id content
+line_told before kind id content =
+    let x : List ℕ = codes "{\"type\":\"" in
+    let k : List ℕ = flat_map written_byte kind in
+    ap (λ l. l ++ around id ++ content) (append_assoc before x k)
+    ∙ ap (λ l. l ++ content) (append_assoc before (x ++ k) (around id))
+    ∙ append_assoc before (x ++ k ++ around id) content
+    ∙ ap (λ l. before ++ l) (members_told kind id content)
 
--- the line of a change is that of its entry
-change_told : (c : Change) → members_of (entry_of c) ≡ written_change c
-change_told (Set t i o) = refl
-change_told (Remove t i) = refl
-change_told (Empty t) = refl
-change_told (Single t o) = refl
-change_told (Clear t) = refl
+-- the token and what stands around it
+pub token_told : (token : List ℕ)
+    → codes ",\"token\":\"" ++ flat_map written_byte token ++ codes "\"}\n" ≡ end_with token
+token_told token =
+    let x : List ℕ = codes ",\"token\":\"" ++ flat_map written_byte token in
+    sym (append_assoc x (quotation_mark ∷ []) (codes "}\n"))
+    ∙ quoted_told (codes ",\"token\":") (codes "}\n") token
 
--- the lines of entries, with the token on the last one
-batch_of : List Entry → List ℕ → List ℕ
-batch_of [] token = []
-batch_of (e ∷ []) token = members_of e ++ written_token (Some token) ++ codes "}\n"
-batch_of (e ∷ f ∷ es) token = (members_of e ++ codes "}\n") ++ batch_of (f ∷ es) token
+-- lines of which the last one isn't ended, behind others or not
+abbrev pub open_lines : Bool → List Change → List ℕ
+open_lines is_begun [] = []
+open_lines is_begun (c ∷ cs) = (end_before is_begun ++ written_change c) ++ open_lines true cs
 
-ended : (text : List ℕ) → text ++ codes "}" ++ line_feed ∷ [] ≡ text ++ codes "}\n"
-ended text = append_assoc text (codes "}") (line_feed ∷ [])
+-- with the token at their end they are a batch
+line_ended : (text token : List ℕ)
+    → text ++ token ++ codes "}" ++ line_feed ∷ [] ≡ text ++ (token ++ codes "}\n")
+line_ended text token =
+    append_assoc (text ++ token) (codes "}") (line_feed ∷ []) ∙ append_assoc text token (codes "}\n")
 
-batch_of_changes : (changes : List Change) (token : List ℕ)
-    → batch_of (map entry_of changes) token ≡ batch_text changes token
-unfolding batch_of
-batch_of_changes [] token = refl
-batch_of_changes (c ∷ []) token =
-    sym (ended (members_of (entry_of c) ++ written_token (Some token)))
-    ∙ ap (λ m. m ++ written_token (Some token) ++ codes "}" ++ line_feed ∷ []) (change_told c)
-batch_of_changes (c ∷ d ∷ cs) token =
-    ap₂ (λ x y. x ++ y)
-    (sym (ended (members_of (entry_of c)))
-    ∙ ap (λ m. m ++ codes "}" ++ line_feed ∷ [])
-    (sym (append-nil (members_of (entry_of c))) ∙ ap (λ m. m ++ []) (change_told c)))
-    (batch_of_changes (d ∷ cs) token)
+open_batch : (is_begun : Bool) (c : Change) (cs : List Change) (token : List ℕ)
+    → open_lines is_begun (c ∷ cs) ++ end_with token ≡ end_before is_begun ++ batch_text (c ∷ cs) token
+open_batch is_begun c [] token =
+    let e = end_before is_begun in
+    let w = written_change c in
+    ap (λ l. l ++ end_with token) (append-nil (e ++ w)) ∙ append_assoc e w (end_with token)
+    ∙ ap (λ l. e ++ l) (sym (line_ended w (written_token (Some token))))
+open_batch is_begun c (d ∷ ds) token =
+    let e = end_before is_begun in
+    let w = written_change c in
+    let more = batch_text (d ∷ ds) token in
+    append_assoc (e ++ w) (open_lines true (d ∷ ds)) (end_with token)
+    ∙ ap (λ l. (e ++ w) ++ l) (open_batch true d ds token)
+    ∙ append_assoc e w (codes "}\n" ++ more)
+    ∙ ap (λ l. e ++ l) (sym (append_assoc w (codes "}\n") more) ∙ ap (λ l. l ++ more) (sym (line_ended w [])))
 
-batch_of_last : (others : List Entry) (last : Entry) (token : List ℕ)
-    → lines_of others ++ batch_of (last ∷ []) token ≡ batch_of (others ++ last ∷ []) token
-unfolding batch_of
-batch_of_last [] last token = refl
-batch_of_last (e ∷ []) last token =
-    ap (λ x. x ++ batch_of (last ∷ []) token) (append-nil (members_of e ++ codes "}\n"))
-batch_of_last (e ∷ f ∷ es) last token =
-    append_assoc (members_of e ++ codes "}\n") (lines_of (f ∷ es)) (batch_of (last ∷ []) token)
-    ∙ ap (λ x. (members_of e ++ codes "}\n") ++ x) (batch_of_last (f ∷ es) last token)
+open_or_clear : (cs : List Change) (token : List ℕ)
+    → open_lines false (or_clear cs) ++ end_with token ≡ batch_text (or_clear cs) token
+open_or_clear [] token = open_batch false (Clear (codes "contest")) [] token
+open_or_clear (c ∷ cs) token = open_batch false c cs token
 
-token_told : (token : List ℕ)
-    → codes ",\"token\":\"" ++ flat_map written_byte token ++ quotation_mark ∷ [] ≡ written_token (Some token)
-unfolding written_string
-token_told token = append_assoc (codes ",\"token\":\"") (flat_map written_byte token) (quotation_mark ∷ [])
+pub open_snapshot : (tables : Contents) (token : List ℕ)
+    → open_lines false (listing tables) ++ end_with token ≡ snapshot_text tables token
+open_snapshot tables token = open_or_clear (flat_map listed (entries tables)) token
 
--- the last line, in the parts that are told
-last_told : (before : List ℕ) (last : Entry) (token : List ℕ)
-    → before ++ members_of last ++ codes ",\"token\":\"" ++ flat_map written_byte token ++ codes "\"}\n"
-    ≡ before ++ batch_of (last ∷ []) token
-unfolding batch_of
-last_told before last token =
-    let x : List ℕ = before ++ members_of last in
-    let k : List ℕ = codes ",\"token\":\"" in
-    let t : List ℕ = flat_map written_byte token in
-    let quoted = append_assoc x (k ++ t) (quotation_mark ∷ []) ∙ ap (λ l. x ++ l) (token_told token) in
-    sym (append_assoc (x ++ k ++ t) (quotation_mark ∷ []) (codes "}\n"))
-    ∙ ap (λ l. l ++ codes "}\n") (ap (λ l. l ++ quotation_mark ∷ []) (append_assoc x k t) ∙ quoted)
-    ∙ ap (λ l. l ++ codes "}\n") (append_assoc before (members_of last) (written_token (Some token)))
-    ∙ append_assoc before (members_of last ++ written_token (Some token)) (codes "}\n")
+module _ {W : Type 0} (contents : W → Option (List ℕ)) (failures : W → ℕ) where
+  -- a text and then another one
+  pub prints_then : (a b c : Printer W) (s t : List ℕ) → Prints contents failures a b s
+      → Prints contents failures b c t → Prints contents failures a c (s ++ t)
+  prints_then a b c s t first second =
+      record {
+        same_device = second.same_device ∙ first.same_device;
+        told = tells_then _ _ _ _ _ _ _ _ _ s t first.told second.told;
+      }
 
--- the lines of a batch
-pub batch_told : (entries others : List Entry) (last : Entry) (changes : List Change) (token : List ℕ)
-    → entries ≡ others ++ last ∷ [] → entries ≡ map entry_of changes
-    → lines_of others ++ members_of last ++ codes ",\"token\":\"" ++ flat_map written_byte token ++ codes "\"}\n"
-    ≡ batch_text changes token
-batch_told entries others last changes token split all =
-    last_told (lines_of others) last token
-    ∙ batch_of_last others last token
-    ∙ ap (λ es. batch_of es token) (sym split ∙ all)
-    ∙ batch_of_changes changes token
+  pub prints_as : (a b : Printer W) (s t : List ℕ) → s ≡ t → Prints contents failures a b s
+      → Prints contents failures a b t
+  prints_as a b s t e told = subst (Prints contents failures a b) e told
 
--- the text of what is published, by its tables and its token
-pub shown_text : (shown : Option Published) (contents : Contents) (token text : List ℕ)
-    → Some contents ≡ option_map (λ p. p.tables) shown → Some token ≡ token_of shown → text ≡ token
-    → batch_text (listing contents) text ≡ published_text shown
-shown_text None contents token text e f same = absurd (cc)
-shown_text (Some p) contents token text e f same =
-    let tables : contents ≡ p.tables = (cc) in
-    let told : text ≡ p.token = same ∙ (cc) in
-    ap₂ (λ c t. batch_text (listing c) t) tables told
+  -- what changes print one after the other
+  printed : (a b : Printer W) (c : Change) (cs : List Change)
+      → FoldsTo (PrintsChange contents failures false) a (c ∷ cs) b
+      → Prints contents failures a b (open_lines a.is_begun (c ∷ cs)) × (b.waiting.has_failed ≡ false)
+  printed a b c [] (j, (line, begun, ok), same) =
+      let text = end_before a.is_begun ++ written_change c in
+      subst (λ k. Prints contents failures a k (open_lines a.is_begun (c ∷ [])) × (k.waiting.has_failed ≡ false)) same
+      (prints_as a j text (text ++ []) (sym (append-nil text)) line, ok)
+  printed a b c (d ∷ ds) (j, (line, begun, ok), more) =
+      let (rest, ended) = printed j b d ds more in
+      let text = end_before a.is_begun ++ written_change c in
+      let behind = prints_as j b _ _ (ap (λ f. open_lines f (d ∷ ds)) begun) rest in
+      (prints_then a j b text (open_lines true (d ∷ ds)) line behind, ended)
+
+  pub printed_some : (a b : Printer W) (cs : List Change)
+      → FoldsTo (PrintsChange contents failures false) a (or_clear cs) b
+      → Prints contents failures a b (open_lines a.is_begun (or_clear cs)) × (b.waiting.has_failed ≡ false)
+  printed_some a b [] h = printed a b (Clear (codes "contest")) [] h
+  printed_some a b (c ∷ cs) h = printed a b c cs h
+
+  -- what is printed of changes of which one fails
+  pub printed_front : (a between b : Printer W) (taken : List Change) (c : Change) (left : List Change)
+      → FoldsTo (PrintsChange contents failures false) a taken between
+      → PrintsChange contents failures true between c b
+      → (text : List ℕ) × (rest : List ℕ) × (open_lines a.is_begun (taken ++ c ∷ left) ≡ text ++ rest)
+      × Prints contents failures a b text × (b.waiting.has_failed ≡ true)
+  printed_front a between b [] c left same (line, begun, failed) =
+      subst
+      (λ k. (text : List ℕ) × (rest : List ℕ) × (open_lines k.is_begun (c ∷ left) ≡ text ++ rest)
+      × Prints contents failures k b text × (b.waiting.has_failed ≡ true))
+      (sym same)
+      (end_before between.is_begun ++ written_change c, open_lines true left, refl, line, failed)
+  printed_front a between b (t ∷ ts) c left (j, (line, begun, ok), more) last =
+      let (text, rest, is, told, failed) = printed_front j between b ts c left more last in
+      let first = end_before a.is_begun ++ written_change t in
+      let whole = ap (λ f. open_lines f (ts ++ c ∷ left)) (sym begun) ∙ is in (
+        first ++ text,
+        rest,
+        ap (λ l. first ++ l) whole ∙ sym (append_assoc first text rest),
+        prints_then a j b first text line told,
+        failed,
+      )
+
+-- all of a text was written where nothing waited before and nothing waits after
+pub all_sent : (a b : Option (List ℕ)) (f g : ℕ) (p q : Waiting) (text : List ℕ) → p.bytes.items ≡ []
+    → q.bytes.items ≡ [] → q.has_failed ≡ false → Tells a b f g p q text → Appends a b text
+all_sent a b f g p q text none left ended told =
+    let (begun, kept, (sent, is, h)) = told.sends ended in
+    let same : text ≡ sent =
+    ap (λ l. l ++ text) (sym none) ∙ is ∙ ap (λ l. sent ++ l) left ∙ append-nil sent in
+    subst (Appends a b) (sym same) h
+
+-- a front of it was written where nothing waited before and a write failed
+pub front_sent : (a b : Option (List ℕ)) (f g : ℕ) (p q : Waiting) (text rest : List ℕ)
+    → p.bytes.items ≡ [] → p.has_failed ≡ false → q.has_failed ≡ true → Tells a b f g p q text
+    → AppendsFront a b (text ++ rest) × HasFailed f g
+front_sent a b f g p q text rest none begun failed told =
+    let (front, risen) = told.fails begun failed in
+    (subst (λ l. AppendsFront a b (l ++ (text ++ rest))) none (front_behind a b p.bytes.items text rest front), risen)
+
+-- what came of the lines of a snapshot
+module _ {W : Type 0} (contents : W → Option (List ℕ)) (failures : W → ℕ) (device : MutBor W) (waiting : Waiting)
+    (tables : Contents) (token : List ℕ) (none : waiting.bytes.items ≡ []) (begun : waiting.has_failed ≡ false) where
+  abbrev pub new_printer : Printer W
+  new_printer = record { device = device; waiting = waiting; is_begun = false }
+
+  -- where all changes were taken
+  module _ (listed_to ended : Printer W) (final : W)
+      (taken : FoldsTo (PrintsChange contents failures false) new_printer (listing tables) listed_to)
+      (last : Prints contents failures listed_to ended (end_with token))
+      (left : ended.waiting.bytes.items ≡ [])
+      (back : device.ghost_name ≡ ended.device.ghost_name → final ≡ ended.device.now) where
+    whole : Prints contents failures new_printer ended (snapshot_text tables token)
+    whole =
+        let lines = printed_some contents failures new_printer listed_to (flat_map listed (entries tables)) taken in
+        prints_as contents failures new_printer ended _ _ (open_snapshot tables token)
+        (prints_then contents failures new_printer listed_to ended _ _ lines.0 last)
+
+    final_is : final ≡ ended.device.now
+    final_is = back (sym whole.same_device)
+
+    pub ended_ok : ended.waiting.has_failed ≡ false
+        → Appends (contents device.now) (contents final) (snapshot_text tables token)
+        × (failures final ≡ failures device.now)
+    ended_ok ok =
+        subst
+        (λ x. Appends (contents device.now) (contents x) (snapshot_text tables token)
+        × (failures x ≡ failures device.now))
+        (sym final_is)
+        (all_sent _ _ _ _ waiting ended.waiting _ none left ok whole.told, (whole.told.sends ok).1)
+
+    pub ended_err : ended.waiting.has_failed ≡ true
+        → AppendsFront (contents device.now) (contents final) (snapshot_text tables token)
+        × HasFailed (failures device.now) (failures final)
+    ended_err failed =
+        let text = snapshot_text tables token in
+        let (front, risen) = front_sent _ _ _ _ waiting ended.waiting text [] none begun failed whole.told in
+        subst
+        (λ x. AppendsFront (contents device.now) (contents x) text
+        × HasFailed (failures device.now) (failures x))
+        (sym final_is)
+        (subst (AppendsFront _ _) (append-nil text) front, risen)
+
+  -- where one of them failed
+  pub listed_err : (stopped : Printer W) (final : W)
+      → FailsIn (PrintsChange contents failures false) (PrintsChange contents failures true)
+      new_printer (listing tables) stopped
+      → (device.ghost_name ≡ stopped.device.ghost_name → final ≡ stopped.device.now)
+      → AppendsFront (contents device.now) (contents final) (snapshot_text tables token)
+      × HasFailed (failures device.now) (failures final)
+  listed_err stopped final (taken, at, behind, is, between, before, last) back =
+      let (text, rest, whole, told, failed) =
+      printed_front contents failures new_printer between stopped taken at behind before last in
+      let all : text ++ (rest ++ end_with token) ≡ snapshot_text tables token =
+      sym (append_assoc text rest (end_with token))
+      ∙ ap (λ l. l ++ end_with token) (sym (ap (open_lines false) is ∙ whole))
+      ∙ open_snapshot tables token in
+      let (front, risen) =
+      front_sent _ _ _ _ waiting stopped.waiting text (rest ++ end_with token) none begun failed told.told in
+      subst
+      (λ x. AppendsFront (contents device.now) (contents x) (snapshot_text tables token)
+      × HasFailed (failures device.now) (failures x))
+      (sym (back (sym told.same_device)))
+      (subst (AppendsFront _ _) all front, risen)

@@ -1,5 +1,5 @@
 -- Lemmas on what the command `pull` prints.
-use Rattle.std.proofs.Common.{◌≡◌, ◌≢◌, ◌⊎◌, inl, inr, refl, sym, ap, ◌∙◌, subst, Bool, true, false, IfErr, IsErrOf, [], append-nil, List, ℕ, Option, None, Some, Result, Ok, Err, is_some}
+use Rattle.std.proofs.Common.{◌≡◌, ◌≢◌, ◌⊎◌, inl, inr, refl, sym, ap, ◌∙◌, subst, Bool, true, false, IfErr, OnErr, IsErrOf, [], append-nil, List, ℕ, Option, None, Some, Result, Ok, Err, is_some}
 use Rattle.std.specs.Prelude.{if◌then◌else◌, option_map, unwrap_or}
 use Rattle.std.specs.Io.KnownBytes.{Appends, Keeps}
 use Rattle.feed_http.specs.Device.{AppendsFront}
@@ -87,33 +87,18 @@ module _ {R W : Type 0} (devices : Devices R W) (places : List Place) (turns : �
   pull_err attempts (Err why) result is_published follows e other printed told is = subst (λ r. IfErr r (λ w. PullFails devices places turns w start end old new)) (sym is)
       (fails why (of_last (last_outcome attempts) why (sym e)) (λ m. other (cc)) (printed_pulled attempts (Err why) follows e printed))
 
-  -- the snapshot could not be printed, or only a front of it
-  pub snapshot_fails : (attempts : List Attempt) → FollowsFirst devices places turns start attempts end → (r : Result (Unit {0}) Fault) → IfErr r (λ why. (why ≡ fault.Write) ⊎ (why ≡ fault.Memory))
-      → (IsErrOf r fault.Write → AppendsFront old new (published_text end.mirror.node.published)) → (IsErrOf r fault.Memory → Appends old new [])
+  -- only a front of the snapshot was printed
+  pub snapshot_fails : (attempts : List Attempt) → FollowsFirst devices places turns start attempts end
+      → (r : Result (Unit {0}) Fault) → IfErr r (λ why. why ≡ fault.Write)
+      → OnErr r (AppendsFront old new (published_text end.mirror.node.published))
       → IfErr r (λ why. PullFails devices places turns why start end old new)
-  snapshot_fails attempts follows (Ok all) faults front none = tt
-  snapshot_fails attempts follows (Err fault.Write) faults front none = record {
-    ended = outcome_of_pull attempts;
-    has = record { attempts = attempts; follows = follows; came = refl };
-    printed = front refl;
-  }
-  snapshot_fails attempts follows (Err fault.Memory) faults front none = kept old new (none refl)
-  snapshot_fails attempts follows (Err (fault.Remote r)) (inl e) front none = absurd (cc)
-  snapshot_fails attempts follows (Err (fault.Remote r)) (inr e) front none = absurd (cc)
-  snapshot_fails attempts follows (Err fault.Unpublished) (inl e) front none = absurd (cc)
-  snapshot_fails attempts follows (Err fault.Unpublished) (inr e) front none = absurd (cc)
-  snapshot_fails attempts follows (Err fault.Read) (inl e) front none = absurd (cc)
-  snapshot_fails attempts follows (Err fault.Read) (inr e) front none = absurd (cc)
-  snapshot_fails attempts follows (Err fault.Turns) (inl e) front none = absurd (cc)
-  snapshot_fails attempts follows (Err fault.Turns) (inr e) front none = absurd (cc)
-  snapshot_fails attempts follows (Err fault.TooLong) (inl e) front none = absurd (cc)
-  snapshot_fails attempts follows (Err fault.TooLong) (inr e) front none = absurd (cc)
-  snapshot_fails attempts follows (Err (fault.Feed w)) (inl e) front none = absurd (cc)
-  snapshot_fails attempts follows (Err (fault.Feed w)) (inr e) front none = absurd (cc)
-  snapshot_fails attempts follows (Err (fault.Survey w)) (inl e) front none = absurd (cc)
-  snapshot_fails attempts follows (Err (fault.Survey w)) (inr e) front none = absurd (cc)
-  snapshot_fails attempts follows (Err (fault.Play w)) (inl e) front none = absurd (cc)
-  snapshot_fails attempts follows (Err (fault.Play w)) (inr e) front none = absurd (cc)
+  snapshot_fails attempts follows (Ok all) faults front = tt
+  snapshot_fails attempts follows (Err why) is front =
+      subst (λ w. PullFails devices places turns w start end old new) (sym is) (record {
+        ended = outcome_of_pull attempts;
+        has = record { attempts = attempts; follows = follows; came = refl };
+        printed = front;
+      })
 
   -- the snapshot was printed, and an attempt could not be told
   pub untold : (attempts : List Attempt) → FollowsFirst devices places turns start attempts end → Appends old new (published_text end.mirror.node.published)

@@ -1,10 +1,10 @@
 -- What is written to a device through bytes that wait for it.
-use Rattle.std.specs.Prelude.{◌≡◌, ℕ, true, false, List, ◌++◌, flat_map, Option, codes}
+use Rattle.std.specs.Prelude.{◌≡◌, ℕ, Bool, true, false, List, [], ◌++◌, Option, Some, codes}
 use Rattle.std.specs.Io.KnownBytes.{Appends}
 use Rattle.feed_http.specs.Device.{AppendsFront, HasFailed}
-use Rattle.feed_text.specs.Strings.{written_string}
-use Rattle.feed_tables.specs.Entries.{Entry}
-use Rattle.feed_note.specs.Written.{written_members, written_name}
+use Rattle.feed_tables.specs.declared.change.Change.{Change}
+use Rattle.feed_note.specs.Written.{written_change, written_token}
+use Rattle.feed_cli.specs.declared.printing.Printer.{Printer}
 use Rattle.feed_cli.specs.declared.printing.Waiting.{Waiting}
 
 -- a front of what waited and of the text was written between these two contents of a device, and
@@ -25,10 +25,25 @@ pub record Tells (old new : Option (List ℕ)) (failures failures_after : ℕ) (
   -- and nothing is written after it
   pub rests : before.has_failed ≡ true → (after.has_failed ≡ true) × (new ≡ old) × (failures_after ≡ failures)
 
--- the members of the line of an entry
-abbrev pub members_of : Entry → List ℕ
-members_of e = written_members (written_string e.kind) (written_name e.id) e.content
+-- the end of the line before, where one is begun
+abbrev pub end_before : Bool → List ℕ
+end_before false = []
+end_before true = codes "}\n"
 
--- the lines of entries, none of them with a token
-abbrev pub lines_of : List Entry → List ℕ
-lines_of entries = flat_map (λ e. members_of e ++ codes "}\n") entries
+-- the end of the last line, with the token on it
+abbrev pub end_with : List ℕ → List ℕ
+end_with token = written_token (Some token) ++ codes "}\n"
+
+module _ {W : Type 0} (contents : W → Option (List ℕ)) (failures : W → ℕ) where
+  -- a text was told to the device of a printer between these two
+  pub record Prints (old new : Printer W) (text : List ℕ) : Type 0 where
+    pub same_device : new.device.ghost_name ≡ old.device.ghost_name
+    pub told : Tells (contents old.device.now) (contents new.device.now)
+        (failures old.device.now) (failures new.device.now) old.waiting new.waiting text
+
+  -- the line of a change was told to it between these two but for its end, and a write has failed
+  -- by now or not
+  abbrev pub PrintsChange : Bool → Printer W → Change → Printer W → Type 0
+  PrintsChange has_failed old change new =
+      Prints old new (end_before old.is_begun ++ written_change change)
+      × (new.is_begun ≡ true) × (new.waiting.has_failed ≡ has_failed)

@@ -1,19 +1,17 @@
 //! The lines of a snapshot, printed without a text of all of them.
-ghost use Rattle.std.specs.Prelude.{◌≡◌, [], List, OnOk, OnErr, ◌++◌, flat_map, map, codes};
+ghost use Rattle.std.specs.Prelude.{◌≡◌, true, false, [], OnOk, OnErr, ◌++◌, flat_map, codes};
 ghost use Rattle.std.specs.Io.KnownBytes.{Appends};
 ghost use Rattle.std.specs.Option.{option_copied};
-ghost use Rattle.feed_text.specs.Strings.{written_byte as byte_text};
-ghost use Rattle.feed_tables.specs.declared.change.Change.{Change};
-ghost use Rattle.feed_tables.specs.Entries.{entry_of};
+ghost use Rattle.feed_text.specs.Strings.{written_string, written_byte as byte_text};
 ghost use Rattle.feed_http.specs.Device.{AppendsFront, HasFailed};
-ghost use Rattle.feed_note.specs.Texts.{batch_text};
-ghost use Rattle.feed_note.specs.Written.{written_name};
-ghost use Rattle.feed_cli.specs.Printing.{Tells, members_of, lines_of};
+ghost use Rattle.feed_note.specs.Texts.{snapshot_text};
+ghost use Rattle.feed_note.specs.Written.{written_members, written_name};
+ghost use Rattle.feed_cli.specs.Printing.{Tells, Prints, PrintsChange, end_before, end_with};
 
 use arrayvec::ArrayVec;
 use feed_http::device::{Failed, FeedWrite, write_all};
-use feed_tables::Entry;
-use feed_text::{is_unescaped, written_byte};
+use feed_tables::{Lister, Name, Tables};
+use feed_text::{ObjectText, is_unescaped, written_byte};
 
 /// How many bytes of a text wait at most.
 const ROOM: usize = 16_384;
@@ -66,6 +64,17 @@ impl Waiting {
         }
     }
 
+    /// Whether all that was put is written or waits.
+    fn outcome(&self) -> Result<(), Failed>
+        ensures ok { OnOk result (self.now.has_failed ≡ false) }
+        ensures err { OnErr result (self.now.has_failed ≡ true) }
+    {
+        if self.has_failed {
+            return Err(Failed);
+        }
+        Ok(())
+    }
+
     /// Puts what stands for bytes in a JSON string.
     fn put_escaped<W: FeedWrite>(&mut self, device: &mut W, text: &[u8])
         ensures { Tells (W.contents device.old) (W.contents device.new)
@@ -105,75 +114,124 @@ impl Waiting {
             }
         }
     }
+}
 
-    /// Puts the members of a line.
-    fn put_members<W: FeedWrite>(&mut self, device: &mut W, entry: &Entry<'_>)
-        ensures { Tells (W.contents device.old) (W.contents device.new)
-            (W.failures device.old) (W.failures device.new) self.old self.new
-            (members_of entry.now) }
-    {
-        self.put(device, b"{\"type\":\"");
-        self.put_string(device, entry.kind());
-        self.put_id(device, entry.id());
-        self.put(device, entry.content());
-    }
+/// Prints the lines of changes to a device, but for the end of the last one: the token stands
+/// there, and which line is the last shows only where no other comes.
+struct Printer<'a, W> {
+    device: &'a mut W,
+    waiting: Waiting,
+    // A line is begun that has no end yet.
+    is_begun: bool,
+}
 
-    /// Puts lines that have no token.
-    fn put_lines<W: FeedWrite>(&mut self, device: &mut W, entries: &[Entry<'_>])
-        ensures { Tells (W.contents device.old) (W.contents device.new)
-            (W.failures device.old) (W.failures device.new) self.old self.new
-            (lines_of entries.now) }
+// Written out: the device is left as the printer has it, and a caller's proof can name that.
+impl<'a, W> Drop for Printer<'a, W> {
+    fn drop(self)
+        ensures { self.exit.0.now ≡ self.entry.device.now }
     {
-        'lines: for entry in entries {
-            self.put_members(device, entry);
-            self.put(device, b"}\n");
-        }
-    }
-
-    /// Puts the lines of a batch, with its token on the last of them.
-    fn put_batch<W: FeedWrite>(&mut self, device: &mut W, entries: &[Entry<'_>], token: &str)
-        ensures { (changes : List Change) → entries.now ≡ map entry_of changes
-            → Tells (W.contents device.old) (W.contents device.new)
-            (W.failures device.old) (W.failures device.new) self.old self.new
-            (batch_text changes token.now) }
-    {
-        let Some((last, others)) = entries.split_last() else {
-            return;
-        };
-        self.put_lines(device, others);
-        self.put_members(device, last);
-        self.put(device, b",\"token\":\"");
-        self.put_string(device, token);
-        self.put(device, b"\"}\n");
+        let Self {
+            device: _,
+            waiting: _,
+            is_begun: _,
+        } = self;
     }
 }
 
-/// Prints the lines of a batch, with its token on the last of them. It takes no memory. Where a
-/// write fails, a front of them was printed.
-pub(crate) fn print_batch<W: FeedWrite>(
+impl<'a, W: FeedWrite> Printer<'a, W> {
+    /// Ends the line before, where there is one, and begins the next with its type.
+    fn begin(&mut self, kind: &str)
+        ensures begun { self.new.is_begun ≡ true }
+        ensures prints { Prints W.contents W.failures self.old self.new
+            (end_before self.old.is_begun ++ codes "{\"type\":\""
+            ++ flat_map byte_text kind.now) }
+    {
+        if self.is_begun {
+            self.waiting.put(self.device, b"}\n{\"type\":\"");
+        } else {
+            self.waiting.put(self.device, b"{\"type\":\"");
+        }
+        self.is_begun = true;
+        self.waiting.put_string(self.device, kind);
+    }
+
+    /// Ends the line before, where there is one, and prints the next but for its end.
+    fn print(&mut self, kind: &str, id: Option<&str>, content: &[u8]) -> Result<(), Failed>
+        ensures begun { self.new.is_begun ≡ true }
+        ensures prints { Prints W.contents W.failures self.old self.new
+            (end_before self.old.is_begun ++ written_members (written_string kind.now)
+            (written_name (option_copied id.entry)) content.now) }
+        ensures ok { OnOk result (self.new.waiting.has_failed ≡ false) }
+        ensures err { OnErr result (self.new.waiting.has_failed ≡ true) }
+    {
+        self.begin(kind);
+        self.waiting.put_id(self.device, id);
+        self.waiting.put(self.device, content);
+        self.waiting.outcome()
+    }
+
+    /// Ends the last line with the token on it, and writes what waits.
+    fn end(&mut self, token: &str) -> Result<(), Failed>
+        ensures prints { Prints W.contents W.failures self.old self.new (end_with token.now) }
+        ensures none { self.new.waiting.bytes.items ≡ [] }
+        ensures ok { OnOk result (self.new.waiting.has_failed ≡ false) }
+        ensures err { OnErr result (self.new.waiting.has_failed ≡ true) }
+    {
+        self.waiting.put(self.device, b",\"token\":\"");
+        self.waiting.put_string(self.device, token);
+        self.waiting.put(self.device, b"\"}\n");
+        self.waiting.flush(self.device);
+        self.waiting.outcome()
+    }
+}
+
+impl<'a, W: FeedWrite> Lister for Printer<'a, W> {
+    type Error = Failed;
+
+    ghost takes = { PrintsChange W.contents W.failures false };
+
+    ghost fails = { PrintsChange W.contents W.failures true };
+
+    fn set(&mut self, kind: &Name, id: &Name, object: &ObjectText) -> Result<(), Failed> {
+        self.print(kind.text(), Some(id.text()), object.bytes())
+    }
+
+    fn empty(&mut self, kind: &Name) -> Result<(), Failed> {
+        self.print(kind.text(), None, b"[]")
+    }
+
+    fn single(&mut self, kind: &Name, object: &ObjectText) -> Result<(), Failed> {
+        self.print(kind.text(), None, object.bytes())
+    }
+
+    fn clear(&mut self) -> Result<(), Failed> {
+        self.print("contest", None, b"null")
+    }
+}
+
+/// Prints the lines of a snapshot of tables, with the token on the last of them. It takes no
+/// memory. Where a write fails, a front of them was printed.
+pub(crate) fn print_lines<W: FeedWrite>(
     device: &mut W,
-    entries: &[Entry<'_>],
+    tables: &Tables,
     token: &str,
 ) -> Result<(), Failed>
-    ensures ok { (changes : List Change) → entries.now ≡ map entry_of changes
-        → OnOk result (Appends (W.contents device.old) (W.contents device.new)
-        (batch_text changes token.now)) }
-    ensures quiet { (changes : List Change) → entries.now ≡ map entry_of changes
-        → OnOk result (W.failures device.new ≡ W.failures device.old) }
-    ensures front { (changes : List Change) → entries.now ≡ map entry_of changes
-        → OnErr result (AppendsFront (W.contents device.old) (W.contents device.new)
-        (batch_text changes token.now)) }
-    ensures failed { (changes : List Change) → entries.now ≡ map entry_of changes
-        → OnErr result (HasFailed (W.failures device.old) (W.failures device.new)) }
+    ensures ok { OnOk result (Appends (W.contents device.old) (W.contents device.new)
+        (snapshot_text tables.now.contents token.now)) }
+    ensures quiet { OnOk result (W.failures device.new ≡ W.failures device.old) }
+    ensures front { OnErr result (AppendsFront (W.contents device.old) (W.contents device.new)
+        (snapshot_text tables.now.contents token.now)) }
+    ensures failed { OnErr result (HasFailed (W.failures device.old) (W.failures device.new)) }
 {
-    let mut waiting = Waiting {
+    let waiting = Waiting {
         bytes: ArrayVec::new(),
         has_failed: false,
     };
-    waiting.put_batch(device, entries, token);
-    waiting.flush(device);
-    if waiting.has_failed {
-        return Err(Failed);
-    }
-    Ok(())
+    let mut printer = Printer {
+        device,
+        waiting,
+        is_begun: false,
+    };
+    tables.list(&mut printer)?;
+    printer.end(token)
 }

@@ -1,12 +1,11 @@
 -- A snapshot's changes, made of empty tables, give the tables that it lists.
-use Rattle.std.proofs.Common.{◌≡◌, ◌<◌, refl, sym, ap, ◌∙◌, subst, arith, ℕ, Bool, true, false, cond, T, List, [], ◌∷◌, ◌++◌, length, Option, Some, None, flat_map, fold, map, codes, append_assoc, append-nil}
+use Rattle.std.proofs.Common.{◌≡◌, ◌<◌, refl, sym, ap, ◌∙◌, subst, arith, ℕ, Bool, true, false, cond, T, List, [], ◌∷◌, ◌++◌, length, Option, Some, None, flat_map, fold, codes, append_assoc, append-nil}
 use Rattle.std.specs.Ordering.{eq_by_cmp, is_eq}
 use Rattle.std.specs.FinMap.{FinMap, empty, get, insert, remove, entries, entries_sorted, find, is_sorted, len, get-entries, get-empty, get-insert, get-remove, same_map, empty_of_len, len-entries}
 use Rattle.std.proofs.lemmas.Cmp.{tied_itself}
 use Rattle.std.proofs.lemmas.List.Sums.{fold-append}
 use Rattle.feed_tables.specs.Bytes.{byte_order}
 use Rattle.feed_tables.specs.Changes.{sets, with_change}
-use Rattle.feed_tables.specs.Entries.{Entry, entry_of, with_entry}
 use Rattle.feed_tables.specs.declared.change.Change.{Change}
 use Rattle.feed_tables.specs.declared.change.Change.TheVariants.{Set, Clear}
 use Rattle.feed_tables.specs.declared.tables.Table.{Table}
@@ -131,8 +130,3 @@ listing_of_none contents h = none_listed (entries contents) (sym (len-entries co
 pub fold-with_change : (kept changes : List Change) → fold with_change kept changes ≡ kept ++ changes
 fold-with_change kept [] = sym (append-nil kept)
 fold-with_change kept (c ∷ cs) = fold-with_change (kept ++ c ∷ []) cs ∙ append_assoc kept (c ∷ []) cs
-
--- entries that are kept one after the other
-pub fold-with_entry : (kept : List Entry) (changes : List Change) → fold with_entry kept changes ≡ kept ++ map entry_of changes
-fold-with_entry kept [] = sym (append-nil kept)
-fold-with_entry kept (c ∷ cs) = fold-with_entry (kept ++ entry_of c ∷ []) cs ∙ append_assoc kept (entry_of c ∷ []) (map entry_of cs)

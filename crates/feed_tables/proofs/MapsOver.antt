@@ -1,34 +1,18 @@
 -- Finite maps made of entries in the order of their names, and maps put over others.
-use Rattle.std.proofs.Common.{Bool, true, false, cond, ◌≡◌, ℕ, List, [], ◌∷◌, Option, None, Some, fold, sym, ap, ◌∙◌, refl, subst}
+use Rattle.std.proofs.Common.{Bool, true, false, cond, ◌≡◌, ℕ, List, [], ◌∷◌, Option, None, Some, fold, sym, ap, ◌∙◌, refl, subst, arith}
 use Rattle.std.specs.Option.{option_or, is_some}
 use Rattle.std.specs.Ordering.{eq_by_cmp}
-use Rattle.std.specs.FinMap.{FinMap, find, put, get, insert, remove, from_sorted, entries, entries_sorted, entries-from_sorted, get-from_sorted, get-entries, get-insert, get-remove, same_map}
+use Rattle.std.specs.FinMap.{FinMap, find, get, insert, remove, from_sorted, entries, entries_sorted, entries-from_sorted, get-from_sorted, get-entries, get-insert, get-remove, same_map}
 use Rattle.std.specs.Cmp.{eq_by_cmp_equiv}
-use Rattle.feed_tables.specs.Bytes.{byte_order, IsInOrder, without}
+use Rattle.feed_tables.specs.Bytes.{byte_order, IsInOrder}
 use Rattle.feed_tables.proofs.Entries.{first, second, equal, find_below, below_tied}
-use Rattle.feed_tables.proofs.Maps.{byte_order_antisymmetric, from_sorted_put, from_sorted_without, in_order_put, in_order_without}
+use Rattle.feed_tables.proofs.Maps.{byte_order_antisymmetric, from_sorted_put, in_order_put}
 use Rattle.std.specs.declared.alloc.Global.{Global}
 use Rattle.std.specs.declared.boxed.Box.{Box}
 use Rattle.feed_tables.specs.declared.tree.Fork.{Fork}
-use Rattle.feed_tables.specs.Tree.{Swaps, FirstTaken, put_all, without_all}
+use Rattle.feed_tables.specs.Tree.{Swaps, FirstTaken, count_of, put_all, without_all}
 use Rattle.feed_tables.specs.Map.{Exchanges, TakesFirst, map_over, map_less}
 use Rattle.feed_tables.proofs.Order.{total}
-
-pub from_sorted_put_all : {V : Type 0} (es fs : List (List ℕ × V)) → IsInOrder fs → from_sorted {R = byte_order} (put_all es fs) ≡ fold (λ n e. insert n e.0 e.1) (from_sorted fs) es
-from_sorted_put_all [] fs h = refl
-from_sorted_put_all {V} (e ∷ es) fs h =
-    from_sorted_put_all es (put byte_order e.0 e.1 fs) (in_order_put fs h e.0 e.1)
-    ∙ ap (λ (m : FinMap byte_order V). fold (λ n e. insert n e.0 e.1) m es) (from_sorted_put fs h e.0 e.1)
-
-pub in_order_put_all : {V : Type 0} (es fs : List (List ℕ × V)) → IsInOrder fs → IsInOrder (put_all es fs)
-in_order_put_all [] fs h = h
-in_order_put_all (e ∷ es) fs h = in_order_put_all es (put byte_order e.0 e.1 fs) (in_order_put fs h e.0 e.1)
-
-pub from_sorted_without_all : {V W : Type 0} (es : List (List ℕ × V)) (fs : List (List ℕ × W)) → IsInOrder fs → from_sorted {R = byte_order} (without_all es fs) ≡ fold (λ n e. remove n e.0) (from_sorted fs) es
-from_sorted_without_all [] fs h = refl
-from_sorted_without_all {V} {W} (e ∷ es) fs h =
-    from_sorted_without_all es (without e.0 fs) (in_order_without fs h e.0)
-    ∙ ap (λ (m : FinMap byte_order W). fold (λ n e. remove n e.0) m es) (from_sorted_without fs h e.0)
 
 -- an exchange, seen in maps
 pub exchanged : {V : Type 0} (id : List ℕ) (es fs : List (List ℕ × V)) (old new : V) (b : Bool) (m : FinMap byte_order V) → IsInOrder es → from_sorted es ≡ m → Swaps id es fs old new b → Exchanges id m (from_sorted fs) old new b
@@ -58,24 +42,6 @@ get-fold_insert {V} (e ∷ es) m q h =
       | false ↦ λ is. refl
     ] refl
 
--- entries in order, put into none
-put_into_none : {V : Type 0} (es : List (List ℕ × V)) → IsInOrder es → put_all es [] ≡ es
-put_into_none {V} es h =
-    let whole : IsInOrder (put_all es []) = in_order_put_all es [] tt in
-    let same : from_sorted {R = byte_order} (put_all es []) ≡ from_sorted es =
-    from_sorted_put_all es [] tt
-    ∙ same_map total byte_order_antisymmetric _ _ (λ q.
-    get-fold_insert es (from_sorted []) q h
-    ∙ ap (λ (o : Option V). option_or (find byte_order q es) o) (get-from_sorted byte_order [] q tt)
-    ∙ or_none (find byte_order q es)
-    ∙ sym (get-from_sorted byte_order es q h)) in
-    sym (entries-from_sorted byte_order (put_all es []) whole) ∙ ap entries same ∙ entries-from_sorted byte_order es h
-
-pub put_into_nothing : {V : Type 0} (es fs : List (List ℕ × V)) → IsInOrder es → fs ≡ []
-    → es ≡ put_all es fs
-put_into_nothing {V} es fs h none =
-    sym (put_into_none es h) ∙ ap (λ (l : List (List ℕ × V)). put_all es l) (sym none)
-
 either_none : {A : Type 0} (b : Bool) → cond {A = Option A} b None None ≡ None
 either_none true = refl
 either_none false = refl
@@ -99,18 +65,32 @@ get-map_less {V} {W} names m q = get-fold_remove (entries names) m q ∙ ap (λ 
 pub entries_are : {V : Type 0} (es : List (List ℕ × V)) (m : FinMap byte_order V) → IsInOrder es → from_sorted es ≡ m → es ≡ entries m
 entries_are es m h is = sym (entries-from_sorted byte_order es h) ∙ ap entries is
 
--- entries that were put over others, and taken out of others, seen in maps
-pub put_over : {V : Type 0} (es fs gs : List (List ℕ × V)) (m n : FinMap byte_order V) → IsInOrder es → IsInOrder fs → from_sorted es ≡ m → from_sorted fs ≡ n → gs ≡ put_all es fs → from_sorted gs ≡ map_over m n
-put_over {V} es fs gs m n h i is there made =
-    ap from_sorted made ∙ from_sorted_put_all es fs i
-    ∙ ap (λ (a : FinMap byte_order V). fold (λ b e. insert b e.0 e.1) a es) there
-    ∙ ap (λ (l : List (List ℕ × V)). fold (λ b e. insert b e.0 e.1) n l) (entries_are es m h is)
+none_counted : {V : Type 0} (es : List (List ℕ × V)) → count_of es ≡ 0 → es ≡ []
+none_counted [] h = refl
+none_counted (e ∷ es) h = absurd (omega (arith, h))
 
-pub taken_out : {V W : Type 0} (es : List (List ℕ × V)) (fs gs : List (List ℕ × W)) (m : FinMap byte_order V) (n : FinMap byte_order W) → IsInOrder es → IsInOrder fs → from_sorted es ≡ m → from_sorted fs ≡ n → gs ≡ without_all es fs → from_sorted gs ≡ map_less m n
-taken_out {V} {W} es fs gs m n h i is there made =
-    ap from_sorted made ∙ from_sorted_without_all es fs i
-    ∙ ap (λ (a : FinMap byte_order W). fold (λ b e. remove b e.0) a es) there
-    ∙ ap (λ (l : List (List ℕ × V)). fold (λ b e. remove b e.0) n l) (entries_are es m h is)
+-- what is put over a map whose count is none is all
+pub over_none : {V : Type 0} (es : List (List ℕ × V)) (m n : FinMap byte_order V) → IsInOrder es
+    → from_sorted es ≡ n → count_of es ≡ 0 → m ≡ map_over m n
+over_none {V} es m n h is none =
+    let nothing : entries n ≡ [] = sym (entries_are es n h is) ∙ none_counted es none in
+    same_map total byte_order_antisymmetric _ _ (λ q. sym (
+    get-map_over m n q
+    ∙ ap (λ (o : Option V). option_or (get m q) o)
+    (get-entries n q ∙ ap (find byte_order q) nothing)
+    ∙ or_none (get m q)))
+
+-- entries that were put into a map, and taken out of one, seen in maps
+pub put_over : {V : Type 0} (es : List (List ℕ × V)) (m n o : FinMap byte_order V) → IsInOrder es
+    → from_sorted es ≡ m → o ≡ put_all es n → o ≡ map_over m n
+put_over {V} es m n o h is made =
+    made ∙ ap (λ (l : List (List ℕ × V)). put_all l n) (entries_are es m h is)
+
+pub taken_out : {V W : Type 0} (es : List (List ℕ × V)) (m : FinMap byte_order V)
+    (n o : FinMap byte_order W) → IsInOrder es → from_sorted es ≡ m → o ≡ without_all es n
+    → o ≡ map_less m n
+taken_out {V} es m n o h is made =
+    made ∙ ap (λ (l : List (List ℕ × V)). without_all l n) (entries_are es m h is)
 
 pub first_taken : {V : Type 0} (es gs : List (List ℕ × V)) (m : FinMap byte_order V) (r : Option (Box (Fork V) Global)) → IsInOrder es → from_sorted es ≡ m → FirstTaken es gs r → TakesFirst m (from_sorted gs) r
 first_taken {V} es gs m None h is t =

@@ -1,5 +1,5 @@
 -- What is known of a tree with the entries d once its node is a fork.
-use Rattle.std.proofs.Common.{Some, Less, Equal, Greater, ◌≡◌, ℕ, ◌<◌, List, ◌∷◌, ◌++◌, length, sym, ap, ◌∙◌, subst, arith, length-append}
+use Rattle.std.proofs.Common.{Some, Less, Equal, Greater, ◌≡◌, ℕ, ◌<◌, ◌+◌, List, ◌∷◌, ◌++◌, length, sym, ap, ◌∙◌, subst, arith, length-append}
 use Rattle.std.specs.declared.boxed.Box.{Box}
 use Rattle.std.specs.declared.alloc.Global.{Global}
 use Rattle.feed_tables.specs.Bytes.{byte_order, IsInOrder, without}
@@ -66,3 +66,7 @@ module _ {V : Type 0} {d l r : List (List ℕ × V)} {e : List ℕ × V} (f : At
 
   pub without_after : (k : List ℕ) → byte_order k e.0 ≡ Greater → without k d ≡ l ++ e ∷ without k r
   without_after k p = ap (without k) f.is ∙ without_right byte_order total k l e r f.sorted p
+
+  -- and how many entries there were before the fork's was taken out
+  pub one_less : length d ≡ length (l ++ r) + 1
+  one_less = omega (arith, ap length f.is, length-append l (e ∷ r), length-append l r)

@@ -2,8 +2,8 @@
 use Rattle.std.specs.Prelude.{◌≡◌, ℕ, Bool, true, false, Option, Some, None, min, List, [], ◌∷◌, ◌++◌, length, fold}
 use Rattle.std.specs.declared.alloc.Global.{Global}
 use Rattle.std.specs.declared.boxed.Box.{Box}
-use Rattle.std.specs.FinMap.{find, put}
-use Rattle.feed_tables.specs.Bytes.{byte_order, without}
+use Rattle.std.specs.FinMap.{FinMap, find, put, insert, remove}
+use Rattle.feed_tables.specs.Bytes.{byte_order}
 use Rattle.feed_tables.specs.declared.tree.Fork.{Fork as ForkOf}
 use Rattle.feed_tables.specs.declared.tree.balance.Growth.{Growth}
 use Rattle.feed_tables.specs.declared.tree.balance.Growth.TheVariants.{Same, Wider, Higher}
@@ -19,7 +19,7 @@ abbrev pub entries_of : {V : Type 0} → Node V → List (List ℕ × V)
 entries_of Leaf = []
 entries_of (Fork fork) = parts fork.value
 
--- how many items are counted
+-- how many items are counted: all of them, or the last number of 64 bits where they are more
 abbrev pub count_of : {V : Type 0} → List (List ℕ × V) → ℕ
 count_of entries = min (length entries) 18446744073709551615
 
@@ -33,11 +33,6 @@ came Higher = 1
 abbrev pub with_item : {V : Type 0} → ForkOf V → V → ForkOf V
 with_item fork item = record fork { item = item }
 
--- the stored count is right
-abbrev pub IsCounted : {V : Type 0} → Node V → Type 0
-IsCounted Leaf = Unit {0}
-IsCounted (Fork fork) = fork.value.count ≡ count_of (parts fork.value)
-
 -- an item took the place of the one under a name; where there is none, nothing changed
 abbrev pub Swaps : {V : Type 0} → List ℕ → List (List ℕ × V) → List (List ℕ × V) → V → V → Bool → Type 0
 Swaps id es fs old new true = (find byte_order id es ≡ Some new) × (fs ≡ put byte_order id old es)
@@ -48,10 +43,10 @@ abbrev pub FirstTaken : {V : Type 0} → List (List ℕ × V) → List (List ℕ
 FirstTaken es fs None = (es ≡ []) × (fs ≡ [])
 FirstTaken es fs (Some node) = es ≡ (node.value.id, node.value.item) ∷ fs
 
--- each item put under its name
-abbrev pub put_all : {V : Type 0} → List (List ℕ × V) → List (List ℕ × V) → List (List ℕ × V)
-put_all es fs = fold (λ gs e. put byte_order e.0 e.1 gs) fs es
+-- a map with each item put under its name
+abbrev pub put_all : {V : Type 0} → List (List ℕ × V) → FinMap byte_order V → FinMap byte_order V
+put_all es m = fold (λ n e. insert n e.0 e.1) m es
 
--- each name taken out
-abbrev pub without_all : {V W : Type 0} → List (List ℕ × V) → List (List ℕ × W) → List (List ℕ × W)
-without_all es fs = fold (λ gs e. without e.0 gs) fs es
+-- a map with each name taken out
+abbrev pub without_all : {V W : Type 0} → List (List ℕ × V) → FinMap byte_order W → FinMap byte_order W
+without_all es m = fold (λ n e. remove n e.0) m es

@@ -2,7 +2,6 @@
 #![tactic(auto)]
 
 mod change;
-mod entry;
 mod ids;
 mod laws;
 mod lister;
@@ -15,7 +14,6 @@ mod tables;
 mod tree;
 
 pub use change::{Change, Changes};
-pub use entry::Entry;
 pub use laws::table_laws;
 pub use lister::Lister;
 pub use name::{NAME_BYTES, Name, NameFault};

@@ -1,17 +1,17 @@
 //! Items by name, seen as a finite map.
 
-ghost use Rattle.std.specs.Prelude.{◌≡◌, ◌↔◌, min, flat_map, fold, IfOk, OnOk, IsTrue};
+ghost use Rattle.std.specs.Prelude.{◌≡◌, ◌+◌, ◌↔◌, min, length, flat_map, IfOk, OnOk, OnErr, IsTrue};
+ghost use Rattle.std.specs.List.{FoldsTo};
 ghost use Rattle.std.specs.Option.{option_copied};
 ghost use Rattle.std.specs.FinMap as map;
 ghost use Rattle.feed_tables.specs.Changes.{sets};
-ghost use Rattle.feed_tables.specs.Entries.{with_entry};
+ghost use Rattle.feed_tables.specs.Listers.{FailsIn};
 ghost use Rattle.feed_tables.specs.Map.{Exchanges, map_over, map_less, TakesFirst};
 ghost use Rattle.feed_tables.specs.Objects.{AreObjects};
 ghost use Rattle.feed_tables.specs.Patches.{sets_in};
 ghost use Rattle.feed_tables.specs.Tables.{listed, AreTypes};
 ghost use Rattle.feed_tables.specs.Walks.{weighed, weighed_in};
 
-use crate::entry::Entry;
 use crate::ids::Ids;
 use crate::lister::Lister;
 use crate::name::{Key, Name};
@@ -26,13 +26,17 @@ use std::marker::Model;
 #[derive(Drop)]
 pub struct Map<V> {
     tree: Tree<V>,
+    // How many items there are, or `usize::MAX` where they are more. It is kept here alone: a count
+    // in each node would make nodes larger, and would change in all that stand above a new one.
+    count: usize,
 }
 
 impl<V> Model for Map<V> {
-    ghost use Rattle.std.specs.Prelude.{List, ℕ};
+    ghost use Rattle.std.specs.Prelude.{◌≡◌, List, ℕ};
     ghost use Rattle.std.specs.Coded.{coded_ℕ, coded_list};
     ghost use Rattle.std.specs.FinMap as map;
     ghost use Rattle.feed_tables.specs.Bytes.{byte_order, IsInOrder};
+    ghost use Rattle.feed_tables.specs.Tree.{count_of};
 
     ghost Value = { map.FinMap byte_order V };
 
@@ -40,21 +44,24 @@ impl<V> Model for Map<V> {
 
     ghost view = { λ a. map.from_sorted a.tree };
 
-    ghost invariant = { λ a. IsInOrder a.tree };
+    ghost invariant = { λ a. IsInOrder a.tree × (a.count ≡ count_of a.tree) };
 }
 
 impl<V: Drop> Map<V> {
     pub fn new() -> Map<V>
         ensures { result ≡ map.empty }
     {
-        Map { tree: Tree::new() }
+        Map {
+            tree: Tree::new(),
+            count: 0,
+        }
     }
 
     /// How many items there are, or `usize::MAX` where they are more.
     pub fn count(&self) -> usize
         ensures { result ≡ min (map.len self.now) usize.MAX }
     {
-        self.tree.count()
+        self.count
     }
 
     /// The item of a name.
@@ -75,35 +82,43 @@ impl<V: Drop> Map<V> {
     pub fn insert(&mut self, node: Box<Fork<V>>)
         ensures { self.new ≡ map.insert self.old node.value.id node.value.item }
     {
-        let _added = self.tree.insert(node);
+        let added = self.tree.insert(node);
+        self.count = self.count.saturating_add(added);
     }
 
     /// Takes the item of this name away, where there is one.
     pub fn remove(&mut self, id: &Key<'_>)
         ensures { self.new ≡ map.remove self.old id.now }
     {
-        self.tree.remove(id);
+        let gone = self.tree.remove(id);
+        self.count = count_left(&self.tree, self.count, gone);
     }
 
     /// Takes the first node out.
     pub fn take_first(&mut self) -> Option<Box<Fork<V>>>
         ensures { TakesFirst self.old self.new result }
     {
-        self.tree.take_first()
+        let first = self.tree.take_first()?;
+        self.count = count_left(&self.tree, self.count, 1);
+        Some(first)
     }
 
     /// Puts all items into another map.
     pub fn put_into(self, other: &mut Map<V>)
         ensures { other.new ≡ map_over self other.old }
     {
-        self.tree.put_into(&mut other.tree);
+        if other.count == 0 {
+            *other = self;
+            return;
+        }
+        self.tree.put_into(other);
     }
 
     /// Takes the items of these names out of another map.
     pub fn take_from<W: Drop>(self, other: &mut Map<W>)
         ensures { other.new ≡ map_less self other.old }
     {
-        self.tree.take_from(&mut other.tree);
+        self.tree.take_from(other);
     }
 
     /// How many of these names are none of the others, or `usize::MAX` where they are more.
@@ -148,6 +163,18 @@ impl<V: Drop> Map<V> {
         let (gone, others) = (Map::<()>::new(), Map::<()>::new());
         self.weigh_besides(&gone, &others, scale)
     }
+}
+
+// How many items are left after some went, by how many there were; or `usize::MAX` where they are
+// more. Only where they were that many or more does it walk through them.
+fn count_left<V: Drop>(left: &Tree<V>, before: usize, gone: usize) -> usize
+    requires { before ≡ min (length left.now + gone) usize.MAX }
+    ensures { result ≡ min (length left.now) usize.MAX }
+{
+    if before < usize::MAX {
+        return before - gone;
+    }
+    left.count()
 }
 
 /// The item of a name, where some items are taken away and then some put in.
@@ -223,7 +250,10 @@ impl<V: Held> Map<V> {
         ensures { IfOk result (λ m. m ≡ self.now) }
     {
         let tree = self.tree.copy(alloc)?;
-        Ok(Map { tree })
+        Ok(Map {
+            tree,
+            count: self.count,
+        })
     }
 
     /// Whether both have the same items under the same names.
@@ -239,21 +269,15 @@ impl<V: Held> Map<V> {
 
 impl Map<Table> {
     /// Lists the changes that make the tables, type by type.
-    pub fn list<L: Lister>(&self, lister: &mut L) -> Result<(), AllocError>
-        ensures list { OnOk result (lister.new
-            ≡ fold L.after lister.old (flat_map listed (map.entries self.now))) }
+    pub fn list<L: Lister>(&self, lister: &mut L) -> Result<(), L::Error>
+        ensures list { OnOk result
+            (FoldsTo L.takes lister.old (flat_map listed (map.entries self.now)) lister.new) }
+        ensures fails { OnErr result
+            (FailsIn L.takes L.fails lister.old (flat_map listed (map.entries self.now))
+            lister.new) }
         ensures within { OnOk result (AreTypes (map.entries self.now)) }
     {
         self.tree.list(lister)
-    }
-
-    /// Lists the entries that make the tables, type by type.
-    pub fn list_entries<'a>(&'a self, entries: &mut Vec<Entry<'a>>) -> Result<(), AllocError>
-        ensures list { OnOk result (entries.new.items
-            ≡ fold with_entry entries.old.items (flat_map listed (map.entries self.now))) }
-        ensures within { OnOk result (AreTypes (map.entries self.now)) }
-    {
-        self.tree.list_entries(entries)
     }
 }
 
@@ -268,24 +292,13 @@ impl Map<Ids> {
 
 impl Map<ObjectText> {
     /// Lists a change for each object, in byte order of the ids.
-    pub fn list<L: Lister>(&self, kind: &Name, lister: &mut L) -> Result<(), AllocError>
-        ensures list { OnOk result (lister.new
-            ≡ fold L.after lister.old (sets kind.now (map.entries self.now))) }
+    pub fn list<L: Lister>(&self, kind: &Name, lister: &mut L) -> Result<(), L::Error>
+        ensures list { OnOk result
+            (FoldsTo L.takes lister.old (sets kind.now (map.entries self.now)) lister.new) }
+        ensures fails { OnErr result
+            (FailsIn L.takes L.fails lister.old (sets kind.now (map.entries self.now)) lister.new) }
         ensures within { OnOk result (AreObjects (map.entries self.now)) }
     {
         self.tree.list(kind, lister)
-    }
-
-    /// Lists an entry for each object, in byte order of the ids.
-    pub fn list_entries<'a>(
-        &'a self,
-        kind: &'a str,
-        entries: &mut Vec<Entry<'a>>,
-    ) -> Result<(), AllocError>
-        ensures list { OnOk result (entries.new.items
-            ≡ fold with_entry entries.old.items (sets kind.now (map.entries self.now))) }
-        ensures within { OnOk result (AreObjects (map.entries self.now)) }
-    {
-        self.tree.list_entries(kind, entries)
     }
 }

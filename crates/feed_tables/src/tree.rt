@@ -1,12 +1,13 @@
-//! Items by name: a search tree whose nodes have one owner. Only a new node takes memory; putting a node in, taking one
-//! away and moving all of them into another tree take none.
+//! Items by name: a search tree whose nodes have one owner. Only a new node takes memory; putting a
+//! node in, taking one away and moving all of them into a map take none.
 
-ghost use Rattle.std.specs.Prelude.{◌≡◌, ◌+◌, ◌≤◌, ◌∷◌, ◌++◌, [], true, false, min, fold, length, IfOk, IfSome, IsNone, Some, None, IsTrue, ◌↔◌};
+ghost use Rattle.std.specs.Prelude.{◌≡◌, ◌+◌, ◌≤◌, ◌∷◌, ◌++◌, [], true, false, fold, length, IfOk, IfSome, IsNone, Some, None, IsTrue, ◌↔◌};
 ghost use Rattle.std.specs.Option.{option_copied};
 ghost use Rattle.std.specs.FinMap.{put, find};
 ghost use Rattle.feed_tables.specs.Bytes.{byte_order, IsInOrder, without};
 ghost use Rattle.feed_tables.specs.Tree.{parts, came, with_item, Swaps, FirstTaken, put_all, without_all};
 
+use crate::map::Map;
 use crate::name::{Key, Name};
 use crate::tree::balance::{Growth, grow_left, grow_right, weigh};
 use std::alloc::{AllocError, Global};
@@ -37,8 +38,6 @@ pub struct Fork<V> {
     // What a search reads on its way stands first.
     left: Tree<V>,
     right: Tree<V>,
-    // How many items there are, or `usize::MAX` where they are more.
-    count: usize,
     // How many nodes stand above each other at most. Nothing but the balance rests on it.
     height: usize,
     id: Name,
@@ -53,11 +52,9 @@ impl<V> Model for Tree<V> {
 
     ghost coded = { coded_list (coded× (coded_list coded_ℕ) V.code) };
 
-    ghost use Rattle.feed_tables.specs.Tree.{entries_of, IsCounted};
+    ghost use Rattle.feed_tables.specs.Tree.{entries_of};
 
     ghost view = { λ a. entries_of a.node };
-
-    ghost invariant = { λ a. IsCounted a.node };
 
     ghost size = { length };
 
@@ -71,16 +68,6 @@ impl<V: Drop> Tree<V> {
         ensures { result ≡ [] }
     {
         Tree { node: Node::Leaf }
-    }
-
-    /// How many items there are, or `usize::MAX` where they are more.
-    pub fn count(&self) -> usize
-        ensures { result ≡ min (length self.now) usize.MAX }
-    {
-        match &self.node {
-            Node::Leaf => 0,
-            Node::Fork(fork) => fork.count,
-        }
     }
 
     /// The item of a name.
@@ -154,26 +141,31 @@ impl<V: Drop> Tree<V> {
         }
     }
 
-    /// Takes the item of this name away, where there is one.
-    pub fn remove(&mut self, id: &Key<'_>)
+    /// Takes the item of this name away, where there is one, and answers how many items went: one,
+    /// or none.
+    pub fn remove(&mut self, id: &Key<'_>) -> usize
         requires { IsInOrder self.old }
-        ensures { self.new ≡ without id.now self.old }
+        ensures left { self.new ≡ without id.now self.old }
+        ensures gone { length self.old ≡ length self.new + result }
     {
         match &mut self.node {
-            Node::Leaf => {}
+            Node::Leaf => 0,
             Node::Fork(fork) => match id.compare(&fork.id) {
                 Ordering::Less => {
-                    fork.left.remove(id);
+                    let gone = fork.left.remove(id);
                     weigh(fork);
+                    gone
                 }
                 Ordering::Equal => {
                     let left = mem::replace(&mut fork.left, Tree::new());
                     let right = mem::replace(&mut fork.right, Tree::new());
                     *self = joined(left, right);
+                    1
                 }
                 Ordering::Greater => {
-                    fork.right.remove(id);
+                    let gone = fork.right.remove(id);
                     weigh(fork);
+                    gone
                 }
             },
         }
@@ -199,34 +191,25 @@ impl<V: Drop> Tree<V> {
         }
     }
 
-    /// Puts all items into another tree. It takes no memory.
-    pub fn put_into(self, other: &mut Tree<V>)
-        requires ordered { IsInOrder self }
-        requires other_ordered { IsInOrder other.old }
-        ensures put { other.new ≡ put_all self other.old }
-        ensures in_order { IsInOrder other.new }
+    /// Puts all items into a map. It takes no memory.
+    pub fn put_into(self, other: &mut Map<V>)
+        ensures { other.new ≡ put_all self other.old }
     {
-        if let Node::Leaf = &other.node {
-            *other = self;
-            return;
-        }
         match self.node {
             Node::Leaf => {}
             Node::Fork(mut fork) => {
                 let left = mem::replace(&mut fork.left, Tree::new());
                 let right = mem::replace(&mut fork.right, Tree::new());
                 left.put_into(other);
-                let _added = other.insert(fork);
+                other.insert(fork);
                 right.put_into(other);
             }
         }
     }
 
-    /// Takes the items of these names out of another tree.
-    pub fn take_from<W: Drop>(self, other: &mut Tree<W>)
-        requires { IsInOrder other.old }
-        ensures taken { other.new ≡ without_all self other.old }
-        ensures in_order { IsInOrder other.new }
+    /// Takes the items of these names out of a map.
+    pub fn take_from<W: Drop>(self, other: &mut Map<W>)
+        ensures { other.new ≡ without_all self other.old }
     {
         match self.node {
             Node::Leaf => {}
@@ -252,7 +235,6 @@ impl<V: Drop> Fork<V> {
                 left: Tree::new(),
                 id,
                 item,
-                count: 1,
                 height: 1,
                 right: Tree::new(),
             },
@@ -296,7 +278,6 @@ fn single<V: Drop>(mut node: Box<Fork<V>>) -> Tree<V>
 {
     node.left = Tree::new();
     node.right = Tree::new();
-    node.count = 1;
     node.height = 1;
     Tree {
         node: Node::Fork(node),

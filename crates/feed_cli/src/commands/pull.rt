@@ -222,7 +222,7 @@ pub fn print_pulled<D: Dial, W: FeedWrite, E: FeedWrite>(
     if pulled == Err(Fault::Memory) {
         return pulled;
     }
-    print_snapshot(alloc, mirror, out)?;
+    print_snapshot(mirror, out)?;
     outcome(pulled, mirror.node().token().is_some())?;
     teller.outcome()
 }

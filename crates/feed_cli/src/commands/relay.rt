@@ -82,6 +82,6 @@ pub fn print_relayed<D: Dial, L: Listen, W: FeedWrite, E: FeedWrite>(
         )?;
         end_round(&mut followers, &round)?;
     }
-    print_snapshot(alloc, mirror, out)?;
+    print_snapshot(mirror, out)?;
     followers.teller.outcome()
 }

@@ -1,7 +1,7 @@
 //! Trees whose sides are about alike high (Adelson-Velsky and Landis).
 
-ghost use Rattle.std.specs.Prelude.{◌≡◌, ◌+◌, min};
-ghost use Rattle.feed_tables.specs.Tree.{parts, count_of, came};
+ghost use Rattle.std.specs.Prelude.{◌≡◌};
+ghost use Rattle.feed_tables.specs.Tree.{parts, came};
 
 use crate::tree::{Fork, Node, Tree};
 use std::mem;
@@ -77,24 +77,10 @@ impl<V: Drop> Tree<V> {
 }
 
 impl<V: Drop> Fork<V> {
-    // Counts the items anew, and measures the height.
-    fn recount(&mut self)
-        ensures items { parts self.new ≡ parts self.old }
-        ensures count { self.new.count ≡ count_of (parts self.old) }
-    {
-        self.count = self
-            .left
-            .count()
-            .saturating_add(self.right.count())
-            .saturating_add(1);
-        self.rise();
-    }
-
     // Measures the height.
     #[inline(always)]
     fn rise(&mut self)
-        ensures items { parts self.new ≡ parts self.old }
-        ensures count { self.new.count ≡ self.old.count }
+        ensures { parts self.new ≡ parts self.old }
     {
         let (left, right) = (self.left.height(), self.right.height());
         let high = if left < right { right } else { left };
@@ -102,25 +88,21 @@ impl<V: Drop> Fork<V> {
     }
 }
 
-// Counts the items anew, and evens the sides.
+// Measures the height, and evens the sides.
 pub(super) fn weigh<V: Drop>(fork: &mut Box<Fork<V>>)
-    ensures items { parts fork.new.value ≡ parts fork.old.value }
-    ensures count { fork.new.value.count ≡ count_of (parts fork.old.value) }
+    ensures { parts fork.new.value ≡ parts fork.old.value }
 {
-    fork.recount();
+    fork.rise();
     lower_left(fork);
     lower_right(fork);
 }
 
-// Counts what came to the left side, and evens the sides where that one is higher. Answers what
-// came of it for the fork.
+// Evens the sides where the left one became higher, and answers what came of it for the fork.
 #[inline(always)]
 pub(super) fn grow_left<V: Drop>(fork: &mut Box<Fork<V>>, growth: Growth) -> Growth
     ensures items { parts fork.new.value ≡ parts fork.old.value }
-    ensures count { fork.new.value.count ≡ min (fork.old.value.count + came growth) usize.MAX }
     ensures came { came result ≡ came growth }
 {
-    fork.count = fork.count.saturating_add(growth.added());
     if let Growth::Higher = growth {
         return rise_left(fork);
     }
@@ -131,10 +113,8 @@ pub(super) fn grow_left<V: Drop>(fork: &mut Box<Fork<V>>, growth: Growth) -> Gro
 #[inline(always)]
 pub(super) fn grow_right<V: Drop>(fork: &mut Box<Fork<V>>, growth: Growth) -> Growth
     ensures items { parts fork.new.value ≡ parts fork.old.value }
-    ensures count { fork.new.value.count ≡ min (fork.old.value.count + came growth) usize.MAX }
     ensures came { came result ≡ came growth }
 {
-    fork.count = fork.count.saturating_add(growth.added());
     if let Growth::Higher = growth {
         return rise_right(fork);
     }
@@ -145,7 +125,6 @@ pub(super) fn grow_right<V: Drop>(fork: &mut Box<Fork<V>>, growth: Growth) -> Gr
 // the other one isn't looked at.
 fn rise_left<V: Drop>(fork: &mut Box<Fork<V>>) -> Growth
     ensures items { parts fork.new.value ≡ parts fork.old.value }
-    ensures count { fork.new.value.count ≡ fork.old.value.count }
     ensures came { came result ≡ 1 }
 {
     let height = fork.height;
@@ -160,7 +139,6 @@ fn rise_left<V: Drop>(fork: &mut Box<Fork<V>>) -> Growth
 // The same after the right one did.
 fn rise_right<V: Drop>(fork: &mut Box<Fork<V>>) -> Growth
     ensures items { parts fork.new.value ≡ parts fork.old.value }
-    ensures count { fork.new.value.count ≡ fork.old.value.count }
     ensures came { came result ≡ 1 }
 {
     let height = fork.height;
@@ -185,8 +163,7 @@ fn risen(before: usize, after: usize) -> Growth
 
 // Moves items to the right side where the left one is too high.
 fn lower_left<V: Drop>(fork: &mut Box<Fork<V>>)
-    ensures items { parts fork.new.value ≡ parts fork.old.value }
-    ensures count { fork.new.value.count ≡ fork.old.value.count }
+    ensures { parts fork.new.value ≡ parts fork.old.value }
 {
     if is_too_high(fork.left.height(), fork.right.height()) {
         if fork.left.leans_right() {
@@ -198,8 +175,7 @@ fn lower_left<V: Drop>(fork: &mut Box<Fork<V>>)
 
 // Moves items to the left side where the right one is too high.
 fn lower_right<V: Drop>(fork: &mut Box<Fork<V>>)
-    ensures items { parts fork.new.value ≡ parts fork.old.value }
-    ensures count { fork.new.value.count ≡ fork.old.value.count }
+    ensures { parts fork.new.value ≡ parts fork.old.value }
 {
     if is_too_high(fork.right.height(), fork.left.height()) {
         if fork.right.leans_left() {
@@ -211,15 +187,13 @@ fn lower_right<V: Drop>(fork: &mut Box<Fork<V>>)
 
 // The root of the left side comes to the top.
 fn turn_right<V: Drop>(top: &mut Box<Fork<V>>)
-    ensures items { parts top.new.value ≡ parts top.old.value }
-    ensures count { top.new.value.count ≡ top.old.value.count }
+    ensures { parts top.new.value ≡ parts top.old.value }
 {
     let Node::Fork(mut low) = mem::replace(&mut top.left.node, Node::Leaf) else {
         return;
     };
-    low.count = top.count;
     mem::swap(&mut top.left, &mut low.right);
-    top.recount();
+    top.rise();
     mem::swap(top, &mut low);
     top.right.node = Node::Fork(low);
     top.rise();
@@ -227,15 +201,13 @@ fn turn_right<V: Drop>(top: &mut Box<Fork<V>>)
 
 // The root of the right side comes to the top.
 fn turn_left<V: Drop>(top: &mut Box<Fork<V>>)
-    ensures items { parts top.new.value ≡ parts top.old.value }
-    ensures count { top.new.value.count ≡ top.old.value.count }
+    ensures { parts top.new.value ≡ parts top.old.value }
 {
     let Node::Fork(mut low) = mem::replace(&mut top.right.node, Node::Leaf) else {
         return;
     };
-    low.count = top.count;
     mem::swap(&mut top.right, &mut low.left);
-    top.recount();
+    top.rise();
     mem::swap(top, &mut low);
     top.left.node = Node::Fork(low);
     top.rise();

@@ -1,17 +1,17 @@
 //! Walks through items by name.
 
-ghost use Rattle.std.specs.Prelude.{◌≡◌, ◌∷◌, [], ◌↔◌, Some, min, length, flat_map, fold, IfOk, OnOk, IsTrue};
+ghost use Rattle.std.specs.Prelude.{◌≡◌, ◌∷◌, [], ◌↔◌, Some, min, length, flat_map, IfOk, OnOk, OnErr, IsTrue};
+ghost use Rattle.std.specs.List.{FoldsTo};
 ghost use Rattle.std.specs.Option.{option_copied};
 ghost use Rattle.std.specs.FinMap as map;
 ghost use Rattle.feed_tables.specs.Changes.{sets};
-ghost use Rattle.feed_tables.specs.Entries.{with_entry};
+ghost use Rattle.feed_tables.specs.Listers.{FailsIn};
 ghost use Rattle.feed_tables.specs.Map.{map_over, map_less};
 ghost use Rattle.feed_tables.specs.Objects.{AreObjects};
 ghost use Rattle.feed_tables.specs.Patches.{sets_in};
 ghost use Rattle.feed_tables.specs.Tables.{listed, AreTypes};
 ghost use Rattle.feed_tables.specs.Walks.{weight, weighed, weighed_in, besides, AreIn};
 
-use crate::entry::Entry;
 use crate::ids::Ids;
 use crate::lister::Lister;
 use crate::map::{Held, Map, held_in};
@@ -34,7 +34,6 @@ impl<V: Held> Tree<V> {
                     left: fork.left.copy(alloc)?,
                     id: fork.id.copy()?,
                     item: fork.item.again(alloc)?,
-                    count: fork.count,
                     height: fork.height,
                     right: fork.right.copy(alloc)?,
                 };
@@ -76,6 +75,20 @@ fn holds<V: Held>(items: &Map<V>, name: &Name, item: &V) -> bool
 }
 
 impl<V: Drop> Tree<V> {
+    /// How many items there are, or `usize::MAX` where they are more. It walks through all of them.
+    pub fn count(&self) -> usize
+        ensures { result ≡ min (length self.now) usize.MAX }
+    {
+        match &self.node {
+            Node::Leaf => 0,
+            Node::Fork(fork) => fork
+                .left
+                .count()
+                .saturating_add(1)
+                .saturating_add(fork.right.count()),
+        }
+    }
+
     /// How much the items weigh whose names are in neither, or `usize::MAX` where it is more.
     pub fn weigh_besides<W: Drop, X: Drop, S: Scale<V>>(
         &self,
@@ -182,9 +195,11 @@ fn weight_besides<V: Drop, W: Drop, X: Drop, S: Scale<V>>(
 
 impl Tree<Table> {
     /// Lists the changes that make the tables, type by type.
-    pub fn list<L: Lister>(&self, lister: &mut L) -> Result<(), AllocError>
-        ensures list { OnOk result (lister.new
-            ≡ fold L.after lister.old (flat_map listed self.now)) }
+    pub fn list<L: Lister>(&self, lister: &mut L) -> Result<(), L::Error>
+        ensures list { OnOk result
+            (FoldsTo L.takes lister.old (flat_map listed self.now) lister.new) }
+        ensures fails { OnErr result
+            (FailsIn L.takes L.fails lister.old (flat_map listed self.now) lister.new) }
         ensures within { OnOk result (AreTypes self.now) }
     {
         match &self.node {
@@ -195,22 +210,6 @@ impl Tree<Table> {
                 let _kind = fork.id.text();
                 fork.item.list(&fork.id, lister)?;
                 fork.right.list(lister)
-            }
-        }
-    }
-
-    /// Lists the entries that make the tables, type by type.
-    pub fn list_entries<'a>(&'a self, entries: &mut Vec<Entry<'a>>) -> Result<(), AllocError>
-        ensures list { OnOk result (entries.new.items
-            ≡ fold with_entry entries.old.items (flat_map listed self.now)) }
-        ensures within { OnOk result (AreTypes self.now) }
-    {
-        match &self.node {
-            Node::Leaf => Ok(()),
-            Node::Fork(fork) => {
-                fork.left.list_entries(entries)?;
-                fork.item.list_entries(fork.id.text(), entries)?;
-                fork.right.list_entries(entries)
             }
         }
     }
@@ -234,9 +233,11 @@ impl Tree<Ids> {
 
 impl Tree<ObjectText> {
     /// Lists a change for each object, in the order of their ids.
-    pub fn list<L: Lister>(&self, kind: &Name, lister: &mut L) -> Result<(), AllocError>
-        ensures list { OnOk result (lister.new
-            ≡ fold L.after lister.old (sets kind.now self.now)) }
+    pub fn list<L: Lister>(&self, kind: &Name, lister: &mut L) -> Result<(), L::Error>
+        ensures list { OnOk result
+            (FoldsTo L.takes lister.old (sets kind.now self.now) lister.new) }
+        ensures fails { OnErr result
+            (FailsIn L.takes L.fails lister.old (sets kind.now self.now) lister.new) }
         ensures within { OnOk result (AreObjects self.now) }
     {
         match &self.node {
@@ -247,26 +248,6 @@ impl Tree<ObjectText> {
                 let (_id, _object) = (fork.id.text(), fork.item.bytes());
                 lister.set(kind, &fork.id, &fork.item)?;
                 fork.right.list(kind, lister)
-            }
-        }
-    }
-
-    /// Lists an entry for each object, in the order of their ids.
-    pub fn list_entries<'a>(
-        &'a self,
-        kind: &'a str,
-        entries: &mut Vec<Entry<'a>>,
-    ) -> Result<(), AllocError>
-        ensures list { OnOk result (entries.new.items
-            ≡ fold with_entry entries.old.items (sets kind.now self.now)) }
-        ensures within { OnOk result (AreObjects self.now) }
-    {
-        match &self.node {
-            Node::Leaf => Ok(()),
-            Node::Fork(fork) => {
-                fork.left.list_entries(kind, entries)?;
-                entries.push(Entry::object(kind, fork.id.text(), fork.item.bytes()))?;
-                fork.right.list_entries(kind, entries)
             }
         }
     }

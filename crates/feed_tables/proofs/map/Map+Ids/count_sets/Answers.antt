@@ -3,4 +3,4 @@ use Rattle.feed_tables.specs.Bytes.{byte_order}
 use Rattle.feed_tables.proofs.map.Map+Ids.count_sets.Goals as goal
 
 pub returns : goal.returns
-returns c = rw (← c.self.view_is, entries-from_sorted byte_order c.self.inside.tree c.self.invariant) c.count_sets.ensures
+returns c = rw (← c.self.view_is, entries-from_sorted byte_order c.self.inside.tree c.self.invariant.0) c.count_sets.ensures

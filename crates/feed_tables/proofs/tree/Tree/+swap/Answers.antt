@@ -1,20 +1,13 @@
-use Rattle.std.proofs.Common.{rules, ◌≡◌, Greater, Less, Equal, ◌∙◌, sym, length}
+use Rattle.std.proofs.Common.{rules, ◌≡◌, Greater, Less, Equal, sym}
 use Rattle.feed_tables.specs.Bytes.{byte_order}
 use Rattle.feed_tables.proofs.TreeFork.{at_lent, find_at, put_at}
-use Rattle.feed_tables.proofs.Swapping.{same_length, swaps_before, swaps_after, count_left, count_right, counted_at}
+use Rattle.feed_tables.proofs.Swapping.{swaps_before, swaps_after}
 use Rattle.feed_tables.proofs.tree.Tree.+swap.Goals as goal
 
 pub swap-requires : goal.swap-requires
 swap-requires g t c κs within =
     let f = at_lent c.self.view_is c.requires c.in-Fork.is c.deref_mut.result.now c.deref_mut.ensures.value in
     (search rules, (within, f.left))
-
-pub invariant_of-self-in-Less : goal.invariant_of-self-in-Less
-invariant_of-self-in-Less g t c =
-    let fork = c.deref_mut.result.now in
-    let f = at_lent c.self.view_is c.requires c.in-Fork.is fork c.deref_mut.ensures.value in
-    let same : length c.swap.new.self ≡ length fork.left = same_length c.args.id.now fork.left c.swap.new.self c.args.item.now c.swap.new.item c.swap.result f.left c.swap.ensures.swapped in
-    counted_at c.self.invariant c.in-Fork.is fork c.deref_mut.ensures.value ∙ sym (count_left fork.left c.swap.new.self fork.right (fork.id, fork.item) same)
 
 pub returns-in-Less : goal.returns-in-Less
 returns-in-Less g t c =
@@ -27,13 +20,6 @@ pub swap-requires-in-Greater : goal.swap-requires-in-Greater
 swap-requires-in-Greater g t c κs within =
     let f = at_lent c.self.view_is c.requires c.in-Fork.is c.deref_mut-in-Greater.result.now c.deref_mut-in-Greater.ensures.value in
     (search rules, (within, f.right))
-
-pub invariant_of-self-in-Greater : goal.invariant_of-self-in-Greater
-invariant_of-self-in-Greater g t c =
-    let fork = c.deref_mut-in-Greater.result.now in
-    let f = at_lent c.self.view_is c.requires c.in-Fork.is fork c.deref_mut-in-Greater.ensures.value in
-    let same : length c.swap-in-Greater.new.self ≡ length fork.right = same_length c.args.id.now fork.right c.swap-in-Greater.new.self c.args.item.now c.swap-in-Greater.new.item c.swap-in-Greater.result f.right c.swap-in-Greater.ensures.swapped in
-    counted_at c.self.invariant c.in-Fork.is fork c.deref_mut-in-Greater.ensures.value ∙ sym (count_right fork.left c.swap-in-Greater.new.self fork.right (fork.id, fork.item) same)
 
 pub returns-in-Greater : goal.returns-in-Greater
 returns-in-Greater g t c =
