@@ -14,6 +14,8 @@ mod faults;
 #[cfg(test)]
 mod lines;
 #[cfg(test)]
+mod listers;
+#[cfg(test)]
 mod members;
 #[cfg(test)]
 mod names;
