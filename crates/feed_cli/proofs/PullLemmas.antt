@@ -1,5 +1,5 @@
 -- Lemmas on what the command `pull` prints.
-use Rattle.std.proofs.Common.{◌≡◌, ◌≢◌, ◌⊎◌, inl, inr, refl, sym, ap, ◌∙◌, subst, Bool, true, false, IfErr, OnErr, IsErrOf, [], append-nil, List, ℕ, Option, None, Some, Result, Ok, Err, is_some}
+use Rattle.std.proofs.Common.{◌≡◌, ◌≢◌, ◌⊎◌, inl, inr, refl, sym, ap, ◌∙◌, subst, Bool, true, false, IfErr, OnErr, [], append-nil, List, ℕ, Option, None, Some, Result, Ok, Err, is_some}
 use Rattle.std.specs.Prelude.{if◌then◌else◌, option_map, unwrap_or}
 use Rattle.std.specs.Io.KnownBytes.{Appends, Keeps}
 use Rattle.feed_http.specs.Device.{AppendsFront}
@@ -19,7 +19,7 @@ use Rattle.feed_relay.specs.declared.fault.NetworkFault.TheVariants as network
 use Rattle.feed_http.specs.declared.fault.EngineFault.TheVariants as engine
 use Rattle.feed_follow.specs.declared.fault.FollowFault.TheVariants.{BadHead}
 use Rattle.feed_cli.specs.Fault.{fault_of_network}
-use Rattle.feed_cli.specs.Pull.{HasPulled, PrintedPulled, PullFails, outcome_of_attempt, outcome_of_pull}
+use Rattle.feed_cli.specs.Pull.{PrintedPulled, PullFails, outcome_of_attempt, outcome_of_pull}
 use Rattle.feed_cli.specs.Tables.{outcome_of}
 use Rattle.feed_cli.specs.declared.fault.Fault.{Fault}
 use Rattle.feed_cli.specs.declared.fault.Fault.TheVariants as fault

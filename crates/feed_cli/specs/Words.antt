@@ -12,7 +12,6 @@ use Rattle.clap.specs.declared.builder.value_parser.ValueParser.TheVariants.{Uns
 use Rattle.feed_answer.specs.declared.framing.Framing.{Framing}
 use Rattle.feed_answer.specs.declared.framing.Framing.TheVariants as framing
 use Rattle.feed_node.specs.Limits.{Limits, most_commits, most_changes}
-use Rattle.feed_cli.specs.declared.words.Local.{Local}
 use Rattle.feed_cli.specs.declared.words.Local.TheVariants as local
 use Rattle.feed_cli.specs.declared.words.Request.{Request}
 use Rattle.feed_cli.specs.declared.words.Request.TheVariants as request

@@ -1,4 +1,4 @@
-use Rattle.std.proofs.Common.{rules, ap, sym, subst, ◌≡◌, ◌∙◌, map, arith}
+use Rattle.std.proofs.Common.{rules, ap, sym, subst, ◌∙◌, map, arith}
 use Rattle.feed_cli.specs.Addresses.{AreGood, parts}
 use Rattle.feed_cli.proofs.AddressLemmas.{list_of}
 use Rattle.feed_cli.proofs.address.addresses.Goals as goal

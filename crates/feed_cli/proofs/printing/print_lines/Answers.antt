@@ -1,4 +1,4 @@
-use Rattle.std.proofs.Common.{rules, ◌≡◌, refl, true, false, MutBor}
+use Rattle.std.proofs.Common.{rules, refl, false, MutBor}
 use Rattle.std.proofs.lemmas.Result.{on_ok_weaker, on_err_weaker}
 use Rattle.feed_cli.proofs.PrintingLemmas.{ended_ok, ended_err, listed_err, on_any_err}
 use Rattle.feed_cli.specs.declared.printing.Waiting.{Waiting}

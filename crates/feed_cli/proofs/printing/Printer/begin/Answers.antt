@@ -1,4 +1,4 @@
-use Rattle.std.proofs.Common.{◌≡◌, refl, sym, ap, subst, true, false, ◌++◌, codes, flat_map}
+use Rattle.std.proofs.Common.{refl, sym, ap, subst, ◌++◌, codes, flat_map}
 use Rattle.feed_text.specs.Strings.{written_byte}
 use Rattle.feed_cli.specs.Printing.{Prints, end_before}
 use Rattle.feed_cli.specs.declared.printing.Printer.{Printer}
