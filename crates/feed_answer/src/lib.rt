@@ -19,4 +19,5 @@ pub use framing::{Framing, frame, frame_end};
 pub use heads::{HeadRead, look_at_request};
 pub use laws::{answer_laws, followed_laws};
 pub use place::{Place, PlaceFault};
+pub use refusal::Refusal;
 pub use request::request_text;

@@ -6,7 +6,7 @@ use http::StatusCode;
 
 /// Why a request for a feed is refused: the first of these that holds.
 #[derive(Clone, Copy, Debug, PartialEq, Eq)]
-pub(crate) enum Refusal {
+pub enum Refusal {
     /// The head is over its limits.
     LargeHead,
     /// There is no whole head, or its target is no path that can be read.

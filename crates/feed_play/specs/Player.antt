@@ -42,7 +42,8 @@ pub record Makes (line : List ℕ) (asked : Asked) (w : World) : Type 0 where
   pub says : shape_in line ≡ Some asked
   pub limits : IsInRange asked.history asked.staged
   pub shape : IsShaped asked
-  pub is : w ≡ new_world (record { history = asked.history; staged = asked.staged }) asked.nodes
+  pub is : w ≡ new_world (record { history = asked.history; staged = asked.staged }) asked.framing
+      asked.nodes
 
 -- the line says limits that are out of range
 pub record HasBadLimits (line : List ℕ) : Type 0 where

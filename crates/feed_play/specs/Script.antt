@@ -7,6 +7,8 @@ use Rattle.std.specs.Str.{bytes_eq}
 use Rattle.std.specs.Str.Parse.{digits_value}
 use Rattle.feed_text.specs.Ascii.{space}
 use Rattle.feed_note.specs.Lines.{onto_first}
+use Rattle.feed_answer.specs.declared.framing.Framing.{Framing}
+use Rattle.feed_answer.specs.declared.framing.Framing.TheVariants.{Close, Chunked}
 use Rattle.feed_world.specs.declared.event.Event.{Event}
 use Rattle.feed_world.specs.declared.event.Event.TheVariants as event
 use Rattle.feed_play.specs.declared.script.Action.{Action}
@@ -99,12 +101,13 @@ other_by name numbers =
     else None)))))))
 
 -- what the first line says of the world: how many commits a node keeps, how many changes may wait
--- for a token, and how many nodes there are; and the node that each mirror connects to, where they
+-- for a token, how many nodes there are, and how the bodies of responses are framed; and the node that each mirror connects to, where they
 -- are listed
 pub record Asked : Type 0 where
   pub history : ℕ
   pub staged : ℕ
   pub nodes : ℕ
+  pub framing : Framing
   pub upstreams : Option (List ℕ)
 
 -- what a name asks for, with these numbers
@@ -124,34 +127,51 @@ action_in asked line = asked_in asked (words line)
 -- ---- the first line
 
 -- the numbers of a world in which the nodes that mirrors connect to are listed
-abbrev pub world_of : List ℕ → Option Asked
-world_of (history ∷ staged ∷ upstreams) =
+abbrev pub world_of : Framing → List ℕ → Option Asked
+world_of framing (history ∷ staged ∷ upstreams) =
     Some (record {
       history = history;
       staged = staged;
       nodes = length upstreams + 1;
+      framing = framing;
       upstreams = Some upstreams;
     })
-world_of numbers = None
+world_of framing numbers = None
 
 -- the numbers of one in which a connect names the node
-abbrev pub nodes_of : List ℕ → Option Asked
-nodes_of (history ∷ staged ∷ nodes ∷ []) =
-    Some (record { history = history; staged = staged; nodes = nodes; upstreams = None })
-nodes_of numbers = None
+abbrev pub nodes_of : Framing → List ℕ → Option Asked
+nodes_of framing (history ∷ staged ∷ nodes ∷ []) =
+    Some (record {
+      history = history;
+      staged = staged;
+      nodes = nodes;
+      framing = framing;
+      upstreams = None;
+    })
+nodes_of framing numbers = None
 
--- three numbers, and that what is sent ends where the connection closes
+-- how the bodies of responses are framed, by its word
+abbrev pub framing_in : List ℕ → Option Framing
+framing_in word =
+    if bytes_eq word (codes "close") then Some Close
+    else (if bytes_eq word (codes "chunked") then Some Chunked else None)
+
+abbrev pub nodes_framed : List (List ℕ) → Framing → Option Asked
+nodes_framed numbers framing = option_and_then (nodes_of framing) (numbers_in numbers)
+
+-- three numbers, and how bodies are framed
 abbrev pub nodes_in : List (List ℕ) → Option Asked
 nodes_in (history ∷ staged ∷ nodes ∷ framing ∷ []) =
-    if bytes_eq framing (codes "close")
-    then option_and_then nodes_of (numbers_in (history ∷ staged ∷ nodes ∷ [])) else None
+    option_and_then (nodes_framed (history ∷ staged ∷ nodes ∷ [])) (framing_in framing)
 nodes_in more = None
 
 abbrev pub world_in : List (List ℕ) → Option Asked
 world_in [] = None
 world_in (name ∷ more) =
-    if bytes_eq name (codes "world") then option_and_then world_of (numbers_in more)
-    else (if bytes_eq name (codes "nodes") then nodes_in more else None)
+    if bytes_eq name (codes "world") then option_and_then (world_of Close) (numbers_in more)
+    else (if bytes_eq name (codes "chunked")
+    then option_and_then (world_of Chunked) (numbers_in more)
+    else (if bytes_eq name (codes "nodes") then nodes_in more else None))
 
 -- what a first line says
 abbrev pub shape_in : List ℕ → Option Asked

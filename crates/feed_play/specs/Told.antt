@@ -4,6 +4,7 @@ use Rattle.feed_text.specs.Ascii.{line_feed}
 use Rattle.feed_note.specs.Publishing.{Published}
 use Rattle.feed_note.specs.Texts.{snapshot_text}
 use Rattle.feed_node.specs.declared.fault.FeedFault.TheVariants.{Memory}
+use Rattle.feed_follow.specs.declared.fault.FollowFault.TheVariants.{Feed, Memory as FollowMemory}
 use Rattle.feed_node.specs.declared.session.Pulled.TheVariants.{More, UpToDate, Gone}
 use Rattle.feed_world.specs.declared.event.Reply.{Reply}
 use Rattle.feed_world.specs.declared.event.Reply.TheVariants as reply
@@ -24,7 +25,8 @@ Tells token (reply.Sent UpToDate) line = line ≡ as_line (codes "sent up to dat
 Tells token (reply.Sent Gone) line = line ≡ as_line (codes "sent gone")
 Tells token reply.Idled line = line ≡ as_line (codes "idled")
 Tells token (reply.Delivered count) line = line ≡ as_line (codes "delivered " ++ decimal count)
-Tells token (reply.Broke i Memory) line = line ≡ as_line (codes "broke out of memory")
+Tells token (reply.Broke i FollowMemory) line = line ≡ as_line (codes "broke out of memory")
+Tells token (reply.Broke i (Feed Memory)) line = line ≡ as_line (codes "broke out of memory")
 Tells token (reply.Broke i why) line = Unit {0}
 Tells token reply.Cut line = line ≡ as_line (codes "cut")
 Tells token (reply.Saved count) line = line ≡ as_line (codes "saved " ++ decimal count)

@@ -3,11 +3,12 @@
 ghost use Rattle.std.specs.Prelude.{◌≡◌, ◌≢◌, Some, None, IfOk, IfErr, IsTrue};
 ghost use Rattle.std.specs.Option.{option_and_then, option_copied};
 ghost use Rattle.feed_play.specs.Player.{IsOrdered};
-ghost use Rattle.feed_play.specs.Script.{words, numbers_in, world_of, nodes_in, shape_in};
+ghost use Rattle.feed_play.specs.Script.{words, numbers_in, world_of, framing_in, nodes_in, shape_in};
 ghost use Rattle.feed_play.specs.declared.fault.PlayCause.TheVariants.{Script, Memory};
 
 use crate::fault::PlayCause;
 use crate::script::{is, read_number, read_numbers, split_word};
+use feed_world::Framing;
 use std::alloc::Global;
 use std::marker::Model;
 
@@ -17,6 +18,7 @@ pub struct Asked {
     history: usize,
     staged: usize,
     nodes: usize,
+    framing: Framing,
     // The node that each mirror connects to; none where a connect names it.
     upstreams: Option<Vec<usize>>,
 }
@@ -31,6 +33,7 @@ impl Model for Asked {
       history = a.history;
       staged = a.staged;
       nodes = a.nodes;
+      framing = a.framing;
       upstreams = option_map (λ upstreams. upstreams.items) a.upstreams;
     } };
 }
@@ -61,6 +64,13 @@ impl Asked {
         self.nodes
     }
 
+    /// How the bodies of responses are framed.
+    pub fn framing(&self) -> Framing
+        ensures { result ≡ self.now.framing }
+    {
+        self.framing
+    }
+
     /// Whether each mirror for which a node is listed connects to an earlier one.
     pub fn is_ordered(&self) -> bool
         ensures yes { IsTrue result → IsOrdered self.now.upstreams }
@@ -83,12 +93,12 @@ impl Asked {
     }
 }
 
-/// What the numbers of a `world` line say.
-fn read_world(alloc: Global, text: &[u8]) -> Result<Asked, PlayCause>
+/// What the numbers of a `world` line say, or those of a `chunked` one.
+fn read_world(alloc: Global, text: &[u8], framing: Framing) -> Result<Asked, PlayCause>
     ensures ok { IfOk result (λ asked.
-        option_and_then world_of (numbers_in (words text.now)) ≡ Some asked) }
+        option_and_then (world_of framing) (numbers_in (words text.now)) ≡ Some asked) }
     ensures err { IfErr result (λ cause. cause ≢ Memory → (cause ≡ Script)
-        × (option_and_then world_of (numbers_in (words text.now)) ≡ None)) }
+        × (option_and_then (world_of framing) (numbers_in (words text.now)) ≡ None)) }
 {
     let mut numbers = read_numbers(alloc, text)?;
     if numbers.len() < 2 {
@@ -100,8 +110,22 @@ fn read_world(alloc: Global, text: &[u8]) -> Result<Asked, PlayCause>
         history,
         staged,
         nodes: numbers.len() + 1,
+        framing,
         upstreams: Some(numbers),
     })
+}
+
+/// How bodies are framed, by its word.
+fn framing_of(word: &[u8]) -> Option<Framing>
+    ensures { result ≡ framing_in word.now }
+{
+    if is(word, "close") {
+        Some(Framing::Close)
+    } else if is(word, "chunked") {
+        Some(Framing::Chunked)
+    } else {
+        None
+    }
 }
 
 /// What the words of a `nodes` line say.
@@ -116,13 +140,12 @@ fn read_nodes(text: &[u8]) -> Option<Asked>
     if behind.is_some() {
         return None;
     }
-    if !is(framing, "close") {
-        return None;
-    }
+    let framing = framing_of(framing)?;
     Some(Asked {
         history: read_number(history)?,
         staged: read_number(staged)?,
         nodes: read_number(nodes)?,
+        framing,
         upstreams: None,
     })
 }
@@ -138,7 +161,9 @@ pub fn read_first(alloc: Global, line: &[u8]) -> Result<Asked, PlayCause>
         return Err(PlayCause::Script);
     };
     if is(name, "world") {
-        read_world(alloc, text)
+        read_world(alloc, text, Framing::Close)
+    } else if is(name, "chunked") {
+        read_world(alloc, text, Framing::Chunked)
     } else if is(name, "nodes") {
         read_nodes(text).ok_or(PlayCause::Script)
     } else {

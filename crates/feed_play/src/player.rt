@@ -34,7 +34,7 @@ fn make_world(alloc: Global, line: &[u8]) -> Result<(Asked, World), PlayCause>
     if !asked.is_ordered() {
         return Err(PlayCause::Shape);
     }
-    let world = World::new(alloc, asked.nodes(), limits)?;
+    let world = World::framed(alloc, asked.nodes(), limits, asked.framing())?;
     Ok((asked, world))
 }
 

@@ -4,6 +4,7 @@ ghost use Rattle.std.specs.Prelude.{◌≡◌, ◌++◌, string_bytes, IfOk, OnO
 ghost use Rattle.std.specs.Option.{option_copied};
 ghost use Rattle.feed_play.specs.Told.{Tells, Prints, shown_text};
 
+use feed_follow::FollowFault;
 use feed_node::{FeedFault, Node, OpenFault, Pulled};
 use feed_world::Reply;
 use std::alloc::{AllocError, Global};
@@ -25,7 +26,7 @@ fn reply_line(alloc: Global, reply: &Reply, token: Option<&str>) -> Result<Strin
         Reply::Sent(Pulled::Gone) => String::from_str(alloc, "sent gone\n"),
         Reply::Idled => String::from_str(alloc, "idled\n"),
         Reply::Delivered(count) => format!(in alloc; "delivered {count}\n"),
-        Reply::Broke(_, FeedFault::Memory) => String::from_str(alloc, "broke out of memory\n"),
+        Reply::Broke(_, FollowFault::Memory | FollowFault::Feed(FeedFault::Memory)) => String::from_str(alloc, "broke out of memory\n"),
         Reply::Broke(_, fault) => format!(in alloc; "broke {fault}\n"),
         Reply::Cut => String::from_str(alloc, "cut\n"),
         Reply::Saved(count) => format!(in alloc; "saved {count}\n"),

@@ -12,28 +12,30 @@ use Rattle.feed_world.specs.declared.event.Reply.{Reply}
 use Rattle.feed_world.specs.declared.event.WorldFault.{WorldFault}
 use Rattle.feed_world.specs.declared.event.WorldFault.TheVariants.{NoNode, Memory}
 use Rattle.feed_world.specs.Position.{Position, IsPlace, node_where}
-use Rattle.feed_world.specs.States.{FollowerState, IsMirror, AreNodes, Moves, RefusesMove, NodesMove, all_shown, event_asking, node_asked, mirror_asks}
+use Rattle.feed_world.specs.States.{FollowerState, IsMirror, AreNodes, Moves, RefusesMove, NodesMove, IsAsked, IsFramedAs, BreaksConnect, all_shown, event_asking, node_asked, mirror_asks}
 use Rattle.feed_world.specs.Step.{Move, Outcome, outcome, at_node, is_free, IsRefused}
 use Rattle.feed_world.specs.World.{Mirror, World, is_other, place_at}
-use Rattle.feed_world.proofs.Moved.{Keeps, keeps_connect, keeps_serve, same_length, mirror_of, IsShown, shown, within, nobody, move_leads, move_fails}
+use Rattle.feed_world.proofs.Moved.{Keeps, LeadsTo, keeps_connect, keeps_serve, same_length, mirror_of, IsShown, shown, within, nobody, at, leads, event_moves, refusal_broke, move_fails}
 
 abbrev act : World → Asks → Mirror → Result Move WorldFault
 act w asks m = mirror_asks asks m (place_at w (node_asked asks m.upstream))
 
 -- the node that a mirror asks is another one
 abbrev AsksOther : World → ℕ → Asks → Type 0
-AsksOther w i (ForConnection j back) = is_other w i j ≡ true
+AsksOther w i (ForConnection j back framing) = is_other w i j ≡ true
 AsksOther w i ForCommit = Unit {0}
 
-is_event : (w : World) (number : ℕ) (asks : Asks) → AsksOther w number asks
+is_event : (w : World) (number : ℕ) (asks : Asks) → AsksOther w number asks → IsFramedAs w.framing asks
     → at_node w number (act w asks) ≡ outcome w (event_asking asks number)
-is_event w number (ForConnection j back) other =
-    ap (λ b. if b then at_node w number (act w (ForConnection j back)) else Err NoNode) (sym other)
-is_event w number ForCommit other = refl
+is_event w number (ForConnection j back framing) other framed =
+    ap (λ q. at_node w number (act w (ForConnection j back q))) framed
+    ∙ ap (λ b. if b then at_node w number (act w (ForConnection j back w.framing)) else Err NoNode) (sym other)
+is_event w number ForCommit other framed = refl
 
-keeps : (w : World) (number : ℕ) (asks : Asks) → AsksOther w number asks → Keeps w number (act w asks)
-keeps w number (ForConnection j back) other = keeps_connect w number j back other
-keeps w number ForCommit other = keeps_serve w number
+keeps : (w : World) (number : ℕ) (asks : Asks) → AsksOther w number asks → IsFramedAs w.framing asks → Keeps w number (act w asks)
+keeps w number (ForConnection j back framing) other framed =
+    subst (λ q. Keeps w number (act w (ForConnection j back q))) (sym framed) (keeps_connect w number j back other)
+keeps w number ForCommit other framed = keeps_serve w number
 
 abbrev Refuses : Outcome → WorldFault → Type 0
 Refuses o fault = (o ≡ Err fault) ⊎ ((fault ≡ Memory) × ¬ (IsTrue (is_free o)))
@@ -41,24 +43,24 @@ Refuses o fault = (o ≡ Err fault) ⊎ ((fault ≡ Memory) × ¬ (IsTrue (is_fr
 is_refused : (w : World) (number : ℕ) (asks : Asks) (fault : WorldFault)
     → Refuses (outcome w (event_asking asks number)) fault
     → IsRefused w (event_asking asks number) fault
-is_refused w number (ForConnection j back) fault k = k
+is_refused w number (ForConnection j back framing) fault k = k
 is_refused w number ForCommit fault k = k
 
 -- no such mirror, or no other node to connect to
 no_node : (w : World) (i j back : ℕ) (b : Bool) → is_other w i j ≡ b
-    → at_node w i (act w (ForConnection j back)) ≡ Err NoNode ⊎ (b ≡ false)
+    → at_node w i (act w (ForConnection j back w.framing)) ≡ Err NoNode ⊎ (b ≡ false)
     → outcome w (Connect i j back) ≡ Err NoNode
-no_node w i j back true e (inl k) = ap (λ b. if b then at_node w i (act w (ForConnection j back)) else Err NoNode) e ∙ k
-no_node w i j back false e k = ap (λ b. if b then at_node w i (act w (ForConnection j back)) else Err NoNode) e
+no_node w i j back true e (inl k) = ap (λ b. if b then at_node w i (act w (ForConnection j back w.framing)) else Err NoNode) e ∙ k
+no_node w i j back false e k = ap (λ b. if b then at_node w i (act w (ForConnection j back w.framing)) else Err NoNode) e
 no_node w i j back true e (inr k) = absurd (cc)
 
 pub asked_nobody : (w : World) (primary : PrimaryState) (fs : List FollowerState)
     → AreNodes w primary fs → (number : ℕ) (asks : Asks)
     → ((place : ℕ) → number ≡ suc place → length fs ≤ place)
     → IsRefused w (event_asking asks number) NoNode
-asked_nobody w primary fs h number (ForConnection j back) k =
+asked_nobody w primary fs h number (ForConnection j back framing) k =
     inl (no_node w number j back (is_other w number j) refl
-    (inl (nobody w primary fs h number (act w (ForConnection j back)) k)))
+    (inl (nobody w primary fs h number (act w (ForConnection j back w.framing)) k)))
 asked_nobody w primary fs h number ForCommit k =
     inl (nobody w primary fs h number (act w ForCommit) k)
 
@@ -89,7 +91,7 @@ module _ (w : World) (primary : PrimaryState) (fs : List FollowerState) (h : Are
     (number place : ℕ) (same : number ≡ suc place) (d : FollowerState) (less : place < length fs)
     (f : FollowerState) (is : f ≡ get_or fs place d) (early later : List FollowerState)
     (size : length early ≡ place) (whole : early ++ f ∷ later ≡ fs) (asks : Asks)
-    (j : ℕ) (asked : j ≡ node_asked asks f.upstream) where
+    (j : ℕ) (asked : j ≡ node_asked asks f.upstream) (framed : IsFramedAs w.framing asks) where
   mine : (m : Mirror) → IsMirror w.limits w.log m (get_or fs place d) → IsMirror w.limits w.log m f
   mine m k = subst (IsMirror w.limits w.log m) (sym is) k
 
@@ -102,7 +104,7 @@ module _ (w : World) (primary : PrimaryState) (fs : List FollowerState) (h : Are
     other = by asks asked
       where
         by : (a : Asks) → j ≡ node_asked a f.upstream → AsksOther w number a
-        by (ForConnection i back) e = subst (λ k. is_other w number k ≡ true) e (is_there w number j (within w primary fs h j node (ap (λ l. slice_get (all_shown primary l) j) (sym whole) ∙ there)) (λ q. differs (q ∙ same ∙ ap suc (sym size))))
+        by (ForConnection i back framing) e = subst (λ k. is_other w number k ≡ true) e (is_there w number j (within w primary fs h j node (ap (λ l. slice_get (all_shown primary l) j) (sym whole) ∙ there)) (λ q. differs (q ∙ same ∙ ap suc (sym size))))
         by ForCommit e = tt
 
     -- what holds of each place of that node holds of the one in the world
@@ -115,18 +117,39 @@ module _ (w : World) (primary : PrimaryState) (fs : List FollowerState) (h : Are
         let s = subst (λ q. IsShown w q node) (asked ∙ ap (node_asked asks) i.upstream) shows in
         k m (place_at w (node_asked asks m.upstream)) s.1 s.0 i
 
+    -- the mirror moved, or following a refusal broke off
+    moves_on : (g : FollowerState) (reply : Reply) (a : Asks) → AsksOther w number a → IsFramedAs w.framing a
+        → Moves w.limits w.log (act w a (at w primary fs h number place same d less).0) reply g
+        → NodesMove w primary (event_asking a number) reply (slice_set fs place g)
+    moves_on g reply a o e moves =
+        event_moves w primary (event_asking a number) reply _ (subst (λ q. LeadsTo w q primary reply (slice_set fs place g)) (is_event w number a o e)
+        (leads w primary fs h number place same d less (act w a) (subst (λ i. Keeps w i (act w a)) same (keeps w number a o e)) reply g moves))
+
+    one_reply : (g : FollowerState) (reply : Reply) (a : Asks) → AsksOther w number a → IsFramedAs w.framing a
+        → IsAsked w.limits w.log a (at w primary fs h number place same d less).0 number (place_at w (node_asked a (at w primary fs h number place same d less).0.upstream)) reply g
+        → NodesMove w primary (event_asking a number) reply (slice_set fs place g)
+    one_reply g reply (ForConnection j back framing) o e (inl moves) = moves_on g reply (ForConnection j back framing) o e moves
+    one_reply g reply (ForConnection j back framing) o e (inr broke) =
+        refusal_broke w primary fs h number place same d less j back reply g o broke.0
+        (subst (λ q. BreaksConnect w.limits w.log q (at w primary fs h number place same d less).0 j back (place_at w j) g) e broke.1)
+    one_reply g reply ForCommit o e moves = moves_on g reply ForCommit o e moves
+
     pub asked_leads : (new : List FollowerState) (g : FollowerState) → new ≡ slice_set fs place g
         → (r : Result Reply WorldFault)
         → ((m : Mirror) (at : Option Position) → IsPlace w.limits w.log at
         → node ≡ node_where w.log at → IsMirror w.limits w.log m f
-        → IfOk r (λ reply. Moves w.limits w.log (mirror_asks asks m at) reply g))
+        → IfOk r (λ reply. IsAsked w.limits w.log asks m number at reply g))
         → IfOk r (λ reply. NodesMove w primary (event_asking asks number) reply new)
     asked_leads new g n r k =
         subst (λ l. IfOk r (λ reply. NodesMove w primary (event_asking asks number) reply l)) (sym n)
-        (move_leads w primary fs h number place same d less (event_asking asks number) (act w asks)
-        (is_event w number asks other) (subst (λ i. Keeps w i (act w asks)) same (keeps w number asks other)) r g
-        (at_server (λ m at. IfOk r (λ reply. Moves w.limits w.log (mirror_asks asks m at) reply g))
-        k))
+        (each r (at_server (λ m at. IfOk r (λ reply. IsAsked w.limits w.log asks m number at reply g)) k
+        (at w primary fs h number place same d less).0 (at w primary fs h number place same d less).2))
+      where
+        each : (r : Result Reply WorldFault)
+            → IfOk r (λ reply. IsAsked w.limits w.log asks (at w primary fs h number place same d less).0 number (place_at w (node_asked asks (at w primary fs h number place same d less).0.upstream)) reply g)
+            → IfOk r (λ reply. NodesMove w primary (event_asking asks number) reply (slice_set fs place g))
+        each (Ok reply) q = one_reply g reply asks other framed q
+        each (Err fault) q = tt
 
     pub asked_fails : (r : Result Reply WorldFault)
         → ((m : Mirror) (at : Option Position) → IsPlace w.limits w.log at
@@ -141,7 +164,7 @@ module _ (w : World) (primary : PrimaryState) (fs : List FollowerState) (h : Are
             → IfErr r (λ fault. Refuses (at_node w number (act w asks)) fault)
             → IfErr r (λ fault. IsRefused w (event_asking asks number) fault)
         each_fault (Ok reply) e = tt
-        each_fault (Err fault) e = is_refused w number asks fault (subst (λ o. Refuses o fault) (is_event w number asks other) e)
+        each_fault (Err fault) e = is_refused w number asks fault (subst (λ o. Refuses o fault) (is_event w number asks other framed) e)
 
   -- or there is none: a mirror connected to another node, so it was to connect to one now
   pub asked_none : (j ≡ suc (length early)) ⊎ (length early + length later + 2 ≤ j) → IsRefused w (event_asking asks number) NoNode
@@ -167,9 +190,9 @@ module _ (w : World) (primary : PrimaryState) (fs : List FollowerState) (h : Are
           ∙ subst (λ o. IfSome o (λ m. is_other w (suc place) m.upstream ≡ true)) there.1 (h.others place)
 
       by : (a : Asks) → j ≡ node_asked a f.upstream → IsRefused w (event_asking a number) NoNode
-      by (ForConnection i back) e = inl (gone (is_other w number i) refl)
+      by (ForConnection i back framing) e = inl (gone (is_other w number i) refl)
         where
           gone : (b : Bool) → is_other w number i ≡ b → outcome w (Connect number i back) ≡ Err NoNode
           gone true t = absurd (is_not_there w number j past (ap (is_other w number) e ∙ t))
-          gone false t = ap (λ b. if b then at_node w number (act w (ForConnection i back)) else Err NoNode) t
+          gone false t = ap (λ b. if b then at_node w number (act w (ForConnection i back w.framing)) else Err NoNode) t
       by ForCommit e = absurd (is_not_there w number j past (ap (is_other w number) e ∙ connected))

@@ -12,6 +12,8 @@ pub mod Listings
 pub mod Lists
 pub mod Moved
 pub mod Reached
+pub mod Refused
+pub mod Responses
 pub mod Saved
 pub mod Scripts
 pub mod Served

@@ -9,18 +9,21 @@ use Rattle.feed_node.specs.declared.session.Pulled.{Pulled}
 use Rattle.feed_node.specs.declared.session.Pulled.TheVariants.{More, UpToDate, Gone}
 use Rattle.feed_node.specs.Limits.{Limits}
 use Rattle.feed_node.specs.Log.{token_after}
-use Rattle.feed_node.specs.Mirroring.{MirrorState, StandsAt}
+use Rattle.feed_node.specs.Mirroring.{MirrorState}
+use Rattle.feed_tables.specs.Tables.{listing}
+use Rattle.feed_follow.specs.Follower.{FollowerState as ReaderState, FollowsAt}
+use Rattle.feed_answer.specs.Framed.{frame}
 use Rattle.feed_world.specs.declared.event.Reply.{Reply}
 use Rattle.feed_world.specs.declared.event.Reply.TheVariants.{Sent, Idled}
-use Rattle.feed_world.specs.Connection.{Connection, Part, Commit, Line_feed, part_text, parts_text, sent_text, block_onto, blocks_within, moved_by, IsInOrder}
-use Rattle.feed_world.specs.Log.{Log, IsLog, changes_of_commit}
+use Rattle.feed_world.specs.Connection.{Connection, Part, Snapshot, Commit, Line_feed, part_text, parts_text, sent_bytes, bytes_sent, come_by, block_onto, blocks_within, moved_by, first_parts, GoOn, IsInOrder}
+use Rattle.feed_world.specs.Log.{Log, IsLog, state_after, changes_of_commit}
 use Rattle.feed_world.specs.Position.{Position, IsPlace}
-use Rattle.feed_world.specs.Reading.{opening_at}
 use Rattle.feed_world.specs.States.{ConnectionState, FollowerState, IsConnection, IsReading, AreLinked, IsMirror, Moves}
 use Rattle.feed_world.specs.Step.{serves, serves_from, idles, with_more, with_line_feed, ended, linked, with_connection, mirror_serves, mirror_idles}
 use Rattle.feed_world.specs.World.{Mirror}
-use Rattle.feed_world.proofs.Growth.{sending_keeps_order}
-use Rattle.feed_world.proofs.Served.{one_part_more}
+use Rattle.feed_world.proofs.Growth.{goes_up, sending_keeps_order}
+use Rattle.feed_world.proofs.Listings.{listing_is_some}
+use Rattle.feed_world.proofs.Responses.{one_frame_more, come_stays, come_within}
 
 -- ---- a batch has text
 
@@ -51,8 +54,62 @@ blocks_before log (p ∷ parts) part d h some =
     let l = length-append (part_text log p) (parts_text log parts) in
     ap (λ bs. if nat_le (length (part_text log p)) d then block_onto p bs else []) (blocks_before log parts part (d - length (part_text log p)) (omega (arith, h, l)) some)
 
-module _ (limits : Limits) (log : Log) (m : Mirror) (c : Connection) (mirror : MirrorState) (reading : IsReading limits log m c mirror) (next : Option Connection) where
-  ended_reading : IsReading limits log (linked m next) (ended c) mirror
+-- ---- parts have text, so blocks are no more than bytes
+
+module _ (limits : Limits) (log : Log) where
+  commit_has_text : (k : ℕ) → IsLog limits log → 0 < k → k ≤ length log → 0 < length (part_text log (Commit k))
+  commit_has_text k is_log from to = batch_has_text (changes_of_commit log k) (token_after k) ((is_log.accepted k from to).some)
+
+  snapshot_has_text : (k : ℕ) → 0 < length (part_text log (Snapshot k))
+  snapshot_has_text k = batch_has_text (listing (state_after log k)) (token_after k) (listing_is_some (state_after log k))
+
+  few_later : IsLog limits log → (k : ℕ) (parts : List Part) (last n : ℕ) → GoOn k parts last → last ≤ length log → length (blocks_within log parts n) ≤ n
+  few_later is_log k [] last n g h = omega arith
+  few_later is_log k (Line_feed ∷ parts) last n g h = by (few_later is_log k parts last (n - 1) g h) (nat_le 1 n) refl
+    where
+      by : length (blocks_within log parts (n - 1)) ≤ n - 1 → (b : Bool) → nat_le 1 n ≡ b → length (if b then blocks_within log parts (n - 1) else []) ≤ n
+      by later true e = omega (arith, later)
+      by later false e = omega arith
+  few_later is_log k (Commit j ∷ parts) last n g h =
+      by (few_later is_log (k + 1) parts last (n - length (part_text log (Commit j))) g.1 h) (nat_le (length (part_text log (Commit j))) n) refl
+    where
+      by : length (blocks_within log parts (n - length (part_text log (Commit j)))) ≤ n - length (part_text log (Commit j)) → (b : Bool) → nat_le (length (part_text log (Commit j))) n ≡ b
+          → length (if b then Commit j ∷ blocks_within log parts (n - length (part_text log (Commit j))) else []) ≤ n
+      by later true e =
+          let up = goes_up (k + 1) parts last g.1 in
+          let next = g.0 in
+          let some = commit_has_text j is_log (omega (arith, next)) (omega (arith, next, up, h)) in
+          let fits = leb-true _ _ e in
+          omega (arith, some, fits, later)
+      by later false e = omega arith
+  few_later is_log k (Snapshot j ∷ parts) last n g h = absurd g
+
+  few_either : IsLog limits log → (fresh : Bool) (start : ℕ) (more : List Part) (last n : ℕ) → GoOn start more last → last ≤ length log → length (blocks_within log (first_parts fresh start ++ more) n) ≤ n
+  few_either is_log false start more last n g h = few_later is_log start more last n g h
+  few_either is_log true start more last n g h = by (nat_le (length (part_text log (Snapshot start))) n) refl
+    where
+      by : (b : Bool) → nat_le (length (part_text log (Snapshot start))) n ≡ b → length (if b then Snapshot start ∷ blocks_within log more (n - length (part_text log (Snapshot start))) else []) ≤ n
+      by true e =
+          let some = snapshot_has_text start in
+          let fits = leb-true _ _ e in
+          let later = few_later is_log start more last (n - length (part_text log (Snapshot start))) g h in
+          omega (arith, some, fits, later)
+      by false e = omega arith
+
+  -- there are no more blocks than bytes
+  pub parts_have_text : (c : Connection) → IsLog limits log → IsInOrder c → c.last ≤ length log → (n : ℕ) → length (blocks_within log c.parts n) ≤ n
+  parts_have_text c is_log order sent n =
+      subst (λ ps. length (blocks_within log ps n) ≤ n) (sym order.parts) (few_either is_log c.fresh c.start order.more c.last n order.go_on sent)
+
+  no_block : (bs : List Part) → length bs ≤ 0 → bs ≡ []
+  no_block [] h = refl
+  no_block (b ∷ bs) h = absurd (omega (arith, h))
+
+  pub none_at_first : (c : Connection) → IsLog limits log → IsInOrder c → c.last ≤ length log → blocks_within log c.parts 0 ≡ []
+  none_at_first c is_log order sent = no_block (blocks_within log c.parts 0) (parts_have_text c is_log order sent 0)
+
+module _ (limits : Limits) (log : Log) (m : Mirror) (c : Connection) (reader : ReaderState) (mirror : MirrorState) (reading : IsReading limits log m c reader mirror) (next : Option Connection) where
+  ended_reading : IsReading limits log (linked m next) (ended c) reader mirror
   ended_reading =
       let opened = reading.opened in
       let order = opened.order in
@@ -60,37 +117,51 @@ module _ (limits : Limits) (log : Log) (m : Mirror) (c : Connection) (mirror : M
         before = reading.before;
         opened = record { mirror = opened.mirror; start = opened.start; order = record { more = order.more; parts = order.parts; go_on = order.go_on }; sent = opened.sent };
         place = reading.place;
-        notes = reading.notes;
-        stands = reading.stands;
+        begun = reading.begun;
+        asked = reading.asked;
+        standing = reading.standing;
+        follows = reading.follows;
         afresh = reading.afresh;
       }
 
-  same_reading : IsReading limits log (linked m next) c mirror
-  same_reading = record { before = reading.before; opened = reading.opened; place = reading.place; notes = reading.notes; stands = reading.stands; afresh = reading.afresh }
+  same_reading : IsReading limits log (linked m next) c reader mirror
+  same_reading =
+      record {
+        before = reading.before;
+        opened = reading.opened;
+        place = reading.place;
+        begun = reading.begun;
+        asked = reading.asked;
+        standing = reading.standing;
+        follows = reading.follows;
+        afresh = reading.afresh;
+      }
 
-  reading_on : (part : Part) (last : ℕ) → c.delivered ≤ length (sent_text log c) → 0 < length (part_text log part) → last ≤ length log
-      → IsInOrder (record { fresh = c.fresh; start = c.start; parts = c.parts ++ part ∷ []; delivered = c.delivered; last = last; over = c.over })
-      → IsReading limits log (linked m next) (record { fresh = c.fresh; start = c.start; parts = c.parts ++ part ∷ []; delivered = c.delivered; last = last; over = c.over }) mirror
+  reading_on : (part : Part) (last : ℕ) → c.delivered ≤ bytes_sent log c → 0 < length (part_text log part) → last ≤ length log
+      → IsInOrder (record c { parts = c.parts ++ part ∷ []; last = last })
+      → IsReading limits log (linked m next) (record c { parts = c.parts ++ part ∷ []; last = last }) reader mirror
   reading_on part last within some sent order =
       let opened = reading.opened in
-      let blocks = blocks_before log c.parts part c.delivered within some in
-      let text = ap (take c.delivered) (one_part_more log c.parts part) ∙ take-append-le c.delivered (parts_text log c.parts) (part_text log part) within in
+      let come = come_stays log c.framing c.parts part c.delivered within in
+      let blocks = ap (blocks_within log (c.parts ++ part ∷ [])) come ∙ blocks_before log c.parts part (come_by log c c.delivered) (come_within log c c.delivered) some in
+      let bytes = ap (take c.delivered) (one_frame_more log c.framing c.parts part) ∙ take-append-le c.delivered (sent_bytes log c) (frame c.framing (part_text log part)) within in
       record {
         before = reading.before;
         opened = record { mirror = opened.mirror; start = opened.start; order = order; sent = sent };
         place = reading.place ∙ ap (moved_by limits.history reading.before) (sym blocks);
-        notes = reading.notes;
-        stands = subst (λ t. StandsAt (opening_at log reading.before c.fresh) t reading.notes mirror) (sym text) reading.stands;
+        begun = reading.begun;
+        asked = reading.asked;
+        standing = reading.standing;
+        follows = subst (λ t. FollowsAt reading.begun t reading.standing reader mirror) (sym bytes) reading.follows;
         afresh = λ e. let h = reading.afresh e in (h.0, blocks ∙ h.1);
       }
 
-  line_feed_reading : c.delivered ≤ length (sent_text log c) → IsReading limits log (linked m next) (with_line_feed c) mirror
+  line_feed_reading : c.delivered ≤ bytes_sent log c → IsReading limits log (linked m next) (with_line_feed c) reader mirror
   line_feed_reading within = reading_on Line_feed c.last within (omega arith) reading.opened.sent (sending_keeps_order.line_feed c reading.opened.order)
 
-  more_reading : IsLog limits log → c.delivered ≤ length (sent_text log c) → c.last < length log → IsReading limits log (linked m next) (with_more c) mirror
+  more_reading : IsLog limits log → c.delivered ≤ bytes_sent log c → c.last < length log → IsReading limits log (linked m next) (with_more c) reader mirror
   more_reading is_log within sent =
-      let accepted = is_log.accepted (c.last + 1) (omega arith) (omega (arith, sent)) in
-      reading_on (Commit (c.last + 1)) (c.last + 1) within (batch_has_text (changes_of_commit log (c.last + 1)) (token_after (c.last + 1)) accepted.some) (omega (arith, sent))
+      reading_on (Commit (c.last + 1)) (c.last + 1) within (commit_has_text limits log (c.last + 1) is_log (omega arith) (omega (arith, sent))) (omega (arith, sent))
       (sending_keeps_order.commit c reading.opened.order)
 
 -- ---- what a serve leaves
@@ -123,10 +194,10 @@ mirror_on : (limits : Limits) (log : Log) (m : Mirror) (f : FollowerState) (next
 mirror_on limits log m f next other is l = record { place = is.place; upstream = is.upstream; bounds = is.bounds; node = is.node; since = is.since; linked = l; in_log = is.in_log; saved = is.saved }
 
 pub mirror_served : (limits : Limits) (log : Log) (m : Mirror) (place : Option Position) (f : FollowerState) (s : ConnectionState) → f.connection ≡ Some s
-    → IsLog limits log → IsPlace limits log place → IsMirror limits log m f → (pulled : Pulled) (t : ConnectionState)
+    → IsLog limits log → IsPlace limits log place → IsMirror limits log m f → (pulled : Pulled) (t : ConnectionState) → t.reader ≡ s.reader
     → ((c : Connection) → c.last ≤ length log → IsConnection log c s → (pulled ≡ (serves c place).0) × IsConnection log (serves c place).1 t)
     → Moves limits log (mirror_serves m place) (Sent pulled) (record f { connection = Some t })
-mirror_served limits log m place f s held is_log is_place is pulled t serving =
+mirror_served limits log m place f s held is_log is_place is pulled t same serving =
     by m.connection (subst (AreLinked limits log m m.connection f) held is.linked)
   where
     by : (o : Option Connection) → AreLinked limits log m o f (Some s)
@@ -138,18 +209,19 @@ mirror_served limits log m place f s held is_log is_place is pulled t serving =
           ap Sent served.0,
           mirror_on limits log m f (Some (serves c place).1) (Some t) is (
             served.1,
-            served_any limits log c place (λ d. IsReading limits log (linked m (Some (serves c place).1)) d f.mirror) is_place
-                (same_reading limits log m c f.mirror l.1 (Some (serves c place).1))
-                (ended_reading limits log m c f.mirror l.1 (Some (serves c place).1))
-                (λ sent. more_reading limits log m c f.mirror l.1 (Some (serves c place).1) is_log within sent),
+            subst (λ reader. IsReading limits log (linked m (Some (serves c place).1)) (serves c place).1 reader f.mirror) (sym same)
+            (served_any limits log c place (λ d. IsReading limits log (linked m (Some (serves c place).1)) d s.reader f.mirror) is_place
+                (same_reading limits log m c s.reader f.mirror l.1 (Some (serves c place).1))
+                (ended_reading limits log m c s.reader f.mirror l.1 (Some (serves c place).1))
+                (λ sent. more_reading limits log m c s.reader f.mirror l.1 (Some (serves c place).1) is_log within sent)),
           ),
         )
 
 pub mirror_idled : (limits : Limits) (log : Log) (m : Mirror) (f : FollowerState) (s : ConnectionState) → f.connection ≡ Some s
-    → IsMirror limits log m f → (reply : Reply) (t : ConnectionState)
+    → IsMirror limits log m f → (reply : Reply) (t : ConnectionState) → t.reader ≡ s.reader
     → ((c : Connection) → IsConnection log c s → (reply ≡ (idles c).0) × IsConnection log (idles c).1 t)
     → Moves limits log (mirror_idles m) reply (record f { connection = Some t })
-mirror_idled limits log m f s held is reply t idling =
+mirror_idled limits log m f s held is reply t same idling =
     by m.connection (subst (AreLinked limits log m m.connection f) held is.linked)
   where
     by : (o : Option Connection) → AreLinked limits log m o f (Some s)
@@ -161,8 +233,9 @@ mirror_idled limits log m f s held is reply t idling =
           idled.0,
           mirror_on limits log m f (Some (idles c).1) (Some t) is (
             idled.1,
-            chosen (λ (r : Reply × Connection). IsReading limits log (linked m (Some (idles c).1)) r.1 f.mirror) c.over _ (Idled, with_line_feed c)
-                (λ e. same_reading limits log m c f.mirror l.1 (Some (idles c).1))
-                (line_feed_reading limits log m c f.mirror l.1 (Some (idles c).1) within),
+            subst (λ reader. IsReading limits log (linked m (Some (idles c).1)) (idles c).1 reader f.mirror) (sym same)
+            (chosen (λ (r : Reply × Connection). IsReading limits log (linked m (Some (idles c).1)) r.1 s.reader f.mirror) c.over _ (Idled, with_line_feed c)
+                (λ e. same_reading limits log m c s.reader f.mirror l.1 (Some (idles c).1))
+                (line_feed_reading limits log m c s.reader f.mirror l.1 (Some (idles c).1) within)),
           ),
         )

@@ -4,21 +4,20 @@ use Rattle.std.proofs.lemmas.List.{length-map}
 use Rattle.std.proofs.lemmas.Option.{slice_get_past, slice_get-get_or, slice_get_within, slice_get-map}
 use Rattle.std.specs.Option.{option_and_then}
 use Rattle.std.specs.Prelude.{IsTrue, if◌then◌else◌, ◌⊎◌, ◌==◌, option_map, option_copied, IfNone}
-use Rattle.feed_node.specs.declared.fault.FeedFault.TheVariants.{Memory as FeedMemory}
 use Rattle.feed_node.specs.Limits.{Limits}
 use Rattle.feed_node.specs.Log.{PrimaryState}
 use Rattle.feed_node.specs.States.{Node, NodeState}
+use Rattle.feed_answer.specs.declared.framing.Framing.{Framing}
 use Rattle.feed_world.specs.declared.event.Event.{Event}
-use Rattle.feed_world.specs.declared.event.Event.TheVariants.{Deliver}
+use Rattle.feed_world.specs.declared.event.Event.TheVariants.{Deliver, Connect}
 use Rattle.feed_world.specs.declared.event.Reply.{Reply}
-use Rattle.feed_world.specs.declared.event.Reply.TheVariants.{Broke}
 use Rattle.feed_world.specs.declared.event.WorldFault.{WorldFault}
 use Rattle.feed_world.specs.declared.event.WorldFault.TheVariants.{NoNode, NoConnection, Memory}
 use Rattle.feed_world.specs.Log.{Log}
 use Rattle.feed_world.specs.Connection.{Connection}
 use Rattle.feed_world.specs.Position.{Position, IsPlace, node_where}
-use Rattle.feed_world.specs.States.{FollowerState, IsMirror, ConnectionState, AreLinked, AreMirrors, AreNodes, Moves, RefusesMove, BreaksMirror, NodesMove, IsBrought, all_shown}
-use Rattle.feed_world.specs.Step.{Move, Outcome, outcome, at_node, with_node, after_move, with_connection, is_free, is_free_reply, IsRefused, Breaks, mirror_connects, mirror_serves, mirror_idles, mirror_delivers, mirror_cuts, mirror_saves, mirror_restarts, turned_to, connects, connects_to, holds_number, brought_to}
+use Rattle.feed_world.specs.States.{FollowerState, IsMirror, ConnectionState, AreLinked, AreMirrors, AreNodes, Moves, RefusesMove, BreaksMirror, BreaksConnect, NodesMove, IsBrought, all_shown}
+use Rattle.feed_world.specs.Step.{Move, Outcome, outcome, at_node, with_node, after_move, with_connection, is_free, is_free_reply, IsRefused, Breaks, BreaksRefusal, BrokeForMemory, linked, mirror_connects, mirror_serves, mirror_idles, mirror_delivers, mirror_cuts, mirror_saves, mirror_restarts, turned_to, connects, connects_to, holds_number, brought_to}
 use Rattle.feed_world.specs.World.{Mirror, World, is_other, mirror_at, with_mirror, place_at}
 
 -- ---- lists of mirrors
@@ -95,6 +94,7 @@ pub record LeadsTo (w : World) (o : Outcome) (primary : PrimaryState) (reply : R
   pub after : World
   pub outcome : o ≡ Ok (reply, after)
   pub limits : after.limits ≡ w.limits
+  pub framing : after.framing ≡ w.framing
   pub log : after.log ≡ w.log
   pub nodes : AreNodes after primary fs
 
@@ -107,6 +107,7 @@ moved w primary fs h place m (Ok move) there keeps reply f k =
       after = with_mirror w (suc place) move.1;
       outcome = ap (λ x. Ok (x, with_mirror w (suc place) move.1)) (sym k.0);
       limits = refl;
+      framing = refl;
       log = refl;
       nodes = put_back w primary fs h place move.1 f keeps k.1;
     }
@@ -155,21 +156,21 @@ choose_keeps : (j : ℕ) (b : Bool) (x y : Move) → x.1.upstream ≡ j → y.1.
 choose_keeps j true x y p q = p
 choose_keeps j false x y p q = q
 
-connects_to_keeps : (m : Mirror) (server : Position) (own : Option Position) (back : ℕ) → (connects_to m server own back).1.upstream ≡ m.upstream
-connects_to_keeps m server None back = refl
-connects_to_keeps m server (Some own) back = choose_keeps m.upstream m.afresh _ _ refl (choose_keeps m.upstream (holds_number server own.at) _ _ refl refl)
+connects_to_keeps : (framing : Framing) (m : Mirror) (server : Position) (own : Option Position) (back : ℕ) → (connects_to framing m server own back).1.upstream ≡ m.upstream
+connects_to_keeps framing m server None back = refl
+connects_to_keeps framing m server (Some own) back = choose_keeps m.upstream m.afresh _ _ refl (choose_keeps m.upstream (holds_number server own.at) _ _ refl refl)
 
-connects_keeps : (m : Mirror) (server : Option Position) (back : ℕ) → (connects m server back).1.upstream ≡ m.upstream
-connects_keeps m None back = refl
-connects_keeps m (Some server) back = connects_to_keeps m server m.place back
+connects_keeps : (framing : Framing) (m : Mirror) (server : Option Position) (back : ℕ) → (connects framing m server back).1.upstream ≡ m.upstream
+connects_keeps framing m None back = refl
+connects_keeps framing m (Some server) back = connects_to_keeps framing m server m.place back
 
 linked_keeps : (m : Mirror) (c : Option Connection) (act : Connection → Move) → ((d : Connection) → (act d).1.upstream ≡ m.upstream) → IsBehind m.upstream (with_connection c act)
 linked_keeps m None act k = tt
 linked_keeps m (Some c) act k = k c
 
 -- a mirror that connects turns to the node that it connects to
-pub keeps_connect : (w : World) (i j back : ℕ) → is_other w i j ≡ true → Keeps w i (λ m. mirror_connects j back m (place_at w j))
-keeps_connect w i j back other m old = still_other w i j (mirror_connects j back m (place_at w j)) (connects_keeps (turned_to j m) (place_at w j) back) other
+pub keeps_connect : (w : World) (i j back : ℕ) → is_other w i j ≡ true → Keeps w i (λ m. mirror_connects w.framing j back m (place_at w j))
+keeps_connect w i j back other m old = still_other w i j (mirror_connects w.framing j back m (place_at w j)) (connects_keeps w.framing (turned_to j m) (place_at w j) back) other
 
 pub keeps_serve : (w : World) (i : ℕ) → Keeps w i (λ m. mirror_serves m (place_at w m.upstream))
 keeps_serve w i m = still_other w i m.upstream (mirror_serves m (place_at w m.upstream)) (linked_keeps m m.connection _ (λ c. refl))
@@ -231,8 +232,8 @@ within w primary fs h i node e =
 
 -- ---- events
 
-event_moves : (w : World) (primary : PrimaryState) (event : Event) (reply : Reply) (fs : List FollowerState) → LeadsTo w (outcome w event) primary reply fs → NodesMove w primary event reply fs
-event_moves w primary event reply fs l = (l.after, record { step = inl l.outcome; limits = l.limits; log = l.log }, l.nodes)
+pub event_moves : (w : World) (primary : PrimaryState) (event : Event) (reply : Reply) (fs : List FollowerState) → LeadsTo w (outcome w event) primary reply fs → NodesMove w primary event reply fs
+event_moves w primary event reply fs l = (l.after, record { step = inl l.outcome; limits = l.limits; framing = l.framing; log = l.log }, l.nodes)
 
 -- a mirror without a connection has none in memory, and the other way round
 no_link : (limits : Limits) (log : Log) (m : Mirror) (f : FollowerState) (c : Option Connection) (s : Option ConnectionState) → AreLinked limits log m c f s → s ≡ None → c ≡ None
@@ -261,14 +262,14 @@ nobody w primary fs h number act k =
 
 module _ (w : World) (primary : PrimaryState) (fs : List FollowerState) (h : AreNodes w primary fs) (number place : ℕ) (same : number ≡ suc place) (d : FollowerState) (less : place < length fs) where
   -- the mirror of this number
-  at : (m : Mirror) × (slice_get w.mirrors place ≡ Some m) × IsMirror w.limits w.log m (get_or fs place d)
+  pub at : (m : Mirror) × (slice_get w.mirrors place ≡ Some m) × IsMirror w.limits w.log m (get_or fs place d)
   at = mirror_of w.limits w.log w.mirrors fs place (get_or fs place d) h.mirrors (slice_get-get_or fs place d less)
 
   -- it connected to another node last
   other_at : is_other w (suc place) at.0.upstream ≡ true
   other_at = subst (λ o. IfSome o (λ m. is_other w (suc place) m.upstream ≡ true)) at.1 (h.others place)
 
-  leads : (act : Mirror → Result Move WorldFault) → Keeps w (suc place) act → (reply : Reply) (f : FollowerState) → Moves w.limits w.log (act at.0) reply f
+  pub leads : (act : Mirror → Result Move WorldFault) → Keeps w (suc place) act → (reply : Reply) (f : FollowerState) → Moves w.limits w.log (act at.0) reply f
       → LeadsTo w (at_node w number act) primary reply (slice_set fs place f)
   leads act keeps reply f k =
       subst (λ n. LeadsTo w (at_node w n act) primary reply (slice_set fs place f)) (sym same)
@@ -294,7 +295,7 @@ module _ (w : World) (primary : PrimaryState) (fs : List FollowerState) (h : Are
   move_fails act (Ok reply) k = tt
   move_fails act (Err fault) k = refused_by (at_node w number act) fault (refuses act fault (k at.0 at.2))
 
-  broken : (n : ℕ) (reply : Reply) (f : FollowerState) → reply ≡ Broke number FeedMemory → BreaksMirror w.limits w.log at.0 n f → NodesMove w primary (Deliver number n) reply (slice_set fs place f)
+  broken : (n : ℕ) (reply : Reply) (f : FollowerState) → BrokeForMemory number reply → BreaksMirror w.limits w.log at.0 n f → NodesMove w primary (Deliver number n) reply (slice_set fs place f)
   broken n reply f is b =
       let after : World = with_mirror w (suc place) (brought_to w.limits.history w.log at.0 b.connection b.e None) in
       let breaks : Breaks w number n after = record {
@@ -308,12 +309,26 @@ module _ (w : World) (primary : PrimaryState) (fs : List FollowerState) (h : Are
         to = b.to;
         after = ap (λ j. with_mirror w j (brought_to w.limits.history w.log at.0 b.connection b.e None)) (sym same);
       } in
-      (after, record { step = inr (is, breaks); limits = refl; log = refl }, put_back w primary fs h place _ f other_at b.is_mirror)
+      (after, record { step = inr (is, breaks); limits = refl; framing = refl; log = refl }, put_back w primary fs h place _ f other_at b.is_mirror)
 
   delivered : (n : ℕ) (reply : Reply) (f : FollowerState) → IsBrought w.limits w.log at.0 number n reply f → NodesMove w primary (Deliver number n) reply (slice_set fs place f)
   delivered n reply f (inl moves) =
       event_moves w primary (Deliver number n) reply _ (leads (mirror_delivers w.limits.history w.log n) (keeps_deliver w (suc place) n) reply f moves)
   delivered n reply f (inr broke) = broken n reply f broke.0 broke.1
+
+  -- a connect at which following the refusal broke off
+  pub refusal_broke : (j back : ℕ) (reply : Reply) (f : FollowerState) → is_other w number j ≡ true → BrokeForMemory number reply
+      → BreaksConnect w.limits w.log w.framing at.0 j back (place_at w j) f → NodesMove w primary (Connect number j back) reply (slice_set fs place f)
+  refusal_broke j back reply f other is b =
+      let after : World = with_mirror w (suc place) (linked (turned_to j at.0) None) in
+      let breaks : BreaksRefusal w number j back after = record {
+        mirror = at.0;
+        other = other;
+        is_there = ap (mirror_at w) same ∙ at.1;
+        refusal = b.refusal;
+        after = ap (λ k. with_mirror w k (linked (turned_to j at.0) None)) (sym same);
+      } in
+      (after, record { step = inr (is, breaks); limits = refl; framing = refl; log = refl }, put_back w primary fs h place _ f (ap (λ k. is_other w k j) (sym same) ∙ other) b.is_mirror)
 
   pub deliver_leads : (n : ℕ) (r : Result Reply WorldFault) (f : FollowerState)
       → ((m : Mirror) → IsMirror w.limits w.log m (get_or fs place d) → IfOk r (λ reply. IsBrought w.limits w.log m number n reply f)) → IfOk r (λ reply. NodesMove w primary (Deliver number n) reply (slice_set fs place f))

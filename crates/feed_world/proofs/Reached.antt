@@ -3,11 +3,12 @@ use Rattle.std.proofs.Common.{◌≡◌, refl, sym, ap, ◌∙◌, subst, ℕ, z
 use Rattle.std.specs.Prelude.{if◌then◌else◌}
 use Rattle.std.specs.Option.{option_and_then}
 use Rattle.feed_node.specs.Limits.{Limits}
-use Rattle.feed_world.specs.Connection.{Part, Snapshot, Commit, Line_feed, Connection, part_text, parts_text, block_onto, blocks_within, moved_by, GoOn, first_parts}
+use Rattle.feed_world.specs.Connection.{Part, Snapshot, Commit, Line_feed, Connection, part_text, parts_text, come_by, block_onto, blocks_within, blocks_come, moved_by, GoOn, first_parts}
 use Rattle.feed_world.specs.Log.{Log}
 use Rattle.feed_world.specs.Position.{Position, renewed}
 use Rattle.feed_world.specs.States.{ConnectionState, FollowerState, WorldState, AreLinked, AreMirrors, IsWorld, HasReached, HasReadAll}
 use Rattle.feed_world.specs.World.{Mirror, World, place_at, connection_at}
+use Rattle.feed_world.proofs.Responses.{come_all}
 
 abbrev blocks_of : List Part → List Part
 blocks_of [] = []
@@ -54,7 +55,8 @@ read_all limits log m c f s h all =
     let r = h.1 in
     let o = r.opened in
     let order = o.order in
-    let blocks : blocks_within log c.parts c.delivered ≡ blocks_of (first_parts c.fresh c.start ++ order.more) = all_blocks log c.parts c.delivered all ∙ ap blocks_of order.parts in
+    let come : come_by log c c.delivered ≡ length (parts_text log c.parts) = come_all log c c.delivered (omega (arith, all)) in
+    let blocks : blocks_come log c c.delivered ≡ blocks_of (first_parts c.fresh c.start ++ order.more) = all_blocks log c.parts (come_by log c c.delivered) come ∙ ap blocks_of order.parts in
     subst (λ place. HasReached place c.last) (sym (r.place ∙ ap (moved_by limits.history r.before) blocks)) (comes_to limits.history r.before c.fresh c.start c.last order.more o.start order.go_on)
 
 linked_all : (limits : Limits) (log : Log) (m : Mirror) (f : FollowerState) (c : Option Connection) (s : Option ConnectionState) → AreLinked limits log m c f s → IfSome c (HasReadAll log m.place)

@@ -20,6 +20,7 @@ use Rattle.feed_world.specs.declared.event.Reply.{Reply}
 use Rattle.feed_world.specs.declared.event.Reply.TheVariants.{Committed, Opened, Refused, NotYet, Sent, Idled, Delivered, Cut, Saved, Restarted}
 use Rattle.feed_world.specs.declared.event.WorldFault.{WorldFault}
 use Rattle.feed_world.specs.declared.event.WorldFault.TheVariants.{NoNode, NoConnection, Commit as CommitRefused}
+use Rattle.feed_answer.specs.declared.framing.Framing.TheVariants.{Close}
 use Rattle.feed_world.specs.Connection.{Connection, Snapshot}
 use Rattle.feed_world.specs.Log.{Log}
 use Rattle.feed_world.specs.Position.{Position}
@@ -74,7 +75,7 @@ abbrev shown : World → ℕ → List ℕ
 shown w i = published_text (node_of w i).published
 
 abbrev world : ℕ → ℕ → ℕ → World
-world h s nodes = new_world (record { history = h; staged = s }) nodes
+world h s nodes = new_world (record { history = h; staged = s }) Close nodes
 
 abbrev teams : List ℕ
 teams = codes "teams"
@@ -93,7 +94,7 @@ set_team i = Set teams i (obj i)
 
 -- a connection on which only a snapshot was sent
 abbrev opened_at : ℕ → ℕ → Bool → Connection
-opened_at k delivered over = record { fresh = true; start = k; parts = Snapshot k ∷ []; delivered = delivered; last = k; over = over }
+opened_at k delivered over = record { framing = Close; fresh = true; start = k; parts = Snapshot k ∷ []; delivered = delivered; last = k; over = over }
 
 abbrev position : ℕ → ℕ → Option Position
 position at low = Some (record { at = at; low = low })
@@ -107,16 +108,16 @@ a_log = (set_team (codes "1") ∷ []) ∷ (Single state (codes "{}") ∷ []) ∷
     ∷ (Set groups (codes "1") (obj (codes "1")) ∷ []) ∷ (Set groups (codes "2") (obj (codes "2")) ∷ []) ∷ []
 
 abbrev a_world : List Mirror → World
-a_world mirrors = record { limits = record { history = 2; staged = 100 }; log = a_log; primary = record { at = 5; low = 3 }; mirrors = mirrors }
+a_world mirrors = record { limits = record { history = 2; staged = 100 }; framing = Close; log = a_log; primary = record { at = 5; low = 3 }; mirrors = mirrors }
 
 abbrev a_behind : World
-a_behind = a_world (mirror (position 1 1) 0 false (Some (opened_at 1 93 false)) ∷ [])
+a_behind = a_world (mirror (position 1 1) 0 false (Some (opened_at 1 167 false)) ∷ [])
 
 abbrev a_cut : World
 a_cut = a_world (mirror (position 1 1) 0 true None ∷ [])
 
 abbrev a_reset : World
-a_reset = a_world (mirror (position 5 5) 0 false (Some (opened_at 5 177 false)) ∷ [])
+a_reset = a_world (mirror (position 5 5) 0 false (Some (opened_at 5 251 false)) ∷ [])
 
 a_first : run_all (world 2 100 2) (DoCommit (set_team (codes "1") ∷ []) ∷ Connect 1 0 0 ∷ Deliver 1 9999
     ∷ DoCommit (Single state (codes "{}") ∷ []) ∷ DoCommit (Clear teams ∷ [])
@@ -146,16 +147,16 @@ abbrev b_log : Log
 b_log = (set_team (codes "1") ∷ []) ∷ (set_team (codes "2") ∷ []) ∷ (Remove teams (codes "1") ∷ []) ∷ (Single state (codes "{}") ∷ []) ∷ []
 
 abbrev b_world : List Mirror → World
-b_world mirrors = record { limits = record { history = 1; staged = 100 }; log = b_log; primary = record { at = 4; low = 3 }; mirrors = mirrors }
+b_world mirrors = record { limits = record { history = 1; staged = 100 }; framing = Close; log = b_log; primary = record { at = 4; low = 3 }; mirrors = mirrors }
 
 abbrev b_behind : World
-b_behind = b_world (mirror (position 1 1) 0 false (Some (opened_at 1 93 false)) ∷ mirror None 1 false (Some (opened_at 1 0 false)) ∷ [])
+b_behind = b_world (mirror (position 1 1) 0 false (Some (opened_at 1 167 false)) ∷ mirror None 1 false (Some (opened_at 1 0 false)) ∷ [])
 
 abbrev b_relay_reset : World
-b_relay_reset = b_world (mirror (position 4 4) 0 false (Some (opened_at 4 130 false)) ∷ mirror (position 1 1) 1 false (Some (opened_at 1 93 true)) ∷ [])
+b_relay_reset = b_world (mirror (position 4 4) 0 false (Some (opened_at 4 204 false)) ∷ mirror (position 1 1) 1 false (Some (opened_at 1 167 true)) ∷ [])
 
 abbrev b_all_reset : World
-b_all_reset = b_world (mirror (position 4 4) 0 false (Some (opened_at 4 130 false)) ∷ mirror (position 4 4) 1 false (Some (opened_at 4 130 false)) ∷ [])
+b_all_reset = b_world (mirror (position 4 4) 0 false (Some (opened_at 4 204 false)) ∷ mirror (position 4 4) 1 false (Some (opened_at 4 204 false)) ∷ [])
 
 b_first : run_all (world 1 100 3) (DoCommit (set_team (codes "1") ∷ []) ∷ Connect 1 0 0 ∷ Deliver 1 9999 ∷ Connect 2 1 0
     ∷ DoCommit (set_team (codes "2") ∷ []) ∷ DoCommit (Remove teams (codes "1") ∷ []) ∷ DoCommit (Single state (codes "{}") ∷ []) ∷ [])
@@ -198,7 +199,7 @@ abbrev e_log : Log
 e_log = (Set (codes "t") (codes "1") (codes "{}") ∷ []) ∷ (Remove (codes "t") (codes "1") ∷ []) ∷ []
 
 abbrev e_cut : World
-e_cut = record { limits = record { history = 4; staged = 100 }; log = e_log; primary = record { at = 2; low = 0 }; mirrors = mirror (position 2 0) 0 false None ∷ [] }
+e_cut = record { limits = record { history = 4; staged = 100 }; framing = Close; log = e_log; primary = record { at = 2; low = 0 }; mirrors = mirror (position 2 0) 0 false None ∷ [] }
 
 -- its next connection begins at 0
 abbrev sent_again : List Event
@@ -230,6 +231,7 @@ abbrev c_at : Option Position → World
 c_at place =
     record {
       limits = record { history = 1; staged = 100 };
+      framing = Close;
       log = c_log;
       primary = record { at = 1; low = 0 };
       mirrors = record { place = place; upstream = 0; afresh = false; connection = None; saved = Some 1 } ∷ [];

@@ -2,6 +2,10 @@
 use Rattle.std.specs.Prelude.{refl, ℕ, Bool, List, Option}
 use Rattle.std.specs.Coded.{Coded, code_by, coded×, coded_list, coded_option, coded_ℕ, coded_bool}
 use Rattle.feed_tables.specs.Codes.{text_code}
+use Rattle.feed_follow.specs.Codes.{follower_code as reader_code}
+use Rattle.feed_follow.specs.Follower.{FollowerState as ReaderState}
+use Rattle.feed_answer.specs.declared.framing.Framing.{Framing}
+use Rattle.feed_answer.specs.contracts.framing.Framing as framing
 use Rattle.feed_node.specs.declared.commit.Commit.{Commit}
 use Rattle.feed_node.specs.Codes.{commit_code, mirror_code, primary_code}
 use Rattle.feed_node.specs.Log.{PrimaryState}
@@ -10,13 +14,17 @@ use Rattle.feed_world.specs.States.{ConnectionState, FollowerState, WorldState}
 
 abbrev pub connection_code : Coded ConnectionState
 connection_code =
-    code_by ((List ℕ × List ℕ) × (ℕ × Bool))
-    (coded× (coded× text_code text_code) (coded× coded_ℕ coded_bool))
-    (λ c. ((c.token, c.text), (c.delivered, c.over)))
+    code_by (((List ℕ × List ℕ) × (Framing × ReaderState)) × ((ℕ × ℕ) × Bool))
+    (coded× (coded× (coded× text_code text_code) (coded× framing.the_row.coded reader_code))
+    (coded× (coded× coded_ℕ coded_ℕ) coded_bool))
+    (λ c. (((c.token, c.bytes), (c.framing, c.reader)), ((c.delivered, c.start), c.over)))
     (λ p. record {
-      token = p.0.0;
-      text = p.0.1;
-      delivered = p.1.0;
+      token = p.0.0.0;
+      bytes = p.0.0.1;
+      framing = p.0.1.0;
+      reader = p.0.1.1;
+      delivered = p.1.0.0;
+      start = p.1.0.1;
       over = p.1.1;
     }) (λ _. refl)
 
@@ -34,7 +42,8 @@ follower_code =
 
 abbrev pub world_code : Coded WorldState
 world_code =
-    code_by (PrimaryState × (List Commit × List FollowerState))
-    (coded× primary_code (coded× (coded_list commit_code) (coded_list follower_code)))
-    (λ w. (w.primary, (w.log, w.followers)))
-    (λ p. record { primary = p.0; log = p.1.0; followers = p.1.1 }) (λ _. refl)
+    code_by (Framing × (PrimaryState × (List Commit × List FollowerState)))
+    (coded× framing.the_row.coded
+    (coded× primary_code (coded× (coded_list commit_code) (coded_list follower_code))))
+    (λ w. (w.framing, (w.primary, (w.log, w.followers))))
+    (λ p. record { framing = p.0; primary = p.1.0; log = p.1.1.0; followers = p.1.1.1 }) (λ _. refl)

@@ -1,7 +1,9 @@
 -- A connection between a node and a mirror behind it: what was sent on it, and how much of that
--- came (CLICS Contest API 2023-06, event feed and reconnection).
-use Rattle.std.specs.Prelude.{◌≡◌, ℕ, ◌+◌, ◌-◌, Bool, true, false, List, [], ◌∷◌, ◌++◌, length, drop, flat_map, fold, Option, Some, None, if◌then◌else◌, nat_le, nat_lt}
+-- came (CLICS Contest API 2023-06, event feed and reconnection; RFC 9112).
+use Rattle.std.specs.Prelude.{◌≡◌, ℕ, ◌+◌, ◌-◌, Bool, true, false, List, [], ◌∷◌, ◌++◌, length, map, drop, flat_map, fold, Option, Some, None, if◌then◌else◌, nat_le, nat_lt}
 use Rattle.feed_text.specs.Ascii.{line_feed}
+use Rattle.feed_answer.specs.declared.framing.Framing.{Framing}
+use Rattle.feed_answer.specs.Carried.{response_text, carried_by}
 use Rattle.feed_world.specs.Log.{Log, state_text, commit_text}
 use Rattle.feed_world.specs.Position.{Position, renewed}
 
@@ -20,10 +22,11 @@ part_text log Line_feed = line_feed ∷ []
 abbrev pub parts_text : Log → List Part → List ℕ
 parts_text log parts = flat_map (part_text log) parts
 
--- A connection: whether it is fresh; the number that it started at; what was sent, in order; how
--- many bytes of that were delivered; the number of the last commit that was sent, or at which it
--- started; and whether the server sends no more.
+-- A connection: how the body of its response is framed; whether it is fresh; the number that it
+-- started at; what was sent, in order; how many bytes of the response were delivered; the number of
+-- the last commit that was sent, or at which it started; and whether the server sends no more.
 pub record Connection : Type 0 where
+  pub framing : Framing
   pub fresh : Bool
   pub start : ℕ
   pub parts : List Part
@@ -35,14 +38,21 @@ pub record Connection : Type 0 where
 abbrev pub sent_text : Log → Connection → List ℕ
 sent_text log connection = parts_text log connection.parts
 
--- how many bytes were sent
-abbrev pub bytes_sent : Log → Connection → ℕ
-bytes_sent log connection = length (sent_text log connection)
+-- the texts of the parts, each of which is framed by itself
+abbrev pub part_texts : Log → List Part → List (List ℕ)
+part_texts log parts = map (part_text log) parts
 
--- how many bytes of the text have come once this many bytes were delivered: as many, since a
--- connection carries the text itself
+-- the bytes that were sent: the response that carries the text, its body not ended
+abbrev pub sent_bytes : Log → Connection → List ℕ
+sent_bytes log connection = response_text connection.framing (part_texts log connection.parts)
+
+-- how many they are
+abbrev pub bytes_sent : Log → Connection → ℕ
+bytes_sent log connection = length (sent_bytes log connection)
+
+-- how many bytes of the text have come once this many bytes of the response were delivered
 abbrev pub come_by : Log → Connection → ℕ → ℕ
-come_by log connection n = n
+come_by log connection n = carried_by connection.framing (part_texts log connection.parts) n
 
 -- a block and those after it; a line feed is no block
 abbrev pub block_onto : Part → List Part → List Part

@@ -1,14 +1,21 @@
 -- What a world in memory has, and of which world of numbers it is the state.
-use Rattle.std.specs.Prelude.{◌≡◌, ◌<◌, ◌⊎◌, ℕ, zero, suc, ◌+◌, min, option_map, ◌≤◌, Bool, false, true, List, [], ◌∷◌, length, map, take, flat_map, slice_get, Option, Some, None, IfSome, Result, Ok, Err, if◌then◌else◌}
+use Rattle.std.specs.Prelude.{◌≡◌, ◌<◌, ◌⊎◌, ℕ, zero, suc, ◌+◌, min, option_map, ◌-◌, ◌≤◌, Bool, false, true, List, [], ◌∷◌, ◌++◌, length, map, take, drop, flat_map, slice_get, Option, Some, None, is_some, IfSome, Result, Ok, Err, if◌then◌else◌}
 use Rattle.std.specs.Option.{option_and_then}
 use Rattle.feed_tables.specs.Tables.{no_tables, after_all}
-use Rattle.feed_node.specs.declared.fault.FeedFault.TheVariants.{Memory as FeedMemory}
+use Rattle.feed_follow.specs.Follower.{FollowerState as ReaderState, FollowsAt}
+use Rattle.feed_follow.specs.Standing.{Standing, token_refused, failed}
+use Rattle.feed_follow.specs.declared.fault.FollowFault.{FollowFault}
+use Rattle.feed_follow.specs.declared.fault.FollowFault.TheVariants.{Status}
+use Rattle.feed_answer.specs.declared.refusal.Refusal.{Refusal}
+use Rattle.feed_answer.specs.Answer.{refusal_code}
+use Rattle.feed_answer.specs.Carried.{refusal_standing}
+use Rattle.feed_answer.specs.declared.framing.Framing.{Framing}
 use Rattle.feed_world.specs.declared.event.Event.{Event}
 use Rattle.feed_world.specs.declared.event.Event.TheVariants.{Connect, Serve}
 use Rattle.feed_world.specs.declared.event.Asks.{Asks}
 use Rattle.feed_world.specs.declared.event.Asks.TheVariants.{ForConnection, ForCommit}
 use Rattle.feed_world.specs.declared.event.Reply.{Reply}
-use Rattle.feed_world.specs.declared.event.Reply.TheVariants.{Broke}
+use Rattle.feed_world.specs.declared.event.Reply.TheVariants.{Broke, Refused, NotYet}
 use Rattle.feed_world.specs.declared.event.ShapeFault.{ShapeFault}
 use Rattle.feed_world.specs.declared.event.ShapeFault.TheVariants.{BadShape, Memory as NoMemory}
 use Rattle.feed_world.specs.declared.event.WorldFault.{WorldFault}
@@ -16,23 +23,26 @@ use Rattle.feed_world.specs.declared.event.WorldFault.TheVariants.{Memory}
 use Rattle.feed_node.specs.declared.commit.Commit.{Commit}
 use Rattle.feed_node.specs.Limits.{Limits}
 use Rattle.feed_node.specs.Log.{PrimaryState, token_after}
-use Rattle.feed_node.specs.Mirroring.{MirrorState, StandsAt, new_mirror}
+use Rattle.feed_node.specs.Mirroring.{MirrorState, present_opening, new_mirror, cut_off, refused_off}
 use Rattle.feed_node.specs.States.{NodeState, published_token}
 use Rattle.feed_note.specs.Publishing.{Published}
-use Rattle.feed_note.specs.declared.line.Line.{Line}
-use Rattle.feed_world.specs.Connection.{Connection, sent_text, bytes_sent, come_by, blocks_come, moved_by}
+use Rattle.feed_world.specs.Connection.{Connection, sent_bytes, bytes_sent, blocks_come, moved_by}
 use Rattle.feed_world.specs.Log.{Log, IsLog}
 use Rattle.feed_world.specs.Position.{Position, IsPosition, IsPlace, commits_after, node_where}
 use Rattle.feed_world.specs.Reading.{IsOpened, opening_at}
-use Rattle.feed_world.specs.Step.{Move, Step, Run, RunUpTo, primary_of, mirror_connects, mirror_serves, mirror_delivers, brought_to, reached, is_free_reply}
+use Rattle.feed_world.specs.Step.{Move, Step, Run, RunUpTo, primary_of, mirror_connects, mirror_serves, mirror_delivers, brought_to, reached, connects, linked, turned_to, IsRefusal, IsMemory, BrokeForMemory, is_free_reply}
 use Rattle.feed_world.specs.World.{Mirror, World, HasShape, is_other, connection_at, saved_text}
 
--- a connection: the token that its session has come to, the text that was sent, how many bytes of
--- it were delivered, and whether the server sends no more
+-- a connection: the token that its session has come to, how the body of the response is framed, the
+-- mirror's end that reads it, the bytes that were sent, how many of them were delivered, the number
+-- that the session began at, and whether the server sends no more
 pub record ConnectionState : Type 0 where
   pub token : List ℕ
-  pub text : List ℕ
+  pub framing : Framing
+  pub reader : ReaderState
+  pub bytes : List ℕ
   pub delivered : ℕ
+  pub start : ℕ
   pub over : Bool
 
 -- a mirror, the number of the node that it connected to last, its connection, if there is one, and
@@ -43,26 +53,64 @@ pub record FollowerState : Type 0 where
   pub connection : Option ConnectionState
   pub saved : List ℕ
 
-abbrev pub sending : List ℕ → List ℕ → ℕ → Bool → ConnectionState
-sending token text delivered over =
-    record { token = token; text = text; delivered = delivered; over = over }
+abbrev pub sending : List ℕ → Framing → ReaderState → List ℕ → ℕ → ℕ → Bool → ConnectionState
+sending token framing reader bytes delivered start over =
+    record {
+      token = token;
+      framing = framing;
+      reader = reader;
+      bytes = bytes;
+      delivered = delivered;
+      start = start;
+      over = over;
+    }
 
 -- how many bytes are delivered after the next ones, this many or all that remain
 abbrev pub delivered_after : ConnectionState → ℕ → ℕ
-delivered_after c bytes = min (c.delivered + bytes) (length c.text)
+delivered_after c bytes = min (c.delivered + bytes) (length c.bytes)
+
+-- these bytes
+abbrev pub next_bytes : ConnectionState → ℕ → List ℕ
+next_bytes c bytes = drop c.delivered (take (delivered_after c bytes) c.bytes)
+
+-- the connection once they were delivered, with the mirror's end as it is then
+abbrev pub advanced : ConnectionState → ℕ → ReaderState → ConnectionState
+advanced c bytes reader =
+    sending c.token c.framing reader c.bytes (delivered_after c bytes) c.start c.over
+
+-- the connection's next bytes were delivered, and the mirror followed them, wherever it stood
+pub record Brings (old : ConnectionState) (bytes : ℕ) (old_mirror : MirrorState)
+    (new : ConnectionState) (new_mirror : MirrorState) : Type 0 where
+  pub reader : ReaderState
+  pub is : new ≡ advanced old bytes reader
+  pub limits : new_mirror.limits ≡ old_mirror.limits
+  pub follows : (start : MirrorState) (before : List ℕ) (standing : Standing)
+      → FollowsAt start before standing old.reader old_mirror
+      → (now : Standing) × FollowsAt start (before ++ next_bytes old bytes) now reader new_mirror
+
+-- how many times a mirror published on a connection that started at this number, by the numbers of
+-- the tokens that it asks with before and after: a fresh connection's snapshot, and each commit
+-- after the number before
+abbrev pub published_between : ℕ → Option ℕ → Option ℕ → ℕ
+published_between start before None = 0
+published_between start None (Some after) = (after - start) + 1
+published_between start (Some before) (Some after) = after - before
 
 abbrev pub follower_state : MirrorState → ℕ → Option ConnectionState → List ℕ → FollowerState
 follower_state mirror upstream connection saved =
     record { mirror = mirror; upstream = upstream; connection = connection; saved = saved }
 
--- a world: the primary, what it has committed, and the mirrors
+-- a world: how the bodies of responses are framed, the primary, what it has committed, and the
+-- mirrors
 pub record WorldState : Type 0 where
+  pub framing : Framing
   pub primary : PrimaryState
   pub log : List Commit
   pub followers : List FollowerState
 
-abbrev pub world_state : PrimaryState → List Commit → List FollowerState → WorldState
-world_state primary log followers = record { primary = primary; log = log; followers = followers }
+abbrev pub world_state : Framing → PrimaryState → List Commit → List FollowerState → WorldState
+world_state framing primary log followers =
+    record { framing = framing; primary = primary; log = log; followers = followers }
 
 -- a mirror without a connection, of which nothing was saved
 abbrev pub new_follower : Limits → FollowerState
@@ -73,31 +121,42 @@ abbrev pub RefusesShape : ℕ → ShapeFault → Type 0
 RefusesShape nodes BadShape = ¬ (HasShape nodes)
 RefusesShape nodes NoMemory = HasShape nodes
 
--- the connection has the text that was sent on this one, and its session the last token
+-- the connection has the bytes that were sent on this one, and its session the last token
 pub record IsConnection (log : Log) (c : Connection) (s : ConnectionState) : Type 0 where
-  pub text : s.text ≡ sent_text log c
+  pub framing : s.framing ≡ c.framing
+  pub bytes : s.bytes ≡ sent_bytes log c
   pub token : s.token ≡ token_after c.last
+  pub start : s.start ≡ c.start
   pub delivered : s.delivered ≡ c.delivered
-  pub within : c.delivered ≤ length (sent_text log c)
+  pub within : c.delivered ≤ bytes_sent log c
   pub over : s.over ≡ c.over
 
--- The mirror has read what was delivered on this connection, and is where the blocks of that bring
+-- the mirror that asked for a connection, when the response began: it was here, and asked for
+-- everything where the connection is fresh
+pub record HasAsked (limits : Limits) (log : Log) (before : Option Position) (fresh : Bool)
+    (mirror : MirrorState) : Type 0 where
+  pub limits_are : mirror.limits ≡ limits
+  pub opening : present_opening mirror ≡ opening_at log before fresh
+  pub since : mirror.since ≡ (if fresh then None else published_token (node_where log before))
+
+-- The mirror has followed what was delivered of the response, and is where the blocks of that bring
 -- it from where it was. One whose token was refused is on a fresh connection, and none came yet.
 pub record IsReading (limits : Limits) (log : Log) (m : Mirror) (c : Connection)
-    (mirror : MirrorState) : Type 0 where
+    (reader : ReaderState) (mirror : MirrorState) : Type 0 where
   pub before : Option Position
   pub opened : IsOpened limits log before c
   pub place : m.place ≡ moved_by limits.history before (blocks_come log c c.delivered)
-  pub notes : List Line
-  pub stands : StandsAt (opening_at log before c.fresh)
-      (take (come_by log c c.delivered) (sent_text log c)) notes mirror
+  pub begun : MirrorState
+  pub asked : HasAsked limits log before c.fresh begun
+  pub standing : Standing
+  pub follows : FollowsAt begun (take c.delivered (sent_bytes log c)) standing reader mirror
   pub afresh : m.afresh ≡ true → (c.fresh ≡ true) × (blocks_come log c c.delivered ≡ [])
 
 -- both have a connection, this one; or neither has one, and the mirror is not open
 abbrev pub AreLinked : Limits → Log → Mirror → Option Connection → FollowerState
     → Option ConnectionState → Type 0
 AreLinked limits log m (Some c) f (Some s) =
-    IsConnection log c s × IsReading limits log m c f.mirror
+    IsConnection log c s × IsReading limits log m c s.reader f.mirror
 AreLinked limits log m None f None = f.mirror.connection ≡ None
 AreLinked limits log m (Some c) f None = ⊥
 AreLinked limits log m None f (Some s) = ⊥
@@ -143,7 +202,28 @@ pub record BreaksMirror (limits : Limits) (log : Log) (m : Mirror) (bytes : ℕ)
 abbrev pub IsBrought : Limits → Log → Mirror → ℕ → ℕ → Reply → FollowerState → Type 0
 IsBrought limits log m number bytes reply f =
     Moves limits log (mirror_delivers limits.history log bytes m) reply f
-    ⊎ ((reply ≡ Broke number FeedMemory) × BreaksMirror limits log m bytes f)
+    ⊎ (BrokeForMemory number reply × BreaksMirror limits log m bytes f)
+
+-- what is replied where following a refusal meets this fault
+abbrev pub refusal_reply : ℕ → FollowFault → Reply
+refusal_reply number (Status status) = NotYet
+refusal_reply number fault = Broke number fault
+
+-- A refusal was followed whole, by a mirror that asked with a token or with none: its token is
+-- refused, or it is told of the status; or memory ran out, which cut it.
+abbrev pub FollowsRefusal : Refusal → ℕ → MirrorState → Reply → MirrorState → Type 0
+FollowsRefusal refusal number old reply new =
+    ((refusal_standing (is_some old.since) refusal ≡ token_refused) × (reply ≡ Refused)
+    × (new ≡ refused_off old))
+    ⊎ (((refusal_standing (is_some old.since) refusal
+    ≡ failed (Status (refusal_code refusal)) []) × (reply ≡ NotYet) × (new ≡ cut_off old))
+    ⊎ (BrokeForMemory number reply × (new ≡ cut_off old)))
+
+-- the answer refused a connection, and following it broke off for want of memory
+pub record BreaksConnect (limits : Limits) (log : Log) (framing : Framing) (m : Mirror)
+    (j back : ℕ) (place : Option Position) (f : FollowerState) : Type 0 where
+  pub refusal : IsRefusal (connects framing (turned_to j m) place back).0
+  pub is_mirror : IsMirror limits log (linked (turned_to j m) None) f
 
 -- each mirror is the one at its place
 abbrev pub AreMirrors : Limits → Log → List Mirror → List FollowerState → Type 0
@@ -168,6 +248,7 @@ pub record AreNodes (w : World) (primary : PrimaryState) (fs : List FollowerStat
 
 -- the state is that of this world
 pub record IsWorld (w : World) (s : WorldState) : Type 0 where
+  pub framing : s.framing ≡ w.framing
   pub commits : s.log ≡ commits_after w.log 0 (length w.log)
   pub nodes : AreNodes w s.primary s.followers
 
@@ -179,6 +260,7 @@ IsOfWorld s = (w : World) × IsWorld w s
 pub record MovesTo (w : World) (event : Event) (reply : Reply) (after : World) : Type 0 where
   pub step : Step w event reply after
   pub limits : after.limits ≡ w.limits
+  pub framing : after.framing ≡ w.framing
   pub log : after.log ≡ w.log
 
 -- the event led to a world whose mirrors these are
@@ -200,25 +282,38 @@ WorldRunsUpTo w events fault s = (after : World) × RunUpTo w events fault after
 
 -- no mirror stopped feeding but for want of memory
 abbrev pub BreaksForMemory : Reply → Type 0
-BreaksForMemory (Broke i fault) = fault ≡ FeedMemory
+BreaksForMemory (Broke i fault) = IsMemory fault
 BreaksForMemory reply = Unit {0}
 
 -- ---- what a mirror asks of another node
 
 -- the event at which the mirror of this number asks for this
 abbrev pub event_asking : Asks → ℕ → Event
-event_asking (ForConnection j back) i = Connect i j back
+event_asking (ForConnection j back framing) i = Connect i j back
 event_asking ForCommit i = Serve i
 
 -- the node that is asked by a mirror that connected to this one last
 abbrev pub node_asked : Asks → ℕ → ℕ
-node_asked (ForConnection j back) upstream = j
+node_asked (ForConnection j back framing) upstream = j
 node_asked ForCommit upstream = upstream
 
 -- what comes of it, where that node is at this place
 abbrev pub mirror_asks : Asks → Mirror → Option Position → Result Move WorldFault
-mirror_asks (ForConnection j back) m server = mirror_connects j back m server
+mirror_asks (ForConnection j back framing) m server = mirror_connects framing j back m server
 mirror_asks ForCommit m server = mirror_serves m server
+
+-- responses are framed as those of this world are
+abbrev pub IsFramedAs : Framing → Asks → Type 0
+IsFramedAs framing (ForConnection j back own) = own ≡ framing
+IsFramedAs framing ForCommit = Unit {0}
+
+-- the mirror of this number asked that node; or following its refusal broke off
+abbrev pub IsAsked : Limits → Log → Asks → Mirror → ℕ → Option Position → Reply → FollowerState → Type 0
+IsAsked limits log (ForConnection j back framing) m number server reply f =
+    Moves limits log (mirror_connects framing j back m server) reply f
+    ⊎ (BrokeForMemory number reply × BreaksConnect limits log framing m j back server f)
+IsAsked limits log ForCommit m number server reply f =
+    Moves limits log (mirror_serves m server) reply f
 
 -- ---- what a connection has carried
 
@@ -233,7 +328,7 @@ abbrev pub carrying : ℕ → ℕ → List ℕ → Carried
 carrying sent delivered last = record { sent = sent; delivered = delivered; last = last }
 
 abbrev pub carried : ConnectionState → Carried
-carried c = carrying (length c.text) c.delivered c.token
+carried c = carrying (length c.bytes) c.delivered c.token
 
 -- what the connection of this mirror has carried, where it has one
 abbrev pub link_at : WorldState → ℕ → Option Carried

@@ -4,6 +4,9 @@ use Rattle.feed_tables.specs.declared.change.Change.{Change}
 use Rattle.feed_node.specs.declared.primary.CommitFault.{CommitFault}
 use Rattle.feed_node.specs.declared.primary.CommitFault.TheVariants.{Memory as CommitMemory}
 use Rattle.feed_node.specs.declared.fault.FeedFault.TheVariants.{Memory as FeedMemory}
+use Rattle.feed_follow.specs.declared.fault.FollowFault.{FollowFault}
+use Rattle.feed_follow.specs.declared.fault.FollowFault.TheVariants.{Feed, Memory as FollowMemory}
+use Rattle.feed_answer.specs.declared.framing.Framing.{Framing}
 use Rattle.feed_node.specs.declared.session.Pulled.{Pulled}
 use Rattle.feed_node.specs.declared.session.Pulled.TheVariants.{More, UpToDate, Gone}
 use Rattle.feed_node.specs.Log.{PrimaryState, token_after, early_fault, commit_fault}
@@ -40,6 +43,7 @@ abbrev pub committed : World → List Change → World
 committed world changes =
     record {
       limits = world.limits;
+      framing = world.framing;
       log = world.log ++ changes ∷ [];
       primary = renewed world.limits.history (world.primary.at + 1) world.primary.low;
       mirrors = world.mirrors;
@@ -70,9 +74,10 @@ abbrev pub refused : Mirror → Mirror
 refused mirror = record mirror { afresh = true; connection = None }
 
 -- a connection on which nothing was delivered
-abbrev pub new_connection : Bool → ℕ → Connection
-new_connection fresh start =
+abbrev pub new_connection : Framing → Bool → ℕ → Connection
+new_connection framing fresh start =
     record {
+      framing = framing;
       fresh = fresh;
       start = start;
       parts = first_parts fresh start;
@@ -81,8 +86,9 @@ new_connection fresh start =
       over = false;
     }
 
-abbrev pub opens : Mirror → Bool → ℕ → Move
-opens mirror fresh start = (Opened, linked mirror (Some (new_connection fresh start)))
+abbrev pub opens : Framing → Mirror → Bool → ℕ → Move
+opens framing mirror fresh start =
+    (Opened, linked mirror (Some (new_connection framing fresh start)))
 
 abbrev pub holds_number : Position → ℕ → Bool
 holds_number server k = nat_le server.low k && nat_le k server.at
@@ -91,23 +97,31 @@ holds_number server k = nat_le server.low k && nat_le k server.at
 abbrev pub start_before : ℕ → Position → Position → ℕ
 start_before back server own = own.at - min back (min (own.at - own.low) (own.at - server.low))
 
-abbrev pub connects_behind : Mirror → Position → Position → ℕ → Move
-connects_behind mirror server own back =
-    if holds_number server own.at then opens mirror false (start_before back server own)
+abbrev pub connects_behind : Framing → Mirror → Position → Position → ℕ → Move
+connects_behind framing mirror server own back =
+    if holds_number server own.at then opens framing mirror false (start_before back server own)
     else (Refused, refused mirror)
 
-abbrev pub connects_to : Mirror → Position → Option Position → ℕ → Move
-connects_to mirror server None back = opens mirror true server.at
-connects_to mirror server (Some own) back =
-    if mirror.afresh then opens mirror true server.at else connects_behind mirror server own back
+abbrev pub connects_to : Framing → Mirror → Position → Option Position → ℕ → Move
+connects_to framing mirror server None back = opens framing mirror true server.at
+connects_to framing mirror server (Some own) back =
+    if mirror.afresh then opens framing mirror true server.at
+    else connects_behind framing mirror server own back
 
 -- to a server that is at this place
-abbrev pub connects : Mirror → Option Position → ℕ → Move
-connects mirror None back = (NotYet, linked mirror None)
-connects mirror (Some server) back = connects_to mirror server mirror.place back
+abbrev pub connects : Framing → Mirror → Option Position → ℕ → Move
+connects framing mirror None back = (NotYet, linked mirror None)
+connects framing mirror (Some server) back =
+    connects_to framing mirror server mirror.place back
+
+-- the reply to a connect that opens nothing
+abbrev pub IsRefusal : Reply → Type 0
+IsRefusal Refused = Unit {0}
+IsRefusal NotYet = Unit {0}
+IsRefusal reply = ⊥
 
 -- ---- Serve: the commit after the last one, where the server holds its token; else nothing more
--- comes
+-- comes, and the body is not ended, either
 
 abbrev pub with_more : Connection → Connection
 with_more c = record c { parts = c.parts ++ Commit (c.last + 1) ∷ []; last = c.last + 1 }
@@ -210,8 +224,9 @@ abbrev pub with_connection : Option Connection → (Connection → Move) → Res
 with_connection None act = Err NoConnection
 with_connection (Some c) act = Ok (act c)
 
-abbrev pub mirror_connects : ℕ → ℕ → Mirror → Option Position → Result Move WorldFault
-mirror_connects j back mirror server = Ok (connects (turned_to j mirror) server back)
+abbrev pub mirror_connects : Framing → ℕ → ℕ → Mirror → Option Position → Result Move WorldFault
+mirror_connects framing j back mirror server =
+    Ok (connects framing (turned_to j mirror) server back)
 
 abbrev pub mirror_serves : Mirror → Option Position → Result Move WorldFault
 mirror_serves mirror server =
@@ -257,7 +272,8 @@ abbrev pub outcome : World → Event → Outcome
 outcome world (DoCommit changes) = commits world changes
 outcome world (Connect i j back) =
     if is_other world i j
-    then at_node world i (λ mirror. mirror_connects j back mirror (place_at world j)) else Err NoNode
+    then at_node world i (λ mirror. mirror_connects world.framing j back mirror (place_at world j))
+    else Err NoNode
 outcome world (Serve i) =
     at_node world i (λ mirror. mirror_serves mirror (place_at world mirror.upstream))
 outcome world (Idle i) = at_node world i mirror_idles
@@ -280,13 +296,34 @@ pub record Breaks (old : World) (i n : ℕ) (new : World) : Type 0 where
   pub after : new ≡ with_mirror old i
       (brought_to old.limits.history old.log mirror connection e None)
 
--- the event was a delivery, and its connection broke
+-- The answer refused a connection, and following it broke off for want of memory: there is no
+-- connection, and the mirror asks with what it asked with.
+pub record BreaksRefusal (old : World) (i j back : ℕ) (new : World) : Type 0 where
+  pub mirror : Mirror
+  pub other : is_other old i j ≡ true
+  pub is_there : mirror_at old i ≡ Some mirror
+  pub refusal : IsRefusal
+      (connects old.framing (turned_to j mirror) (place_at old j) back).0
+  pub after : new ≡ with_mirror old i (linked (turned_to j mirror) None)
+
+-- what a want of memory is told as: in the head of a response, and in its body
+abbrev pub IsMemory : FollowFault → Type 0
+IsMemory FollowMemory = Unit {0}
+IsMemory (Feed FeedMemory) = Unit {0}
+IsMemory fault = ⊥
+
+-- the mirror's connection broke for want of memory
+abbrev pub BrokeForMemory : ℕ → Reply → Type 0
+BrokeForMemory i reply = (fault : FollowFault) × (reply ≡ Broke i fault) × IsMemory fault
+
+-- the event was a delivery, and its connection broke; or a connect, and following the refusal broke
 abbrev pub Broken : World → Event → Reply → World → Type 0
-Broken old (Deliver i n) reply new = (reply ≡ Broke i FeedMemory) × Breaks old i n new
+Broken old (Deliver i n) reply new = BrokeForMemory i reply × Breaks old i n new
+Broken old (Connect i j back) reply new = BrokeForMemory i reply × BreaksRefusal old i j back new
 Broken old event reply new = ⊥
 
 -- From the old world the event may have this reply and lead to the new one: the outcome, or a
--- delivery broke for want of memory.
+-- delivery, or following a refusal, broke for want of memory.
 abbrev pub Step : World → Event → Reply → World → Type 0
 Step old event reply new = (outcome old event ≡ Ok (reply, new)) ⊎ Broken old event reply new
 
@@ -302,13 +339,11 @@ Run old (event ∷ events) [] new = ⊥
 abbrev pub is_free_reply : Reply → Bool
 is_free_reply (Sent UpToDate) = true
 is_free_reply (Sent Gone) = true
-is_free_reply Refused = true
-is_free_reply NotYet = true
 is_free_reply Cut = true
 is_free_reply reply = false
 
--- an event at no node or no connection takes no memory, nor do a connect that opens nothing, a pull
--- with nothing to send, and a cut
+-- an event at no node or no connection takes no memory, nor do a pull with nothing to send, and a
+-- cut; a connect writes a request
 abbrev pub is_free : Outcome → Bool
 is_free (Err NoNode) = true
 is_free (Err NoConnection) = true
@@ -320,8 +355,8 @@ abbrev pub TakesNone : World → Event → Type 0
 TakesNone world (DoCommit changes) = IsSome (early_fault (primary_of world) changes)
 TakesNone world event = IsTrue (is_free (outcome world event))
 
--- A want of memory refuses an event only where memory is taken. Within a delivery it breaks the
--- connection, and refuses nothing.
+-- A want of memory refuses an event only where memory is taken. Within a delivery, and where a
+-- refusal is followed, it breaks the connection, and refuses nothing.
 abbrev pub LacksMemory : World → Event → WorldFault → Type 0
 LacksMemory world (Deliver i n) fault = ⊥
 LacksMemory world (DoCommit changes) fault =

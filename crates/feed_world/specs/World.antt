@@ -3,6 +3,7 @@ use Rattle.std.specs.Prelude.{◌≡◌, ℕ, zero, suc, ◌≤◌, ◌-◌, Boo
 use Rattle.std.specs.Option.{option_and_then}
 use Rattle.feed_node.specs.Limits.{Limits}
 use Rattle.feed_node.specs.States.{NodeState}
+use Rattle.feed_answer.specs.declared.framing.Framing.{Framing}
 use Rattle.feed_world.specs.Log.{Log, state_text}
 use Rattle.feed_world.specs.Position.{Position, node_where}
 use Rattle.feed_world.specs.Connection.{Connection}
@@ -18,9 +19,11 @@ pub record Mirror : Type 0 where
   pub connection : Option Connection
   pub saved : Option ℕ
 
--- a world: the limits of its nodes, the log, where the primary is, and the mirrors
+-- a world: the limits of its nodes, how the bodies of responses are framed, the log, where the
+-- primary is, and the mirrors
 pub record World : Type 0 where
   pub limits : Limits
+  pub framing : Framing
   pub log : Log
   pub primary : Position
   pub mirrors : List Mirror
@@ -45,10 +48,11 @@ new_mirror =
     }
 
 -- the world of so many nodes at the start
-abbrev pub new_world : Limits → ℕ → World
-new_world limits nodes =
+abbrev pub new_world : Limits → Framing → ℕ → World
+new_world limits framing nodes =
     record {
       limits = limits;
+      framing = framing;
       log = [];
       primary = record { at = 0; low = 0 };
       mirrors = replicate (nodes - 1) new_mirror;
@@ -69,6 +73,7 @@ with_mirror world zero mirror = world
 with_mirror world (suc i) mirror =
     record {
       limits = world.limits;
+      framing = world.framing;
       log = world.log;
       primary = world.primary;
       mirrors = slice_set world.mirrors i mirror;

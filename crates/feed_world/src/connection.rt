@@ -1,26 +1,50 @@
 //! Connections of a world: what a node sent to a mirror, and how much of it came.
 
-ghost use Rattle.std.specs.Prelude.{◌≡◌, ◌+◌, ◌≤◌, true, false, length, take, drop, min, ◌-◌, Option, IfOk, OnErr};
+ghost use Rattle.std.specs.Prelude.{◌≡◌, ◌<◌, ◌≤◌, ◌^◌, ℕ, List, false, length, Option, IfOk, IfErr, OnOk, OnErr, IsTrue, ◌↔◌, ◌⊎◌, true, Some, None, IfSome, IfNone};
 ghost use Rattle.feed_node.specs.Limits.{Limits as Bounds};
+ghost use Rattle.feed_node.specs.Log.{token_after};
+ghost use Rattle.feed_node.specs.Mirroring.{MirrorState};
+ghost use Rattle.feed_node.specs.States.{published_token, holds_token};
 ghost use Rattle.feed_node.specs.declared.session.Pulled.TheVariants.{More};
+ghost use Rattle.feed_follow.specs.Follower.{FollowsAt};
+ghost use Rattle.feed_follow.specs.Following.{Fails};
+ghost use Rattle.feed_follow.specs.Standing.{Standing};
 ghost use Rattle.feed_world.specs.Connection.{Connection as Sending};
 ghost use Rattle.feed_world.specs.Log.{Log, IsLog};
 ghost use Rattle.feed_world.specs.Position.{Position, IsPlace, node_where};
-ghost use Rattle.feed_world.specs.States.{IsConnection, sending, delivered_after};
+ghost use Rattle.feed_world.specs.States.{IsConnection, sending, delivered_after, next_bytes, Brings};
 ghost use Rattle.feed_world.specs.Step.{serves, idles};
 
 use crate::event::Reply;
-use feed_node::{Node, Pulled, Session};
+use feed_answer::{Framing, frame};
+use feed_follow::{FollowFault, Follower as Reader};
+use feed_node::{Mirror, Node, OpenFault, Pulled, Session, node_laws};
 use feed_tables::Name;
 use std::alloc::{AllocError, Global};
 use std::marker::Model;
 
-/// A session, and the connection that carries what it sends.
+/// The number that a primary's token says.
+pub(crate) fn number_of(token: &str) -> u64
+    ensures { (k : ℕ) → k < 2 ^ 64 → token.now ≡ token_after k → result ≡ k }
+{
+    match token.parse::<u64>() {
+        Ok(number) => number,
+        Err(_) => 0,
+    }
+}
+
+/// A session, and the connection that carries the response with what it sends.
 #[derive(Drop)]
 pub(crate) struct Connection {
     session: Session,
-    text: Vec<u8>,
+    framing: Framing,
+    // The mirror's end: it reads the bytes that come.
+    reader: Reader,
+    // The bytes of the response that were sent.
+    bytes: Vec<u8>,
     delivered: usize,
+    // The number of the token that the session began at.
+    start: u64,
     // The server sends no more.
     is_over: bool,
 }
@@ -35,26 +59,60 @@ impl Model for Connection {
 
     ghost use Rattle.std.specs.Prelude.{◌≤◌, length};
 
-    ghost view = { λ a. sending a.session a.text.items a.delivered a.is_over };
+    ghost view = { λ a. sending a.session a.framing a.reader a.bytes.items a.delivered a.start
+        a.is_over };
 
-    ghost invariant = { λ a. a.delivered ≤ length a.text.items };
+    ghost invariant = { λ a. a.delivered ≤ length a.bytes.items };
+}
+
+/// Whether the node has published this token.
+fn is_at(server: &Node, token: &str) -> bool
+    ensures { IsTrue result ↔ (published_token server.now.shown ≡ Some token.now) }
+{
+    match server.token() {
+        Some(published) => published.text() == token,
+        None => false,
+    }
+}
+
+/// A session of this node at this token, where the node holds it.
+fn session_at(alloc: Global, server: &Node, token: &str) -> Result<Option<Session>, AllocError>
+    ensures some { IfOk result (λ found. IfSome found (λ session. (session ≡ token.now)
+        × (holds_token server.now.shown token.now ≡ true))) }
+    ensures none { IfOk result (λ found. IfNone found ((server.now.shown.published ≡ None)
+        ⊎ (holds_token server.now.shown token.now ≡ false))) }
+    ensures err { OnErr result (holds_token server.now.shown token.now ≡ true) }
+{
+    // What `some` rests on.
+    node_laws();
+    match server.open(alloc, Some(token), 0) {
+        Ok((session, _)) => Ok(Some(session)),
+        Err(OpenFault::NotYet) => Ok(None),
+        Err(OpenFault::NotHeld) => Ok(None),
+        Err(OpenFault::Memory) => Err(AllocError),
+    }
 }
 
 impl Connection {
     /// A connection on which this was sent when the session was opened.
-    pub fn new(session: Session, text: Vec<u8>) -> Connection
-        ensures { result ≡ sending session text.items 0 false }
+    pub fn new(session: Session, framing: Framing, reader: Reader, bytes: Vec<u8>) -> Connection
+        ensures { (k : ℕ) → k < 2 ^ 64 → session ≡ token_after k
+            → result ≡ sending session framing reader bytes.items 0 k false }
     {
+        let start = number_of(session.token().text());
         Connection {
             session,
-            text,
+            framing,
+            reader,
+            bytes,
             delivered: 0,
+            start,
             is_over: false,
         }
     }
 
     /// The server sends its next commit. Where it no longer holds the session's token, it sends no
-    /// more.
+    /// more, and the body is not ended, either.
     pub fn serve(&mut self, alloc: Global, server: &Node) -> Result<Pulled, AllocError>
         ensures ok { (limits : Bounds) (log : Log) (c : Sending) (place : Option Position)
             → IsLog limits log → IsPlace limits log place
@@ -67,29 +125,43 @@ impl Connection {
             → server.now.shown ≡ node_where log place → c.last ≤ length log
             → IsConnection log c self.old
             → OnErr result ((serves c place).0 ≡ More) }
+        ensures reader { self.new.reader ≡ self.old.reader }
         ensures unchanged { OnErr result (self.new ≡ self.old) }
     {
         if self.is_over {
             return Ok(Pulled::Gone);
         }
-        let pulled = self.session.pull(alloc, server, &mut self.text)?;
-        if pulled == Pulled::Gone {
-            self.is_over = true;
+        let token = self.session.token().text();
+        if is_at(server, token) {
+            return Ok(Pulled::UpToDate);
         }
+        // A session of its own takes the place of this one once its text is framed.
+        let mut session = match session_at(alloc, server, token)? {
+            Some(session) => session,
+            None => {
+                self.is_over = true;
+                return Ok(Pulled::Gone);
+            }
+        };
+        let mut lines = Vec::new(alloc);
+        let pulled = session.pull(alloc, server, &mut lines)?;
+        frame(alloc, self.framing, lines.as_slice(), &mut self.bytes)?;
+        self.session = session;
         Ok(pulled)
     }
 
     /// The server has no more to send for now.
-    pub fn idle(&mut self) -> Result<Reply, AllocError>
+    pub fn idle(&mut self, alloc: Global) -> Result<Reply, AllocError>
         ensures ok { (log : Log) (c : Sending) → IsConnection log c self.old
             → IfOk result (λ reply. (reply ≡ (idles c).0) × IsConnection log (idles c).1 self.new) }
         ensures err { OnErr result (self.old.over ≡ false) }
+        ensures reader { self.new.reader ≡ self.old.reader }
         ensures unchanged { OnErr result (self.new ≡ self.old) }
     {
         if self.is_over {
             return Ok(Reply::Sent(Pulled::Gone));
         }
-        self.session.idle(&mut self.text)?;
+        frame(alloc, self.framing, b"\n", &mut self.bytes)?;
         Ok(Reply::Idled)
     }
 
@@ -97,30 +169,44 @@ impl Connection {
     fn end(&self, bytes: usize) -> usize
         ensures { result ≡ delivered_after self.now bytes }
     {
-        self.delivered.saturating_add(bytes).min(self.text.len())
+        self.delivered.saturating_add(bytes).min(self.bytes.len())
     }
 
-    /// The next bytes, this many or all that remain.
-    pub fn next(&self, bytes: usize) -> &[u8]
-        ensures { result.now
-            ≡ drop self.now.delivered (take (delivered_after self.now bytes) self.now.text) }
+    /// Brings the mirror the next bytes, this many or all that remain. No bytes take no memory.
+    pub fn bring(
+        &mut self,
+        alloc: Global,
+        mirror: &mut Mirror,
+        bytes: usize,
+    ) -> Result<(), FollowFault>
+        ensures ok { OnOk result (Brings self.old bytes mirror.old self.new mirror.new) }
+        ensures err { (start : MirrorState) (before : List ℕ) (standing : Standing)
+            → FollowsAt start before standing self.old.reader mirror.old
+            → IfErr result (Fails start self.old.reader.had_token before
+            (next_bytes self.old bytes) mirror.new) }
+        ensures some { OnErr result (self.old.delivered < delivered_after self.old bytes) }
+        ensures limits { mirror.new.limits ≡ mirror.old.limits }
+        ensures fits { length self.old.bytes < 2 ^ 64 }
     {
-        &self.text[self.delivered..self.end(bytes)]
-    }
-
-    /// The next bytes were delivered.
-    pub fn advance(&mut self, bytes: usize)
-        ensures { self.new
-            ≡ sending self.old.token self.old.text (delivered_after self.old bytes) self.old.over }
-    {
-        self.delivered = self.end(bytes);
+        let end = self.end(bytes);
+        if end == self.delivered {
+            return Ok(());
+        }
+        let piece = &self.bytes[self.delivered..end];
+        match self.reader.push(alloc, mirror, piece) {
+            Ok(_) => {
+                self.delivered = end;
+                Ok(())
+            }
+            Err(fault) => Err(fault),
+        }
     }
 
     /// How many bytes were sent.
     pub fn sent(&self) -> usize
-        ensures { result ≡ length self.now.text }
+        ensures { result ≡ length self.now.bytes }
     {
-        self.text.len()
+        self.bytes.len()
     }
 
     /// How many of them were delivered.
@@ -128,6 +214,13 @@ impl Connection {
         ensures { result ≡ self.now.delivered }
     {
         self.delivered
+    }
+
+    /// The number of the token that the session began at.
+    pub fn start(&self) -> u64
+        ensures { result ≡ self.now.start }
+    {
+        self.start
     }
 
     /// The token up to which was sent.

@@ -5,7 +5,9 @@ ghost use Rattle.feed_world.specs.States.{node_asked};
 ghost use Rattle.feed_world.specs.declared.event.WorldFault.TheVariants.{Commit as CommitRefused, Memory as WorldMemory};
 ghost use Rattle.feed_world.specs.declared.event.ShapeFault.TheVariants.{Memory as ShapeMemory};
 
-use feed_node::{CommitFault, FeedFault, Pulled};
+use feed_answer::Framing;
+use feed_follow::FollowFault;
+use feed_node::{CommitFault, Pulled};
 use feed_tables::{Changes, Name};
 use std::alloc::{AllocError, AllocFailed};
 use thiserror::Error;
@@ -36,8 +38,8 @@ pub enum Event {
 /// What a mirror asks of another node.
 #[derive(Clone, Copy)]
 pub(crate) enum Asks {
-    /// Of this node, with so many commits again.
-    ForConnection(usize, usize),
+    /// Of this node, with so many commits again, and so framed.
+    ForConnection(usize, usize, Framing),
     /// Of the node at the other end of its connection.
     ForCommit,
 }
@@ -48,7 +50,7 @@ impl Asks {
         ensures { result ≡ node_asked self upstream }
     {
         match self {
-            Asks::ForConnection(server, _) => server,
+            Asks::ForConnection(server, _, _) => server,
             Asks::ForCommit => upstream,
         }
     }
@@ -71,8 +73,8 @@ pub enum Reply {
     Idled,
     /// How many times the mirror published.
     Delivered(usize),
-    /// This mirror stopped feeding, and its connection is gone.
-    Broke(usize, FeedFault),
+    /// This mirror stopped following, and its connection is gone.
+    Broke(usize, FollowFault),
     /// The connection is gone.
     Cut,
     /// How many bytes were saved.

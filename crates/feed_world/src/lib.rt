@@ -1,6 +1,7 @@
 //! Nodes and the connections between them under any schedule of events.
 #![tactic(auto)]
 
+mod asking;
 mod connection;
 mod event;
 mod follower;
@@ -8,6 +9,7 @@ mod laws;
 mod moves;
 mod world;
 
+pub use feed_answer::Framing;
 pub use event::{Event, Reply, ShapeFault, WorldFault};
 pub use laws::world_laws;
 pub use world::{Link, MOST_NODES, World};

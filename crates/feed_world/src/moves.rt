@@ -5,7 +5,7 @@ ghost use Rattle.std.specs.Option.{option_copied};
 ghost use Rattle.feed_node.specs.Log.{PrimaryState};
 ghost use Rattle.feed_world.specs.declared.event.Event.TheVariants.{Idle, Deliver, Cut as DoCut, Save, Restart};
 ghost use Rattle.feed_world.specs.declared.event.WorldFault.TheVariants.{NoNode};
-ghost use Rattle.feed_world.specs.States.{FollowerState, AreNodes, NodesMove, all_shown, event_asking};
+ghost use Rattle.feed_world.specs.States.{FollowerState, AreNodes, NodesMove, IsFramedAs, all_shown, event_asking};
 ghost use Rattle.feed_world.specs.Step.{IsRefused};
 ghost use Rattle.feed_world.specs.World.{World as Numbers};
 
@@ -71,10 +71,10 @@ pub(crate) fn ask(
     number: usize,
     asks: Asks,
 ) -> Result<Reply, WorldFault>
-    ensures ok { (w : Numbers) → AreNodes w primary.now followers.old
+    ensures ok { (w : Numbers) → AreNodes w primary.now followers.old → IsFramedAs w.framing asks
         → IfOk result (λ reply.
         NodesMove w primary.now (event_asking asks number) reply followers.new) }
-    ensures err { (w : Numbers) → AreNodes w primary.now followers.old
+    ensures err { (w : Numbers) → AreNodes w primary.now followers.old → IsFramedAs w.framing asks
         → IfErr result (λ fault. IsRefused w (event_asking asks number) fault) }
     ensures unchanged { OnErr result (followers.new ≡ followers.old) }
 {
@@ -83,13 +83,17 @@ pub(crate) fn ask(
     let (own, later) = rest.split_at_mut(1);
     let follower = &mut own[0];
     match other_node(primary, earlier, later, asks.of(follower.upstream())) {
-        Some(server) => follower.ask(alloc, server, asks),
+        Some(server) => follower.ask(alloc, server, number, asks),
         None => Err(WorldFault::NoNode),
     }
 }
 
 /// The node that the mirror is connected to has no more to send for now.
-pub(crate) fn idle(followers: &mut [Follower], number: usize) -> Result<Reply, WorldFault>
+pub(crate) fn idle(
+    alloc: Global,
+    followers: &mut [Follower],
+    number: usize,
+) -> Result<Reply, WorldFault>
     ensures ok { (w : Numbers) (primary : PrimaryState) → AreNodes w primary followers.old
         → IfOk result (λ reply. NodesMove w primary (Idle number) reply followers.new) }
     ensures err { (w : Numbers) (primary : PrimaryState) → AreNodes w primary followers.old
@@ -97,7 +101,7 @@ pub(crate) fn idle(followers: &mut [Follower], number: usize) -> Result<Reply, W
     ensures unchanged { OnErr result (followers.new ≡ followers.old) }
 {
     let place = place_of(followers, number)?;
-    followers[place].idle()
+    followers[place].idle(alloc)
 }
 
 /// The mirror's connection brings its next bytes, this many or all that remain.
