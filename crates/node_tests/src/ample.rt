@@ -4,7 +4,7 @@ use crate::model::{Answer, Happening, Numbers};
 use feed_node::{CommitFault, Limits, Pulled};
 use feed_note::batches;
 use feed_tables::Changes;
-use feed_world::{Event, Reply, World, WorldFault};
+use feed_world::{Event, Framing, Reply, World, WorldFault};
 use std::alloc::Global;
 
 /// Numbers from 0 to 32,767, in an order that is always the same.
@@ -258,6 +258,9 @@ fn agrees(alloc: Global, world: &World, model: &Numbers) -> Option<bool> {
     Some(is_placed(alloc, world, model, 0)? && world.log().len() == model.count())
 }
 
+/// How many replies are told apart.
+const REPLIES: usize = 19;
+
 /// Which of the model's replies it is.
 fn place_of(answer: Answer) -> usize {
     match answer {
@@ -302,68 +305,77 @@ fn meet(
     }
 }
 
-/// How many events were met alike, and how often each reply was given to them.
-#[derive(Clone, Copy)]
-struct Tally {
-    alike: usize,
-    replies: [usize; 19],
+/// How many events are drawn, and how many mirrors, kept commits, and types and objects there are.
+const EVENTS: usize = 10_000;
+
+const MIRROR_COUNT: usize = 3;
+
+const HISTORY: usize = 2;
+
+const STAGED: usize = 100;
+
+/// How many events of these kinds the world and the model meet alike, up to the first at which they
+/// part, and how many of the replies are given to them.
+fn met(alloc: Global, kinds: &[Kind; 16], framing: Framing) -> Option<(usize, usize)> {
+    let limits = Limits::new(HISTORY, STAGED).ok()?;
+    let mut world = World::framed(alloc, MIRROR_COUNT + 1, limits, framing).ok()?;
+    let mut model = Numbers::new(alloc, MIRROR_COUNT, framing, (HISTORY, STAGED), OBJECTS)?;
+    let mut draws = Draws { seed: 1 };
+    let mut given = [false; REPLIES];
+    let mut alike: usize = 0;
+    for _ in 0..EVENTS {
+        let Some(answer) = meet(alloc, &mut draws, kinds, &mut world, &mut model) else {
+            break;
+        };
+        *given.get_mut(place_of(answer))? = true;
+        alike = alike.saturating_add(1);
+    }
+    Some((alike, given.iter().filter(|is_given| **is_given).count()))
 }
 
-/// Draws so many events of these kinds, until the world and the model part.
-fn play(alloc: Global, kinds: &[Kind; 16], count: usize) -> Option<Tally> {
-    let mut world = World::new(alloc, 4, Limits::new(2, 100).ok()?).ok()?;
-    let mut model = Numbers::new(alloc, 3, 2, 100, OBJECTS)?;
-    let mut draws = Draws { seed: 1 };
-    let mut replies = [0usize; 19];
-    for alike in 0..count {
-        let Some(answer) = meet(alloc, &mut draws, kinds, &mut world, &mut model) else {
-            return Some(Tally { alike, replies });
-        };
-        let times = replies.get_mut(place_of(answer))?;
-        *times = times.saturating_add(1);
-    }
-    Some(Tally {
-        alike: count,
-        replies,
-    })
-}
+/// What is met where nothing is saved and no mirror is restarted, and where none is cut.
+const UNSAVED: Option<(usize, usize)> = Some((EVENTS, REPLIES - 4));
+
+const UNCUT: Option<(usize, usize)> = Some((EVENTS, REPLIES - 1));
 
 #[test]
 fn ample(rt: HostRuntime) {
-    let Some(tally) = play(rt.alloc(), &KINDS, 10_000) else {
-        assert!(rt; false, "no world");
-        return;
-    };
-    assert_eq!(rt; tally.alike, 10_000);
-    assert!(rt; tally.replies.iter().take(15).all(|times| 0 < *times));
+    assert_eq!(rt; met(rt.alloc(), &KINDS, Framing::Close), UNSAVED);
+}
+
+#[test]
+fn ample_in_chunks(rt: HostRuntime) {
+    assert_eq!(rt; met(rt.alloc(), &KINDS, Framing::Chunked), UNSAVED);
 }
 
 #[test]
 fn ample_with_restarts(rt: HostRuntime) {
-    let Some(tally) = play(rt.alloc(), &RESTARTING, 10_000) else {
-        assert!(rt; false, "no world");
-        return;
-    };
-    assert_eq!(rt; tally.alike, 10_000);
-    assert!(rt; tally.replies.iter().all(|times| 0 < *times));
+    let given = met(rt.alloc(), &RESTARTING, Framing::Close);
+    assert_eq!(rt; given, Some((EVENTS, REPLIES)));
+}
+
+#[test]
+fn ample_with_restarts_in_chunks(rt: HostRuntime) {
+    let given = met(rt.alloc(), &RESTARTING, Framing::Chunked);
+    assert_eq!(rt; given, Some((EVENTS, REPLIES)));
 }
 
 #[test]
 fn ample_with_resends(rt: HostRuntime) {
-    let Some(tally) = play(rt.alloc(), &RESENDING, 10_000) else {
-        assert!(rt; false, "no world");
-        return;
-    };
-    assert_eq!(rt; tally.alike, 10_000);
-    assert!(rt; tally.replies.iter().take(14).all(|times| 0 < *times));
+    assert_eq!(rt; met(rt.alloc(), &RESENDING, Framing::Close), UNCUT);
+}
+
+#[test]
+fn ample_with_resends_in_chunks(rt: HostRuntime) {
+    assert_eq!(rt; met(rt.alloc(), &RESENDING, Framing::Chunked), UNCUT);
 }
 
 #[test]
 fn ample_with_any_server(rt: HostRuntime) {
-    let Some(tally) = play(rt.alloc(), &SWITCHING, 10_000) else {
-        assert!(rt; false, "no world");
-        return;
-    };
-    assert_eq!(rt; tally.alike, 10_000);
-    assert!(rt; tally.replies.iter().take(14).all(|times| 0 < *times));
+    assert_eq!(rt; met(rt.alloc(), &SWITCHING, Framing::Close), UNCUT);
+}
+
+#[test]
+fn ample_with_any_server_in_chunks(rt: HostRuntime) {
+    assert_eq!(rt; met(rt.alloc(), &SWITCHING, Framing::Chunked), UNCUT);
 }

@@ -4,6 +4,8 @@
 #[cfg(test)]
 mod ample;
 #[cfg(test)]
+mod carried;
+#[cfg(test)]
 mod cuts;
 #[cfg(test)]
 mod desk;
@@ -21,6 +23,8 @@ mod refusals;
 mod resending;
 #[cfg(test)]
 mod resends;
+#[cfg(test)]
+mod responses;
 #[cfg(test)]
 mod restarts;
 #[cfg(test)]

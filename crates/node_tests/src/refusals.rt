@@ -1,13 +1,13 @@
 //! What a world refuses, and how many nodes it may have.
 
 use crate::stage::Step::{self, At, CarriesNone, Logs, NoNode, Shows, ShowsNothing};
-use crate::stage::{Course, right};
+use crate::stage::{Course, first_wrong};
 use crate::worlds::{NO_TYPES, ONE_TEAM};
 use feed_node::Limits;
-use feed_world::{ShapeFault, World};
+use feed_world::{Event, Framing, ShapeFault, World};
 use std::alloc::Global;
 use world_scripts::Act::{Commit, Connect, Cut, Deliver, Idle, Restart, Save, Serve};
-use world_scripts::{ALL, TEAM_1, TEAM_2, Want};
+use world_scripts::{ALL, FRAMINGS, TEAM_1, TEAM_2, Want};
 
 /// What can't happen, and leaves all as it was.
 const REFUSED: [Course; 4] = [
@@ -90,25 +90,45 @@ const REFUSED: [Course; 4] = [
 
 #[test]
 fn refuses_what_cannot_happen(rt: HostRuntime) {
-    for (row, course) in REFUSED.iter().enumerate() {
-        assert_eq!(rt;
-            right(rt.alloc(), course),
-            Some(course.steps.len()),
-            "row {row}"
-        );
-    }
+    assert_eq!(rt; first_wrong(rt.alloc(), &REFUSED), None);
 }
 
 /// Numbers of nodes that no world has: none, one too many, and as many as there may be numbers.
 const SHAPES: [usize; 3] = [0, 257, usize::MAX];
 
-fn fault_of(alloc: Global, nodes: usize) -> Option<ShapeFault> {
+/// Why there is no world of so many nodes, with any framing.
+fn fault_of(alloc: Global, nodes: usize, framing: Framing) -> Option<ShapeFault> {
+    World::framed(alloc, nodes, Limits::new(1, 1).ok()?, framing).err()
+}
+
+/// The same where none is given.
+fn plain_fault_of(alloc: Global, nodes: usize) -> Option<ShapeFault> {
     World::new(alloc, nodes, Limits::new(1, 1).ok()?).err()
 }
 
 #[test]
 fn has_a_shape(rt: HostRuntime) {
     for nodes in SHAPES {
-        assert_eq!(rt; fault_of(rt.alloc(), nodes), Some(ShapeFault::BadShape));
+        for framing in FRAMINGS {
+            let fault = fault_of(rt.alloc(), nodes, framing);
+            assert_eq!(rt; fault, Some(ShapeFault::BadShape));
+        }
+        assert_eq!(rt;
+            plain_fault_of(rt.alloc(), nodes),
+            Some(ShapeFault::BadShape)
+        );
     }
+}
+
+/// How many bytes are sent at first in a world for which no framing is given.
+fn sent_first(alloc: Global) -> Option<usize> {
+    let mut world = World::new(alloc, 2, Limits::new(1, 1).ok()?).ok()?;
+    world.step(alloc, Event::Connect(1, 0, 0)).ok()?;
+    Some(world.link(1)?.sent)
+}
+
+#[test]
+fn bodies_end_with_their_connections(rt: HostRuntime) {
+    // A head that announces no chunks, and the snapshot of no types.
+    assert_eq!(rt; sent_first(rt.alloc()), Some(74 + 53));
 }

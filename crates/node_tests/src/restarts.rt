@@ -3,9 +3,9 @@
 use crate::stage::Step::{
     Act, At, Carries, CarriesNone, Holds, Lacks, Part, Same, Shows, ShowsNothing,
 };
-use crate::stage::{Course, right};
-use feed_node::{Limits, Pulled};
-use feed_world::{Event, Reply, World, WorldFault};
+use crate::stage::{Bytes, Course, HEAD, NO_BYTES, first_wrong};
+use feed_node::Pulled;
+use feed_world::{Event, Framing, Reply, World, WorldFault};
 use std::alloc::Global;
 use world_scripts::Act::{Commit, Connect, Cut, Deliver, Restart, Save, Serve};
 use world_scripts::{ALL, RESTARTED, TEAM_1, TEAM_2, TEAMS, Want, events};
@@ -128,8 +128,8 @@ const SAVED: [Course; 6] = [
             Act(Cut(1), Want::NoConnection),
             Act(Deliver(1, ALL), Want::NoConnection),
             Act(Connect(1, 0, 0), Want::Opened),
-            Carries(1, 0, 0, "0"),
-            Carries(2, 53, 0, "0"),
+            Carries(1, HEAD, NO_BYTES, "0"),
+            Carries(2, Bytes(74 + 53, 102 + 59), NO_BYTES, "0"),
             Act(Deliver(2, ALL), Want::Delivered(1)),
             At(2, "0"),
         ],
@@ -160,13 +160,7 @@ const SAVED: [Course; 6] = [
 
 #[test]
 fn saves_and_restarts(rt: HostRuntime) {
-    for (row, course) in SAVED.iter().enumerate() {
-        assert_eq!(rt;
-            right(rt.alloc(), course),
-            Some(course.steps.len()),
-            "row {row}"
-        );
-    }
+    assert_eq!(rt; first_wrong(rt.alloc(), &SAVED), None);
 }
 
 /// Whether a mirror that is restarted from so many bytes of 137 has published what was saved.
@@ -182,7 +176,7 @@ fn restarts_from(alloc: Global, world: &mut World, bytes: usize) -> Option<bool>
 /// How many bytes of those that were saved restore nothing, counted up to the first that restore
 /// the state.
 fn fewest(alloc: Global) -> Option<usize> {
-    let mut world = World::new(alloc, RESTARTED.nodes, Limits::new(1, 100).ok()?).ok()?;
+    let mut world = RESTARTED.world(alloc, Framing::Close)?;
     world.run(alloc, events(alloc, RESTARTED.lines)?).ok()?;
     for bytes in 0..200 {
         if restarts_from(alloc, &mut world, bytes)? {
@@ -200,7 +194,7 @@ fn restarts_from_all_alone(rt: HostRuntime) {
 /// Whether the worked script, as one list with a last event that is refused, leaves the mirror
 /// restarted.
 fn ends_refused(alloc: Global) -> Option<bool> {
-    let mut world = World::new(alloc, RESTARTED.nodes, Limits::new(1, 100).ok()?).ok()?;
+    let mut world = RESTARTED.world(alloc, Framing::Close)?;
     let mut list = events(alloc, RESTARTED.lines)?;
     list.push(Event::Serve(1)).ok()?;
     let fault = world.run(alloc, list).err();

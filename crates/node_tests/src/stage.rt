@@ -2,9 +2,35 @@
 
 use feed_node::{Limits, Node};
 use feed_note::write_batch;
-use feed_world::World;
+use feed_world::{Event, Framing, Reply, World};
 use std::alloc::Global;
-use world_scripts::{Act, Script, Want};
+use world_scripts::{Act, FRAMINGS, Script, Want};
+
+/// Bytes of a response: how many there are where its body goes to the end of the connection, and
+/// how many where it comes in chunks.
+///
+/// The head of a response has 74 bytes: 17 of its status line, 36 of the type of its content, 19 of
+/// the fate of its connection, and 2 of the empty line behind them. Before chunks it has 28 more,
+/// which announce them. In a body that goes to the end of the connection a text stands alone. In a
+/// chunk its length stands before it, in base 16, and a line break of two bytes after each of both:
+/// a text of 1 byte has 6 there, and one of 16 to 255 bytes has 6 more than alone.
+#[derive(Clone, Copy)]
+pub struct Bytes(pub usize, pub usize);
+
+/// No bytes, and those of a head.
+pub const NO_BYTES: Bytes = Bytes(0, 0);
+
+pub const HEAD: Bytes = Bytes(74, 102);
+
+impl Bytes {
+    /// How many there are with this framing.
+    pub fn of(self, framing: Framing) -> usize {
+        match framing {
+            Framing::Close => self.0,
+            Framing::Chunked => self.1,
+        }
+    }
+}
 
 /// What happens and is replied, or what a node or a connection shows.
 #[derive(Clone, Copy)]
@@ -17,9 +43,11 @@ pub enum Step {
     ShowsNothing(usize),
     /// No node has this number.
     NoNode(usize),
+    /// The connection of a mirror brings so many bytes, and the mirror publishes so many times.
+    Brings(usize, Bytes, usize),
     /// The connection of a mirror was sent so many bytes, brought so many, and ends with this
     /// token.
-    Carries(usize, usize, usize, &'static str),
+    Carries(usize, Bytes, Bytes, &'static str),
     CarriesNone(usize),
     /// A node has published this token.
     At(usize, &'static str),
@@ -83,14 +111,17 @@ fn plays(alloc: Global, world: &mut World, lines: &[(Act, Want)]) -> Option<bool
     Some(true)
 }
 
-/// Whether a node or a connection shows what a step says.
+/// Whether the next bytes of a mirror's connection publish so many times.
+fn brings(alloc: Global, world: &mut World, number: usize, bytes: usize, want: usize) -> bool {
+    let reply = world.step(alloc, Event::Deliver(number, bytes));
+    matches!(reply, Ok(Reply::Delivered(count)) if count == want)
+}
+
+/// Whether a node shows what a step says.
 fn is_shown(alloc: Global, world: &World, step: Step) -> Option<bool> {
     match step {
         Step::Shows(number, want) => shows(alloc, world.node(number)?, want),
         Step::NoNode(number) => Some(world.node(number).is_none()),
-        Step::Carries(number, sent, delivered, last) => {
-            Some(carries(world, number, sent, delivered, last))
-        }
         Step::CarriesNone(number) => Some(world.link(number).is_none()),
         Step::Holds(number, token) => Some(world.node(number)?.holds(token)),
         Step::Lacks(number, token) => Some(!world.node(number)?.holds(token)),
@@ -113,10 +144,17 @@ fn is_published(world: &World, step: Step) -> Option<bool> {
     }
 }
 
-fn goes(alloc: Global, world: &mut World, step: Step) -> Option<bool> {
+fn goes(alloc: Global, world: &mut World, framing: Framing, step: Step) -> Option<bool> {
     match step {
         Step::Act(act, want) => acts(alloc, world, act, want),
         Step::Part(script, from, to) => plays(alloc, world, script.lines.get(from..to)?),
+        Step::Brings(number, bytes, want) => {
+            Some(brings(alloc, world, number, bytes.of(framing), want))
+        }
+        Step::Carries(number, sent, delivered, last) => {
+            let (sent, delivered) = (sent.of(framing), delivered.of(framing));
+            Some(carries(world, number, sent, delivered, last))
+        }
         _ => is_shown(alloc, world, step),
     }
 }
@@ -130,16 +168,29 @@ pub struct Course {
     pub steps: &'static [Step],
 }
 
-/// How many steps go as they say, up to the first that does not.
-pub fn right(alloc: Global, course: &Course) -> Option<usize> {
+/// How many steps go as they say with a framing, up to the first that does not.
+fn right(alloc: Global, course: &Course, framing: Framing) -> Option<usize> {
     let limits = Limits::new(course.history, course.staged).ok()?;
-    let mut world = World::new(alloc, course.nodes, limits).ok()?;
+    let mut world = World::framed(alloc, course.nodes, limits, framing).ok()?;
     let mut count: usize = 0;
     for step in course.steps {
-        if goes(alloc, &mut world, *step) != Some(true) {
+        if goes(alloc, &mut world, framing, *step) != Some(true) {
             return Some(count);
         }
         count = count.saturating_add(1);
     }
     Some(count)
+}
+
+/// The first course that goes wrong, with its framing and how many of its steps were right.
+pub fn first_wrong(alloc: Global, courses: &[Course]) -> Option<(usize, Framing, Option<usize>)> {
+    for (row, course) in courses.iter().enumerate() {
+        for framing in FRAMINGS {
+            let count = right(alloc, course, framing);
+            if count != Some(course.steps.len()) {
+                return Some((row, framing, count));
+            }
+        }
+    }
+    None
 }

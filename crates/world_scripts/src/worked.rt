@@ -5,13 +5,22 @@ use crate::lines::{
     GROUP_1, GROUP_2, NO_TEAM_1, NO_TEAMS, OBJECT_1, OBJECT_2, STATE, TEAM_1, TEAM_2, TEAMS,
 };
 use crate::want::Want;
-use feed_node::Pulled;
+use feed_node::{Limits, Pulled};
+use feed_world::{Framing, World};
+use std::alloc::Global;
 
 /// More bytes than were sent.
 pub const ALL: usize = 9999;
 
+/// Each way to frame the body of a response.
+pub const FRAMINGS: [Framing; 2] = [Framing::Close, Framing::Chunked];
+
+/// How many changes may wait for a token in the world of a script.
+const STAGED: usize = 100;
+
 /// A script: how many nodes there are, how many commits a node keeps, what happens, and the tokens
-/// that the nodes have published at its end, the primary's first.
+/// that the nodes have published at its end, the primary's first. Each reply is the same under any
+/// framing: what is delivered in part ends within the head of a response, or within a snapshot.
 #[derive(Clone, Copy)]
 pub struct Script {
     pub nodes: usize,
@@ -20,7 +29,16 @@ pub struct Script {
     pub ends: &'static [&'static str],
 }
 
-/// A mirror's token is no longer held, and its next connection is cut within the snapshot.
+impl Script {
+    /// The world in which it begins, with this framing; none where memory is refused.
+    pub fn world(&self, alloc: Global, framing: Framing) -> Option<World> {
+        let limits = Limits::new(self.history, STAGED).ok()?;
+        World::framed(alloc, self.nodes, limits, framing).ok()
+    }
+}
+
+/// A mirror's token is no longer held, and its next connection is cut within the head of the
+/// response.
 pub const LOST: Script = Script {
     nodes: 2,
     history: 2,
@@ -40,6 +58,55 @@ pub const LOST: Script = Script {
         (Deliver(1, ALL), Want::Delivered(1)),
     ],
     ends: &["5", "5"],
+};
+
+/// A fresh connection is cut within the head of the response, and the next one within the snapshot:
+/// a head has at most 102 bytes. On a third one both come in pieces.
+pub const CUT: Script = Script {
+    nodes: 2,
+    history: 1,
+    lines: &[
+        (Commit(TEAMS), Want::Committed("1")),
+        (Connect(1, 0, 0), Want::Opened),
+        (Deliver(1, 10), Want::Delivered(0)),
+        (Cut(1), Want::Cut),
+        (Connect(1, 0, 0), Want::Opened),
+        (Deliver(1, 130), Want::Delivered(0)),
+        (Cut(1), Want::Cut),
+        (Connect(1, 0, 0), Want::Opened),
+        (Deliver(1, 70), Want::Delivered(0)),
+        (Deliver(1, 60), Want::Delivered(0)),
+        (Deliver(1, ALL), Want::Delivered(1)),
+    ],
+    ends: &["1", "1"],
+};
+
+/// A relay has published nothing when a mirror asks it that has no token; and nothing again when
+/// the mirror's token was refused, and it asks for all.
+pub const NOT_YET: Script = Script {
+    nodes: 3,
+    history: 1,
+    lines: &[
+        (Connect(2, 1, 0), Want::NotYet),
+        (Commit(TEAM_1), Want::Committed("1")),
+        (Connect(1, 0, 0), Want::Opened),
+        (Deliver(1, ALL), Want::Delivered(1)),
+        (Connect(2, 1, 0), Want::Opened),
+        (Deliver(2, ALL), Want::Delivered(1)),
+        (Commit(TEAM_2), Want::Committed("2")),
+        (Commit(STATE), Want::Committed("3")),
+        (Connect(1, 0, 0), Want::Refused),
+        (Connect(1, 0, 0), Want::Opened),
+        (Deliver(1, ALL), Want::Delivered(1)),
+        (Connect(2, 1, 0), Want::Refused),
+        (Restart(1, 0), Want::Restarted(false)),
+        (Connect(2, 1, 0), Want::NotYet),
+        (Connect(1, 0, 0), Want::Opened),
+        (Deliver(1, ALL), Want::Delivered(1)),
+        (Connect(2, 1, 0), Want::Opened),
+        (Deliver(2, ALL), Want::Delivered(1)),
+    ],
+    ends: &["3", "3", "3"],
 };
 
 /// A relay is published anew while the session of a mirror behind it is open.
@@ -210,3 +277,17 @@ pub const SWITCHED: Script = Script {
     ],
     ends: &["2", "1", "2"],
 };
+
+/// The scripts above.
+pub const SCRIPTS: [Script; 10] = [
+    LOST,
+    CUT,
+    NOT_YET,
+    GONE,
+    FOLLOWED,
+    RESENT,
+    RESENT_TWICE,
+    RESENT_ONE,
+    RESTARTED,
+    SWITCHED,
+];
