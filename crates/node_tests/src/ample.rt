@@ -305,21 +305,15 @@ fn meet(
     }
 }
 
-/// How many events are drawn, and how many mirrors, kept commits, and types and objects there are.
+/// How many events are drawn.
 const EVENTS: usize = 10_000;
-
-const MIRROR_COUNT: usize = 3;
-
-const HISTORY: usize = 2;
-
-const STAGED: usize = 100;
 
 /// How many events of these kinds the world and the model meet alike, up to the first at which they
 /// part, and how many of the replies are given to them.
 fn met(alloc: Global, kinds: &[Kind; 16], framing: Framing) -> Option<(usize, usize)> {
-    let limits = Limits::new(HISTORY, STAGED).ok()?;
-    let mut world = World::framed(alloc, MIRROR_COUNT + 1, limits, framing).ok()?;
-    let mut model = Numbers::new(alloc, MIRROR_COUNT, framing, (HISTORY, STAGED), OBJECTS)?;
+    let limits = Limits::new(2, 100).ok()?;
+    let mut world = World::framed(alloc, 4, limits, framing).ok()?;
+    let mut model = Numbers::new(alloc, 3, limits, framing, OBJECTS)?;
     let mut draws = Draws { seed: 1 };
     let mut given = [false; REPLIES];
     let mut alike: usize = 0;

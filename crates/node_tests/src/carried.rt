@@ -1,4 +1,4 @@
-//! A plain model of a connection: which blocks were sent, and where each ends among the bytes of the
+//! A plain model of a connection: which blocks were sent, and where each ends in the bytes of the
 //! response.
 
 use crate::model::Place;
@@ -49,8 +49,8 @@ fn digits(number: usize) -> usize {
     16
 }
 
-/// How many bytes stand before a text of this length in a body, and how many after it: in chunks its
-/// length in base 16, and a line break of two bytes on both sides.
+/// How many bytes stand before a text of this length in a body, and how many after it: in chunks
+/// its length in base 16 and a line break of two bytes, and another one.
 fn around(framing: Framing, length: usize) -> (usize, usize) {
     match framing {
         Framing::Close => (0, 0),

@@ -97,7 +97,7 @@ fn sent(alloc: Global, framing: Framing) -> Option<World> {
     Some(world)
 }
 
-fn places(alloc: Global, framing: Framing) -> Option<Places> {
+fn delivered_by_bytes(alloc: Global, framing: Framing) -> Option<Places> {
     let mut world = sent(alloc, framing)?;
     let all = world.link(1)?.sent;
     let (mut first, mut last, mut count) = (None, 0usize, 0usize);
@@ -135,6 +135,9 @@ fn a_response_comes_byte_by_byte(rt: HostRuntime) {
         all: 102 + 143 + 6 + 55,
         count: 2,
     };
-    assert_eq!(rt; places(rt.alloc(), Framing::Close), Some(close));
-    assert_eq!(rt; places(rt.alloc(), Framing::Chunked), Some(chunked));
+    assert_eq!(rt; delivered_by_bytes(rt.alloc(), Framing::Close), Some(close));
+    assert_eq!(rt;
+        delivered_by_bytes(rt.alloc(), Framing::Chunked),
+        Some(chunked)
+    );
 }

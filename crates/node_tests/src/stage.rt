@@ -9,11 +9,11 @@ use world_scripts::{Act, FRAMINGS, Script, Want};
 /// Bytes of a response: how many there are where its body goes to the end of the connection, and
 /// how many where it comes in chunks.
 ///
-/// The head of a response has 74 bytes: 17 of its status line, 36 of the type of its content, 19 of
-/// the fate of its connection, and 2 of the empty line behind them. Before chunks it has 28 more,
-/// which announce them. In a body that goes to the end of the connection a text stands alone. In a
-/// chunk its length stands before it, in base 16, and a line break of two bytes after each of both:
-/// a text of 1 byte has 6 there, and one of 16 to 255 bytes has 6 more than alone.
+/// The head of a response has 74 bytes: a status line of 17, a `Content-Type` of 36, a `Connection`
+/// of 19, and an empty line of 2. A `Transfer-Encoding: chunked` makes it 28 longer. In a body that
+/// goes to the end of the connection a text stands alone. In a chunk its length stands before it,
+/// in base 16, and a line break of two bytes behind each of them: a text of 1 byte has 6 bytes
+/// there, and one of 16 to 255 bytes has 6 more than alone.
 #[derive(Clone, Copy)]
 pub struct Bytes(pub usize, pub usize);
 

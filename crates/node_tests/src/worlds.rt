@@ -169,8 +169,8 @@ const WORKED: [Course; 9] = [
     },
 ];
 
-/// What comes of deliveries in part. The snapshot of no types has 53 bytes, and a commit of one team
-/// has 56.
+/// What comes of deliveries in part. The snapshot of no types has 53 bytes, and a commit of one
+/// team 56.
 const IN_PART: [Course; 2] = [
     // A connection behind a token goes on where the last one was cut, four bytes into the line of
     // the second commit.
@@ -234,8 +234,8 @@ const ONE_AND_NEXT: Bytes = Bytes(74 + 93 + 56, 102 + 99 + 62);
 
 const AND_A_LINE_FEED: Bytes = Bytes(74 + 93 + 56 + 1, 102 + 99 + 62 + 6);
 
-/// What connections have carried after each event. The snapshots of no types, of one team and of two
-/// teams have 53, 93 and 137 bytes, and a commit of one team has 56.
+/// What connections have carried after each event. The snapshots of no types, of one team and of
+/// two teams have 53, 93 and 137 bytes, and a commit of one team has 56.
 const CARRIED: [Course; 5] = [
     // A fresh connection.
     Course {
