@@ -13,7 +13,7 @@ const SNAPSHOT: Script = Script {
     ends: &["1"],
 };
 
-/// The same, where the mirror shows no types and is to be sent a commit of one team, of 56 bytes.
+/// A mirror that shows no types, and is to be sent a commit of one team, which has 56 bytes.
 const COMMIT: Script = Script {
     nodes: 2,
     history: 1,
@@ -69,25 +69,14 @@ fn a_response_that_is_cut_brings_what_came_whole(rt: HostRuntime) {
     let snapshot = Bytes(74 + 137, 102 + 4 + 137);
     let commit = Bytes(74 + 56, 102 + 4 + 56);
     for framing in FRAMINGS {
-        let fewest_of_all = fewest(rt.alloc(), &SNAPSHOT, framing, "");
-        assert_eq!(rt; fewest_of_all, Some(snapshot.of(framing)), "{framing:?}");
-        let fewest_behind = fewest(rt.alloc(), &COMMIT, framing, "0");
-        assert_eq!(rt; fewest_behind, Some(commit.of(framing)), "{framing:?}");
+        let fresh = fewest(rt.alloc(), &SNAPSHOT, framing, "");
+        assert_eq!(rt; fresh, Some(snapshot.of(framing)), "{framing:?}");
+        let behind = fewest(rt.alloc(), &COMMIT, framing, "0");
+        assert_eq!(rt; behind, Some(commit.of(framing)), "{framing:?}");
     }
 }
 
-/// On a connection with the snapshot of two teams, a line feed and a commit of 49 bytes, byte by
-/// byte: how many bytes had come when the mirror published for the first and the last time, how
-/// many there were, and how many times it published.
-#[derive(Clone, Copy, Debug, PartialEq, Eq)]
-struct Places {
-    first: usize,
-    last: usize,
-    all: usize,
-    count: usize,
-}
-
-/// The connection, on which all is sent.
+/// A connection on which the snapshot of two teams was sent, a line feed, and a commit of 49 bytes.
 fn sent(alloc: Global, framing: Framing) -> Option<World> {
     let mut world = played(alloc, &SNAPSHOT, framing)?;
     world.step(alloc, Event::Connect(1, 0, 0)).ok()?;
@@ -97,47 +86,36 @@ fn sent(alloc: Global, framing: Framing) -> Option<World> {
     Some(world)
 }
 
-fn delivered_by_bytes(alloc: Global, framing: Framing) -> Option<Places> {
+/// Whether so many bytes were sent on it, and the mirror, to which they come one by one, publishes
+/// at each of these places among them, and at no other.
+fn publishes_at(alloc: Global, framing: Framing, places: &[usize], all: usize) -> Option<bool> {
     let mut world = sent(alloc, framing)?;
-    let all = world.link(1)?.sent;
-    let (mut first, mut last, mut count) = (None, 0usize, 0usize);
     for place in 1..=all {
+        let want = if places.contains(&place) { 1 } else { 0 };
         match world.step(alloc, Event::Deliver(1, 1)).ok()? {
-            Reply::Delivered(0) => {}
-            Reply::Delivered(1) => {
-                first = first.or(Some(place));
-                last = place;
-                count = count.saturating_add(1);
-            }
-            _ => return None,
+            Reply::Delivered(count) if count == want => {}
+            _ => return Some(false),
         }
     }
-    Some(Places {
-        first: first?,
-        last,
-        all,
-        count,
-    })
+    let link = world.link(1)?;
+    Some(link.sent == all && link.delivered == all)
 }
 
 #[test]
 fn a_response_comes_byte_by_byte(rt: HostRuntime) {
-    // In chunks the snapshot has 143 bytes, the line feed 6 and the commit 55.
-    let close = Places {
-        first: 74 + 137,
-        last: 74 + 137 + 1 + 49,
-        all: 74 + 137 + 1 + 49,
-        count: 2,
-    };
-    let chunked = Places {
-        first: 102 + 4 + 137,
-        last: 102 + 143 + 6 + 4 + 49,
-        all: 102 + 143 + 6 + 55,
-        count: 2,
-    };
-    assert_eq!(rt; delivered_by_bytes(rt.alloc(), Framing::Close), Some(close));
-    assert_eq!(rt;
-        delivered_by_bytes(rt.alloc(), Framing::Chunked),
-        Some(chunked)
+    let snapshot = 74 + 137;
+    let commit = snapshot + 1 + 49;
+    let answer = publishes_at(rt.alloc(), Framing::Close, &[snapshot, commit], commit);
+    assert_eq!(rt; answer, Some(true));
+    // In chunks the snapshot has 143 bytes, the line feed 6 and the commit 55, of which the last
+    // two are no text.
+    let snapshot = 102 + 143 - 2;
+    let commit = 102 + 143 + 6 + 55 - 2;
+    let answer = publishes_at(
+        rt.alloc(),
+        Framing::Chunked,
+        &[snapshot, commit],
+        commit + 2,
     );
+    assert_eq!(rt; answer, Some(true));
 }
