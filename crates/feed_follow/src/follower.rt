@@ -91,6 +91,11 @@ impl Follower {
             → FollowsAt start before standing self.old mirror.old
             → IfErr result (Fails start self.old.had_token before piece.now mirror.new) }
 
+        // no bytes take no memory and change nothing
+        ensures nothing { piece.now ≡ [] → self.old.part ≢ Part.Closed
+            → (result ≡ Ok (reached self.old.part)) × (mirror.new ≡ mirror.old)
+            × (self.new ≡ self.old) }
+
         // bytes behind a whole body take no memory and change nothing
         ensures done { self.old.part ≡ Part.Done
             → (result ≡ Ok Reached.Done) × (mirror.new ≡ mirror.old) }
@@ -100,6 +105,9 @@ impl Follower {
     {
         if self.part == Part::Closed {
             return Err(FollowFault::Closed);
+        }
+        if piece.is_empty() {
+            return Ok(progress(self.part));
         }
         match read_part(
             alloc,

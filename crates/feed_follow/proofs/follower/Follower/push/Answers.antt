@@ -11,7 +11,7 @@ returns-in-Ok-clause-ok c start before standing f =
     (sym c.self.view_is) f in
     subst (λ a. GoesOn start (before ++ c.args.piece.now)
     (follower_of c.self.inside.had_token c.read_part.new.kept c.in-Ok.part)
-    c.read_part.new.mirror a) (sym c.progress.ensures)
+    c.read_part.new.mirror a) (sym c.progress-in-Ok.ensures)
     (c.in-Ok.ensures.ok start before standing follows)
 
 pub returns-in-Err-clause-err : goal.returns-in-Err-clause-err
