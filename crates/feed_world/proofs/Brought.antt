@@ -1,6 +1,6 @@
 -- A mirror that has followed a front of the response on its connection is where the whole blocks of that front bring it.
 use Rattle.std.proofs.Common.{◌≡◌, refl, sym, ap, ◌∙◌, subst, ℕ, zero, suc, ◌+◌, ◌-◌, ◌<◌, ◌≤◌, ◌^◌, min, Bool, true, false, ◌&&◌, arith, List, [], ◌∷◌, ◌++◌, length, take, drop, append_assoc, append-nil, length-append, length-drop, length-take-le, take-take, take-append-drop, Option, Some, None, Ok, Err, inl, inr, nat_le, nat_lt, leb-true, leb-false, eqb-true, ltb-true, ltb-false}
-use Rattle.std.specs.Prelude.{if◌then◌else◌, ◌==◌, ◌⊎◌, is_none, option_map}
+use Rattle.std.specs.Prelude.{if◌then◌else◌, ◌==◌, ◌⊎◌, ◌≢◌, Result, is_none, option_map}
 use Rattle.feed_note.specs.Lines.{rest}
 use Rattle.feed_note.specs.declared.line.Line.{Line}
 use Rattle.feed_node.specs.declared.fault.FeedFault.{FeedFault}
@@ -15,6 +15,7 @@ use Rattle.feed_follow.specs.declared.fault.FollowFault.{FollowFault}
 use Rattle.feed_follow.specs.declared.fault.FollowFault.TheVariants.{Closed, LongHead, BadHead, Status, BadCoding, BadLength, BadChunk, Feed, Memory as FollowMemory}
 use Rattle.feed_follow.specs.Follower.{FollowerState as ReaderState, FollowsAt, GoesOn}
 use Rattle.feed_follow.specs.declared.fault.Progress.{Progress}
+use Rattle.feed_follow.specs.declared.follower.Part.TheVariants.{Closed as NoMore}
 use Rattle.feed_follow.specs.Following.{HasReached, IsCutAfter, IsCutAtFault, Leaves, Brings as BringsText, HasBadLine, HasLostSome, Fails}
 use Rattle.feed_follow.specs.Standing.{Standing, in_head, token_refused, in_body, done, failed, Stands}
 use Rattle.feed_answer.specs.Answer.{feed_head}
@@ -461,15 +462,27 @@ part_of (suc d) zero xs = let none : 0 - suc d ≡ 0 = omega arith in ap (λ n. 
 part_of (suc d) (suc e) [] = take_nil (suc e - suc d)
 part_of (suc d) (suc e) (x ∷ xs) = let less : suc e - suc d ≡ e - d = omega arith in ap (λ n. take n (drop d xs)) less ∙ part_of d e xs
 
-pub brings_none : (s : ConnectionState) (bytes : ℕ) (mirror : MirrorState) → delivered_after s bytes ≡ s.delivered → Brings s bytes mirror s mirror
-brings_none s bytes mirror e =
-    let none : next_bytes s bytes ≡ [] = ap (λ n. drop s.delivered (take n s.bytes)) e ∙ drop_take_same s.delivered s.bytes in
-    record {
-      reader = s.reader;
-      is = ap (λ n. record { token = s.token; framing = s.framing; reader = s.reader; bytes = s.bytes; delivered = n; start = s.start; over = s.over }) (sym e);
-      limits = refl;
-      follows = λ start before standing h. (standing, subst (λ bs. FollowsAt start bs standing s.reader mirror) (sym (ap (λ bs. before ++ bs) none ∙ append-nil before)) h);
-    }
+-- a follower that is out of memory was pushed some bytes
+pub some_pushed : (s : ConnectionState) (bytes : ℕ) (fault : FollowFault) (answer : Progress) → s.delivered ≤ length s.bytes
+    → (s.reader.part ≡ NoMore → ◌≡◌ {A = Result Progress FollowFault} (Err fault) (Err Closed))
+    → (next_bytes s bytes ≡ [] → s.reader.part ≢ NoMore → ◌≡◌ {A = Result Progress FollowFault} (Err fault) (Ok answer))
+    → IsMemory fault → s.delivered < delivered_after s bytes
+some_pushed s bytes fault answer within closed nothing memory = by (nat_lt s.delivered (delivered_after s bytes)) refl
+  where
+    going : s.reader.part ≢ NoMore
+    going e = let same : fault ≡ Closed = err_is (closed e) in subst IsMemory same memory
+      where
+        err_is : ◌≡◌ {A = Result Progress FollowFault} (Err fault) (Err Closed) → fault ≡ Closed
+        err_is e = cc
+
+    by : (b : Bool) → nat_lt s.delivered (delivered_after s bytes) ≡ b → s.delivered < delivered_after s bytes
+    by true e = ltb-true _ _ e
+    by false e =
+        let least = ltb-false _ _ e in
+        let same : delivered_after s bytes ≡ s.delivered = omega (arith, within, least) in
+        let none : next_bytes s bytes ≡ [] = ap (λ n. drop s.delivered (take n s.bytes)) same ∙ drop_take_same s.delivered s.bytes in
+        let both = nothing none going in
+        absurd (cc)
 
 pub brings_more : (s : ConnectionState) (bytes end : ℕ) (piece : List ℕ) (reader : ReaderState) (old new : MirrorState) (answer : Progress) → end ≡ delivered_after s bytes
     → piece ≡ drop s.delivered (take end s.bytes) → new.limits ≡ old.limits
@@ -675,11 +688,11 @@ module _ (fronts : FrontsAreRead) (one : ReadingIsOne) (responses : ResponsesAre
         ]
 
     -- a delivery meets no fault but a want of memory
-    stopped : (fault : FollowFault) (new : MirrorState) → m.connection ≡ Some c → c.delivered < reached log c bytes
+    stopped : (fault : FollowFault) (new : MirrorState) → m.connection ≡ Some c → (IsMemory fault → c.delivered < reached log c bytes)
         → Fails r.begun s.reader.had_token (take c.delivered (sent_bytes log c)) (next_bytes s bytes) new fault
         → IsMemory fault × BreaksMirror limits log m bytes (record f { mirror = new; connection = None })
-    stopped FollowMemory new there some l = (tt, lost_some new there some l)
-    stopped (Feed FeedMemory) new there some l = (tt, lost_some new there some l)
+    stopped FollowMemory new there some l = (tt, lost_some new there (some tt) l)
+    stopped (Feed FeedMemory) new there some l = (tt, lost_some new there (some tt) l)
     stopped (Feed NotOpen) new there some l = absurd (good_line NotOpen new l)
     stopped (Feed LongLine) new there some l = absurd (good_line LongLine new l)
     stopped (Feed (BadLine fault)) new there some l = absurd (good_line (BadLine fault) new l)
@@ -703,7 +716,7 @@ module _ (fronts : FrontsAreRead) (one : ReadingIsOne) (responses : ResponsesAre
       by None l = absurd l
       by (Some c) l = all_taken c l.0 l.1 small new after b old_number new_number was now_is count counted
 
-  pub brings_some : f.connection ≡ Some s → length s.bytes < 2 ^ 64 → (number : ℕ) (fault : FollowFault) (new : MirrorState) → s.delivered < delivered_after s bytes
+  pub brings_some : f.connection ≡ Some s → length s.bytes < 2 ^ 64 → (number : ℕ) (fault : FollowFault) (new : MirrorState) → (IsMemory fault → s.delivered < delivered_after s bytes)
       → ((start : MirrorState) (before : List ℕ) (standing : Standing) → FollowsAt start before standing s.reader f.mirror → Fails start s.reader.had_token before (next_bytes s bytes) new fault)
       → (after : Option ConnectionState) → after ≡ None → IsBrought limits log m number bytes (Broke number fault) (record f { mirror = new; connection = after })
   brings_some there small number fault new some fails after is =
@@ -716,6 +729,6 @@ module _ (fronts : FrontsAreRead) (one : ReadingIsOne) (responses : ResponsesAre
       by (Some c) e l =
           let k = l.0 in
           let r = l.1 in
-          let less : c.delivered < reached log c bytes = subst (λ n. n < reached log c bytes) k.delivered (subst (λ n. s.delivered < n) (after_is c k r small) some) in
+          let less : IsMemory fault → c.delivered < reached log c bytes = λ memory. subst (λ n. n < reached log c bytes) k.delivered (subst (λ n. s.delivered < n) (after_is c k r small) (some memory)) in
           let stop = stopped c k r small fault new e less (fails r.begun (take c.delivered (sent_bytes log c)) r.standing r.follows) in
           inr ((fault, refl, stop.0), stop.1)

@@ -16,6 +16,7 @@ pub mod Refused
 pub mod Responses
 pub mod Saved
 pub mod Scripts
+pub mod Sending
 pub mod Served
 pub mod Stepped
 pub mod Tokens

@@ -204,13 +204,13 @@ IsBrought limits log m number bytes reply f =
     Moves limits log (mirror_delivers limits.history log bytes m) reply f
     ⊎ (BrokeForMemory number reply × BreaksMirror limits log m bytes f)
 
--- what is replied where following a refusal meets this fault
+-- the reply where a mirror that reads a refusal meets this fault
 abbrev pub refusal_reply : ℕ → FollowFault → Reply
 refusal_reply number (Status status) = NotYet
 refusal_reply number fault = Broke number fault
 
--- A refusal was followed whole, by a mirror that asked with a token or with none: its token is
--- refused, or it is told of the status; or memory ran out, which cut it.
+-- A mirror that asked with a token, or with none, has read a refusal to its end: its token is
+-- refused, or nothing is published there; or memory ran out before the end, and the mirror is cut.
 abbrev pub FollowsRefusal : Refusal → ℕ → MirrorState → Reply → MirrorState → Type 0
 FollowsRefusal refusal number old reply new =
     ((refusal_standing (is_some old.since) refusal ≡ token_refused) × (reply ≡ Refused)
@@ -219,7 +219,7 @@ FollowsRefusal refusal number old reply new =
     ≡ failed (Status (refusal_code refusal)) []) × (reply ≡ NotYet) × (new ≡ cut_off old))
     ⊎ (BrokeForMemory number reply × (new ≡ cut_off old)))
 
--- the answer refused a connection, and following it broke off for want of memory
+-- the answer refused a connection, and memory ran out while the mirror read it
 pub record BreaksConnect (limits : Limits) (log : Log) (framing : Framing) (m : Mirror)
     (j back : ℕ) (place : Option Position) (f : FollowerState) : Type 0 where
   pub refusal : IsRefusal (connects framing (turned_to j m) place back).0
@@ -307,8 +307,9 @@ abbrev pub IsFramedAs : Framing → Asks → Type 0
 IsFramedAs framing (ForConnection j back own) = own ≡ framing
 IsFramedAs framing ForCommit = Unit {0}
 
--- the mirror of this number asked that node; or following its refusal broke off
-abbrev pub IsAsked : Limits → Log → Asks → Mirror → ℕ → Option Position → Reply → FollowerState → Type 0
+-- the mirror of this number asked that node; or memory ran out while it read a refusal
+abbrev pub IsAsked : Limits → Log → Asks → Mirror → ℕ → Option Position → Reply → FollowerState
+    → Type 0
 IsAsked limits log (ForConnection j back framing) m number server reply f =
     Moves limits log (mirror_connects framing j back m server) reply f
     ⊎ (BrokeForMemory number reply × BreaksConnect limits log framing m j back server f)

@@ -296,7 +296,7 @@ pub record Breaks (old : World) (i n : ℕ) (new : World) : Type 0 where
   pub after : new ≡ with_mirror old i
       (brought_to old.limits.history old.log mirror connection e None)
 
--- The answer refused a connection, and following it broke off for want of memory: there is no
+-- The answer refused a connection, and memory ran out while the mirror read it: there is no
 -- connection, and the mirror asks with what it asked with.
 pub record BreaksRefusal (old : World) (i j back : ℕ) (new : World) : Type 0 where
   pub mirror : Mirror
@@ -306,13 +306,13 @@ pub record BreaksRefusal (old : World) (i j back : ℕ) (new : World) : Type 0 w
       (connects old.framing (turned_to j mirror) (place_at old j) back).0
   pub after : new ≡ with_mirror old i (linked (turned_to j mirror) None)
 
--- what a want of memory is told as: in the head of a response, and in its body
+-- the fault is that memory ran out: in the head of a response, or in its body
 abbrev pub IsMemory : FollowFault → Type 0
 IsMemory FollowMemory = Unit {0}
 IsMemory (Feed FeedMemory) = Unit {0}
 IsMemory fault = ⊥
 
--- the mirror's connection broke for want of memory
+-- the reply is that the mirror's connection broke as memory ran out
 abbrev pub BrokeForMemory : ℕ → Reply → Type 0
 BrokeForMemory i reply = (fault : FollowFault) × (reply ≡ Broke i fault) × IsMemory fault
 
@@ -322,8 +322,8 @@ Broken old (Deliver i n) reply new = BrokeForMemory i reply × Breaks old i n ne
 Broken old (Connect i j back) reply new = BrokeForMemory i reply × BreaksRefusal old i j back new
 Broken old event reply new = ⊥
 
--- From the old world the event may have this reply and lead to the new one: the outcome, or a
--- delivery, or following a refusal, broke for want of memory.
+-- From the old world the event may have this reply and lead to the new one: the outcome; or memory
+-- ran out in a delivery, or while a mirror read a refusal.
 abbrev pub Step : World → Event → Reply → World → Type 0
 Step old event reply new = (outcome old event ≡ Ok (reply, new)) ⊎ Broken old event reply new
 
@@ -355,8 +355,8 @@ abbrev pub TakesNone : World → Event → Type 0
 TakesNone world (DoCommit changes) = IsSome (early_fault (primary_of world) changes)
 TakesNone world event = IsTrue (is_free (outcome world event))
 
--- A want of memory refuses an event only where memory is taken. Within a delivery, and where a
--- refusal is followed, it breaks the connection, and refuses nothing.
+-- An event is refused for lack of memory only where it takes memory. In a delivery, and while a
+-- mirror reads a refusal, that breaks the connection, and refuses nothing.
 abbrev pub LacksMemory : World → Event → WorldFault → Type 0
 LacksMemory world (Deliver i n) fault = ⊥
 LacksMemory world (DoCommit changes) fault =

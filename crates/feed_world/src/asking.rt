@@ -21,7 +21,7 @@ fn request(alloc: Global, since: Option<&str>) -> Result<Vec<u8>, AllocError>
         (make_place (codes "world") [] (codes "world")) (option_copied since.entry)) }
 {
     let Ok(place) = Place::new(alloc, CONTEST, "", CONTEST) else {
-        // The three texts are those of a place.
+        // Memory ran out: the constants are those of a place.
         return Err(AllocError);
     };
     let mut text = Vec::new(alloc);

@@ -13,12 +13,12 @@ ghost use Rattle.feed_world.specs.Connection.{Connection as Sending};
 ghost use Rattle.feed_world.specs.Log.{Log, IsLog};
 ghost use Rattle.feed_world.specs.Position.{Position, IsPlace, node_where};
 ghost use Rattle.feed_world.specs.States.{IsConnection, sending, delivered_after, next_bytes, Brings};
-ghost use Rattle.feed_world.specs.Step.{serves, idles};
+ghost use Rattle.feed_world.specs.Step.{serves, idles, IsMemory};
 
 use crate::event::Reply;
 use feed_answer::{Framing, frame};
 use feed_follow::{FollowFault, Follower as Reader};
-use feed_node::{Mirror, Node, OpenFault, Pulled, Session, node_laws};
+use feed_node::{Mirror, Next, Node, Pulled, Session};
 use feed_tables::Name;
 use std::alloc::{AllocError, Global};
 use std::marker::Model;
@@ -65,34 +65,6 @@ impl Model for Connection {
     ghost invariant = { λ a. a.delivered ≤ length a.bytes.items };
 }
 
-/// Whether the node has published this token.
-fn is_at(server: &Node, token: &str) -> bool
-    ensures { IsTrue result ↔ (published_token server.now.shown ≡ Some token.now) }
-{
-    match server.token() {
-        Some(published) => published.text() == token,
-        None => false,
-    }
-}
-
-/// A session of this node at this token, where the node holds it.
-fn session_at(alloc: Global, server: &Node, token: &str) -> Result<Option<Session>, AllocError>
-    ensures some { IfOk result (λ found. IfSome found (λ session. (session ≡ token.now)
-        × (holds_token server.now.shown token.now ≡ true))) }
-    ensures none { IfOk result (λ found. IfNone found ((server.now.shown.published ≡ None)
-        ⊎ (holds_token server.now.shown token.now ≡ false))) }
-    ensures err { OnErr result (holds_token server.now.shown token.now ≡ true) }
-{
-    // What `some` rests on.
-    node_laws();
-    match server.open(alloc, Some(token), 0) {
-        Ok((session, _)) => Ok(Some(session)),
-        Err(OpenFault::NotYet) => Ok(None),
-        Err(OpenFault::NotHeld) => Ok(None),
-        Err(OpenFault::Memory) => Err(AllocError),
-    }
-}
-
 impl Connection {
     /// A connection on which this was sent when the session was opened.
     pub fn new(session: Session, framing: Framing, reader: Reader, bytes: Vec<u8>) -> Connection
@@ -131,23 +103,20 @@ impl Connection {
         if self.is_over {
             return Ok(Pulled::Gone);
         }
-        let token = self.session.token().text();
-        if is_at(server, token) {
-            return Ok(Pulled::UpToDate);
-        }
-        // A session of its own takes the place of this one once its text is framed.
-        let mut session = match session_at(alloc, server, token)? {
-            Some(session) => session,
-            None => {
-                self.is_over = true;
-                return Ok(Pulled::Gone);
-            }
-        };
         let mut lines = Vec::new(alloc);
-        let pulled = session.pull(alloc, server, &mut lines)?;
-        frame(alloc, self.framing, lines.as_slice(), &mut self.bytes)?;
-        self.session = session;
-        Ok(pulled)
+        match self.session.next(alloc, server, &mut lines)? {
+            Next::More(session) => {
+                frame(alloc, self.framing, lines.as_slice(), &mut self.bytes)?;
+                // Only now, as the frame may be refused its memory.
+                self.session = session;
+                Ok(Pulled::More)
+            }
+            Next::UpToDate => Ok(Pulled::UpToDate),
+            Next::Gone => {
+                self.is_over = true;
+                Ok(Pulled::Gone)
+            }
+        }
     }
 
     /// The server has no more to send for now.
@@ -172,7 +141,8 @@ impl Connection {
         self.delivered.saturating_add(bytes).min(self.bytes.len())
     }
 
-    /// Brings the mirror the next bytes, this many or all that remain. No bytes take no memory.
+    /// Brings the mirror the next bytes, this many or all that remain. It runs out of memory only
+    /// where there are some.
     pub fn bring(
         &mut self,
         alloc: Global,
@@ -184,14 +154,12 @@ impl Connection {
             → FollowsAt start before standing self.old.reader mirror.old
             → IfErr result (Fails start self.old.reader.had_token before
             (next_bytes self.old bytes) mirror.new) }
-        ensures some { OnErr result (self.old.delivered < delivered_after self.old bytes) }
+        ensures some { IfErr result (λ fault. IsMemory fault
+            → self.old.delivered < delivered_after self.old bytes) }
         ensures limits { mirror.new.limits ≡ mirror.old.limits }
         ensures fits { length self.old.bytes < 2 ^ 64 }
     {
         let end = self.end(bytes);
-        if end == self.delivered {
-            return Ok(());
-        }
         let piece = &self.bytes[self.delivered..end];
         match self.reader.push(alloc, mirror, piece) {
             Ok(_) => {

@@ -17,8 +17,8 @@ use thiserror::Error;
 pub enum Event {
     /// The primary makes these changes.
     Commit(Changes),
-    /// This mirror connects to this other node, which sends again so many commits before the mirror's
-    /// token, as far as both nodes hold their tokens.
+    /// This mirror connects to this other node, which sends again so many commits before the
+    /// mirror's token, as far as both nodes hold their tokens.
     Connect(usize, usize, usize),
     /// The node at the other end of this mirror's connection sends its next commit.
     Serve(usize),
@@ -86,8 +86,8 @@ pub enum Reply {
 /// Why an event was refused: the first of these that holds. A refused event changes nothing.
 #[derive(Clone, Copy, Debug, PartialEq, Eq, Error)]
 pub enum WorldFault {
-    /// No mirror has this number; or no node has that of the node to connect to, or it is the mirror
-    /// itself.
+    /// No mirror has this number; or no node has that of the node to connect to, or it is the
+    /// mirror itself.
     #[error("no such node")]
     NoNode,
     /// The mirror has no connection.

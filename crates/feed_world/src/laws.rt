@@ -1,6 +1,6 @@
 //! Laws of the definitions.
 
-ghost use Rattle.feed_world.specs.Laws.{GrowthKeeps, SendingKeepsOrder, DeliveriesCompose};
+ghost use Rattle.feed_world.specs.Laws.{GrowthKeeps, SendingKeepsOrder, DeliveriesCompose, NodesOpenInLog, SessionsStartBefore, NodesSendTheNext, PartsGoOn};
 ghost use Rattle.feed_world.specs.Reading.{FrontsAreRead, TokensTellStates};
 
 use feed_node::{node_laws, reading_laws};
@@ -19,4 +19,16 @@ pub fn world_laws()
     table_laws();
     node_laws();
     reading_laws();
+}
+
+/// What a node at a place of a log sends. Its answer to a request opens with a snapshot of a state
+/// of the log, or with nothing after one of its tokens. A session starts so many commits before a
+/// held token as were asked for, or at the oldest token that is held. The commit after a token is
+/// the next one of the log, and what was sent goes on in order with it.
+pub fn sending_laws()
+    ensures opens { NodesOpenInLog }
+    ensures starts { SessionsStartBefore }
+    ensures commits { NodesSendTheNext }
+    ensures order { PartsGoOn }
+{
 }

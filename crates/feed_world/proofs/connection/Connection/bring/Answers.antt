@@ -1,13 +1,10 @@
-use Rattle.std.proofs.Common.{◌≡◌, refl, sym, ap, ◌∙◌, subst, ◌++◌, drop, take}
+use Rattle.std.proofs.Common.{◌≡◌, ◌<◌, sym, ap, ◌∙◌, subst, ◌++◌, drop, take}
 use Rattle.feed_follow.specs.Follower.{FollowsAt}
 use Rattle.feed_follow.specs.Following.{Fails}
 use Rattle.feed_world.specs.States.{Brings, sending, delivered_after, next_bytes}
-use Rattle.feed_world.proofs.Brought.{brings_none, brings_more, part_of}
+use Rattle.feed_world.specs.Step.{IsMemory}
+use Rattle.feed_world.proofs.Brought.{brings_more, part_of, some_pushed}
 use Rattle.feed_world.proofs.connection.Connection.bring.Goals as goal
-
-pub returns-then-end-self-clause-ok : goal.returns-then-end-self-clause-ok
-returns-then-end-self-clause-ok c =
-    brings_none c.args.self.now c.args.bytes c.args.mirror.now (sym c.end-end.ensures ∙ c.if-end-self.true ∙ ap (λ s. s.delivered) c.self.view_is)
 
 pub returns-in-Err-clause-err : goal.returns-in-Err-clause-err
 returns-in-Err-clause-err c =
@@ -27,3 +24,13 @@ returns-in-Ok-clause-ok c =
     (part_of c.self.inside.delivered c.end-end.result c.deref.result.now
     ∙ ap (λ bs. drop c.self.inside.delivered (take c.end-end.result bs)) c.deref.ensures.value)
     c.in-Ok.ensures.limits c.in-Ok.ensures.ok)
+
+pub returns-in-Err-clause-some : goal.returns-in-Err-clause-some
+returns-in-Err-clause-some c =
+    subst (λ s. IsMemory c.in-Err.fault → s.delivered < delivered_after s c.args.bytes) c.self.view_is
+    (some_pushed (sending c.self.inside.session c.self.inside.framing c.self.inside.reader c.self.inside.bytes.items c.self.inside.delivered c.self.inside.start c.self.inside.is_over)
+    c.args.bytes c.in-Err.fault _ c.self.invariant (λ e. (c.in-Err.ensures.closed e).0) (λ e going. (c.in-Err.ensures.nothing
+    (part_of c.self.inside.delivered c.end-end.result c.deref.result.now
+    ∙ ap (λ bs. drop c.self.inside.delivered (take c.end-end.result bs)) c.deref.ensures.value
+    ∙ ap (λ n. drop c.self.inside.delivered (take n c.self.inside.bytes.items)) (c.end-end.ensures ∙ ap (λ s. delivered_after s c.args.bytes) (sym c.self.view_is))
+    ∙ e) going).0))
