@@ -4,10 +4,10 @@
 #[cfg(test)]
 mod counts;
 #[cfg(test)]
-mod elements;
-#[cfg(test)]
 mod frames;
 #[cfg(test)]
 mod names;
 #[cfg(test)]
 mod splitter;
+#[cfg(test)]
+mod trees;
