@@ -1,0 +1,20 @@
+//! Laws of the definitions.
+
+ghost use Rattle.feed_hub.specs.Laws.{ScreensAreConnections, ScreensShowStates, ScreensAreFollowed, DueIsResponse, ServedGrows};
+
+use feed_answer::followed_laws;
+use feed_world::{sending_laws, world_laws};
+
+/// What screens are sent is what connections of a world are sent: so, whatever front of it came, what
+/// a mirror behind it shows is a state of the primary's log.
+pub fn hub_laws()
+    ensures connections { ScreensAreConnections }
+    ensures states { ScreensShowStates }
+    ensures followed { ScreensAreFollowed }
+    ensures due { DueIsResponse }
+    ensures grows { ServedGrows }
+{
+    world_laws();
+    sending_laws();
+    followed_laws();
+}
