@@ -5,8 +5,8 @@ ghost use Rattle.feed_hub.specs.Laws.{ScreensAreConnections, ScreensShowStates, 
 use feed_answer::followed_laws;
 use feed_world::{sending_laws, world_laws};
 
-/// What screens are sent is what connections of a world are sent: so, whatever front of it came, what
-/// a mirror behind it shows is a state of the primary's log.
+/// What screens are sent is what connections of a world are sent: so, whatever prefix of it came,
+/// what a mirror that reads it shows is a state of the primary's log.
 pub fn hub_laws()
     ensures connections { ScreensAreConnections }
     ensures states { ScreensShowStates }
