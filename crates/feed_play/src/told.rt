@@ -26,7 +26,8 @@ fn reply_line(alloc: Global, reply: &Reply, token: Option<&str>) -> Result<Strin
         Reply::Sent(Pulled::Gone) => String::from_str(alloc, "sent gone\n"),
         Reply::Idled => String::from_str(alloc, "idled\n"),
         Reply::Delivered(count) => format!(in alloc; "delivered {count}\n"),
-        Reply::Broke(_, FollowFault::Memory | FollowFault::Feed(FeedFault::Memory)) => String::from_str(alloc, "broke out of memory\n"),
+        Reply::Broke(_, FollowFault::Memory | FollowFault::Feed(FeedFault::Memory)) =>
+            String::from_str(alloc, "broke out of memory\n"),
         Reply::Broke(_, fault) => format!(in alloc; "broke {fault}\n"),
         Reply::Cut => String::from_str(alloc, "cut\n"),
         Reply::Saved(count) => format!(in alloc; "saved {count}\n"),

@@ -1,14 +1,14 @@
 -- A mirror that has followed a front of the response on its connection is where the whole blocks of that front bring it.
-use Rattle.std.proofs.Common.{◌≡◌, refl, sym, ap, ◌∙◌, subst, ℕ, zero, suc, ◌+◌, ◌-◌, ◌<◌, ◌≤◌, ◌^◌, min, Bool, true, false, ◌&&◌, arith, List, [], ◌∷◌, ◌++◌, length, take, drop, append_assoc, append-nil, length-append, length-drop, length-take-le, take-take, take-append-drop, Option, Some, None, Ok, Err, inl, inr, nat_le, nat_lt, leb-true, leb-false, eqb-true, ltb-true, ltb-false}
-use Rattle.std.specs.Prelude.{if◌then◌else◌, ◌==◌, ◌⊎◌, ◌≢◌, Result, is_none, option_map}
+use Rattle.std.proofs.Common.{◌≡◌, refl, sym, ap, ◌∙◌, subst, ℕ, zero, suc, ◌+◌, ◌-◌, ◌<◌, ◌≤◌, ◌^◌, min, Bool, true, false, ◌&&◌, arith, List, [], ◌∷◌, ◌++◌, length, take, drop, append_assoc, length-append, length-take-le, take-take, take-append-drop, Option, Some, None, Ok, Err, inl, inr, nat_le, nat_lt, eqb-true, ltb-true, ltb-false}
+use Rattle.std.specs.Prelude.{if◌then◌else◌, ◌==◌, ◌≢◌, Result}
 use Rattle.feed_note.specs.Lines.{rest}
 use Rattle.feed_note.specs.declared.line.Line.{Line}
 use Rattle.feed_node.specs.declared.fault.FeedFault.{FeedFault}
 use Rattle.feed_node.specs.declared.fault.FeedFault.TheVariants.{NotOpen, LongLine, Line as BadLine, StageFull, Memory as FeedMemory}
 use Rattle.feed_node.specs.Limits.{Limits}
 use Rattle.feed_node.specs.Log.{token_after}
-use Rattle.feed_node.specs.Mirroring.{MirrorState, StandsAt, present_opening, mirror_after, cut_off, publications}
-use Rattle.feed_node.specs.Reading.{Opening, Reads, FaultsAt, reads, keep_latest, awaits_reset}
+use Rattle.feed_node.specs.Mirroring.{MirrorState, StandsAt, present_opening, mirror_after, cut_off}
+use Rattle.feed_node.specs.Reading.{Reads, FaultsAt, reads, keep_latest, awaits_reset}
 use Rattle.feed_node.specs.States.{published_token}
 use Rattle.feed_node.specs.Steps.{ReadingIsOne}
 use Rattle.feed_follow.specs.declared.fault.FollowFault.{FollowFault}
@@ -16,20 +16,19 @@ use Rattle.feed_follow.specs.declared.fault.FollowFault.TheVariants.{Closed, Lon
 use Rattle.feed_follow.specs.Follower.{FollowerState as ReaderState, FollowsAt, GoesOn}
 use Rattle.feed_follow.specs.declared.fault.Progress.{Progress}
 use Rattle.feed_follow.specs.declared.follower.Part.TheVariants.{Closed as NoMore}
-use Rattle.feed_follow.specs.Following.{HasReached, IsCutAfter, IsCutAtFault, Leaves, Brings as BringsText, HasBadLine, HasLostSome, Fails}
+use Rattle.feed_follow.specs.Following.{HasReached, IsCutAfter, Leaves, HasBadLine, HasLostSome, Fails}
 use Rattle.feed_follow.specs.Standing.{Standing, in_head, token_refused, in_body, done, failed, Stands}
 use Rattle.feed_answer.specs.Answer.{feed_head}
 use Rattle.feed_answer.specs.FrameLaws.{joined as joined_texts}
 use Rattle.feed_answer.specs.FollowLaws.{ResponsesAreFollowed, FrontsCarryMore}
-use Rattle.feed_answer.specs.Carried.{standing_at, carried_by}
-use Rattle.feed_world.specs.declared.event.Reply.{Reply}
+use Rattle.feed_answer.specs.Carried.{standing_at}
 use Rattle.feed_world.specs.declared.event.Reply.TheVariants.{Delivered, Broke}
-use Rattle.feed_world.specs.Connection.{Part, Snapshot, Commit, Line_feed, Connection, part_text, part_texts, parts_text, sent_text, sent_bytes, bytes_sent, come_by, block_onto, blocks_within, blocks_come, blocks_between, moved, moved_by, is_new, count_new, GoOn, first_parts, IsInOrder}
+use Rattle.feed_world.specs.Connection.{Part, Snapshot, Commit, Line_feed, Connection, part_text, part_texts, sent_text, sent_bytes, bytes_sent, come_by, blocks_within, blocks_come, blocks_between, moved, moved_by, is_new, count_new, GoOn, first_parts}
 use Rattle.feed_world.specs.Log.{Log, IsLog}
 use Rattle.feed_world.specs.Position.{Position, node_where, renewed, IsPosition, IsPlace}
 use Rattle.feed_world.specs.Reading.{opening_at, IsOpened, FrontsAreRead}
-use Rattle.feed_world.specs.States.{ConnectionState, FollowerState, IsConnection, HasAsked, IsReading, AreLinked, IsMirror, asks_with, Moves, BreaksMirror, IsBrought, Brings, next_bytes, advanced, delivered_after, published_between}
-use Rattle.feed_world.specs.Step.{reached, delivers, with_connection, mirror_delivers, brought_to, number_at, IsMemory}
+use Rattle.feed_world.specs.States.{ConnectionState, FollowerState, IsConnection, HasAsked, IsReading, AreLinked, IsMirror, asks_with, Moves, BreaksMirror, IsBrought, Brings, next_bytes, delivered_after, published_between}
+use Rattle.feed_world.specs.Step.{reached, delivers, with_connection, mirror_delivers, brought_to, IsMemory}
 use Rattle.feed_world.specs.World.{Mirror}
 use Rattle.feed_world.proofs.Commits.{renewed_is_position}
 use Rattle.feed_world.proofs.Fronts.{not_zero}

@@ -210,7 +210,7 @@ mirror_served limits log m place f s held is_log is_place is pulled t same servi
           mirror_on limits log m f (Some (serves c place).1) (Some t) is (
             served.1,
             subst (λ reader. IsReading limits log (linked m (Some (serves c place).1)) (serves c place).1 reader f.mirror) (sym same)
-            (served_any limits log c place (λ d. IsReading limits log (linked m (Some (serves c place).1)) d s.reader f.mirror) is_place
+                (served_any limits log c place (λ d. IsReading limits log (linked m (Some (serves c place).1)) d s.reader f.mirror) is_place
                 (same_reading limits log m c s.reader f.mirror l.1 (Some (serves c place).1))
                 (ended_reading limits log m c s.reader f.mirror l.1 (Some (serves c place).1))
                 (λ sent. more_reading limits log m c s.reader f.mirror l.1 (Some (serves c place).1) is_log within sent)),
@@ -234,7 +234,7 @@ mirror_idled limits log m f s held is reply t same idling =
           mirror_on limits log m f (Some (idles c).1) (Some t) is (
             idled.1,
             subst (λ reader. IsReading limits log (linked m (Some (idles c).1)) (idles c).1 reader f.mirror) (sym same)
-            (chosen (λ (r : Reply × Connection). IsReading limits log (linked m (Some (idles c).1)) r.1 s.reader f.mirror) c.over _ (Idled, with_line_feed c)
+                (chosen (λ (r : Reply × Connection). IsReading limits log (linked m (Some (idles c).1)) r.1 s.reader f.mirror) c.over _ (Idled, with_line_feed c)
                 (λ e. same_reading limits log m c s.reader f.mirror l.1 (Some (idles c).1))
                 (line_feed_reading limits log m c s.reader f.mirror l.1 (Some (idles c).1) within)),
           ),

@@ -1,22 +1,21 @@
 -- A refusal that is followed whole: the token is refused, or there is a status; or memory runs out.
-use Rattle.std.proofs.Common.{◌≡◌, refl, sym, ap, ◌∙◌, subst, ℕ, ◌+◌, ◌<◌, ◌≤◌, Bool, true, false, ◌&&◌, arith, List, [], ◌∷◌, ◌++◌, length, take, length-append, Option, inl, inr, is_some, nat_lt, ltb-true, ltb-false}
-use Rattle.std.specs.Prelude.{if◌then◌else◌, ◌==◌, ◌⊎◌}
+use Rattle.std.proofs.Common.{◌≡◌, refl, sym, ap, ◌∙◌, subst, ℕ, ◌+◌, ◌<◌, Bool, true, false, ◌&&◌, arith, List, [], ◌∷◌, ◌++◌, length, take, length-append, inl, inr, is_some, nat_lt, ltb-true, ltb-false}
+use Rattle.std.specs.Prelude.{if◌then◌else◌, ◌==◌}
 use Rattle.std.proofs.lemmas.List.{take_all}
 use Rattle.feed_node.specs.declared.fault.FeedFault.{FeedFault}
 use Rattle.feed_node.specs.declared.fault.FeedFault.TheVariants.{NotOpen, LongLine, Line as BadLine, StageFull, Memory as FeedMemory}
-use Rattle.feed_node.specs.Mirroring.{MirrorState, cut_off, refused_off}
+use Rattle.feed_node.specs.Mirroring.{MirrorState, cut_off}
 use Rattle.feed_follow.specs.declared.fault.FollowFault.{FollowFault}
 use Rattle.feed_follow.specs.declared.fault.FollowFault.TheVariants.{Closed, LongHead, BadHead, Status, BadCoding, BadLength, BadChunk, Feed, Memory as FollowMemory}
 use Rattle.feed_follow.specs.declared.fault.Progress.{Progress}
-use Rattle.feed_follow.specs.Follower.{FollowerState as ReaderState, FollowsAt, GoesOn}
+use Rattle.feed_follow.specs.Follower.{FollowerState as ReaderState, GoesOn}
 use Rattle.feed_follow.specs.Following.{Leaves, Answers, HasBadLine, HasLostSome, Fails}
 use Rattle.feed_follow.specs.Standing.{Standing, in_head, token_refused, in_body, done, failed, Stands}
 use Rattle.feed_answer.specs.declared.refusal.Refusal.{Refusal}
 use Rattle.feed_answer.specs.Answer.{refusal_code, refusal_head, refusal_body, refusal_text}
 use Rattle.feed_answer.specs.Carried.{refusal_standing, refusal_at}
 use Rattle.feed_answer.specs.FollowLaws.{RefusalsAreFollowed}
-use Rattle.feed_world.specs.declared.event.Reply.{Reply}
-use Rattle.feed_world.specs.declared.event.Reply.TheVariants.{Refused, NotYet, Broke}
+use Rattle.feed_world.specs.declared.event.Reply.TheVariants.{Refused, NotYet}
 use Rattle.feed_world.specs.States.{FollowsRefusal, refusal_reply}
 
 -- a refusal has no body that is followed, and no other fault than its status
@@ -91,9 +90,9 @@ module _ (refusals : RefusalsAreFollowed) (refusal : Refusal) (old : MirrorState
       elim l.left [
         | inl head ↦ head.1
         | inr body ↦ elim body.1 [
-            | inl going ↦ absurd (of_front reader.had_token l.counted l.uncounted (in_body body.0) (sym l.whole) going)
-            | inr ended ↦ absurd (of_front reader.had_token l.counted l.uncounted (done body.0) (sym l.whole) ended)
-          ]
+          | inl going ↦ absurd (of_front reader.had_token l.counted l.uncounted (in_body body.0) (sym l.whole) going)
+          | inr ended ↦ absurd (of_front reader.had_token l.counted l.uncounted (done body.0) (sym l.whole) ended)
+        ]
       ]
 
   no_bad_line : (fault : FeedFault) (new : MirrorState) → HasBadLine old reader.had_token ([] ++ bytes) fault new → ⊥

@@ -1,15 +1,14 @@
 -- The bytes of a response: what is appended to them, and how much of the text has come with a front of them.
-use Rattle.std.proofs.Common.{◌≡◌, refl, sym, ap, ◌∙◌, subst, ℕ, zero, suc, ◌+◌, ◌-◌, ◌<◌, ◌≤◌, ◌^◌, min, Bool, true, false, arith, List, [], ◌∷◌, ◌++◌, length, map, take, append_assoc, append-nil, length-append, Option, Some, nat_le, nat_lt, ltb-true, ltb-false}
-use Rattle.std.specs.Prelude.{if◌then◌else◌, ◌≢◌}
+use Rattle.std.proofs.Common.{◌≡◌, refl, sym, ap, ◌∙◌, subst, ℕ, ◌+◌, ◌-◌, ◌<◌, ◌≤◌, ◌^◌, min, false, arith, List, [], ◌∷◌, ◌++◌, length, append_assoc, append-nil, length-append}
 use Rattle.std.specs.Fmt.{digits}
 use Rattle.std.specs.List.{AllByRecursion, flat_map}
 use Rattle.httparse.specs.Ascii.{crlf_bytes}
 use Rattle.feed_answer.specs.declared.framing.Framing.{Framing}
 use Rattle.feed_answer.specs.declared.framing.Framing.TheVariants.{Close, Chunked}
 use Rattle.feed_answer.specs.Answer.{feed_head}
-use Rattle.feed_answer.specs.Framed.{frame, chunk_text}
+use Rattle.feed_answer.specs.Framed.{frame}
 use Rattle.feed_answer.specs.FrameLaws.{AreTexts, joined}
-use Rattle.feed_answer.specs.Carried.{bytes_before, carried_in, response_text, carried_by, standing_at}
+use Rattle.feed_answer.specs.Carried.{bytes_before, carried_in, response_text, carried_by}
 use Rattle.feed_world.specs.Connection.{Part, Connection, part_text, part_texts, parts_text, sent_bytes, bytes_sent, come_by}
 use Rattle.feed_world.specs.Log.{Log}
 

@@ -15,7 +15,7 @@ use Rattle.feed_answer.specs.Answered.{AnswerParts, answer_to, answer_opened}
 use Rattle.feed_answer.specs.Asked.{Asked, refused, feed, framing_for}
 use Rattle.feed_answer.specs.Opening.{Started, opens, starts_behind}
 use Rattle.feed_answer.specs.Served.{opening_text}
-use Rattle.feed_world.specs.Laws.{opened_text, OpensInLog, NodesOpenInLog, SessionsStartBefore, IsNextInLog, NodesSendTheNext, PartsGoOn}
+use Rattle.feed_world.specs.Laws.{opened_text, OpensInLog, NodesOpenInLog, SessionsStartBefore, NodesSendTheNext, PartsGoOn}
 use Rattle.feed_world.specs.Log.{Log, state_text}
 use Rattle.feed_world.specs.Position.{Position, IsPosition, IsPlace, commits_after, node_at, node_where}
 use Rattle.feed_world.specs.Step.{holds_number}
@@ -23,7 +23,7 @@ use Rattle.feed_world.proofs.Answered.{Nothing_new, Commit_after, next, or_lost}
 use Rattle.feed_world.proofs.Commits.{commit_of, commits-length}
 use Rattle.feed_world.proofs.Growth.{commit_next, line_feed_next}
 use Rattle.feed_world.proofs.Served.{next_commit, starts_there}
-use Rattle.feed_world.proofs.Tokens.{token_found, token_missing, place_among, tokens_apart}
+use Rattle.feed_world.proofs.Tokens.{token_found, token_missing, tokens_apart}
 
 pub parts_go_on : PartsGoOn
 parts_go_on = record { commit = commit_next; line_feed = line_feed_next }

@@ -1,5 +1,5 @@
 -- A world of nodes: a primary, and mirrors that connect to any other node.
-use Rattle.std.specs.Prelude.{◌≡◌, ℕ, zero, suc, ◌≤◌, ◌-◌, Bool, false, not, ◌&&◌, nat_le, ◌==◌, List, [], length, replicate, Option, Some, None, slice_get, slice_set}
+use Rattle.std.specs.Prelude.{ℕ, zero, suc, ◌≤◌, ◌-◌, Bool, false, not, ◌&&◌, nat_le, ◌==◌, List, [], length, replicate, Option, Some, None, slice_get, slice_set}
 use Rattle.std.specs.Option.{option_and_then}
 use Rattle.feed_node.specs.Limits.{Limits}
 use Rattle.feed_node.specs.States.{NodeState}

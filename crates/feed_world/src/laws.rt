@@ -30,5 +30,4 @@ pub fn sending_laws()
     ensures starts { SessionsStartBefore }
     ensures commits { NodesSendTheNext }
     ensures order { PartsGoOn }
-{
-}
+{}

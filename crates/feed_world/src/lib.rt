@@ -9,7 +9,7 @@ mod laws;
 mod moves;
 mod world;
 
-pub use feed_answer::Framing;
 pub use event::{Event, Reply, ShapeFault, WorldFault};
+pub use feed_answer::Framing;
 pub use laws::{sending_laws, world_laws};
 pub use world::{Link, MOST_NODES, World};

@@ -1,4 +1,4 @@
-use Rattle.std.proofs.Common.{refl, sym, ap, ◌∙◌, subst, [], codes}
+use Rattle.std.proofs.Common.{refl, ◌∙◌, subst, [], codes}
 use Rattle.std.specs.Prelude.{Result, Ok, Err, IfOk}
 use Rattle.std.specs.Option.{option_copied}
 use Rattle.feed_answer.specs.Answered.{AnswersTo, parts_of}

@@ -1,4 +1,4 @@
-use Rattle.std.proofs.Common.{◌≡◌, refl, sym, ap, ◌∙◌, ℕ, Result, Ok, Err}
+use Rattle.std.proofs.Common.{sym, ap, ◌∙◌, ℕ, Result, Ok, Err}
 use Rattle.std.proofs.lemmas.Fmt.{parse-decimal}
 use Rattle.feed_world.proofs.connection.number_of.Goals as goal
 

@@ -1,4 +1,4 @@
-use Rattle.std.proofs.Common.{◌≡◌, refl, sym, ap, ◌∙◌, arith, ◌∷◌, ◌++◌, get_or}
+use Rattle.std.proofs.Common.{refl, ap, ◌∙◌, arith, ◌∷◌, ◌++◌}
 use Rattle.std.proofs.lemmas.Result.{err_from_is_err_and}
 use Rattle.feed_world.specs.States.{node_asked}
 use Rattle.feed_world.proofs.Asked.{asked_nobody, asked_leads, asked_fails, asked_none}

@@ -1,4 +1,4 @@
-use Rattle.std.proofs.Common.{◌≡◌, ◌<◌, sym, ap, ◌∙◌, subst, ◌++◌, drop, take}
+use Rattle.std.proofs.Common.{◌<◌, sym, ap, ◌∙◌, subst, drop, take}
 use Rattle.feed_follow.specs.Follower.{FollowsAt}
 use Rattle.feed_follow.specs.Following.{Fails}
 use Rattle.feed_world.specs.States.{Brings, sending, delivered_after, next_bytes}

@@ -1,4 +1,4 @@
-use Rattle.std.proofs.Common.{◌≡◌, refl, sym, ap, ◌∙◌, subst, [], ◌++◌}
+use Rattle.std.proofs.Common.{sym, ap, ◌∙◌, subst, ◌++◌}
 use Rattle.std.specs.Prelude.{Result, Ok, Err, OnErr}
 use Rattle.feed_node.specs.Serving.{SendsCommit, commit_after}
 use Rattle.feed_answer.specs.Framed.{frame}

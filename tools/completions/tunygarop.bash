@@ -1,0 +1,65 @@
+# Completions of tunygarop for bash.
+
+_tunygarop() {
+    local word=${COMP_WORDS[COMP_CWORD]} before=${COMP_WORDS[COMP_CWORD - 1]} command=${COMP_WORDS[1]}
+    local commands="tables check play serve pull relay"
+    local names option given
+
+    COMPREPLY=()
+    # In --NAME=VALUE, bash makes '=' a word of its own.
+    if [ "$word" = "=" ]; then
+        word=""
+    elif [ "$before" = "=" ]; then
+        before=${COMP_WORDS[COMP_CWORD - 2]}
+    fi
+
+    case $before in
+        "<" | ">" | ">>" | ">|" | "<>" | "&>" | ">&")
+            compopt -o filenames 2> /dev/null
+            mapfile -t COMPREPLY < <(compgen -f -- "$word")
+            return
+            ;;
+        --host)
+            mapfile -t COMPREPLY < <(compgen -A hostname -- "$word")
+            return
+            ;;
+        --history | --back | --staged | --turns | --turn | --count | --port | --listen)
+            return
+            ;;
+        --contest | --from | --base)
+            return
+            ;;
+    esac
+
+    if [ "$COMP_CWORD" -eq 1 ]; then
+        mapfile -t COMPREPLY < <(compgen -W "$commands help --help --version -h -V" -- "$word")
+        return
+    fi
+
+    case $command in
+        tables) names="history staged verbose" ;;
+        check) names="" ;;
+        play) names="" ;;
+        serve) names="port contest count turn chunked back history staged" ;;
+        pull) names="host port from contest base turns resume history staged" ;;
+        relay)
+            names="host port from contest base turns resume history staged listen count chunked"
+            ;;
+        help)
+            [ "$COMP_CWORD" -eq 2 ] && mapfile -t COMPREPLY < <(compgen -W "$commands" -- "$word")
+            return
+            ;;
+        *) return ;;
+    esac
+
+    # An option may be given once.
+    given=" ${COMP_WORDS[*]:2:COMP_CWORD - 2} ${COMP_WORDS[*]:COMP_CWORD + 1} "
+    for option in $names help; do
+        if [[ $given != *" --$option "* && "--$option" == "$word"* ]]; then
+            COMPREPLY+=("--$option")
+        fi
+    done
+    [ "$word" = "-h" ] && COMPREPLY+=("-h")
+}
+
+complete -F _tunygarop tunygarop
