@@ -1,5 +1,4 @@
--- What screens are sent is what a connection of a world is sent, so what they show is a state that
--- the primary had.
+-- What screens are sent is what a connection of a world is sent.
 use Rattle.std.specs.Prelude.{◌≡◌, ℕ, ◌≤◌, Bool, false, List, ◌∷◌, ◌++◌, length, take, Option, Some, Contains}
 use Rattle.feed_node.specs.Limits.{Limits}
 use Rattle.feed_node.specs.Log.{token_after}
@@ -45,8 +44,9 @@ ScreensAreConnections =
     (token : List ℕ) → IsLog limits log → AreInLog limits log nodes → k ≤ length log
     → Told nodes (token_after k) texts token → StandInOrder log k texts token
 
--- A mirror that is sent this, fresh or behind a token that it holds, and has read any front of it:
--- nothing was bad, and it shows what a node at a place of the log shows.
+-- A mirror that is sent this, fresh or after a token that it holds, and has read any prefix of it:
+-- nothing was bad, and it shows what a node shows at some place. That the place is one of this log
+-- is not said here.
 pub record ShowsState (limits : Limits) (log : Log) (place : Option Position) (fresh : Bool)
     (front : List ℕ) : Type 0 where
   pub notes : List Line
@@ -65,7 +65,7 @@ ScreensShowStates =
     → front ++ behind ≡ opened_text log fresh k ++ joined texts
     → ShowsState limits log place fresh front
 
--- what a response that stands so leaves of the mirror behind it: nothing yet, or a state of the log
+-- what a response that stands so leaves of the mirror that reads it: nothing yet, or what is said above
 abbrev pub StandsWell : Limits → Log → Option Position → Bool → Standing → Type 0
 StandsWell limits log place fresh in_head = Unit {0}
 StandsWell limits log place fresh token_refused = ⊥
@@ -73,14 +73,13 @@ StandsWell limits log place fresh (in_body payload) = ShowsState limits log plac
 StandsWell limits log place fresh (done payload) = ShowsState limits log place fresh payload
 StandsWell limits log place fresh (failed fault payload) = ⊥
 
--- the bytes stand in one way, as a response without a fault, and what a mirror shows that was fed
--- what they carry is a state of the log
+-- the bytes stand in one way, as a response without a fault, and a mirror that was fed what they
+-- carry shows what is said above
 abbrev pub StandsSo : Limits → Log → Option Position → Bool → Bool → List ℕ → Type 0
 StandsSo limits log place fresh had_token bytes =
     (s : Standing) × StandsOnly had_token bytes s × StandsWell limits log place fresh s
 
--- THE PROMISE, for a screen: so it is for whatever front of the bytes came, with the end of the body
--- and without.
+-- So it is for a screen, whatever prefix of the bytes came, with the end of the body and without.
 abbrev pub ScreensAreFollowed : Type 0
 ScreensAreFollowed =
     (limits : Limits) (log : Log) (nodes : List NodeState) (k : ℕ) (texts : List (List ℕ))
