@@ -24,7 +24,7 @@ use Rattle.feed_follow.specs.Heads.{BeginsWithResponse, HasNoWholeResponse}
 use Rattle.feed_follow.specs.HeadRead.{IsUnfinished, IsNoHead}
 use Rattle.feed_follow.specs.Standing.{Standing, in_head, token_refused, in_body, done, failed, verdict, Stands, StandsInBody, StandsBehind}
 use Rattle.feed_follow.specs.Following.{HasReached, IsCutAfter, IsCutAtFault, Leaves, Brings, Fails}
-use Rattle.feed_follow.specs.Follower.{FollowerState, ReadsBody, standing_with, IsInBody, FollowsAt, first_part, progress, GoesOn}
+use Rattle.feed_follow.specs.Follower.{FollowerState, ReadsBody, standing_with, IsInBody, FollowsAt, first_part, progress, GoesOnOrRefuses}
 use Rattle.feed_follow.specs.Feeding.{BringsBody, BodyGoesOn, BodyFails, BodyStops}
 use Rattle.feed_follow.specs.Keeping.{HeadBrings, HeadRefuses, HeadGoesOn, HeadStops}
 use Rattle.feed_follow.proofs.ChunkedRuns.{run_breaks_off}
@@ -102,7 +102,7 @@ module _ (start : MirrorState) (bytes : List ℕ) (had_token : Bool) (kept : Lis
       (standing_with payload part) begins says (body_stands framing text payload part reads)
 
   pub behind_head : (part : Part) → ReadsBody framing text payload part
-      → GoesOn start bytes (record { had_token = had_token; kept = kept; part = part }) mirror
+      → GoesOnOrRefuses start bytes (record { had_token = had_token; kept = kept; part = part }) mirror
       (progress part)
   behind_head ToEnd reads = (
     in_body payload,
@@ -151,7 +151,7 @@ module _ (start : MirrorState) (bytes : List ℕ) (had_token : Bool) (kept : Lis
 pub head_goes_on : (start : MirrorState) (bytes : List ℕ) (had_token : Bool) (kept : List ℕ)
     (mirror : MirrorState) (part : Part)
     → had_token ≡ is_some start.since → HeadGoesOn had_token bytes start kept mirror part
-    → GoesOn start bytes (record { had_token = had_token; kept = kept; part = part }) mirror
+    → GoesOnOrRefuses start bytes (record { had_token = had_token; kept = kept; part = part }) mirror
     (progress part)
 head_goes_on start bytes had_token kept mirror Head asked h = (
   in_head,
@@ -165,8 +165,7 @@ head_goes_on start bytes had_token kept mirror Head asked h = (
   },
 )
 head_goes_on start bytes had_token kept mirror Closed asked h = (
-  token_refused,
-  refl,
+  h.cut,
   record {
     asked = asked;
     stands = inr (
@@ -177,7 +176,7 @@ head_goes_on start bytes had_token kept mirror Closed asked h = (
           (sym h.says) refl,
     );
     keeps = refl;
-    leaves = h.refused;
+    leaves = ap refused_off h.cut;
   },
 )
 head_goes_on start bytes had_token kept mirror ToEnd asked h = behind_head start bytes had_token
@@ -256,7 +255,7 @@ pub body_goes_on : (start : MirrorState) (before piece : List ℕ) (standing : S
     → FollowsAt start before standing (record { had_token = had_token; kept = kept; part = part })
     old
     → BodyGoesOn part piece old new to
-    → GoesOn start (before ++ piece) (record { had_token = had_token; kept = more; part = to }) new
+    → GoesOnOrRefuses start (before ++ piece) (record { had_token = had_token; kept = more; part = to }) new
     (progress to)
 body_goes_on start before piece standing had_token kept other part to old new is f goes =
     let b = in_body_of start before standing had_token kept part old is f in
@@ -512,12 +511,12 @@ module _ (start : MirrorState) (before : List ℕ) (standing : Standing) (had_to
     (r : Result Part FollowFault) (piece more : List ℕ) (new : MirrorState) where
   pub head_ok : part ≡ Head
       → (IsUnfinished kept → IfOk r (HeadGoesOn had_token (kept ++ piece) old more new))
-      → IfOk r (λ to. GoesOn start (before ++ piece)
+      → IfOk r (λ to. GoesOnOrRefuses start (before ++ piece)
       (record { had_token = had_token; kept = more; part = to }) new (progress to))
   head_ok e h =
       let a = at_head start before standing had_token kept part old e f in
       IfOk-weaker r (HeadGoesOn had_token (kept ++ piece) old more new)
-      (λ to. GoesOn start (before ++ piece)
+      (λ to. GoesOnOrRefuses start (before ++ piece)
       (record { had_token = had_token; kept = more; part = to }) new (progress to))
       (λ to goes. head_goes_on start (before ++ piece) had_token more new to a.asked
       (subst (λ x. HeadGoesOn had_token (x ++ piece) start more new to) a.same
@@ -536,11 +535,11 @@ module _ (start : MirrorState) (before : List ℕ) (standing : Standing) (had_to
       (subst (λ m. HeadStops had_token kept piece m new fault) a.began stops)))
 
   pub body_ok : part ≢ Head → part ≢ Closed → IfOk r (BodyGoesOn part piece old new)
-      → IfOk r (λ to. GoesOn start (before ++ piece)
+      → IfOk r (λ to. GoesOnOrRefuses start (before ++ piece)
       (record { had_token = had_token; kept = more; part = to }) new (progress to))
   body_ok head closed h =
       IfOk-weaker r (BodyGoesOn part piece old new)
-      (λ to. GoesOn start (before ++ piece)
+      (λ to. GoesOnOrRefuses start (before ++ piece)
       (record { had_token = had_token; kept = more; part = to }) new (progress to))
       (λ to goes. body_goes_on start before piece standing had_token kept more part to old new
       (a_body part head closed) f goes) h
@@ -556,13 +555,13 @@ module _ (start : MirrorState) (before : List ℕ) (standing : Standing) (had_to
 pub refuses : (had_token : Bool) (kept piece : List ℕ) (len : ℕ) (found : WholeHead)
     (old new : MirrorState)
     → IsHeadRead had_token (kept ++ take len piece) found → found.says ≡ Refusal
-    → new ≡ refused_off old → HeadRefuses had_token (kept ++ piece) old new
-refuses had_token kept piece len found old new h is refused = record {
+    → new ≡ cut_off old → HeadRefuses had_token (kept ++ piece) old new
+refuses had_token kept piece len found old new h is cut = record {
   head = h.head;
   rest = drop found.len (kept ++ take len piece) ++ drop len piece;
   begins = found_in_piece had_token kept piece len found h;
   says = h.says ∙ ap (λ (v : Verdict). Ok v) is;
-  refused = refused;
+  cut = cut;
 }
 
 module _ (had_token : Bool) (kept piece : List ℕ) (len : ℕ) (found : WholeHead)

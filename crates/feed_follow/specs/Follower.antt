@@ -1,7 +1,7 @@
 -- What a follower keeps of a response, and where it stands with the mirror that it feeds.
 use Rattle.std.specs.Prelude.{◌≡◌, ◌≢◌, ◌<◌, ◌+◌, ℕ, Bool, List, ◌++◌, length, is_some, Ok, ◌==◌, if◌then◌else◌}
 use Rattle.httparse.specs.Grammar.{ResponseHead}
-use Rattle.feed_node.specs.Mirroring.{MirrorState}
+use Rattle.feed_node.specs.Mirroring.{MirrorState, cut_off, refused_off}
 use Rattle.feed_follow.specs.declared.chunk.Chunking.TheVariants.{LineStart, Whole}
 use Rattle.feed_follow.specs.declared.coding.BodyFraming.{BodyFraming}
 use Rattle.feed_follow.specs.declared.coding.BodyFraming.TheVariants as framed
@@ -88,3 +88,10 @@ progress part = reached.Body
 abbrev pub GoesOn : MirrorState → List ℕ → FollowerState → MirrorState → Progress → Type 0
 GoesOn start bytes follower mirror answer =
     (now : Standing) × Answers now answer × FollowsAt start bytes now follower mirror
+
+-- a push that leaves a refused token to its caller: the mirror is cut then, and has the token; once
+-- it forgets that, the response stands as it would; else the push goes on
+abbrev pub GoesOnOrRefuses : MirrorState → List ℕ → FollowerState → MirrorState → Progress → Type 0
+GoesOnOrRefuses start bytes follower mirror reached.TokenRefused =
+    (mirror ≡ cut_off start) × FollowsAt start bytes token_refused follower (refused_off mirror)
+GoesOnOrRefuses start bytes follower mirror answer = GoesOn start bytes follower mirror answer

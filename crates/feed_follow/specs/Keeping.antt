@@ -1,7 +1,7 @@
 -- What a follower's fields keep, and what the pieces of a head do.
 use Rattle.std.specs.Prelude.{◌≡◌, ◌≤◌, ℕ, Bool, List, [], ◌++◌, length, Option, None, Some, Vec, Ok}
 use Rattle.httparse.specs.Grammar.{ResponseHead}
-use Rattle.feed_node.specs.Mirroring.{MirrorState, refused_off}
+use Rattle.feed_node.specs.Mirroring.{MirrorState, cut_off}
 use Rattle.feed_follow.specs.declared.coding.BodyFraming.{BodyFraming}
 use Rattle.feed_follow.specs.declared.fault.FollowFault.{FollowFault}
 use Rattle.feed_follow.specs.declared.fault.FollowFault.TheVariants.{Closed as IsClosed, BadChunk, Feed, Memory}
@@ -40,13 +40,13 @@ pub record HeadBrings (had_token : Bool) (bytes : List ℕ) (old new : MirrorSta
   pub reads : ReadsBody framing text payload part
   pub reached : HasReached old payload new
 
--- a head that refuses the token is whole
+-- a head that refuses the token is whole, and the mirror is cut
 pub record HeadRefuses (had_token : Bool) (bytes : List ℕ) (old new : MirrorState) : Type 0 where
   pub head : ResponseHead
   pub rest : List ℕ
   pub begins : BeginsWithResponse bytes head rest
   pub says : verdict had_token head ≡ Ok Refusal
-  pub refused : new ≡ refused_off old
+  pub cut : new ≡ cut_off old
 
 -- what is read behind these bytes
 abbrev pub HeadGoesOn : Bool → List ℕ → MirrorState → List ℕ → MirrorState → Part → Type 0

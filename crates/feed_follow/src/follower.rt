@@ -1,11 +1,11 @@
 //! A reader of one response, which feeds what it carries to a mirror.
-ghost use Rattle.std.specs.Prelude.{◌≡◌, ◌≢◌, ◌≤◌, ◌++◌, ℕ, List, [], length, is_some, Ok, Err, IfOk, IfErr, OnOk, OnErr};
+ghost use Rattle.std.specs.Prelude.{◌≡◌, ◌≢◌, ◌≤◌, ◌++◌, ℕ, List, [], length, is_some, None, Ok, Err, IfOk, IfErr, OnOk, OnErr};
 ghost use Rattle.feed_node.specs.Mirroring.{MirrorState, cut_off};
 ghost use Rattle.feed_follow.specs.declared.fault.FollowFault.{FollowFault as Fault};
 ghost use Rattle.feed_follow.specs.declared.fault.Progress.{Progress as Reached};
 ghost use Rattle.feed_follow.specs.Standing.{Standing, in_head};
 ghost use Rattle.feed_follow.specs.Following.{Fails};
-ghost use Rattle.feed_follow.specs.Follower.{FollowsAt, GoesOn, IsPart, first_part as part_for, progress as reached};
+ghost use Rattle.feed_follow.specs.Follower.{FollowsAt, GoesOn, GoesOnOrRefuses, IsPart, first_part as part_for, progress as reached};
 ghost use Rattle.feed_follow.specs.HeadRead.{IsUnfinished};
 ghost use Rattle.feed_follow.specs.Heads.{head_bytes};
 ghost use Rattle.feed_follow.specs.Keeping.{kept_bytes, follower_of, KeepsLittle, HeadGoesOn, HeadStops};
@@ -99,6 +99,58 @@ impl Follower {
         // bytes behind a whole body take no memory and change nothing
         ensures done { self.old.part ≡ Part.Done
             → (result ≡ Ok Reached.Done) × (mirror.new ≡ mirror.old) }
+        ensures done_stays { self.old.part ≡ Part.Done → self.new ≡ self.old }
+
+        // a fault leaves no connection
+        ensures cut { OnErr result (self.old.part ≢ Part.Closed → mirror.new.connection ≡ None) }
+        ensures asked { self.new.had_token ≡ self.old.had_token }
+        ensures limits { mirror.new.limits ≡ mirror.old.limits }
+        ensures bounded { length self.new.kept ≤ head_bytes }
+    {
+        match self.push_keeping_token(alloc, mirror, piece)? {
+            Progress::TokenRefused => {
+                mirror.refused();
+                Ok(Progress::TokenRefused)
+            }
+            progress => Ok(progress),
+        }
+    }
+
+    /// Reads the next bytes as `push` does, but leaves a refused token to its caller: the mirror is
+    /// cut then, and asks with the token again, so that another server may be asked with it.
+    /// `Mirror::refused` has it forgotten.
+    pub fn push_keeping_token(
+        &mut self,
+        alloc: Global,
+        mirror: &mut Mirror,
+        piece: &[u8],
+    ) -> Result<Progress, FollowFault>
+        // after a fault or a refused token
+        ensures closed { self.old.part ≡ Part.Closed
+            → (result ≡ Err Fault.Closed) × (mirror.new ≡ mirror.old) × (self.new ≡ self.old) }
+        ensures closes { OnErr result (self.new.part ≡ Part.Closed) }
+        ensures refuses { result ≡ Ok Reached.TokenRefused → self.new.part ≡ Part.Closed }
+
+        // wherever the response stands
+        ensures ok { (start : MirrorState) (before : List ℕ) (standing : Standing)
+            → FollowsAt start before standing self.old mirror.old
+            → IfOk result (GoesOnOrRefuses start (before ++ piece.now) self.new mirror.new) }
+        ensures err { (start : MirrorState) (before : List ℕ) (standing : Standing)
+            → FollowsAt start before standing self.old mirror.old
+            → IfErr result (Fails start self.old.had_token before piece.now mirror.new) }
+
+        // no bytes take no memory and change nothing
+        ensures nothing { piece.now ≡ [] → self.old.part ≢ Part.Closed
+            → (result ≡ Ok (reached self.old.part)) × (mirror.new ≡ mirror.old)
+            × (self.new ≡ self.old) }
+
+        // bytes behind a whole body take no memory and change nothing
+        ensures done { self.old.part ≡ Part.Done
+            → (result ≡ Ok Reached.Done) × (mirror.new ≡ mirror.old) }
+        ensures done_stays { self.old.part ≡ Part.Done → self.new ≡ self.old }
+
+        // a fault leaves no connection
+        ensures cut { OnErr result (self.old.part ≢ Part.Closed → mirror.new.connection ≡ None) }
         ensures asked { self.new.had_token ≡ self.old.had_token }
         ensures limits { mirror.new.limits ≡ mirror.old.limits }
         ensures bounded { length self.new.kept ≤ head_bytes }
@@ -222,7 +274,7 @@ fn read_head(
         return Ok(Part::Head);
     };
     let Verdict::Body(framing) = whole.says else {
-        mirror.refused();
+        mirror.cut();
         return Ok(Part::Closed);
     };
     mirror.begin();
@@ -247,12 +299,13 @@ fn read_part(
     // wherever the response stands
     ensures ok { (start : MirrorState) (before : List ℕ) (standing : Standing)
         → FollowsAt start before standing (follower_of had_token kept.old part) mirror.old
-        → IfOk result (λ to. GoesOn start (before ++ piece.now)
+        → IfOk result (λ to. GoesOnOrRefuses start (before ++ piece.now)
         (follower_of had_token kept.new to) mirror.new (reached to)) }
     ensures err { (start : MirrorState) (before : List ℕ) (standing : Standing)
         → FollowsAt start before standing (follower_of had_token kept.old part) mirror.old
         → IfErr result (Fails start had_token before piece.now (cut_off mirror.new)) }
     ensures done { part ≡ Part.Done → (result ≡ Ok Part.Done) × (mirror.new ≡ mirror.old) }
+    ensures done_stays { part ≡ Part.Done → kept_bytes kept.new ≡ kept_bytes kept.old }
     ensures limits { mirror.new.limits ≡ mirror.old.limits }
 {
     match part {

@@ -48,9 +48,9 @@ returns-in_default-says-clause-ok c = λ unfinished.
     let looked : c.deref.result.now ≡ kept ++ take len piece = cc
     (c.deref.ensures.value, c.in_ok-head.ensures, c.take.ensures.value) in
     let read = rw c.in-Some.is at c.in_ok-whole.ensures.whole in
-    refuses c.args.had_token kept piece len c.in-Some.whole c.args.mirror.now c.refused.new.self
+    refuses c.args.had_token kept piece len c.in-Some.whole c.args.mirror.now c.cut.new.self
     (subst (λ t. IsHeadRead c.args.had_token t c.in-Some.whole) looked read)
-    c.in_default-says.is c.refused.ensures
+    c.in_default-says.is c.cut.ensures
 
 pub returns-clause-ok : goal.returns-clause-ok
 returns-clause-ok c = λ unfinished.

@@ -1,26 +1,40 @@
-use Rattle.std.proofs.Common.{◌++◌, sym, ap, subst}
-use Rattle.feed_node.specs.Mirroring.{cut_off}
-use Rattle.feed_follow.specs.Following.{Fails}
-use Rattle.feed_follow.specs.Follower.{FollowerState, FollowsAt, GoesOn}
-use Rattle.feed_follow.specs.Keeping.{follower_of}
+use Rattle.std.proofs.Common.{◌≢◌, ◌++◌, List, ℕ, refl, sym, subst}
+use Rattle.std.proofs.lemmas.Result.{err_from_is_err_and}
+use Rattle.feed_node.specs.Mirroring.{MirrorState}
+use Rattle.feed_follow.specs.declared.fault.Progress.{Progress}
+use Rattle.feed_follow.specs.declared.fault.Progress.TheVariants.{Head, Body, Done, TokenRefused}
+use Rattle.feed_follow.specs.Standing.{token_refused}
+use Rattle.feed_follow.specs.Follower.{FollowerState, FollowsAt, GoesOn, GoesOnOrRefuses}
 use Rattle.feed_follow.proofs.follower.Follower.push.Goals as goal
 
-pub returns-in-Ok-clause-ok : goal.returns-in-Ok-clause-ok
-returns-in-Ok-clause-ok c start before standing f =
-    let follows = subst (λ s. FollowsAt start before standing s c.args.mirror.now)
-    (sym c.self.view_is) f in
-    subst (λ a. GoesOn start (before ++ c.args.piece.now)
-    (follower_of c.self.inside.had_token c.read_part.new.kept c.in-Ok.part)
-    c.read_part.new.mirror a) (sym c.progress-in-Ok.ensures)
-    (c.in-Ok.ensures.ok start before standing follows)
+-- a push that refuses nothing goes on
+going_on : (start : MirrorState) (bytes : List ℕ) (follower : FollowerState) (mirror : MirrorState)
+    (answer : Progress) → answer ≢ TokenRefused
+    → GoesOnOrRefuses start bytes follower mirror answer → GoesOn start bytes follower mirror answer
+going_on start bytes follower mirror Head not h = h
+going_on start bytes follower mirror Body not h = h
+going_on start bytes follower mirror Done not h = h
+going_on start bytes follower mirror TokenRefused not h = absurd (not refl)
 
-pub returns-in-Err-clause-err : goal.returns-in-Err-clause-err
-returns-in-Err-clause-err c start before standing f =
-    let follows = subst (λ s. FollowsAt start before standing s c.args.mirror.now)
-    (sym c.self.view_is) f in
-    subst (λ m. Fails start c.args.self.now.had_token before c.args.piece.now m c.in-Err.fault)
-    (sym c.close.ensures.cut)
-    (subst (λ h. Fails start h before c.args.piece.now
-    (cut_off c.read_part.new.mirror) c.in-Err.fault)
-    (ap (λ (s : FollowerState). s.had_token) c.self.view_is)
-    (c.in-Err.ensures.err start before standing follows))
+pub returns-in_err-progress-clause-err : goal.returns-in_err-progress-clause-err
+returns-in_err-progress-clause-err c start before standing f =
+    let p = err_from_is_err_and c.from_residual.result c.from_residual.ensures.1 in
+    rw (p.1, p.2) (c.in_err-progress.ensures.err start before standing f)
+
+pub returns-in-TokenRefused-clause-ok : goal.returns-in-TokenRefused-clause-ok
+returns-in-TokenRefused-clause-ok c start before standing f =
+    let bytes = before ++ c.args.piece.now in
+    let follower = c.push_keeping_token.new.self in
+    let cut = c.push_keeping_token.new.mirror in
+    let both = subst (GoesOnOrRefuses start bytes follower cut) c.in-TokenRefused.is
+    (c.in_ok-progress.ensures.ok start before standing f) in (
+      token_refused,
+      refl,
+      subst (FollowsAt start bytes token_refused follower) (sym c.refused.ensures) both.1,
+    )
+
+pub returns-in_default-clause-ok : goal.returns-in_default-clause-ok
+returns-in_default-clause-ok c start before standing f =
+    going_on start (before ++ c.args.piece.now) c.push_keeping_token.new.self
+    c.push_keeping_token.new.mirror c.in_ok-progress.progress c.in_default.not-TokenRefused
+    (c.in_ok-progress.ensures.ok start before standing f)
