@@ -164,9 +164,12 @@ module _ (starts : SessionsStartBefore) (limits : Limits) (log : Log) (is_log : 
       let both : Some token ≡ Some (token_after (max p.low (m - back))) = sym found ∙ start in
       let same : token ≡ token_after (max p.low (m - back)) = cc in
       let order = is.order in
-      let within = is.in_log in
-      (from, to, (tokens_tell log k (max p.low (m - back)) is_log.count fits
-      (omega (arith, to, within, order)) (sym named ∙ same)).0)
+      let within = is.in_log in (
+        from,
+        to,
+        (tokens_tell log k (max p.low (m - back)) is_log.count fits
+            (omega (arith, to, within, order)) (sym named ∙ same)).0,
+      )
 
   module _ (framing : Framing) (answer : AnswerParts) (opened : List ℕ)
       (session : answer.session ≡ Some opened) where
@@ -254,10 +257,16 @@ front_within text front behind e =
 
 pub responses_carry : ResponsesAreFollowed → EndsAreFollowed → ResponsesCarryFeed
 responses_carry responses ends log c framing had are = (
-  λ n. (standing_at framing (part_texts log c.parts) n,
-      responses framing (part_texts log c.parts) n had are, at n),
-  λ n. (ended_at framing (part_texts log c.parts) n,
-      ends framing (part_texts log c.parts) n had are, ended framing n),
+  λ n. (
+    standing_at framing (part_texts log c.parts) n,
+    responses framing (part_texts log c.parts) n had are,
+    at n,
+  ),
+  λ n. (
+    ended_at framing (part_texts log c.parts) n,
+    ends framing (part_texts log c.parts) n had are,
+    ended framing n,
+  ),
 )
   where
     text : joined (part_texts log c.parts) ≡ sent_text log c
@@ -380,8 +389,12 @@ module _ (fronts : FrontsAreRead) (one : ReadingIsOne) (limits : Limits) (log : 
                       (done payload) ends all
                 ] in
                 let cut = cut_so payload behind.0 mirror behind.1 body.2 in
-                inr (length payload, front_within (sent_text log c) payload behind.0 behind.1,
-                cut.0, cut.1)
+                inr (
+                  length payload,
+                  front_within (sent_text log c) payload behind.0 behind.1,
+                  cut.0,
+                  cut.1,
+                )
           ]
 
       bad_line : (fault : FeedFault) → HasBadLine begun had (before ++ piece) fault mirror → ⊥
