@@ -19,7 +19,7 @@ use Rattle.feed_answer.specs.Carried.{response_text, ended_text}
 use Rattle.feed_answer.specs.FrameLaws.{AreTexts}
 use Rattle.feed_answer.specs.FollowLaws.{StandsOnly}
 use Rattle.feed_answer.specs.Served.{opening_text}
-use Rattle.feed_world.specs.Connection.{Part, Connection, part_texts, sent_text, blocks_within, moved_by}
+use Rattle.feed_world.specs.Connection.{Connection, part_texts, sent_text, blocks_within, moved_by}
 use Rattle.feed_world.specs.Laws.{opened_text}
 use Rattle.feed_world.specs.Log.{Log, IsLog}
 use Rattle.feed_world.specs.Position.{Position, IsPlace, node_where}
