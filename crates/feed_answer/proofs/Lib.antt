@@ -5,5 +5,6 @@ pub mod FrontLemmas
 pub mod OpeningLemmas
 pub mod OurHeads
 pub mod RefusalTexts
+pub mod ReplyLemmas
 pub mod RequestLemmas
 pub mod TextLemmas

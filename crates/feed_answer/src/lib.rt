@@ -13,7 +13,7 @@ mod refusal;
 mod request;
 mod request_target;
 
-pub use answering::{Answered, answer};
+pub use answering::{Answered, Reply, answer, reply_to, snapshot_opening};
 pub use feed_follow::{HEAD_BYTES, HEAD_FIELDS, HEAD_LINES};
 pub use framing::{Framing, frame, frame_end};
 pub use heads::{HeadRead, look_at_request};
