@@ -7,6 +7,7 @@ mod words;
 
 pub use address::{AddressFault, addresses};
 pub use request::{
-    Local, NoCommand, PullOptions, RelayOptions, Request, ServeOptions, TablesOptions,
+    LiveOptions, Local, NoCommand, PullOptions, RelayOptions, Request, ServeOptions, TablesOptions,
+    UpstreamOptions, Verbosity,
 };
 pub use words::{PROGRAM, parse_words};

@@ -66,6 +66,60 @@ pub struct RelayOptions<'a> {
     pub framing: Framing,
 }
 
+/// A server that is followed first, and those that are asked where it fails.
+#[derive(Clone, Copy)]
+pub struct UpstreamOptions<'a> {
+    /// The server's address or name.
+    pub host: &'a str,
+    /// The server's port, 1 to 65,535.
+    pub port: u16,
+    /// The addresses of further servers, as those of [`PullOptions`]. Any text will do.
+    pub from: Option<&'a str>,
+    /// What stands before `/contests` in the path of the feed.
+    pub base: &'a str,
+}
+
+/// How much `live` reports on standard error.
+#[derive(Clone, Copy, Debug, PartialEq, Eq)]
+pub enum Verbosity {
+    /// Why it ends, and nothing else.
+    Quiet,
+    /// What changes.
+    Normal,
+    /// What changes, and each screen.
+    Verbose,
+}
+
+/// What `live` follows, to whom it serves that, and what it keeps. It has a port to serve at, or a
+/// file to keep, or both.
+#[derive(Clone, Copy)]
+pub struct LiveOptions<'a> {
+    /// The contest whose feed is followed and served. Any text will do.
+    pub contest: &'a str,
+    /// What is followed; without it the feed is read from standard input.
+    pub upstream: Option<UpstreamOptions<'a>>,
+    /// The port that screens come to, 1 to 65,535; without it nobody is served.
+    pub listen: Option<u16>,
+    /// The address of this machine that they come to. Any text will do.
+    pub address: &'a str,
+    /// How many screens are served at once, 1 to 10,000.
+    pub screens: usize,
+    /// After how many seconds without a commit a screen is sent a line feed, 1 to 3,600.
+    pub idle: u64,
+    /// How many bytes a screen may be late before it is cut off, 1 to 1,073,741,824.
+    pub window: u64,
+    /// How the answers are framed.
+    pub framing: Framing,
+    /// The name of the file that keeps what was published. Any text will do.
+    pub state: Option<&'a str>,
+    /// Whether the command ends where standard input does.
+    pub until_eof: bool,
+    /// How much is reported.
+    pub verbosity: Verbosity,
+    /// The limits of the node that is served.
+    pub limits: Limits,
+}
+
 /// A command that reads standard input alone.
 #[derive(Clone, Copy)]
 pub enum Local {
@@ -99,6 +153,8 @@ pub enum Request<'a> {
     Pull(PullOptions<'a>),
     /// A server's feed, followed by a mirror and served by it.
     Relay(RelayOptions<'a>),
+    /// A feed, followed for ever, and served to many screens at once.
+    Live(LiveOptions<'a>),
 }
 
 /// What is replied to words that ask for no command.

@@ -3,7 +3,9 @@ ghost use Rattle.std.specs.Prelude.{◌≡◌, map, IfOk};
 ghost use Rattle.feed_words.specs.Words.{Asks};
 
 mod asked;
+mod asked_live;
 mod line;
+mod live;
 mod options;
 
 use crate::request::{NoCommand, Request};

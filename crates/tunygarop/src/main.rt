@@ -56,6 +56,10 @@ fn run_request(rt: &HostRuntime, request: &Request<'_>) -> u8 {
         Request::Serve(options) => ended(rt, "serve", serve_feed(rt, options)),
         Request::Pull(options) => ended(rt, "pull", pull_feed(rt, options)),
         Request::Relay(options) => ended(rt, "relay", relay_feed(rt, options)),
+        Request::Live(_) => {
+            let _ = eprintln!(rt; "live: this build has no sockets for it");
+            REFUSED
+        }
     }
 }
 

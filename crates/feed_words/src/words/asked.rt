@@ -3,9 +3,10 @@ ghost use Rattle.std.specs.Prelude.{◌≡◌, Some, option_map, IfSome};
 ghost use Rattle.clap.specs.Matches.{found_of};
 ghost use Rattle.clap.specs.Words.{rows_of, subcommand_rows_of};
 ghost use Rattle.feed_words.specs.Addresses.{most_port};
-ghost use Rattle.feed_words.specs.Words.{text_at, IsNumber, IsNumberUpTo, IsNumberIfGiven, IsGiven, IsFramed};
-ghost use Rattle.feed_words.specs.Words.{AsksLimits, AsksTables, AsksServe, AsksPull, AsksRelay, AsksBy, AsksAt};
+ghost use Rattle.feed_words.specs.Options.{text_at, IsNumber, IsNumberUpTo, IsNumberIfGiven, IsGiven, IsFramed, AsksLimits};
+ghost use Rattle.feed_words.specs.Words.{AsksTables, AsksServe, AsksPull, AsksRelay, AsksBy, AsksAt};
 
+use super::asked_live::live_options;
 use super::options::{MOST_PORT, MOST_ROUNDS};
 use crate::request::{Local, PullOptions, RelayOptions, Request, ServeOptions, TablesOptions};
 use clap::ArgMatches;
@@ -22,7 +23,7 @@ fn number_up_to(matches: &ArgMatches<'_>, name: &str, most: u64) -> Option<u64>
 }
 
 /// The same of an option whose value is 1 at least.
-fn number(matches: &ArgMatches<'_>, name: &str, most: u64) -> Option<u64>
+pub(super) fn number(matches: &ArgMatches<'_>, name: &str, most: u64) -> Option<u64>
     ensures { IfSome result (λ n. IsNumber name.now most (rows_of (found_of matches.now)) n) }
 {
     let number = number_up_to(matches, name, most)?;
@@ -30,7 +31,7 @@ fn number(matches: &ArgMatches<'_>, name: &str, most: u64) -> Option<u64>
 }
 
 /// The same of an option that may be left out.
-fn number_if_given(matches: &ArgMatches<'_>, name: &str, most: u64) -> Option<Option<u64>>
+pub(super) fn number_if_given(matches: &ArgMatches<'_>, name: &str, most: u64) -> Option<Option<u64>>
     ensures { IfSome result
         (λ n. IsNumberIfGiven name.now most (rows_of (found_of matches.now)) n) }
 {
@@ -42,35 +43,35 @@ fn number_if_given(matches: &ArgMatches<'_>, name: &str, most: u64) -> Option<Op
 }
 
 /// A port.
-fn port(matches: &ArgMatches<'_>, name: &str) -> Option<u16>
+pub(super) fn port(matches: &ArgMatches<'_>, name: &str) -> Option<u16>
     ensures { IfSome result (λ n. IsNumber name.now most_port (rows_of (found_of matches.now)) n) }
 {
     Some(number(matches, name, MOST_PORT)? as u16)
 }
 
 /// The text of an option's value.
-fn text<'a>(matches: &ArgMatches<'a>, name: &str) -> Option<&'a str>
+pub(super) fn text<'a>(matches: &ArgMatches<'a>, name: &str) -> Option<&'a str>
     ensures { IfSome result (λ t. text_at name.now (rows_of (found_of matches.now)) ≡ Some t.now) }
 {
     matches.get_str(name)
 }
 
 /// The same of an option that may be left out.
-fn text_if_given<'a>(matches: &ArgMatches<'a>, name: &str) -> Option<&'a str>
+pub(super) fn text_if_given<'a>(matches: &ArgMatches<'a>, name: &str) -> Option<&'a str>
     ensures { text_at name.now (rows_of (found_of matches.now)) ≡ option_map (λ t. t.now) result }
 {
     matches.get_str(name)
 }
 
 /// Whether an option without a value is given.
-fn is_given(matches: &ArgMatches<'_>, name: &str) -> bool
+pub(super) fn is_given(matches: &ArgMatches<'_>, name: &str) -> bool
     ensures { IsGiven name.now (rows_of (found_of matches.now)) result }
 {
     matches.get_flag(name)
 }
 
 /// How answers are framed.
-fn framing(matches: &ArgMatches<'_>) -> Framing
+pub(super) fn framing(matches: &ArgMatches<'_>) -> Framing
     ensures { IsFramed (rows_of (found_of matches.now)) result }
 {
     if is_given(matches, "chunked") {
@@ -81,7 +82,7 @@ fn framing(matches: &ArgMatches<'_>) -> Framing
 }
 
 /// The limits of a node.
-fn limits(matches: &ArgMatches<'_>) -> Option<Limits>
+pub(super) fn limits(matches: &ArgMatches<'_>) -> Option<Limits>
     ensures { IfSome result (λ limits. AsksLimits (rows_of (found_of matches.now)) limits) }
 {
     let history = matches.get_one::<u64>("history")?;
@@ -179,6 +180,10 @@ fn request_named<'a>(name: &str, matches: &ArgMatches<'a>) -> Option<Request<'a>
         },
         "relay" => match relay_options(matches) {
             Some(options) => Some(Request::Relay(options)),
+            None => None,
+        },
+        "live" => match live_options(matches) {
+            Some(options) => Some(Request::Live(options)),
             None => None,
         },
         _ => None,

@@ -1,8 +1,10 @@
 //! The commands, as the command line declares them.
 ghost use Rattle.std.specs.Prelude.{◌≡◌, true, false, IfOk};
 ghost use Rattle.clap.specs.Words.{app_of, new_app, rule_of, with_rule, with_subcommand};
+ghost use Rattle.feed_words.specs.Options.{with_limits as limited};
 ghost use Rattle.feed_words.specs.Words as words;
 
+use super::live::live;
 use super::{PROGRAM, options};
 use clap::{Arg, Command};
 use std::alloc::{AllocError, Global};
@@ -11,14 +13,14 @@ use std::alloc::{AllocError, Global};
 const VERSION: &str = "0.1.0";
 
 /// A command without options.
-fn command<'a>(alloc: Global, name: &'a str, about: &'a str) -> Command<'a>
+pub(super) fn command<'a>(alloc: Global, name: &'a str, about: &'a str) -> Command<'a>
     ensures { app_of result ≡ new_app name.entry.now }
 {
     Command::new(alloc, name).about(about)
 }
 
 /// A command with one more option.
-fn add_option<'a>(command: Command<'a>, option: Arg<'a>) -> Result<Command<'a>, AllocError>
+pub(super) fn add_option<'a>(command: Command<'a>, option: Arg<'a>) -> Result<Command<'a>, AllocError>
     requires { option.global ≡ false }
     ensures { IfOk result (λ c. app_of c ≡ with_rule (app_of command.entry) (rule_of option.entry)) }
 {
@@ -26,8 +28,8 @@ fn add_option<'a>(command: Command<'a>, option: Arg<'a>) -> Result<Command<'a>, 
 }
 
 /// A command with the limits of its node.
-fn with_limits<'a>(alloc: Global, command: Command<'a>) -> Result<Command<'a>, AllocError>
-    ensures { IfOk result (λ c. app_of c ≡ words.with_limits (app_of command.entry)) }
+pub(super) fn with_limits<'a>(alloc: Global, command: Command<'a>) -> Result<Command<'a>, AllocError>
+    ensures { IfOk result (λ c. app_of c ≡ limited (app_of command.entry)) }
 {
     add_option(
         add_option(command, options::history(alloc))?,
@@ -141,5 +143,6 @@ pub(super) fn command_line<'a>(alloc: Global) -> Result<Command<'a>, AllocError>
     let program = local_program(alloc)?;
     let program = with_command(program, serve(alloc)?)?;
     let program = with_command(program, pull(alloc)?)?;
-    with_command(program, relay(alloc)?)
+    let program = with_command(program, relay(alloc)?)?;
+    with_command(program, live(alloc)?)
 }

@@ -2,8 +2,8 @@
 ghost use Rattle.std.specs.Prelude.{◌≡◌, ◌≤◌, codes, true, false};
 ghost use Rattle.clap.specs.Words.{rule_of};
 ghost use Rattle.feed_words.specs.Addresses.{most_port};
-ghost use Rattle.feed_words.specs.Words.{most_rounds, number_in, with_default, needed, text_option, flag};
-ghost use Rattle.feed_words.specs.Words as words;
+ghost use Rattle.feed_words.specs.Options.{most_rounds, number_in, with_default, needed, text_option, flag};
+ghost use Rattle.feed_words.specs.Options as words;
 
 use clap::builder::ValueParser;
 use clap::{Arg, ArgAction};
@@ -17,7 +17,7 @@ pub(crate) const MOST_PORT: u64 = 65_535;
 pub(crate) const MOST_ROUNDS: u64 = 1_000_000;
 
 /// `--NAME VALUE`, with a number from the least to the most.
-fn number_between<'a>(
+pub(crate) fn number_between<'a>(
     alloc: Global,
     name: &'a str,
     value: &'a str,
@@ -34,7 +34,7 @@ fn number_between<'a>(
 }
 
 /// `--NAME VALUE`, with a number from 1 to the most.
-fn number<'a>(alloc: Global, name: &'a str, value: &'a str, most: u64) -> Arg<'a>
+pub(crate) fn number<'a>(alloc: Global, name: &'a str, value: &'a str, most: u64) -> Arg<'a>
     ensures rule { rule_of result ≡ number_in name.entry.now most }
     ensures local { result.global ≡ false }
 {
@@ -42,7 +42,7 @@ fn number<'a>(alloc: Global, name: &'a str, value: &'a str, most: u64) -> Arg<'a
 }
 
 /// `--NAME VALUE`, with any text.
-fn text<'a>(alloc: Global, name: &'a str, value: &'a str) -> Arg<'a>
+pub(crate) fn text<'a>(alloc: Global, name: &'a str, value: &'a str) -> Arg<'a>
     ensures rule { rule_of result ≡ text_option name.entry.now }
     ensures local { result.global ≡ false }
 {
@@ -50,7 +50,7 @@ fn text<'a>(alloc: Global, name: &'a str, value: &'a str) -> Arg<'a>
 }
 
 /// `--NAME`.
-fn flag<'a>(alloc: Global, name: &'a str) -> Arg<'a>
+pub(crate) fn flag<'a>(alloc: Global, name: &'a str) -> Arg<'a>
     ensures rule { rule_of result ≡ words.flag name.entry.now }
     ensures local { result.global ≡ false }
 {
