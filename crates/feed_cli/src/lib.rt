@@ -18,8 +18,8 @@ pub use feed_http::{device, memory, stream};
 pub use feed_play::{PlayCause, PlayFault, play};
 pub use feed_relay::{Dial, NetworkFault};
 pub use feed_words::{
-    AddressFault, Local, NoCommand, PROGRAM, PullOptions, RelayOptions, Request, ServeOptions,
-    TablesOptions, addresses, parse_words,
+    AddressFault, LiveOptions, Local, NoCommand, PROGRAM, PullOptions, RelayOptions, Request,
+    ServeOptions, TablesOptions, UpstreamOptions, Verbosity, addresses, parse_words,
 };
 pub use listen::Listen;
 pub use telling::tell;

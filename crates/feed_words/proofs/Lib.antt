@@ -1,2 +1,3 @@
 mod AddressLemmas
+mod LiveLemmas
 mod WordsLemmas
