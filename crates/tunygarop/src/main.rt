@@ -7,7 +7,7 @@ mod serve;
 mod sockets;
 
 use feed_cli::stream::Stream;
-use feed_cli::{Fault, Request, parse_words, run, tell};
+use feed_cli::{Fault, Local, NoCommand, Request, answer_words, parse_words, run, tell};
 use pull::pull_feed;
 use relay::relay_feed;
 use serve::serve_feed;
@@ -29,33 +29,46 @@ fn ended(rt: &HostRuntime, name: &str, ended: Result<(), Fault>) -> u8 {
     }
 }
 
-/// Runs a command that opens no connection, or tells what is wrong with the words.
-fn run_local(rt: &HostRuntime, words: &[&str]) -> u8 {
+/// Runs a command that opens no connection.
+fn run_local(rt: &HostRuntime, request: Local) -> u8 {
     run(
         rt.alloc(),
-        words,
+        request,
         &mut Stream::new(rt.stdin()),
         &mut Stream::new(rt.stdout()),
         &mut Stream::new(rt.stderr()),
     )
 }
 
-/// Runs a command that opens connections, or any other one that these words ask for.
-fn run_request(rt: &HostRuntime, words: &[&str], request: &Request<'_>) -> u8 {
+/// Tells what is replied to words that ask for no command.
+fn answer(rt: &HostRuntime, reply: &NoCommand) -> u8 {
+    answer_words(
+        reply,
+        &mut Stream::new(rt.stdout()),
+        &mut Stream::new(rt.stderr()),
+    )
+}
+
+/// Runs the command that is asked for.
+fn run_request(rt: &HostRuntime, request: &Request<'_>) -> u8 {
     match request {
+        Request::Local(request) => run_local(rt, *request),
         Request::Serve(options) => ended(rt, "serve", serve_feed(rt, options)),
         Request::Pull(options) => ended(rt, "pull", pull_feed(rt, options)),
         Request::Relay(options) => ended(rt, "relay", relay_feed(rt, options)),
-        Request::Local(_) => run_local(rt, words),
+        Request::Live(_) => {
+            let _ = eprintln!(rt; "live: this build has no sockets for it");
+            REFUSED
+        }
     }
 }
 
 /// Runs the command that these words ask for.
 fn status_of<'a>(rt: &HostRuntime, words: &'a [&'a str]) -> u8 {
-    let Ok(request) = parse_words(rt.alloc(), words) else {
-        return run_local(rt, words);
-    };
-    run_request(rt, words, &request)
+    match parse_words(rt.alloc(), words) {
+        Ok(request) => run_request(rt, &request),
+        Err(reply) => answer(rt, &reply),
+    }
 }
 
 /// Runs the command that the program's arguments ask for.

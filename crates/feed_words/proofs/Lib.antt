@@ -1,0 +1,3 @@
+mod AddressLemmas
+mod LiveLemmas
+mod WordsLemmas
