@@ -1,0 +1,127 @@
+#!/usr/bin/env python3
+"""How commands share the machine: tools/sharing.py COMMAND.. runs one beside others, at the lowest priority
+
+The toolchain's gate proves one crate after another, so it decides how long tools/check takes, and must not be slowed
+by what runs beside it. Two things see to that. What runs beside it has the lowest priority; and heavy commands, such
+as builds and proofs, take a slot each, of which there are as many as the machine's processors and its memory bear."""
+import errno
+import fcntl
+import os
+import re
+import sys
+import tempfile
+import time
+from contextlib import contextmanager, suppress
+from pathlib import Path
+
+# The variable of the environment with the folder of slots, a file for each, that the parts of one run share.
+SLOTS = "TUNYGAROP_SLOTS"
+
+# As much memory as is left to the toolchain's gate, and as a heavy command takes, in bytes.
+OF_GATE, OF_ONE = 8_000_000_000, 2_500_000_000
+
+
+def processors():
+    return len(os.sched_getaffinity(0))
+
+
+# ---- slots
+
+
+def workers():
+    """How many commands to run at one time: as many as there are slots, or one a processor where none are shared."""
+    folder = os.environ.get(SLOTS)
+    return len(os.listdir(folder)) if folder else processors()
+
+
+@contextmanager
+def slot():
+    """Waits for a slot, and has it until its end; where no slots are shared, at once. A slot is a lock on a file, so
+    that the kernel frees it however its holder ends."""
+    folder = os.environ.get(SLOTS)
+    held = None
+    while folder and held is None:
+        held = free_slot(Path(folder))
+        if held is None:
+            time.sleep(0.1)
+    try:
+        yield
+    finally:
+        if held is not None:
+            os.close(held)
+
+
+def free_slot(folder):
+    """A slot that nobody holds, or nothing."""
+    for file in folder.iterdir():
+        held = os.open(file, os.O_RDWR | os.O_CLOEXEC)
+        try:
+            fcntl.flock(held, fcntl.LOCK_EX | fcntl.LOCK_NB)
+            return held
+        except BlockingIOError:
+            os.close(held)
+    return None
+
+
+@contextmanager
+def shared_slots():
+    """Slots that are shared by what is started from now on."""
+    with tempfile.TemporaryDirectory(prefix="slots-") as folder:
+        for number in range(slots()):
+            (Path(folder) / str(number)).touch()
+        os.environ[SLOTS] = folder
+        try:
+            yield
+        finally:
+            del os.environ[SLOTS]
+
+
+def slots():
+    """As many as there are processors, but at least one and no more than there is memory for. Where the lowest priority
+    does nothing, two processors are left to the gate."""
+    whole = int(re.search(r"^MemTotal: +(\d+) kB$", Path("/proc/meminfo").read_text(), re.M)[1]) * 1024
+    bear = processors() if is_priority_kept() else processors() - 2
+    return max(1, min(bear, (whole - OF_GATE) // OF_ONE))
+
+
+# ---- priority
+
+
+def is_grouped():
+    """Whether the kernel shares processors among sessions first, and only then among the commands of each."""
+    try:
+        return Path("/proc/sys/kernel/sched_autogroup_enabled").read_text().strip() == "1"
+    except OSError:
+        return False
+
+
+def lower_priority():
+    """Gives this process, and what it starts, the lowest priority; says whether that does anything. Where processors are
+    shared among sessions, its session gets the lowest one, too, so it should be the session's first process."""
+    os.nice(19)
+    for _ in range(30 if is_grouped() else 0):
+        try:
+            Path("/proc/self/autogroup").write_text("19")
+            return True
+        except OSError as error:
+            # The kernel takes such a wish ten times a second, from all processes together.
+            if error.errno != errno.EAGAIN:
+                return False
+            time.sleep(0.1)
+    return not is_grouped()
+
+
+def is_priority_kept():
+    """Whether the lowest priority does anything here, tried by a process that ends at once."""
+    child = os.fork()
+    if child == 0:
+        os.setsid()
+        os._exit(0 if lower_priority() else 1)
+    return os.waitstatus_to_exitcode(os.waitpid(child, 0)[1]) == 0
+
+
+if __name__ == "__main__":
+    with suppress(PermissionError):
+        os.setsid()
+    lower_priority()
+    os.execvp(sys.argv[1], sys.argv[1:])
