@@ -1,5 +1,5 @@
 -- Connections, each at a key that is given once.
-use Rattle.std.specs.Prelude.{◌≡◌, ◌≢◌, ℕ, ◌<◌, ◌≤◌, ◌==◌, List, [], Option, Some, None, IsSome, if◌then◌else◌}
+use Rattle.std.specs.Prelude.{◌≡◌, ◌≢◌, ℕ, ◌<◌, ◌≤◌, ◌==◌, List, [], Option, Some, None, if◌then◌else◌}
 use Rattle.slab.specs.Slab.{Slab, get, HasRoomFor}
 use Rattle.feed_answer.specs.declared.framing.Framing.{Framing}
 use Rattle.feed_hub.specs.declared.screen.Screen.{Screen}
@@ -9,7 +9,7 @@ use Rattle.feed_hub.specs.declared.seats.Seat.{Seat}
 use Rattle.feed_hub.specs.declared.seats.Seat.TheVariants.{Asks, Watches}
 use Rattle.feed_hub.specs.declared.seats.Seated.{Seated}
 use Rattle.feed_hub.specs.Log.{Log, Has}
-use Rattle.feed_hub.specs.Screen.{IsNotBehind, IsMoving}
+use Rattle.feed_hub.specs.Screen.{IsFollowed, IsNotBehind, IsMoving}
 use Rattle.feed_hub.specs.Steps.{ended, IsFollower}
 
 -- what sits there, if it is of this generation
@@ -26,14 +26,6 @@ seat_at seats key = of_generation key.generation (get seats key.index)
 abbrev pub AreBelow : ℕ → Slab Seated → Type 0
 AreBelow next seats =
     (index : ℕ) (seated : Seated) → get seats index ≡ Some seated → seated.generation < next
-
--- who is at this place of the log is sent its kind of frames, up to its token, and the log has what
--- comes from there on
-pub record IsFollowed (common : Framing) (told : Option (List ℕ)) (log : Log) (own : Framing)
-    (at : ℕ) : Type 0 where
-  pub has : Has log at
-  pub framing : own ≡ common
-  pub told : IsSome told
 
 -- so it is for each screen on the log
 abbrev pub AreOnLog : Framing → Option (List ℕ) → Log → Slab Seated → Type 0
