@@ -1,15 +1,18 @@
 -- A hub, seat by seat.
-use Rattle.std.proofs.Common.{◌≡◌, ◌≢◌, refl, sym, ap, ◌∙◌, subst, ℕ, ◌⊎◌, Bool, true, false, true≢false, List, [], ◌∷◌, ◌++◌, Option, Some, None, inl, inr, ◌≤◌, ◌<◌, ◌+◌, ◌-◌, length, length-append, length-drop, arith}
-use Rattle.std.specs.Prelude.{◌==◌, IsSome}
+use Rattle.std.proofs.Common.{◌≡◌, ◌≢◌, refl, sym, ap, ◌∙◌, subst, ℕ, ◌⊎◌, Bool, true, false, true≢false, List, [], ◌∷◌, ◌++◌, Option, Some, None, inl, inr, ◌≤◌, ◌<◌, ◌+◌, ◌-◌, length, length-append, length-drop, append-nil, append_assoc, arith, take}
+use Rattle.std.specs.Prelude.{◌==◌, IsSome, Result, Ok, Err, IfOk, OnOk}
 use Rattle.std.proofs.lemmas.Bool.Decides.{eqb_tells}
-use Rattle.slab.specs.Slab.{Slab}
+use Rattle.slab.specs.Slab.{Slab, get, Updates}
 use Rattle.feed_node.specs.States.{NodeState, published_token}
 use Rattle.feed_node.specs.declared.session.Pulled.{Pulled}
 use Rattle.feed_node.specs.declared.session.Pulled.TheVariants.{More, UpToDate, Gone}
 use Rattle.feed_http.specs.Sessions.{Next, Nothing_new, Lost, Commit_after, next}
 use Rattle.feed_answer.specs.declared.framing.Framing.{Framing}
 use Rattle.feed_answer.specs.Answered.{AnswerParts}
+use Rattle.feed_answer.specs.Framed.{frame_end}
+use Rattle.feed_hub.specs.declared.asking.Asking.{Asking}
 use Rattle.feed_hub.specs.declared.broadcast.Broadcast.{Broadcast}
+use Rattle.feed_hub.specs.declared.hub.Heard.{Heard}
 use Rattle.feed_hub.specs.declared.screen.Screen.{Screen}
 use Rattle.feed_hub.specs.declared.screen.Way.{Way}
 use Rattle.feed_hub.specs.declared.screen.Way.TheVariants.{CatchesUp, OnLog, Over}
@@ -18,12 +21,14 @@ use Rattle.feed_hub.specs.declared.seats.Seat.{Seat}
 use Rattle.feed_hub.specs.declared.seats.Seat.TheVariants.{Asks, Watches}
 use Rattle.feed_hub.specs.declared.seats.Seated.{Seated}
 use Rattle.feed_hub.specs.Broadcast.{IsServedBy, Gains, SaysNext}
+use Rattle.feed_hub.specs.Hub.{Takes, HearsOf, HearsAt}
 use Rattle.feed_hub.specs.Log.{Log, Has, behind, end_of, oldest_in, trimmed}
 use Rattle.feed_hub.specs.Screen.{IsOnLog, IsFollowed, IsNotBehind, IsServed}
-use Rattle.feed_hub.specs.Seats.{seat_at, AreOnLog, HasAll, ChangesSeat, Others, KeepsThose, IsSeatNotBehind, Watched, Ends}
-use Rattle.feed_hub.specs.Steps.{opened, way_after, given, with_next, refilled, refilled_at, idled, idled_at, taken, way_from}
+use Rattle.feed_hub.specs.Seats.{seat_at, AreOnLog, HasAll, ChangesSeat, Others, KeepsThose, IsSeatNotBehind, Watched, Ends, IsCutAt}
+use Rattle.feed_hub.specs.Steps.{opened, way_after, given, with_next, refilled, refilled_at, idled, idled_at, taken, way_from, IsFollower, ended, ended_at}
 use Rattle.feed_hub.proofs.LoopLemmas.{left_off}
-use Rattle.feed_hub.proofs.ServedLemmas.{served_opens, served_refused}
+use Rattle.feed_hub.proofs.SeatLemmas.{seat_found, removed_at}
+use Rattle.feed_hub.proofs.ServedLemmas.{served_opens, served_refused, going_ends}
 
 -- ---- keys
 
@@ -175,7 +180,7 @@ module _ (common : Framing) (told : Option (List ℕ)) (log : Log) (s : Screen)
       record {
         has = has_at log t.way at on (ap (λ x. x.way) same ∙ way);
         framing = framing ∙ before.framing;
-        told = before.told;
+        going = before.going;
       }
 
 -- ---- what all are sent
@@ -191,7 +196,7 @@ module _ (seats : Slab Seated) where
       record {
         has = subst (λ l. Has l at) (sym gains) (record { from = from; to = omega (arith, to, longer) });
         framing = before.framing;
-        told = some before.told;
+        going = some before.going;
       }
 
   pub gains_on : (b new : Broadcast) (block : List ℕ) → AreOnLog b.framing b.told b.log seats → new.framing ≡ b.framing → new.told ≡ b.told
@@ -202,7 +207,7 @@ module _ (seats : Slab Seated) where
 
   nobody : (b : Broadcast) → b.told ≡ None → AreOnLog b.framing b.told b.log seats → (common : Framing) (told : Option (List ℕ)) (log : Log) → AreOnLog common told log seats
   nobody b none on common told log key s at sits way =
-      let some : IsSome {T = List ℕ} None = subst IsSome none (on key s at sits way).told in absurd (true≢false (sym some))
+      let some : IsSome {T = List ℕ} None = subst IsSome none (on key s at sits way).going in absurd (true≢false (sym some))
 
   pub says_on : (node : NodeState) (b new : Broadcast) (pulled : Pulled) → AreOnLog b.framing b.told b.log seats → SaysNext node b new pulled
       → AreOnLog new.framing new.told new.log seats
@@ -241,7 +246,7 @@ trims_on common told log place old new on has keeps key s at sits way =
     record {
       has = record { from = above; to = omega (arith, to, from, above, longer) };
       framing = before.framing;
-      told = before.told;
+      going = before.going;
     }
 
 -- whoever stays has what it is to be sent of that log
@@ -267,3 +272,138 @@ opened_served nodes common log told answer now = by answer.session refl
         (served_refused nodes answer common log told e)
     by (Some token) e = subst (λ o. IsServed nodes common log told answer [] (record { own = answer.text; framing = answer.framing; way = way_after o; moved = now })) (sym e)
         (served_opens nodes answer common log told token e)
+
+-- ---- a screen at an index
+
+pub on_at_index : (log : Log) (seats : Slab Seated) (index generation : ℕ) (s : Screen) → HasAll log seats
+    → get seats index ≡ Some (record { generation = generation; seat = Watches s }) → IsOnLog log s.way
+on_at_index log seats index generation s all at =
+    let key : Key = record { index = index; generation = generation } in
+    on_of_way log s.way (λ place way. all key s place (seat_found seats key (record { generation = generation; seat = Watches s }) at refl) way)
+
+pub cut_at_index : (old new : Slab Seated) (index generation : ℕ) (s : Screen)
+    → get old index ≡ Some (record { generation = generation; seat = Watches s }) → IsFollower s → Updates old new index None → IsCutAt old new index
+cut_at_index old new index generation s at follows u =
+    let key : Key = record { index = index; generation = generation } in
+    record {
+      some = (key, (refl, record {
+        screen = s;
+        sat = seat_found old key (record { generation = generation; seat = Watches s }) at refl;
+        followed = follows;
+        cut = removed_at old new index u key refl;
+      }));
+      all = λ k same. removed_at old new index u k same;
+    }
+
+-- ---- what is heard
+
+pub if_all : {E : Type 0} (r : Result Key E) (A B D : Key → Type 0) (C : Type 0) → IfOk r A → IfOk r B → OnOk r C
+    → ((k : Key) → A k → B k → C → D k) → IfOk r D
+if_all (Ok k) A B D C a b c f = f k a b c
+if_all (Err e) A B D C a b c f = tt
+
+asks_fine : (b : Broadcast) (asking : Asking) (s : Screen) (at : ℕ) → Asks asking ≡ Watches s → IsFollowed b.framing b.told b.log s.framing at
+asks_fine b asking s at is = absurd (cc)
+
+pub heard_fine : (b : Broadcast) (contest : List ℕ) (node : NodeState) (now : ℕ) (before : Asking) (head : List ℕ) (status : Option ℕ) (seat : Seat)
+    → HearsOf b contest node now before head status seat → IsFine b.framing b.told b.log seat
+heard_fine b contest node now before head status (Asks asking) h = λ s at is way. asks_fine b asking s at is
+heard_fine b contest node now before head status (Watches t) h =
+    subst (λ x. IsFine b.framing b.told b.log (Watches x)) (sym h.opens) (opened_fine b.framing b.told b.log h.answer now)
+
+pub heard_served : (b : Broadcast) (contest : List ℕ) (node : NodeState) (now : ℕ) (before : Asking) (head : List ℕ) (status : Option ℕ) (seat : Seat) (s : Screen)
+    → HearsOf b contest node now before head status seat → seat ≡ Watches s
+    → (answer : AnswerParts) × ((nodes : List NodeState) → IsServedBy nodes b answer [] s)
+heard_served b contest node now before head status (Asks asking) s h is = let no : Asks asking ≡ Watches s = is in absurd (cc)
+heard_served b contest node now before head status (Watches t) s h is =
+    let same : opened h.answer now ≡ s = (let one : t ≡ s = cc in sym h.opens ∙ one) in
+    (h.answer, λ nodes. subst (λ x. IsServedBy nodes b h.answer [] x) same (opened_served nodes b.framing b.log b.told h.answer now))
+
+pub heard_at : (b : Broadcast) (contest : List ℕ) (node : NodeState) (now : ℕ) (piece : List ℕ) (heard : Heard) (asking : Asking) (old new : Option Seat) (seat : Seat)
+    → old ≡ Some (Asks asking) → new ≡ Some seat → Takes asking.head.items piece heard.taken
+    → HearsOf b contest node now asking (asking.head.items ++ take heard.taken piece) heard.status seat
+    → HearsAt b contest node now piece heard old new
+heard_at b contest node now piece heard asking old new seat was is takes hears =
+    subst (λ o. HearsAt b contest node now piece heard o new) (sym was) (takes, (seat, is, hears))
+
+-- ---- what is said
+
+pub joined_over : (t u r : Screen) (f g : Framing) (o p : Option (List ℕ)) (l m : Log) (at : ℕ) → g ≡ f → p ≡ o → m ≡ l → u ≡ r
+    → (t ≡ u) ⊎ IsFollowed g p m t.framing at → (t ≡ r) ⊎ IsFollowed f o l t.framing at
+joined_over t u r f g o p l m at ef eo el er (inl same) = inl (same ∙ er)
+joined_over t u r f g o p l m at ef eo el er (inr followed) =
+    inr (subst (λ x. IsFollowed x o l t.framing at) ef (subst (λ x. IsFollowed g x l t.framing at) eo (subst (λ x. IsFollowed g p x t.framing at) el followed)))
+
+module _ {nodes : List NodeState} {common : Framing} {log : Log} {answer : AnswerParts} {handed : List ℕ} where
+  ended_served_at : (told : Option (List ℕ)) (own : List ℕ) (framing : Framing) (way : Way) (moved now : ℕ) (later : Log)
+      → IsServed nodes common log told answer handed (record { own = own; framing = framing; way = way; moved = moved })
+      → IsServed nodes common later None answer handed (ended_at way log now (record { own = own; framing = framing; way = way; moved = moved }))
+  ended_served_at told own framing (CatchesUp token) moved now later s =
+      record { due = s.due; owes = record { on = tt; rest = s.owes.rest }; is_due = s.is_due; framing = s.framing; alike = tt }
+  ended_served_at told own framing Over moved now later s =
+      record { due = s.due; owes = record { on = tt; rest = s.owes.rest }; is_due = s.is_due; framing = s.framing; alike = tt }
+  ended_served_at None own framing (OnLog at) moved now later s = absurd (true≢false (sym s.alike.1))
+  ended_served_at (Some token) own framing (OnLog at) moved now later s =
+      record {
+        due = s.due ++ frame_end answer.framing;
+        owes = record {
+          on = tt;
+          rest = ap (λ x. handed ++ x) (append-nil (own ++ (behind log at ++ frame_end framing)))
+              ∙ ap (λ x. handed ++ x) (sym (append_assoc own (behind log at) (frame_end framing)))
+              ∙ sym (append_assoc handed (own ++ behind log at) (frame_end framing))
+              ∙ ap (λ d. d ++ frame_end framing) s.owes.rest
+              ∙ ap (λ f. s.due ++ frame_end f) s.framing;
+        };
+        is_due = going_ends nodes answer token s.due s.is_due;
+        framing = s.framing;
+        alike = tt;
+      }
+
+  pub ended_served : (told : Option (List ℕ)) (s : Screen) (now : ℕ) (later : Log)
+      → IsServed nodes common log told answer handed s → IsServed nodes common later None answer handed (ended log now s)
+  ended_served told s now later served = ended_served_at told s.own s.framing s.way s.moved now later served
+
+-- whoever was seated and served is so once all have left, or is cut
+pub ends_seated : (nodes : List NodeState) (b new : Broadcast) (now : ℕ) (old seats : Option Seat)
+    → new.told ≡ None → new.framing ≡ b.framing
+    → Ends b.log now old seats ⊎ (seats ≡ None)
+    → ((answer : AnswerParts) (handed : List ℕ) → ((s : Screen) × (old ≡ Some (Watches s)) × IsServedBy nodes b answer handed s)
+    → (s : Screen) × (seats ≡ Some (Watches s)) × IsServedBy nodes new answer handed s) ⊎ (seats ≡ None)
+ends_seated nodes b new now old seats told framing (inr none) = inr none
+ends_seated nodes b new now old seats told framing (inl ends) = inl (λ answer handed seated.
+    let here : Ends b.log now (Some (Watches seated.0)) seats = subst (λ o. Ends b.log now o seats) seated.1 ends in
+    let served = ended_served b.told seated.0 now new.log seated.2 in
+    let over : IsServedBy nodes new answer handed (ended b.log now seated.0) =
+    subst (λ o. IsServed nodes new.framing new.log o answer handed (ended b.log now seated.0)) (sym told)
+    (subst (λ f. IsServed nodes f new.log None answer handed (ended b.log now seated.0)) (sym framing) served) in
+    (here.0, here.1, subst (λ x. IsServedBy nodes new answer handed x) (sym here.2) over))
+
+-- whoever was seated and served is so once the log was trimmed, or is cut
+pub trims_seated : (nodes : List NodeState) (b new : Broadcast) (place : ℕ) (key : Key) (old seats : Slab Seated)
+    → AreOnLog b.framing b.told b.log old → Has b.log place → KeepsThose (IsSeatNotBehind place) old seats
+    → new.log ≡ record { base = place; bytes = behind b.log place }
+    → ((answer : AnswerParts) (handed : List ℕ) (s : Screen) → IsServedBy nodes b answer handed s → IsOnLog new.log s.way → IsServedBy nodes new answer handed s)
+    → ((answer : AnswerParts) (handed : List ℕ) → ((s : Screen) × (seat_at old key ≡ Some (Watches s)) × IsServedBy nodes b answer handed s)
+    → (s : Screen) × (seat_at seats key ≡ Some (Watches s)) × IsServedBy nodes new answer handed s) ⊎ (seat_at seats key ≡ None)
+trims_seated nodes b new place key old seats on has keeps log served = by (seat_at seats key) refl
+  where
+    by : (o : Option Seat) → seat_at seats key ≡ o
+        → ((answer : AnswerParts) (handed : List ℕ) → ((s : Screen) × (seat_at old key ≡ Some (Watches s)) × IsServedBy nodes b answer handed s)
+        → (s : Screen) × (seat_at seats key ≡ Some (Watches s)) × IsServedBy nodes new answer handed s) ⊎ (seat_at seats key ≡ None)
+    by None e = inr e
+    by (Some seat) e = inl (λ answer handed seated.
+        let kept = keeps.kept key seat e in
+        let same : seat ≡ Watches seated.0 = same_seat seat (Watches seated.0) (sym kept.0 ∙ seated.1) in
+        let holds : IsNotBehind place seated.0.way = subst (IsSeatNotBehind place) same kept.1 in
+        let there : IsOnLog new.log seated.0.way = subst (λ l. IsOnLog l seated.0.way) (sym log)
+        (still_on b.log place seated.0.way (on_log b.framing b.told b.log old key seated.0 on seated.1) holds has) in
+        (seated.0, e ∙ ap Some same, served answer handed seated.0 seated.2 there))
+
+pub served_over : (nodes : List NodeState) (answer : AnswerParts) (handed : List ℕ) (s t : Screen)
+    (f g : Framing) (l m : Log) (o p : Option (List ℕ)) → g ≡ f → m ≡ l → p ≡ o
+    → (IsServed nodes g m p answer handed s → IsServed nodes g m p answer handed t)
+    → IsServed nodes f l o answer handed s → IsServed nodes f l o answer handed t
+served_over nodes answer handed s t f g l m o p ef el eo step =
+    subst (λ x. IsServed nodes x l o answer handed s → IsServed nodes x l o answer handed t) ef
+    (subst (λ x. IsServed nodes g x o answer handed s → IsServed nodes g x o answer handed t) el
+    (subst (λ x. IsServed nodes g m x answer handed s → IsServed nodes g m x answer handed t) eo step))

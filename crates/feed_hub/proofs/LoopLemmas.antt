@@ -49,7 +49,7 @@ module _ (Holds : Seat → Type 0) (index : ℕ) (old now : Slab Seated) (so_far
   -- what sat there is cut
   pub one_goes : (new : Slab Seated) (seated : Seated) → get now index ≡ Some seated → ¬ (Holds seated.seat) → Updates now new index None
       → slab_len new ≤ slab_len now → KeepsBelow Holds (index + 1) old new
-  one_goes new seated at no u fewer =
+  one_goes new seated at lacks u fewer =
       record {
         kept = λ key seat sits. so_far.kept key seat (before key seat sits (eqb_tells key.index index));
         below = λ key seat less sits. by key seat less sits (eqb_tells key.index index);
@@ -74,7 +74,7 @@ module _ (Holds : Seat → Type 0) (index : ℕ) (old now : Slab Seated) (so_far
       goes_on key seat sits holds (inl (_, same)) =
           let there : Some seated ≡ Some (record { generation = key.generation; seat = seat }) = sym at ∙ ap (get now) (sym same) ∙ found_at now key seat sits in
           let is : seated ≡ record { generation = key.generation; seat = seat } = cc in
-          absurd (no (subst (λ s. Holds s.seat) (sym is) holds))
+          absurd (lacks (subst (λ s. Holds s.seat) (sym is) holds))
       goes_on key seat sits holds (inr (_, differ)) = updated_elsewhere now new index None u key differ ∙ sits
 
   pub all_looked_at : length old.slots ≤ index → KeepsThose Holds old now
