@@ -164,6 +164,7 @@ module _ (common : Framing) (told : Option (List ℕ)) (log : Log) (s : Screen)
     where
       same : t ≡ u
       same = cc
+
       by : (t ≡ refilled node now s) ⊎ IsFollowed common told log t.framing at → IsFollowed common told log u.framing at
       by (inr followed) = subst (λ x. IsFollowed common told log x.framing at) same followed
       by (inl e) =
@@ -286,12 +287,18 @@ pub cut_at_index : (old new : Slab Seated) (index generation : ℕ) (s : Screen)
 cut_at_index old new index generation s at follows u =
     let key : Key = record { index = index; generation = generation } in
     record {
-      some = (key, (refl, record {
-        screen = s;
-        sat = seat_found old key (record { generation = generation; seat = Watches s }) at refl;
-        followed = follows;
-        cut = removed_at old new index u key refl;
-      }));
+      some = (
+        key,
+        (
+          refl,
+          record {
+            screen = s;
+            sat = seat_found old key (record { generation = generation; seat = Watches s }) at refl;
+            followed = follows;
+            cut = removed_at old new index u key refl;
+          },
+        ),
+      );
       all = λ k same. removed_at old new index u k same;
     }
 
