@@ -1,5 +1,5 @@
 -- What screens are sent is what a connection of a world is sent.
-use Rattle.std.proofs.Common.{◌≡◌, refl, sym, ap, ◌∙◌, ℕ, ◌+◌, ◌<◌, Bool, true, false, List, [], ◌∷◌, ◌++◌, length, Option, Some, arith, append-nil}
+use Rattle.std.proofs.Common.{◌≡◌, refl, sym, ap, ◌∙◌, subst, ℕ, ◌+◌, ◌<◌, ◌≤◌, Bool, true, false, List, [], ◌∷◌, ◌++◌, length, Option, Some, arith, append-nil}
 use Rattle.std.specs.Prelude.{if◌then◌else◌}
 use Rattle.std.proofs.lemmas.Grind.{flat_map-append}
 use Rattle.feed_text.specs.Ascii.{line_feed}
@@ -7,14 +7,17 @@ use Rattle.feed_node.specs.declared.commit.Commit.{Commit}
 use Rattle.feed_node.specs.Log.{token_after}
 use Rattle.feed_node.specs.Serving.{commit_after, commit_text}
 use Rattle.feed_node.specs.States.{NodeState}
-use Rattle.feed_world.specs.Connection.{Part, Commit as CommitPart, Line_feed, parts_text, part_text, Connection, first_parts, sent_text}
+use Rattle.feed_world.specs.Connection.{Part, Commit as CommitPart, Line_feed, parts_text, part_text, Connection, first_parts, sent_text, blocks_within, moved_by}
 use Rattle.feed_note.specs.Texts.{batch_text}
 use Rattle.feed_world.specs.Laws.{opened_text, NodesSendTheNext, PartsGoOn}
+use Rattle.feed_world.specs.Following.{PlacesStay, AllIsReached}
+use Rattle.feed_world.specs.States.{HasReached}
+use Rattle.feed_node.specs.Limits.{Limits}
 use Rattle.feed_world.specs.Log.{Log, state_text, changes_of_commit}
 use Rattle.feed_world.specs.Position.{Position, IsPlace, node_where}
 use Rattle.feed_world.specs.Reading.{FrontsAreRead, IsOpened}
 use Rattle.feed_hub.specs.Told.{Told, told_none, told_commit, told_line_feed}
-use Rattle.feed_hub.specs.Laws.{StandInOrder, ScreensAreConnections, ShowsState, ScreensShowStates, StandsWell, ScreensAreFollowed}
+use Rattle.feed_hub.specs.Laws.{StandInOrder, ScreensAreConnections, ShowsState, ScreensShowStates, ScreensReach, StandsWell, ScreensAreFollowed}
 use Rattle.feed_answer.specs.declared.framing.Framing.{Framing}
 use Rattle.feed_answer.specs.declared.framing.Framing.TheVariants.{Close, Chunked}
 use Rattle.feed_follow.specs.Standing.{in_head, in_body, done}
@@ -77,25 +80,62 @@ first_text : (log : Log) (fresh : Bool) (k : ℕ) → parts_text log (first_part
 first_text log true k = append-nil (state_text log k)
 first_text log false k = refl
 
-pub screens_show : NodesSendTheNext → PartsGoOn → FrontsAreRead → ScreensShowStates
-screens_show sends order read limits log nodes k texts token place fresh front behind is_log in_log small told is_place start whole =
-    let s = screens_connect sends order limits log nodes k texts token is_log in_log small told in
-    let c : Connection = record { framing = Close; fresh = fresh; start = k; parts = first_parts fresh k ++ s.parts; delivered = 0; last = s.last; over = false } in
-    let text : sent_text log c ≡ opened_text log fresh k ++ joined texts =
-    (flat_map-append (part_text log) (first_parts fresh k) s.parts ∙ ap (λ t. t ++ parts_text log s.parts) (first_text log fresh k)
-    ∙ ap (λ t. opened_text log fresh k ++ t) (sym s.text_is)) in
-    let opened : IsOpened limits log place c = record { mirror = is_place; start = start; order = record { more = s.parts; parts = refl; go_on = s.go_on }; sent = s.in_log } in
-    let r = read limits log place c front behind is_log opened (whole ∙ sym text) in
-    record { notes = r.notes; nothing_bad = r.nothing_bad; at = _; shows = r.shows }
+-- the connection that carries them
+abbrev connection : (log : Log) (k : ℕ) (texts : List (List ℕ)) (token : List ℕ) (fresh : Bool) → StandInOrder log k texts token → Connection
+connection log k texts token fresh s = record { framing = Close; fresh = fresh; start = k; parts = first_parts fresh k ++ s.parts; delivered = 0; last = s.last; over = false }
 
-pub screens_follow : NodesSendTheNext → PartsGoOn → FrontsAreRead → ResponsesAreFollowed → EndsAreFollowed → ScreensAreFollowed
-screens_follow sends order read followed ends limits log nodes k texts token place fresh framing n had_token is_log in_log small told is_place start are = (
+module _ (limits : Limits) (log : Log) (k : ℕ) (texts : List (List ℕ)) (token : List ℕ) (place : Option Position) (fresh : Bool)
+    (s : StandInOrder log k texts token) (is_place : IsPlace limits log place)
+    (start : fresh ≡ false → (own : Position) × (place ≡ Some own) × (own.low ≤ k) × (k ≤ own.at)) where
+  its_text : sent_text log (connection log k texts token fresh s) ≡ opened_text log fresh k ++ joined texts
+  its_text =
+      flat_map-append (part_text log) (first_parts fresh k) s.parts ∙ ap (λ t. t ++ parts_text log s.parts) (first_text log fresh k)
+      ∙ ap (λ t. opened_text log fresh k ++ t) (sym s.text_is)
+
+  is_opened : IsOpened limits log place (connection log k texts token fresh s)
+  is_opened = record { mirror = is_place; start = start; order = record { more = s.parts; parts = refl; go_on = s.go_on }; sent = s.in_log }
+
+pub screens_show : NodesSendTheNext → PartsGoOn → FrontsAreRead → PlacesStay → ScreensShowStates
+screens_show sends order read stays limits log nodes k texts token place fresh front behind is_log in_log small told is_place start whole =
+    let s = screens_connect sends order limits log nodes k texts token is_log in_log small told in
+    let c = connection log k texts token fresh s in
+    let opened = is_opened limits log k texts token place fresh s is_place start in
+    let r = read limits log place c front behind is_log opened (whole ∙ sym (its_text limits log k texts token place fresh s is_place start)) in
+    record {
+      notes = r.notes;
+      nothing_bad = r.nothing_bad;
+      at = moved_by limits.history place (blocks_within log c.parts (length front));
+      is_place = (stays limits log place c (length front) opened).0;
+      shows = r.shows;
+    }
+
+pub screens_reach : NodesSendTheNext → PartsGoOn → FrontsAreRead → PlacesStay → AllIsReached → ScreensReach
+screens_reach sends order read stays all limits log nodes k texts token place fresh is_log in_log small told is_place start =
+    let s = screens_connect sends order limits log nodes k texts token is_log in_log small told in
+    let c = connection log k texts token fresh s in
+    let opened = is_opened limits log k texts token place fresh s is_place start in
+    let text = its_text limits log k texts token place fresh s is_place start in
+    let front = opened_text log fresh k ++ joined texts in
+    let r = read limits log place c front [] is_log opened (append-nil front ∙ sym text) in
+    record {
+      notes = r.notes;
+      nothing_bad = r.nothing_bad;
+      at = moved_by limits.history place (blocks_within log c.parts (length front));
+      is_place = (stays limits log place c (length front) opened).0;
+      shows = r.shows;
+      last = s.last;
+      token_is = s.token_is;
+      reaches = subst (λ n. HasReached (moved_by limits.history place (blocks_within log c.parts n)) s.last) (ap length text) (all limits log place c opened);
+    }
+
+pub screens_follow : NodesSendTheNext → PartsGoOn → FrontsAreRead → PlacesStay → ResponsesAreFollowed → EndsAreFollowed → ScreensAreFollowed
+screens_follow sends order read stays followed ends limits log nodes k texts token place fresh framing n had_token is_log in_log small told is_place start are = (
   (standing_at framing (opened_text log fresh k ∷ texts) n, followed framing (opened_text log fresh k ∷ texts) n had_token are, well_of framing (nat_lt n (length (feed_head framing)))),
   (ended_at framing (opened_text log fresh k ∷ texts) n, ends framing (opened_text log fresh k ∷ texts) n had_token are, ended framing),
 )
   where
     shown : (payload rest : List ℕ) → payload ++ rest ≡ joined (opened_text log fresh k ∷ texts) → ShowsState limits log place fresh payload
-    shown payload rest e = screens_show sends order read limits log nodes k texts token place fresh payload rest is_log in_log small told is_place start e
+    shown payload rest e = screens_show sends order read stays limits log nodes k texts token place fresh payload rest is_log in_log small told is_place start e
 
     at_end : (f : Framing) (b : Bool) → StandsWell limits log place fresh (standing_at f (opened_text log fresh k ∷ texts) n)
         → StandsWell limits log place fresh (if b then standing_at f (opened_text log fresh k ∷ texts) n else done (joined (opened_text log fresh k ∷ texts)))

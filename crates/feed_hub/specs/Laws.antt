@@ -10,6 +10,7 @@ use Rattle.feed_world.specs.Laws.{opened_text}
 use Rattle.feed_world.specs.Log.{Log, IsLog}
 use Rattle.feed_world.specs.Position.{Position, IsPlace, node_where}
 use Rattle.feed_world.specs.Reading.{opening_at}
+use Rattle.feed_world.specs.States.{HasReached}
 use Rattle.feed_follow.specs.Standing.{Standing, in_head, token_refused, in_body, done, failed}
 use Rattle.feed_answer.specs.declared.framing.Framing.{Framing}
 use Rattle.feed_answer.specs.Carried.{response_text, ended_text}
@@ -45,13 +46,13 @@ ScreensAreConnections =
     → Told nodes (token_after k) texts token → StandInOrder log k texts token
 
 -- A mirror that is sent this, fresh or after a token that it holds, and has read any prefix of it:
--- nothing was bad, and it shows what a node shows at some place. That the place is one of this log
--- is not said here.
+-- nothing was bad, and it shows what a node at a place of this log shows.
 pub record ShowsState (limits : Limits) (log : Log) (place : Option Position) (fresh : Bool)
     (front : List ℕ) : Type 0 where
   pub notes : List Line
   pub nothing_bad : Reads limits (opening_at log place fresh) front notes
   pub at : Option Position
+  pub is_place : IsPlace limits log at
   pub shows : keep_latest limits.history (reads limits.history (opening_at log place fresh) notes)
       ≡ node_where log at
 
@@ -64,6 +65,28 @@ ScreensShowStates =
     → (fresh ≡ false → (own : Position) × (place ≡ Some own) × (own.low ≤ k) × (k ≤ own.at))
     → front ++ behind ≡ opened_text log fresh k ++ joined texts
     → ShowsState limits log place fresh front
+
+-- With all of it, the mirror shows the state of the token at which the session is, or a later one.
+pub record ReachesState (limits : Limits) (log : Log) (place : Option Position) (fresh : Bool)
+    (token text : List ℕ) : Type 0 where
+  pub notes : List Line
+  pub nothing_bad : Reads limits (opening_at log place fresh) text notes
+  pub at : Option Position
+  pub is_place : IsPlace limits log at
+  pub shows : keep_latest limits.history (reads limits.history (opening_at log place fresh) notes)
+      ≡ node_where log at
+  pub last : ℕ
+  pub token_is : token ≡ token_after last
+  pub reaches : HasReached at last
+
+abbrev pub ScreensReach : Type 0
+ScreensReach =
+    (limits : Limits) (log : Log) (nodes : List NodeState) (k : ℕ) (texts : List (List ℕ))
+    (token : List ℕ) (place : Option Position) (fresh : Bool)
+    → IsLog limits log → AreInLog limits log nodes → k ≤ length log
+    → Told nodes (token_after k) texts token → IsPlace limits log place
+    → (fresh ≡ false → (own : Position) × (place ≡ Some own) × (own.low ≤ k) × (k ≤ own.at))
+    → ReachesState limits log place fresh token (opened_text log fresh k ++ joined texts)
 
 -- what a response that stands so leaves of the mirror that reads it: nothing yet, or what is said above
 abbrev pub StandsWell : Limits → Log → Option Position → Bool → Standing → Type 0

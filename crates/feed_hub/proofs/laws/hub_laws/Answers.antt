@@ -1,4 +1,4 @@
-use Rattle.feed_hub.proofs.LawLemmas.{screens_connect, screens_show, screens_follow}
+use Rattle.feed_hub.proofs.LawLemmas.{screens_connect, screens_show, screens_reach, screens_follow}
 use Rattle.feed_hub.proofs.OpeningLemmas.{due_is_response, served_grows}
 use Rattle.feed_hub.proofs.laws.hub_laws.Goals as goal
 
@@ -6,13 +6,16 @@ pub returns-clause-connections : goal.returns-clause-connections
 returns-clause-connections c = screens_connect c.sending_laws.ensures.commits c.sending_laws.ensures.order
 
 pub returns-clause-states : goal.returns-clause-states
-returns-clause-states c = screens_show c.sending_laws.ensures.commits c.sending_laws.ensures.order c.world_laws.ensures.fronts
+returns-clause-states c = screens_show c.sending_laws.ensures.commits c.sending_laws.ensures.order c.world_laws.ensures.fronts c.following_laws.ensures.places
 
 pub returns-clause-followed : goal.returns-clause-followed
-returns-clause-followed c = screens_follow c.sending_laws.ensures.commits c.sending_laws.ensures.order c.world_laws.ensures.fronts c.followed_laws.ensures.responses c.followed_laws.ensures.ends
+returns-clause-followed c = screens_follow c.sending_laws.ensures.commits c.sending_laws.ensures.order c.world_laws.ensures.fronts c.following_laws.ensures.places c.followed_laws.ensures.responses c.followed_laws.ensures.ends
 
 pub returns-clause-due : goal.returns-clause-due
 returns-clause-due c = due_is_response
 
 pub returns-clause-grows : goal.returns-clause-grows
 returns-clause-grows c = served_grows
+
+pub returns-clause-reach : goal.returns-clause-reach
+returns-clause-reach c = screens_reach c.sending_laws.ensures.commits c.sending_laws.ensures.order c.world_laws.ensures.fronts c.following_laws.ensures.places c.following_laws.ensures.reached

@@ -1,0 +1,238 @@
+//! What comes on connections, and goes to them.
+
+ghost use Rattle.std.specs.Prelude.{◌≡◌, ◌⊎◌, ◌+◌, ◌-◌, ◌<◌, ◌≤◌, ◌↔◌, ◌^◌, ◌++◌, [], List, ℕ, None, Some, IsTrue, IsSome, IsOk, IfOk, OnOk, OnErr, Contains, length, take};
+ghost use Rattle.slab.specs.Slab.{slab_len, HasRoomFor};
+ghost use Rattle.feed_node.specs.States.{NodeState};
+ghost use Rattle.feed_answer.specs.Answered.{AnswerParts};
+ghost use Rattle.feed_hub.specs.Steps.{idled, taken, HasNext, IsWaiting};
+ghost use Rattle.feed_hub.specs.Seats.{seat_at, Others, SameSeats, KeepsThose, IsOnTime, Watched, IsWatcher, IsAskingSeat, IsOverSeat};
+ghost use Rattle.feed_hub.specs.Hub.{IsSeated, IsStillSeated, prefix_at, SameLimits, ChangesOnly, IsNew, Takes, HearsOf, HearsAt, Refills};
+
+use crate::asking::Asking;
+use crate::broadcast::Broadcast;
+use crate::hub::{Heard, Hub};
+use crate::log::Full;
+use crate::screen::Screen;
+use crate::seats::{Key, Seat};
+use feed_answer::{Framing, answer};
+use feed_node::Node;
+use std::alloc::{AllocError, Global};
+
+/// Takes more of a request's head, and answers it where that is enough.
+fn hear_more(
+    alloc: Global,
+    framing: Framing,
+    asking: Asking,
+    node: &Node,
+    contest: &str,
+    piece: &[u8],
+    now: u64,
+) -> Result<(Seat, Heard), AllocError>
+    ensures takes { IfOk result (λ heard.
+        Takes asking.head.items piece.now heard.1.taken) }
+    ensures heard { (b : Broadcast) → b.framing ≡ framing → IfOk result (λ heard. HearsOf b
+        contest.now node.now.shown now asking (asking.head.items ++ take heard.1.taken piece.now)
+        heard.1.status heard.0) }
+{
+    let mut asking = asking;
+    let taken = asking.hear(piece)?;
+    if !asking.is_enough() {
+        let heard = Heard {
+            taken,
+            status: None,
+        };
+        return Ok((Seat::Asks(asking), heard));
+    }
+    let answered = answer(alloc, asking.head(), node, contest, framing, 0)?;
+    let heard = Heard {
+        taken,
+        status: Some(answered.status),
+    };
+    let screen = Screen::open(answered, now)?;
+    Ok((Seat::Watches(screen), heard))
+}
+
+impl Hub {
+    /// A connection came: its request is to have come by a time. It fails where as many are there
+    /// as there may be, where memory runs out, and where 2^64 - 1 keys were given.
+    pub fn open(&mut self, alloc: Global, until: u64) -> Result<Key, Full>
+        ensures ok { IfOk result (IsNew self.old self.new until) }
+        ensures vacant { IfOk result (λ key. seat_at self.old.seats.slab key ≡ None) }
+        ensures others { IfOk result
+            (Others self.old.seats.slab self.new.seats.slab) }
+        ensures room { OnOk result (slab_len self.old.seats.slab < self.old.most) }
+        ensures ample { slab_len self.old.seats.slab < self.old.most
+            → HasRoomFor self.old.seats.slab 1 → self.old.seats.next < 2 ^ 64 - 1 → IsOk result }
+        ensures err { OnErr result ((self.new.seats.next ≡ self.old.seats.next)
+            × SameSeats self.old.seats.slab self.new.seats.slab) }
+        ensures broadcast { self.new.broadcast ≡ self.old.broadcast }
+        ensures limits { SameLimits self.old self.new }
+        ensures turn { self.new.turn ≡ self.old.turn }
+    {
+        if self.seats.len() >= self.most {
+            return Err(Full);
+        }
+        self.seats.open(Seat::Asks(Asking::new(alloc, until)))
+    }
+
+    /// Bytes came on a connection: those of its request count, up to its head's end, and those
+    /// after it are ignored. A request takes no more than it needs at once. Where memory runs out
+    /// the connection is cut.
+    pub fn hear(
+        &mut self,
+        alloc: Global,
+        node: &Node,
+        contest: &str,
+        key: Key,
+        piece: &[u8],
+        now: u64,
+    ) -> Result<Heard, AllocError>
+        ensures heard { IfOk result (λ heard. HearsAt self.old.broadcast contest.now node.now.shown
+            now piece.now heard (seat_at self.old.seats.slab key) (seat_at self.new.seats.slab key)) }
+        ensures served { (nodes : List NodeState) (s : Screen)
+            → IsAskingSeat (seat_at self.old.seats.slab key)
+            → seat_at self.new.seats.slab key ≡ Some (Seat.Watches s)
+            → (answer : AnswerParts) × IsSeated nodes self.new key answer [] }
+        ensures err { OnErr result (IsAskingSeat (seat_at self.old.seats.slab key)
+            × (seat_at self.new.seats.slab key ≡ None)) }
+        ensures rest { ChangesOnly self.old self.new key }
+    {
+        let Some(asking) = self.seats.take_asking(key) else {
+            return Ok(Heard {
+                taken: 0,
+                status: None,
+            });
+        };
+        let framing = self.broadcast.framing();
+        let (seat, heard) = hear_more(alloc, framing, asking, node, contest, piece, now)?;
+        self.seats.put_back(key, seat);
+        Ok(heard)
+    }
+
+    /// Gets what comes next for a screen that has been handed all of its own; one that is as far as
+    /// the log follows that from then on. Where memory runs out the connection is cut.
+    pub fn refill(
+        &mut self,
+        alloc: Global,
+        node: &Node,
+        key: Key,
+        now: u64,
+    ) -> Result<(), AllocError>
+        ensures ok { OnOk result (Watched (Refills self.old.broadcast node.now.shown now)
+            (seat_at self.old.seats.slab key) (seat_at self.new.seats.slab key)) }
+        ensures served { (nodes : List NodeState) → Contains nodes node.now.shown
+            → OnOk result (IsStillSeated nodes self.old self.new key) }
+        ensures err { OnErr result ((seat_at self.new.seats.slab key ≡ None)
+            × IsWatcher (HasNext node.now.shown) (seat_at self.old.seats.slab key)) }
+        ensures rest { ChangesOnly self.old self.new key }
+    {
+        if let Some(screen) = self.seats.take_screen(key) {
+            let mut screen = screen;
+            screen.refill(alloc, node, now)?;
+            screen.join(
+                self.broadcast.log(),
+                self.broadcast.told(),
+                self.broadcast.framing(),
+            );
+            self.seats.put_back(key, Seat::Watches(screen));
+        }
+        Ok(())
+    }
+
+    /// Keeps a screen alive that catches up and has nothing of its own: it gets a line feed. To be
+    /// called for each connection beside `say_idle`. Where memory runs out the connection is cut.
+    pub fn idle(&mut self, alloc: Global, key: Key, now: u64) -> Result<(), AllocError>
+        ensures ok { OnOk result (Watched (λ s t. t ≡ idled now s)
+            (seat_at self.old.seats.slab key) (seat_at self.new.seats.slab key)) }
+        ensures served { (nodes : List NodeState)
+            → OnOk result (IsStillSeated nodes self.old self.new key) }
+        ensures err { OnErr result ((seat_at self.new.seats.slab key ≡ None)
+            × IsWatcher IsWaiting (seat_at self.old.seats.slab key)) }
+        ensures rest { ChangesOnly self.old self.new key }
+    {
+        if let Some(screen) = self.seats.take_screen(key) {
+            let mut screen = screen;
+            screen.idle(alloc, now)?;
+            self.seats.put_back(key, Seat::Watches(screen));
+        }
+        Ok(())
+    }
+
+    /// Whether there is a connection at a key: one that is not was cut.
+    pub fn has(&self, key: Key) -> bool
+        ensures { IsTrue result ↔ IsSome (seat_at self.now.seats.slab key) }
+    {
+        self.seats.get(key).is_some()
+    }
+
+    /// Whether the request of a connection is still coming.
+    pub fn is_asking(&self, key: Key) -> bool
+        ensures { IsTrue result ↔ IsAskingSeat (seat_at self.now.seats.slab key) }
+    {
+        match self.seats.get(key) {
+            Some(Seat::Asks(_)) => true,
+            Some(Seat::Watches(_)) => false,
+            None => false,
+        }
+    }
+
+    /// Whether all was handed over, and nothing more will come: the connection is to be shut down
+    /// for writing, and read to its end, for a time (RFC 9112, section 9.6).
+    pub fn is_over(&self, key: Key) -> bool
+        ensures { IsTrue result ↔ IsOverSeat (seat_at self.now.seats.slab key) }
+    {
+        match self.seats.get(key) {
+            Some(Seat::Watches(screen)) => screen.is_over(),
+            Some(Seat::Asks(_)) => false,
+            None => false,
+        }
+    }
+
+    /// What the next write to a connection may take.
+    pub fn prefix(&self, key: Key) -> &[u8]
+        ensures { result.now ≡ prefix_at self.now key }
+    {
+        match self.seats.get(key) {
+            Some(Seat::Watches(screen)) => screen.prefix(self.broadcast.log()),
+            Some(Seat::Asks(_)) => &[],
+            None => &[],
+        }
+    }
+
+    /// So many bytes of that were handed over.
+    pub fn sent(&mut self, key: Key, count: usize, now: u64)
+        requires { count ≤ length (prefix_at self.old key) }
+        ensures exact { Watched (λ s t. t ≡ taken count now s)
+            (seat_at self.old.seats.slab key) (seat_at self.new.seats.slab key) }
+        ensures served { (nodes : List NodeState) (answer : AnswerParts) (handed : List ℕ)
+            → IsSeated nodes self.old key answer handed
+            → IsSeated nodes self.new key answer (handed ++ take count (prefix_at self.old key)) }
+        ensures rest { ChangesOnly self.old self.new key }
+    {
+        if let Some(screen) = self.seats.take_screen(key) {
+            let mut screen = screen;
+            screen.sent(self.broadcast.log(), count, now);
+            self.seats.put_back(key, Seat::Watches(screen));
+        }
+    }
+
+    /// A connection is gone.
+    pub fn leave(&mut self, key: Key)
+        ensures seat { seat_at self.new.seats.slab key ≡ None }
+        ensures rest { ChangesOnly self.old self.new key }
+    {
+        self.seats.leave(key);
+    }
+
+    /// Cuts each connection whose request is late, and each screen that has bytes of its own and
+    /// took none of them for a time, wherever it stands.
+    pub fn cut_late(&mut self, now: u64, stall: u64)
+        ensures cuts { KeepsThose (IsOnTime now stall) self.old.seats.slab self.new.seats.slab }
+        ensures broadcast { self.new.broadcast ≡ self.old.broadcast }
+        ensures next { self.new.seats.next ≡ self.old.seats.next }
+        ensures turn { self.new.turn ≡ self.old.turn }
+        ensures limits { SameLimits self.old self.new }
+    {
+        self.seats.cut_late(now, stall);
+    }
+}
