@@ -1,5 +1,5 @@
 -- A hub, seat by seat.
-use Rattle.std.proofs.Common.{◌≡◌, ◌≢◌, refl, sym, ap, ◌∙◌, subst, ℕ, ◌⊎◌, Bool, true, false, true≢false, List, [], ◌∷◌, ◌++◌, Option, Some, None, inl, inr, ◌≤◌, ◌<◌, ◌+◌, ◌-◌, length, length-append, length-drop, append-nil, append_assoc, arith, take}
+use Rattle.std.proofs.Common.{◌≡◌, ◌≢◌, refl, sym, ap, ◌∙◌, subst, ℕ, ◌⊎◌, true, false, true≢false, List, [], ◌∷◌, ◌++◌, Option, Some, None, inl, inr, ◌≤◌, ◌+◌, ◌-◌, length, length-append, length-drop, append-nil, append_assoc, arith, take}
 use Rattle.std.specs.Prelude.{◌==◌, IsSome, Result, Ok, Err, IfOk, OnOk}
 use Rattle.std.proofs.lemmas.Bool.Decides.{eqb_tells}
 use Rattle.slab.specs.Slab.{Slab, get, Updates}
@@ -22,10 +22,10 @@ use Rattle.feed_hub.specs.declared.seats.Seat.TheVariants.{Asks, Watches}
 use Rattle.feed_hub.specs.declared.seats.Seated.{Seated}
 use Rattle.feed_hub.specs.Broadcast.{IsServedBy, Gains, SaysNext}
 use Rattle.feed_hub.specs.Hub.{Takes, HearsOf, HearsAt}
-use Rattle.feed_hub.specs.Log.{Log, Has, behind, end_of, oldest_in, trimmed}
+use Rattle.feed_hub.specs.Log.{Log, Has, behind}
 use Rattle.feed_hub.specs.Screen.{IsOnLog, IsFollowed, IsNotBehind, IsServed}
-use Rattle.feed_hub.specs.Seats.{seat_at, AreOnLog, HasAll, ChangesSeat, Others, KeepsThose, IsSeatNotBehind, Watched, Ends, IsCutAt}
-use Rattle.feed_hub.specs.Steps.{opened, way_after, given, with_next, refilled, refilled_at, idled, idled_at, taken, way_from, IsFollower, ended, ended_at}
+use Rattle.feed_hub.specs.Seats.{seat_at, AreOnLog, HasAll, ChangesSeat, KeepsThose, IsSeatNotBehind, Watched, Ends, IsCutAt}
+use Rattle.feed_hub.specs.Steps.{opened, way_after, with_next, refilled, refilled_at, idled, idled_at, taken, way_from, IsFollower, ended, ended_at}
 use Rattle.feed_hub.proofs.LoopLemmas.{left_off}
 use Rattle.feed_hub.proofs.SeatLemmas.{seat_found, removed_at}
 use Rattle.feed_hub.proofs.ServedLemmas.{served_opens, served_refused, going_ends}

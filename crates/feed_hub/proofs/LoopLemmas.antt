@@ -1,5 +1,5 @@
 -- Seats one after the other.
-use Rattle.std.proofs.Common.{◌≡◌, ◌≢◌, refl, sym, ap, ◌∙◌, subst, ℕ, ◌⊎◌, Bool, true, false, List, Option, Some, None, inl, inr, ◌≤◌, ◌<◌, ◌+◌, length, arith}
+use Rattle.std.proofs.Common.{◌≡◌, ◌≢◌, refl, sym, ap, ◌∙◌, subst, ℕ, ◌⊎◌, Bool, true, false, Option, Some, None, inl, inr, ◌≤◌, ◌<◌, ◌+◌, length, arith}
 use Rattle.std.specs.Prelude.{◌==◌}
 use Rattle.std.proofs.lemmas.Bool.{cases_lt}
 use Rattle.std.proofs.lemmas.Bool.Decides.{eqb_tells}
@@ -12,9 +12,8 @@ use Rattle.feed_hub.specs.declared.seats.Seat.{Seat}
 use Rattle.feed_hub.specs.declared.seats.Seat.TheVariants.{Asks, Watches}
 use Rattle.feed_hub.specs.declared.seats.Seated.{Seated}
 use Rattle.feed_hub.specs.Log.{Log, Has}
-use Rattle.feed_hub.specs.Seats.{seat_at, AreBelow, KeepsThose, HasAll, Ends, Watched, IsCut, IsCutAt, IsSomeCut}
-use Rattle.feed_hub.specs.Steps.{ended}
-use Rattle.feed_hub.proofs.SeatLemmas.{seat_found, found_at, empty_at, updated_elsewhere, removed_at}
+use Rattle.feed_hub.specs.Seats.{seat_at, KeepsThose, HasAll, Ends, IsCut, IsCutAt, IsSomeCut}
+use Rattle.feed_hub.proofs.SeatLemmas.{found_at, empty_at, updated_elsewhere, removed_at}
 use Rattle.feed_hub.proofs.StepLemmas.{ended_is_off}
 
 same_some : (a b : Seat) → Some a ≡ Some b → a ≡ b

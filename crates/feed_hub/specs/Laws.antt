@@ -37,8 +37,8 @@ pub record StandInOrder (log : Log) (k : ℕ) (texts : List (List ℕ)) (token :
   pub token_is : token ≡ token_after last
   pub text_is : joined texts ≡ parts_text log parts
 
--- What nodes at places of one log tell a session that opened at one of its tokens: the commits after
--- that, each the next one, with line feeds before, between and after them.
+-- What nodes at places of one log tell a session that opened at one of its tokens: the commits
+-- after that, each the next one, with line feeds before, between and after them.
 abbrev pub ScreensAreConnections : Type 0
 ScreensAreConnections =
     (limits : Limits) (log : Log) (nodes : List NodeState) (k : ℕ) (texts : List (List ℕ))
@@ -88,7 +88,8 @@ ScreensReach =
     → (fresh ≡ false → (own : Position) × (place ≡ Some own) × (own.low ≤ k) × (k ≤ own.at))
     → ReachesState limits log place fresh token (opened_text log fresh k ++ joined texts)
 
--- what a response that stands so leaves of the mirror that reads it: nothing yet, or what is said above
+-- what a response that stands so leaves of the mirror that reads it: nothing yet, or what is said
+-- above
 abbrev pub StandsWell : Limits → Log → Option Position → Bool → Standing → Type 0
 StandsWell limits log place fresh in_head = Unit {0}
 StandsWell limits log place fresh token_refused = ⊥
@@ -106,13 +107,16 @@ StandsSo limits log place fresh had_token bytes =
 abbrev pub ScreensAreFollowed : Type 0
 ScreensAreFollowed =
     (limits : Limits) (log : Log) (nodes : List NodeState) (k : ℕ) (texts : List (List ℕ))
-    (token : List ℕ) (place : Option Position) (fresh : Bool) (framing : Framing) (n : ℕ) (had_token : Bool)
+    (token : List ℕ) (place : Option Position) (fresh : Bool) (framing : Framing) (n : ℕ)
+    (had_token : Bool)
     → IsLog limits log → AreInLog limits log nodes → k ≤ length log
     → Told nodes (token_after k) texts token → IsPlace limits log place
     → (fresh ≡ false → (own : Position) × (place ≡ Some own) × (own.low ≤ k) × (k ≤ own.at))
     → AreTexts (opened_text log fresh k ∷ texts)
-    → StandsSo limits log place fresh had_token (take n (response_text framing (opened_text log fresh k ∷ texts)))
-    × StandsSo limits log place fresh had_token (take n (ended_text framing (opened_text log fresh k ∷ texts)))
+    → StandsSo limits log place fresh had_token
+    (take n (response_text framing (opened_text log fresh k ∷ texts)))
+    × StandsSo limits log place fresh had_token
+    (take n (ended_text framing (opened_text log fresh k ∷ texts)))
 
 -- ---- what stands behind the premises
 

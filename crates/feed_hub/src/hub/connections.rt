@@ -88,7 +88,8 @@ impl Hub {
         now: u64,
     ) -> Result<Heard, AllocError>
         ensures heard { IfOk result (λ heard. HearsAt self.old.broadcast contest.now node.now.shown
-            now piece.now heard (seat_at self.old.seats.slab key) (seat_at self.new.seats.slab key)) }
+            now piece.now heard (seat_at self.old.seats.slab key)
+            (seat_at self.new.seats.slab key)) }
         ensures served { (nodes : List NodeState) (s : Screen)
             → IsAskingSeat (seat_at self.old.seats.slab key)
             → seat_at self.new.seats.slab key ≡ Some (Seat.Watches s)
