@@ -8,7 +8,7 @@ use Rattle.feed_note.specs.Texts.{published_text}
 use Rattle.feed_node.specs.States.{token_of}
 use Rattle.feed_answer.specs.Place.{Place}
 use Rattle.feed_http.specs.declared.fault.Followed.TheVariants as followed
-use Rattle.feed_relay.specs.Exchange.{Devices}
+use Rattle.feed_relay.specs.Dialing.{Dialer}
 use Rattle.feed_relay.specs.Fault.{is_memory}
 use Rattle.feed_relay.specs.First.{Position, FollowsFirst, last_outcome}
 use Rattle.feed_relay.specs.declared.first.Attempt.{Attempt}
@@ -63,48 +63,48 @@ nothing_where : (shown : Option Published) → is_some (token_of shown) ≡ fals
 nothing_where None e = refl
 nothing_where (Some pair) e = absurd (cc)
 
-module _ {R W : Type 0} (devices : Devices R W) (places : List Place) (turns : ℕ) (start end : Position) (old new : Option (List ℕ)) where
-  fails : (why : Fault) → IsOfNetwork why → why ≢ fault.Memory → PrintedPulled devices places turns start (Err why) end old new
-      → PullFails devices places turns why start end old new
+module _ {D R W : Type 0} (dialer : Dialer D R W) (places : List Place) (turns : ℕ) (start end : Position D) (old new : Option (List ℕ)) where
+  fails : (why : Fault) → IsOfNetwork why → why ≢ fault.Memory → PrintedPulled dialer places turns start (Err why) end old new
+      → PullFails dialer places turns why start end old new
   fails why (inl e) other printed = absurd (other e)
-  fails why (inr (r, e)) other printed = subst (λ w. PullFails devices places turns w start end old new) (sym e)
-      (subst (λ w. PrintedPulled devices places turns start (Err w) end old new) e printed)
+  fails why (inr (r, e)) other printed = subst (λ w. PullFails dialer places turns w start end old new) (sym e)
+      (subst (λ w. PrintedPulled dialer places turns start (Err w) end old new) e printed)
 
   -- a pull of these attempts came to this, and the snapshot of what the mirror shows was printed
-  pub printed_pulled : (attempts : List Attempt) (ended : Result (Unit {0}) Fault) → FollowsFirst devices places turns start attempts end
-      → ended ≡ outcome_of_pull attempts → Appends old new (published_text end.mirror.node.published) → PrintedPulled devices places turns start ended end old new
+  pub printed_pulled : (attempts : List Attempt) (ended : Result (Unit {0}) Fault) → FollowsFirst dialer places turns start attempts end
+      → ended ≡ outcome_of_pull attempts → Appends old new (published_text end.mirror.node.published) → PrintedPulled dialer places turns start ended end old new
   printed_pulled attempts ended follows e printed = record { has = record { attempts = attempts; follows = follows; came = sym e }; printed = printed }
 
   pub pull_err : (attempts : List Attempt) (ended result : Result (Unit {0}) Fault) (is_published : Bool)
-      → FollowsFirst devices places turns start attempts end → ended ≡ outcome_of_pull attempts → ended ≢ Err fault.Memory
+      → FollowsFirst dialer places turns start attempts end → ended ≡ outcome_of_pull attempts → ended ≢ Err fault.Memory
       → Appends old new (published_text end.mirror.node.published) → is_published ≡ is_some (token_of end.mirror.node.published) → result ≡ outcome_of ended is_published
-      → IfErr result (λ why. PullFails devices places turns why start end old new)
-  pull_err attempts (Ok all) result is_published follows e other printed told is = subst (λ r. IfErr r (λ why. PullFails devices places turns why start end old new)) (sym is) (by is_published refl)
+      → IfErr result (λ why. PullFails dialer places turns why start end old new)
+  pull_err attempts (Ok all) result is_published follows e other printed told is = subst (λ r. IfErr r (λ why. PullFails dialer places turns why start end old new)) (sym is) (by is_published refl)
     where
-      by : (t : Bool) → is_published ≡ t → IfErr (outcome_of (Ok all) t) (λ why. PullFails devices places turns why start end old new)
+      by : (t : Bool) → is_published ≡ t → IfErr (outcome_of (Ok all) t) (λ why. PullFails dialer places turns why start end old new)
       by true e2 = tt
       by false e2 = (printed_pulled attempts (Ok tt) follows e printed, nothing_where end.mirror.node.published (sym told ∙ e2))
-  pull_err attempts (Err why) result is_published follows e other printed told is = subst (λ r. IfErr r (λ w. PullFails devices places turns w start end old new)) (sym is)
+  pull_err attempts (Err why) result is_published follows e other printed told is = subst (λ r. IfErr r (λ w. PullFails dialer places turns w start end old new)) (sym is)
       (fails why (of_last (last_outcome attempts) why (sym e)) (λ m. other (cc)) (printed_pulled attempts (Err why) follows e printed))
 
   -- only a front of the snapshot was printed
-  pub snapshot_fails : (attempts : List Attempt) → FollowsFirst devices places turns start attempts end
+  pub snapshot_fails : (attempts : List Attempt) → FollowsFirst dialer places turns start attempts end
       → (r : Result (Unit {0}) Fault) → IfErr r (λ why. why ≡ fault.Write)
       → OnErr r (AppendsFront old new (published_text end.mirror.node.published))
-      → IfErr r (λ why. PullFails devices places turns why start end old new)
+      → IfErr r (λ why. PullFails dialer places turns why start end old new)
   snapshot_fails attempts follows (Ok all) faults front = tt
   snapshot_fails attempts follows (Err why) is front =
-      subst (λ w. PullFails devices places turns w start end old new) (sym is) (record {
+      subst (λ w. PullFails dialer places turns w start end old new) (sym is) (record {
         ended = outcome_of_pull attempts;
         has = record { attempts = attempts; follows = follows; came = refl };
         printed = front;
       })
 
   -- the snapshot was printed, and an attempt could not be told
-  pub untold : (attempts : List Attempt) → FollowsFirst devices places turns start attempts end → Appends old new (published_text end.mirror.node.published)
-      → (r : Result (Unit {0}) Fault) → IfErr r (λ failed. failed ≡ fault.Write) → IfErr r (λ why. PullFails devices places turns why start end old new)
+  pub untold : (attempts : List Attempt) → FollowsFirst dialer places turns start attempts end → Appends old new (published_text end.mirror.node.published)
+      → (r : Result (Unit {0}) Fault) → IfErr r (λ failed. failed ≡ fault.Write) → IfErr r (λ why. PullFails dialer places turns why start end old new)
   untold attempts follows printed (Ok all) is = tt
-  untold attempts follows printed (Err why) is = subst (λ w. PullFails devices places turns w start end old new) (sym is) (record {
+  untold attempts follows printed (Err why) is = subst (λ w. PullFails dialer places turns w start end old new) (sym is) (record {
     ended = outcome_of_pull attempts;
     has = record { attempts = attempts; follows = follows; came = refl };
     printed = (published_text end.mirror.node.published, [], sym (append-nil (published_text end.mirror.node.published)), printed);

@@ -12,7 +12,7 @@ use Rattle.feed_follow.specs.declared.fault.FollowFault.TheVariants.{BadHead}
 use Rattle.feed_http.specs.Device.{AppendsFront}
 use Rattle.feed_http.specs.declared.fault.EngineFault.TheVariants.{Follow}
 use Rattle.feed_http.specs.declared.fault.Followed.TheVariants as followed
-use Rattle.feed_relay.specs.Exchange.{Devices}
+use Rattle.feed_relay.specs.Dialing.{Dialer}
 use Rattle.feed_relay.specs.First.{Position, FollowsFirst, last_outcome}
 use Rattle.feed_relay.specs.declared.fault.NetworkFault.TheVariants.{Connect, Engine}
 use Rattle.feed_relay.specs.declared.first.Attempt.{Attempt}
@@ -116,37 +116,37 @@ abbrev pub outcome_of_pull : List Attempt → Result (Unit {0}) Fault
 outcome_of_pull attempts =
     unwrap_or (option_map outcome_of_attempt (last_outcome attempts)) (Ok tt)
 
-module _ {R W : Type 0} where
+module _ {D R W : Type 0} where
   -- which places were asked, what that came to, and what the mirror is then
-  pub record HasPulled (devices : Devices R W) (places : List Place) (turns : ℕ) (start : Position)
-      (ended : Result (Unit {0}) Fault) (end : Position) : Type 0 where
+  pub record HasPulled (dialer : Dialer D R W) (places : List Place) (turns : ℕ) (start : Position D)
+      (ended : Result (Unit {0}) Fault) (end : Position D) : Type 0 where
     pub attempts : List Attempt
-    pub follows : FollowsFirst devices places turns start attempts end
+    pub follows : FollowsFirst dialer places turns start attempts end
     pub came : outcome_of_pull attempts ≡ ended
 
   -- the same, and the snapshot of what the mirror shows was printed
-  pub record PrintedPulled (devices : Devices R W) (places : List Place) (turns : ℕ)
-      (start : Position) (ended : Result (Unit {0}) Fault) (end : Position)
+  pub record PrintedPulled (dialer : Dialer D R W) (places : List Place) (turns : ℕ)
+      (start : Position D) (ended : Result (Unit {0}) Fault) (end : Position D)
       (old new : Option (List ℕ)) : Type 0 where
-    pub has : HasPulled devices places turns start ended end
+    pub has : HasPulled dialer places turns start ended end
     pub printed : Appends old new (published_text end.mirror.node.published)
 
   -- the same, and a front of the snapshot was printed
-  pub record PrintedFrontPulled (devices : Devices R W) (places : List Place) (turns : ℕ)
-      (start end : Position) (old new : Option (List ℕ)) : Type 0 where
+  pub record PrintedFrontPulled (dialer : Dialer D R W) (places : List Place) (turns : ℕ)
+      (start end : Position D) (old new : Option (List ℕ)) : Type 0 where
     pub ended : Result (Unit {0}) Fault
-    pub has : HasPulled devices places turns start ended end
+    pub has : HasPulled dialer places turns start ended end
     pub printed : AppendsFront old new (published_text end.mirror.node.published)
 
   -- what was pulled and printed where the command fails
-  abbrev pub PullFails : Devices R W → List Place → ℕ → Fault → Position → Position
+  abbrev pub PullFails : Dialer D R W → List Place → ℕ → Fault → Position D → Position D
       → Option (List ℕ) → Option (List ℕ) → Type 0
-  PullFails devices places turns fault.Memory start end old new = Keeps old new
-  PullFails devices places turns fault.Write start end old new =
-      PrintedFrontPulled devices places turns start end old new
-  PullFails devices places turns fault.Unpublished start end old new =
-      PrintedPulled devices places turns start (Ok tt) end old new
+  PullFails dialer places turns fault.Memory start end old new = Keeps old new
+  PullFails dialer places turns fault.Write start end old new =
+      PrintedFrontPulled dialer places turns start end old new
+  PullFails dialer places turns fault.Unpublished start end old new =
+      PrintedPulled dialer places turns start (Ok tt) end old new
       × (end.mirror.node.published ≡ None)
-  PullFails devices places turns (fault.Remote why) start end old new =
-      PrintedPulled devices places turns start (Err (fault.Remote why)) end old new
-  PullFails devices places turns why start end old new = ⊥
+  PullFails dialer places turns (fault.Remote why) start end old new =
+      PrintedPulled dialer places turns start (Err (fault.Remote why)) end old new
+  PullFails dialer places turns why start end old new = ⊥

@@ -1,5 +1,5 @@
 //! Where connections come to: only a program opens sockets.
-ghost use Rattle.std.specs.Prelude.{◌≡◌, ℕ};
+ghost use Rattle.std.specs.Prelude.{◌≡◌, ℕ, Option};
 ghost use Rattle.feed_relay.specs.Dialing.{misses_after};
 
 use feed_http::{FeedRead, FeedWrite};
@@ -15,7 +15,19 @@ pub trait Listen {
     // How many calls accepted none. The count stays at `u64::MAX`.
     ghost misses: { Self → ℕ };
 
-    /// Waits for the next follower. Its connection is closed where both ends are dropped.
+    // What a call makes of it, and which connection that accepts.
+    ghost accepts: { Self → Self → Option (Self.Reader × Self.Writer) → Type 0 };
+
+    // What it is once a connection, at these ends, was given back.
+    ghost closes: { Self → Self.Reader → Self.Writer → Self → Type 0 };
+
+    /// Waits for the next follower.
     fn accept(&mut self) -> Option<(Self::Reader, Self::Writer)>
-        ensures misses { misses self.new ≡ misses_after (misses self.old) result };
+        ensures misses { misses self.new ≡ misses_after (misses self.old) result }
+        ensures accepted { accepts self.old self.new result };
+
+    /// Takes a connection back that it accepted, and closes it.
+    fn close(&mut self, reader: Self::Reader, writer: Self::Writer)
+        ensures misses { misses self.new ≡ misses self.old }
+        ensures closed { closes self.old reader writer self.new };
 }

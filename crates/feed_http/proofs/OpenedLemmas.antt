@@ -1,5 +1,5 @@
 -- A session is opened at status 200, and at no other.
-use Rattle.std.proofs.Common.{arith, ◌≡◌, ◌≢◌, refl, sym, ◌∙◌, subst, ℕ, Bool, false, List, [], ◌∷◌}
+use Rattle.std.proofs.Common.{arith, ◌≡◌, ◌≢◌, refl, sym, ◌∙◌, subst, ℕ, Bool, true, false, List, [], ◌∷◌}
 use Rattle.std.specs.Prelude.{Option, Some, None, Result, Ok, Err, Vec, IfOk}
 use Rattle.std.specs.Io.KnownBytes.{Appends}
 use Rattle.feed_tables.specs.declared.change.Change.{Change}
@@ -14,7 +14,8 @@ use Rattle.feed_answer.specs.Asked.{Asked, refused, feed, framing_for}
 use Rattle.feed_answer.specs.Opening.{Started, opens}
 use Rattle.feed_http.specs.declared.fault.EngineFault.{EngineFault}
 use Rattle.feed_http.specs.declared.fault.Served.{Served}
-use Rattle.feed_http.specs.Live.{Intake, intake_of, IsOver, SendsLiveTo, SendsLive}
+use Rattle.feed_http.specs.Exchange.{Exchange}
+use Rattle.feed_http.specs.Live.{Intake, IsOver, IsLongTurn, HasAnswer, SendsLiveTo, SendsLive, ServedLive, TakesAll}
 
 -- with this status a session was opened, or none was
 abbrev pub OpenedAt : ℕ → Option (List ℕ) → Type 0
@@ -43,11 +44,6 @@ opened_at head contest node framing back answer a =
 
 -- ---- what that says of the batches
 
-none_wait : {A : Type 0} (primary : PrimaryState) (input : List (Vec Change A))
-    → (intake_of primary input).batches ≡ [] → input ≡ []
-none_wait primary [] e = refl
-none_wait primary (x ∷ input) e = absurd (cc)
-
 ends_empty : (turn : ℕ) (start now : Intake) (status : ℕ) (o : Option (List ℕ))
     (sent : List Commit) (gone : Bool) → OpenedAt status o → SendsLiveTo turn start o sent gone now
     → status ≡ 200 → gone ≡ false → now.batches ≡ []
@@ -61,24 +57,30 @@ stays : (turn : ℕ) (start now : Intake) (status : ℕ) (o : Option (List ℕ))
 stays turn start now status None sent gone none (_, _, same) other = same
 stays turn start now status (Some opened) sent gone there sends other = absurd (other there)
 
-module _ {A : Type 0} (turn : ℕ) (start : Intake) (primary : PrimaryState)
-    (input : List (Vec Change A)) (answer : AnswerParts) (old new : Option (List ℕ))
-    (opened : OpenedAt answer.status answer.session) where
-  pub all_taken : (result : Result Served EngineFault)
-      → IfOk result (λ served. (text : List ℕ)
-      × SendsLive turn start answer text served (intake_of primary input) × Appends old new text)
-      → IfOk result (λ served. served.status ≡ 200 → served.gone ≡ false → input ≡ [])
-  all_taken (Err _) h = tt
-  all_taken (Ok served) (text, sends, wrote) = λ is kept.
-      none_wait primary input
-      (ends_empty turn start (intake_of primary input) answer.status answer.session sends.sent
-      sends.gone opened sends.sends (sym sends.tells.status ∙ is) (sym sends.tells.gone_is ∙ kept))
+-- at this end of a connection
+pub takes_all : (turn : ℕ) (start now : Intake) (answer : AnswerParts) (text : List ℕ)
+    (served : Served) → OpenedAt answer.status answer.session
+    → SendsLive turn start answer text served now → TakesAll start served now
+takes_all turn start now answer text served opened sends = record {
+  all_taken = λ is kept. ends_empty turn start now answer.status answer.session sends.sent
+      sends.gone opened sends.sends (sym sends.tells.status ∙ is) (sym sends.tells.gone_is ∙ kept);
+  none_taken = λ other. stays turn start now answer.status answer.session sends.sent sends.gone
+      opened sends.sends (λ is. other (sends.tells.status ∙ is));
+}
 
-  pub none_taken : (result : Result Served EngineFault)
-      → IfOk result (λ served. (text : List ℕ)
-      × SendsLive turn start answer text served (intake_of primary input) × Appends old new text)
-      → IfOk result (λ served. served.status ≢ 200 → intake_of primary input ≡ start)
-  none_taken (Err _) h = tt
-  none_taken (Ok served) (text, sends, wrote) = λ other.
-      stays turn start (intake_of primary input) answer.status answer.session sends.sent sends.gone
-      opened sends.sends (λ is. other (sends.tells.status ∙ is))
+-- a connection that came to its end, and what that says of the batches
+pub was_live : (turn : ℕ) (contest : List ℕ) (framing : Framing) (back turns : ℕ)
+    (spoken : Exchange) (start now : Intake) (answer : AnswerParts)
+    → HasAnswer contest start.primary.node framing back spoken.source spoken.left answer
+    → (r : Result Served EngineFault)
+    → IfOk r (λ served. (text : List ℕ) × SendsLive turn start answer text served now
+    × Appends spoken.written_old spoken.written_new text)
+    → IfOk r (λ served. served.gone ≡ true → IsLongTurn turn start)
+    → IfOk r (λ served. ServedLive turn contest framing back turns spoken start (Ok served) now)
+was_live turn contest framing back turns spoken start now answer has (Err why) sent long = tt
+was_live turn contest framing back turns spoken start now answer has (Ok served) (text, sends, wrote) long = (
+  (answer, text, has, sends, wrote),
+  long,
+  takes_all turn start now answer text served
+      (opened_at has.head contest start.primary.node framing back answer has.answers) sends,
+)

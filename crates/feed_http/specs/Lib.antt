@@ -1,4 +1,5 @@
 pub mod Device
+pub mod Exchange
 pub mod Following
 pub mod HeadReading
 pub mod Laws

@@ -1,5 +1,5 @@
 -- What a primary that takes batches sends and writes on one connection.
-use Rattle.std.specs.Prelude.{◌≡◌, ◌⊎◌, ◌<◌, ℕ, Bool, true, false, List, [], ◌∷◌, ◌++◌, length, map, take, drop, Option, Some, None, Vec}
+use Rattle.std.specs.Prelude.{◌≡◌, ◌≢◌, ◌⊎◌, ◌<◌, ℕ, Bool, true, false, List, [], ◌∷◌, ◌++◌, length, map, take, drop, Option, Some, None, Result, Ok, Err, Vec}
 use Rattle.std.specs.Io.KnownBytes.{Appends, Consumes, IsAtEnd}
 use Rattle.feed_tables.specs.declared.change.Change.{Change}
 use Rattle.feed_node.specs.declared.commit.Commit.{Commit}
@@ -10,11 +10,14 @@ use Rattle.feed_answer.specs.declared.framing.Framing.{Framing}
 use Rattle.feed_answer.specs.Answered.{AnswerParts, AnswersTo}
 use Rattle.feed_answer.specs.Framed.{frame_end}
 use Rattle.feed_answer.specs.Served.{farewell}
+use Rattle.feed_http.specs.declared.fault.EngineFault.{EngineFault}
+use Rattle.feed_http.specs.declared.fault.EngineFault.TheVariants as fault
 use Rattle.feed_http.specs.declared.fault.Served.{Served}
-use Rattle.feed_http.specs.Device.{AppendsFront}
+use Rattle.feed_http.specs.Device.{AppendsFront, HasFailed, RoseBy, RoseAtMost}
+use Rattle.feed_http.specs.Exchange.{Exchange}
 use Rattle.feed_http.specs.HeadReading.{IsReadAsNeeded, IsEnough}
 use Rattle.feed_http.specs.Sessions.{Nothing_new, Commit_after, next}
-use Rattle.feed_http.specs.Serving.{HasAll, commit_frames, BeginsCommit, answered_text, Tells}
+use Rattle.feed_http.specs.Serving.{HasAll, commit_frames, BeginsCommit, answered_text, Tells, BrokeInHead}
 
 -- a primary, and the batches that it is still to take, the next one first
 pub record Intake : Type 0 where
@@ -140,3 +143,51 @@ pub record HasAnswer (contest : List ℕ) (node : NodeState) (framing : Framing)
   pub needed : IsReadAsNeeded head
   pub enough : IsEnough head ⊎ IsAtEnd left
   pub answers : AnswersTo head contest node framing back answer
+
+-- which batches are left after a connection: after a 200 none, unless the session's token was lost;
+-- without one all of them
+pub record TakesAll (start : Intake) (served : Served) (now : Intake) : Type 0 where
+  pub all_taken : served.status ≡ 200 → served.gone ≡ false → now.batches ≡ []
+  pub none_taken : served.status ≢ 200 → now ≡ start
+
+-- what was read, written and taken where a primary was served, in at most so many reads (`turns`)
+abbrev pub ServedLive : ℕ → List ℕ → Framing → ℕ → ℕ → Exchange → Intake
+    → Result Served EngineFault → Intake → Type 0
+ServedLive turn contest framing back turns spoken start (Ok served) now =
+    ((answer : AnswerParts) × (text : List ℕ)
+    × HasAnswer contest start.primary.node framing back spoken.source spoken.left answer
+    × SendsLive turn start answer text served now
+    × Appends spoken.written_old spoken.written_new text)
+    × (served.gone ≡ true → IsLongTurn turn start)
+    × TakesAll start served now
+ServedLive turn contest framing back turns spoken start (Err fault.Read) now =
+    BrokeInHead spoken.source spoken.left spoken.written_old spoken.written_new
+    × (now ≡ start)
+    × HasFailed spoken.failed_reads_old spoken.failed_reads_new
+ServedLive turn contest framing back turns spoken start (Err fault.Turns) now =
+    BrokeInHead spoken.source spoken.left spoken.written_old spoken.written_new
+    × (now ≡ start)
+    × RoseBy spoken.reads_old spoken.reads_new turns
+ServedLive turn contest framing back turns spoken start (Err fault.Write) now =
+    ((answer : AnswerParts)
+    × HasAnswer contest start.primary.node framing back spoken.source spoken.left answer
+    × WroteLive turn start answer now spoken.written_old spoken.written_new)
+    × HasFailed spoken.failed_writes_old spoken.failed_writes_new
+ServedLive turn contest framing back turns spoken start (Err (fault.Commit why)) now =
+    (answer : AnswerParts)
+    × HasAnswer contest start.primary.node framing back spoken.source spoken.left answer
+    × WroteRefused turn start answer why now spoken.written_old spoken.written_new
+ServedLive turn contest framing back turns spoken start (Err fault.Memory) now =
+    (Appends spoken.written_old spoken.written_new [] × (now ≡ start))
+    ⊎ ((answer : AnswerParts)
+    × HasAnswer contest start.primary.node framing back spoken.source spoken.left answer
+    × WroteLive turn start answer now spoken.written_old spoken.written_new)
+ServedLive turn contest framing back turns spoken start (Err (fault.Follow why)) now = ⊥
+
+-- a primary was served on a connection, in at most so many reads (`turns`) of the head of a request,
+-- and took batches in turns
+pub record ServesLive (turn : ℕ) (contest : List ℕ) (framing : Framing) (back turns : ℕ)
+    (spoken : Exchange) (start : Intake) (served : Result Served EngineFault) (now : Intake)
+    : Type 0 where
+  pub came : ServedLive turn contest framing back turns spoken start served now
+  pub reads : RoseAtMost spoken.reads_old spoken.reads_new turns

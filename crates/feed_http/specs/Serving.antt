@@ -1,15 +1,18 @@
 -- What a server sends and writes on one connection.
-use Rattle.std.specs.Prelude.{◌≡◌, ◌⊎◌, ℕ, Bool, true, false, List, [], ◌∷◌, ◌++◌, length, map, Option, Some, None}
+use Rattle.std.specs.Prelude.{◌≡◌, ◌⊎◌, ℕ, Bool, true, false, List, [], ◌∷◌, ◌++◌, length, map, Option, Some, None, Result, Ok, Err}
 use Rattle.std.specs.List.{flat_map}
 use Rattle.std.specs.Io.KnownBytes.{Appends, Consumes, IsAtEnd}
 use Rattle.feed_note.specs.Texts.{batch_text}
 use Rattle.feed_node.specs.declared.commit.Commit.{Commit}
 use Rattle.feed_node.specs.States.{NodeState}
 use Rattle.feed_http.specs.Sessions.{Nothing_new, Lost, Commit_after, next}
+use Rattle.feed_http.specs.declared.fault.EngineFault.{EngineFault}
+use Rattle.feed_http.specs.declared.fault.EngineFault.TheVariants as fault
 use Rattle.feed_http.specs.declared.fault.Served.{Served}
 use Rattle.feed_answer.specs.declared.framing.Framing.{Framing}
 use Rattle.feed_answer.specs.Answered.{AnswerParts, AnswersTo}
-use Rattle.feed_http.specs.Device.{counted, AppendsFront}
+use Rattle.feed_http.specs.Device.{counted, AppendsFront, HasFailed, RoseBy, RoseAtMost}
+use Rattle.feed_http.specs.Exchange.{Exchange}
 use Rattle.feed_http.specs.HeadReading.{IsReadAsNeeded, IsStillNeeded, IsEnough}
 use Rattle.feed_answer.specs.Framed.{frame}
 use Rattle.feed_answer.specs.Served.{behind_opening}
@@ -92,3 +95,37 @@ abbrev pub BrokeBehindHead : List ℕ → NodeState → Framing → ℕ → Opti
 BrokeBehindHead contest node framing back source left old new =
     (head : List ℕ) × (text : List ℕ) × (served : Served) × Consumes source left head × IsReadAsNeeded head × (IsEnough head ⊎ IsAtEnd left)
     × Serves head contest node framing back text served × AppendsFront old new text
+
+-- ---- on a connection
+
+-- what was read and written where a node was served, in at most so many reads (`turns`)
+abbrev pub ServedSo : List ℕ → NodeState → Framing → ℕ → ℕ → Exchange
+    → Result Served EngineFault → Type 0
+ServedSo contest node framing back turns spoken (Ok served) =
+    (head : List ℕ) × (text : List ℕ) × Consumes spoken.source spoken.left head
+    × IsReadAsNeeded head × (IsEnough head ⊎ IsAtEnd spoken.left)
+    × Serves head contest node framing back text served
+    × Appends spoken.written_old spoken.written_new text
+ServedSo contest node framing back turns spoken (Err fault.Read) =
+    BrokeInHead spoken.source spoken.left spoken.written_old spoken.written_new
+    × HasFailed spoken.failed_reads_old spoken.failed_reads_new
+ServedSo contest node framing back turns spoken (Err fault.Turns) =
+    BrokeInHead spoken.source spoken.left spoken.written_old spoken.written_new
+    × RoseBy spoken.reads_old spoken.reads_new turns
+ServedSo contest node framing back turns spoken (Err fault.Write) =
+    BrokeBehindHead contest node framing back spoken.source spoken.left spoken.written_old
+    spoken.written_new
+    × HasFailed spoken.failed_writes_old spoken.failed_writes_new
+ServedSo contest node framing back turns spoken (Err fault.Memory) =
+    Appends spoken.written_old spoken.written_new []
+    ⊎ BrokeBehindHead contest node framing back spoken.source spoken.left spoken.written_old
+    spoken.written_new
+ServedSo contest node framing back turns spoken (Err (fault.Commit why)) = ⊥
+ServedSo contest node framing back turns spoken (Err (fault.Follow why)) = ⊥
+
+-- a node was served on a connection, in at most so many reads (`turns`) of the head of a request;
+-- a session begins so many tokens (`back`) before the one that is asked with
+pub record ServesOnce (contest : List ℕ) (node : NodeState) (framing : Framing) (back turns : ℕ)
+    (spoken : Exchange) (served : Result Served EngineFault) : Type 0 where
+  pub came : ServedSo contest node framing back turns spoken served
+  pub reads : RoseAtMost spoken.reads_old spoken.reads_new turns

@@ -3,11 +3,12 @@ ghost use Rattle.std.specs.Prelude.{◌≡◌, ◌≢◌, ◌⊎◌, ◌≤◌, 
 ghost use Rattle.std.specs.Io.KnownBytes.{Appends};
 ghost use Rattle.feed_node.specs.declared.commit.Commit.{Commit};
 ghost use Rattle.feed_node.specs.declared.primary.CommitFault.{CommitFault as Why};
-ghost use Rattle.feed_answer.specs.Answered.{AnswerParts, parts_of};
+ghost use Rattle.feed_answer.specs.Answered.{parts_of};
 ghost use Rattle.feed_http.specs.declared.fault.EngineFault.{EngineFault as Fault};
-ghost use Rattle.feed_http.specs.Device.{HasFailed, counted, RoseBy, RoseAtMost};
-ghost use Rattle.feed_http.specs.Serving.{commit_frames, BrokeInHead};
-ghost use Rattle.feed_http.specs.Live.{intake_of, HasSent, IsOver, SendsLive, TakesTurn, RefusesInTurn, IsLongTurn, IsCutShort, IsRefused, WroteLive, WroteRefused, HasAnswer};
+ghost use Rattle.feed_http.specs.Device.{HasFailed, counted};
+ghost use Rattle.feed_http.specs.Exchange.{devices_of, exchange};
+ghost use Rattle.feed_http.specs.Serving.{commit_frames};
+ghost use Rattle.feed_http.specs.Live.{intake_of, HasSent, IsOver, SendsLive, TakesTurn, RefusesInTurn, IsLongTurn, IsCutShort, IsRefused, WroteLive, WroteRefused, ServesLive};
 ghost use Rattle.feed_http.specs.Taking.{IsHeld};
 
 use crate::device::{FeedRead, FeedWrite};
@@ -171,53 +172,11 @@ pub fn serve_live<R: FeedRead, W: FeedWrite>(
     back: usize,
 ) -> Result<Served, EngineFault>
     requires { 1 ≤ turn }
-    ensures ok { IfOk result (λ served. (answer : AnswerParts) × (text : List ℕ)
-        × HasAnswer contest.now primary.old.node framing back
-        (R.remaining reader.old) (R.remaining reader.new) answer
-        × SendsLive turn (intake_of primary.old input.old.items) answer text served
-        (intake_of primary.new input.new.items)
-        × Appends (W.contents writer.old) (W.contents writer.new) text) }
-    ensures gone { IfOk result (λ served. served.gone ≡ true →
-        IsLongTurn turn (intake_of primary.old input.old.items)) }
-    // After a 200 no batch is left, unless the token was lost; without one all are.
-    ensures all_taken { IfOk result (λ served. served.status ≡ 200 → served.gone ≡ false →
-        input.new.items ≡ []) }
-    ensures none_taken { IfOk result (λ served. served.status ≢ 200 →
-        intake_of primary.new input.new.items ≡ intake_of primary.old input.old.items) }
-    ensures faults { IfErr result (λ fault. (fault ≡ Fault.Read) ⊎
-        ((fault ≡ Fault.Write) ⊎ ((fault ≡ Fault.Turns) ⊎
-        (((why : Why) × (fault ≡ Fault.Commit why)) ⊎ (fault ≡ Fault.Memory))))) }
-    ensures read { IsErrOf result Fault.Read → HasFailed (R.failures reader.old)
-        (R.failures reader.new) }
-    ensures read_in { IsErrOf result Fault.Read → BrokeInHead (R.remaining reader.old)
-        (R.remaining reader.new) (W.contents writer.old) (W.contents writer.new)
-        × (intake_of primary.new input.new.items ≡ intake_of primary.old input.old.items) }
-    ensures turns { IsErrOf result Fault.Turns → RoseBy (R.reads reader.old)
-        (R.reads reader.new) turns }
-    ensures turns_in { IsErrOf result Fault.Turns → BrokeInHead (R.remaining reader.old)
-        (R.remaining reader.new) (W.contents writer.old) (W.contents writer.new)
-        × (intake_of primary.new input.new.items ≡ intake_of primary.old input.old.items) }
-    ensures write { IsErrOf result Fault.Write → HasFailed (W.failures writer.old)
-        (W.failures writer.new) }
-    ensures write_in { IsErrOf result Fault.Write → (answer : AnswerParts)
-        × HasAnswer contest.now primary.old.node framing back
-        (R.remaining reader.old) (R.remaining reader.new) answer
-        × WroteLive turn (intake_of primary.old input.old.items) answer
-        (intake_of primary.new input.new.items) (W.contents writer.old) (W.contents writer.new) }
-    ensures commit_in { (why : Why) → IsErrOf result (Fault.Commit why) → (answer : AnswerParts)
-        × HasAnswer contest.now primary.old.node framing back
-        (R.remaining reader.old) (R.remaining reader.new) answer
-        × WroteRefused turn (intake_of primary.old input.old.items) answer why
-        (intake_of primary.new input.new.items) (W.contents writer.old) (W.contents writer.new) }
-    ensures memory { IsErrOf result Fault.Memory →
-        (Appends (W.contents writer.old) (W.contents writer.new) []
-        × (intake_of primary.new input.new.items ≡ intake_of primary.old input.old.items))
-        ⊎ ((answer : AnswerParts)
-        × HasAnswer contest.now primary.old.node framing back
-        (R.remaining reader.old) (R.remaining reader.new) answer
-        × WroteLive turn (intake_of primary.old input.old.items) answer
-        (intake_of primary.new input.new.items) (W.contents writer.old) (W.contents writer.new)) }
-    ensures reads { RoseAtMost (R.reads reader.old) (R.reads reader.new) turns }
+    ensures { let devices = devices_of R.remaining R.reads R.failures W.contents W.failures in
+        ServesLive turn contest.now framing back turns
+        (exchange devices reader.old reader.new writer.old writer.new)
+        (intake_of primary.old input.old.items) result
+        (intake_of primary.new input.new.items) }
 {
     let mut head = Vec::new(alloc);
     read_head(reader, &mut head, turns)?;

@@ -1,15 +1,15 @@
 //! What a server sends on one connection.
 ghost use Rattle.std.specs.Prelude.{◌≡◌, ◌≢◌, ◌⊎◌, ◌++◌, ◌≤◌, ◌<◌, ◌-◌, ℕ, List, [], length, map, true, false, IfOk, IfErr, IfSome, OnOk, OnErr, IsErrOf};
-ghost use Rattle.std.specs.Io.KnownBytes.{Appends, Consumes, IsAtEnd};
+ghost use Rattle.std.specs.Io.KnownBytes.{Appends};
 ghost use Rattle.feed_node.specs.declared.commit.Commit.{Commit};
 ghost use Rattle.feed_node.specs.States.{IsConsistent};
 ghost use Rattle.feed_http.specs.declared.fault.EngineFault.{EngineFault as Fault};
-ghost use Rattle.feed_http.specs.Device.{HasFailed, AppendsFront, counted, RoseBy, RoseAtMost};
+ghost use Rattle.feed_http.specs.Device.{HasFailed, AppendsFront, counted};
 ghost use Rattle.feed_answer.specs.Framed as framed;
 ghost use Rattle.feed_answer.specs.Served.{behind_opening, farewell};
 ghost use Rattle.feed_answer.specs.Answered.{parts_of};
-ghost use Rattle.feed_http.specs.HeadReading.{IsReadAsNeeded, IsEnough, IsStillNeeded};
-ghost use Rattle.feed_http.specs.Serving.{Sends, commit_text, commit_frames, HasAll, SendsAnswer, Serves, BrokeInHead, BrokeBehindHead};
+ghost use Rattle.feed_http.specs.Exchange.{devices_of, exchange};
+ghost use Rattle.feed_http.specs.Serving.{Sends, commit_text, commit_frames, HasAll, SendsAnswer, ServesOnce};
 ghost use Rattle.feed_http.specs.Sending.{Sent, WroteCommits, WroteSome, WroteAnswer};
 
 use crate::device::{Failed, FeedRead, FeedWrite, write_all};
@@ -218,32 +218,9 @@ pub fn serve_node<R: FeedRead, W: FeedWrite>(
     turns: u64,
     back: usize,
 ) -> Result<Served, EngineFault>
-    ensures ok { IfOk result (λ served. (head : List ℕ) × (text : List ℕ) × Consumes
-        (R.remaining reader.old) (R.remaining reader.new) head
-        × IsReadAsNeeded head × (IsEnough head ⊎ IsAtEnd (R.remaining reader.new))
-        × Serves head contest.now node.now.shown framing back text served × Appends
-        (W.contents writer.old) (W.contents writer.new) text) }
-    ensures faults { IfErr result (λ fault. (fault ≡ Fault.Read) ⊎
-        ((fault ≡ Fault.Write) ⊎ ((fault ≡ Fault.Turns) ⊎ (fault ≡ Fault.Memory)))) }
-    ensures read { IsErrOf result Fault.Read → HasFailed (R.failures reader.old)
-        (R.failures reader.new) }
-    ensures read_in { IsErrOf result Fault.Read → BrokeInHead (R.remaining reader.old)
-        (R.remaining reader.new) (W.contents writer.old) (W.contents writer.new) }
-    ensures turns { IsErrOf result Fault.Turns → RoseBy (R.reads reader.old)
-        (R.reads reader.new) turns }
-    ensures turns_in { IsErrOf result Fault.Turns → BrokeInHead (R.remaining reader.old)
-        (R.remaining reader.new) (W.contents writer.old) (W.contents writer.new) }
-    ensures write { IsErrOf result Fault.Write → HasFailed (W.failures writer.old)
-        (W.failures writer.new) }
-    ensures write_in { IsErrOf result Fault.Write → BrokeBehindHead contest.now node.now.shown
-        framing back (R.remaining reader.old) (R.remaining reader.new) (W.contents writer.old)
-        (W.contents writer.new) }
-    ensures memory { IsErrOf result Fault.Memory →
-        Appends (W.contents writer.old) (W.contents writer.new) []
-        ⊎ BrokeBehindHead contest.now node.now.shown
-        framing back (R.remaining reader.old) (R.remaining reader.new) (W.contents writer.old)
-        (W.contents writer.new) }
-    ensures reads { RoseAtMost (R.reads reader.old) (R.reads reader.new) turns }
+    ensures { let devices = devices_of R.remaining R.reads R.failures W.contents W.failures in
+        ServesOnce contest.now node.now.shown framing back turns
+        (exchange devices reader.old reader.new writer.old writer.new) result }
 {
     let mut head = Vec::new(alloc);
     read_head(reader, &mut head, turns)?;

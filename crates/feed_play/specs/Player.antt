@@ -14,7 +14,7 @@ use Rattle.feed_world.specs.declared.event.Reply.{Reply}
 use Rattle.feed_world.specs.declared.event.WorldFault.TheVariants.{NoNode}
 use Rattle.feed_play.specs.Fault.{cause_of_world}
 use Rattle.feed_play.specs.FeedLines.{TakesFeed, StopsCommit}
-use Rattle.feed_play.specs.Lines.{LinesLeft}
+use Rattle.feed_play.specs.Lines.{LinesLeft, IsLineFrom}
 use Rattle.feed_play.specs.Script.{Asked, action_in, shape_in}
 use Rattle.feed_play.specs.Told.{Tells, Prints, shown_text}
 use Rattle.feed_play.specs.declared.fault.PlayCause.{PlayCause}
@@ -252,9 +252,13 @@ pub record StopsAtFirst (script told : List ℕ) (why : PlayFault) : Type 0 wher
   pub line : why.line ≡ 1
   pub makes_none : MakesNone (first_line (lines_of script)) why.cause
 
--- A further line stops the script. What the lines before it ask for is done, and this is printed.
--- For want of memory nothing is said of the line, but that the fault is told there or at a later
--- one.
+-- how many feed lines a line announces
+abbrev pub announced : Option Action → ℕ
+announced (Some (action.Commit count)) = count
+announced other = 0
+
+-- A further line stops the script: it, or one of the feed lines that it announces. What the lines
+-- before it ask for is done, and this is printed. For want of memory nothing else is said of it.
 pub record StopsLater (script told : List ℕ) (why : PlayFault) : Type 0 where
   pub asked : Asked
   pub world : World
@@ -264,7 +268,7 @@ pub record StopsLater (script told : List ℕ) (why : PlayFault) : Type 0 where
   pub behind : LinesLeft
   pub next : IsNext at line behind
   pub stops : why.cause ≢ cause.Memory → StopsAsked (action_in asked line) world behind why
-  pub from : behind.read ≤ why.line
+  pub line_is : IsLineFrom behind.read (behind.read + announced (action_in asked line)) why.line
 
 -- the script stops there, and this is printed before
 abbrev pub Stops : List ℕ → List ℕ → PlayFault → Type 0

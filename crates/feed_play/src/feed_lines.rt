@@ -1,6 +1,6 @@
 //! The feed lines that a commit of a script announces.
 
-ghost use Rattle.std.specs.Prelude.{◌≡◌, ◌≢◌, ◌≤◌, ◌++◌, length, IfOk, IfErr, OnOk};
+ghost use Rattle.std.specs.Prelude.{◌≡◌, ◌≢◌, ◌≤◌, ◌+◌, ◌++◌, length, IfOk, IfErr, OnOk};
 ghost use Rattle.feed_note.specs.Counts.{IsRead};
 ghost use Rattle.feed_note.specs.Lines.{HasNoLineFeed};
 ghost use Rattle.feed_note.specs.Notes.{changes_in};
@@ -45,7 +45,8 @@ pub fn read_changes(
     ensures later { lines.old.read ≤ lines.new.read }
     ensures fewer { length lines.new.left ≤ length lines.old.left }
     ensures line { IfErr result (λ fault.
-        IsLineFrom lines.old.read (all_lines lines.old) fault.line) }
+        IsLineFrom lines.old.read (lines.old.read + count) fault.line) }
+    ensures within { IfErr result (λ fault. fault.line ≤ all_lines lines.old) }
 {
     if !lines.has(count) {
         let line = lines.number();

@@ -4,7 +4,7 @@ ghost use Rattle.std.specs.Prelude.{◌≡◌, ◌≤◌, ◌+◌, length, Ok, E
 ghost use Rattle.feed_note.specs.Lines.{lines as lines_of};
 ghost use Rattle.feed_play.specs.Lines.{all_lines, IsLineFrom};
 ghost use Rattle.std.specs.Option.{option_copied};
-ghost use Rattle.feed_play.specs.Player.{restarted_by, token_at, Makes, MakesNone, Replies, Shows, LineDone, StopsEvent, StopsShow, LineStops, Plays, Stops};
+ghost use Rattle.feed_play.specs.Player.{announced, restarted_by, token_at, Makes, MakesNone, Replies, Shows, LineDone, StopsEvent, StopsShow, LineStops, Plays, Stops};
 ghost use Rattle.feed_play.specs.Script.{action_in};
 ghost use Rattle.feed_play.specs.Told.{Prints};
 ghost use Rattle.feed_world.specs.States.{IsWorld};
@@ -112,8 +112,9 @@ fn play_line(
     ensures all { all_lines lines.new ≡ all_lines lines.old }
     ensures later { lines.old.read ≤ lines.new.read }
     ensures fewer { length lines.new.left ≤ length lines.old.left }
-    ensures line { IfErr result (λ fault.
-        IsLineFrom lines.old.read (all_lines lines.old) fault.line) }
+    ensures line { IfErr result (λ fault. IsLineFrom lines.old.read
+        (lines.old.read + announced (action_in asked.now line.now)) fault.line) }
+    ensures within { IfErr result (λ fault. fault.line ≤ all_lines lines.old) }
 {
     let number = lines.number();
     let Some(action) = read_action(asked, line) else {

@@ -3,38 +3,38 @@ use Rattle.std.proofs.Common.{◌≡◌, ◌≢◌, ◌⊎◌, inl, inr, refl, s
 use Rattle.std.proofs.lemmas.List.{take-append-drop}
 use Rattle.feed_answer.specs.Place.{Place}
 use Rattle.feed_http.specs.declared.fault.Followed.TheVariants as followed
-use Rattle.feed_relay.specs.Exchange.{Devices}
+use Rattle.feed_relay.specs.Dialing.{Dialer}
 use Rattle.feed_relay.specs.First.{Position, position, attempt_at, is_last, Attempts, AsksPlace, GoesOn, StopsAt, none_asked, one_asked}
 use Rattle.feed_relay.specs.declared.first.Attempt.{Attempt}
 use Rattle.feed_relay.specs.declared.first.AttemptEnd.{AttemptEnd}
 use Rattle.feed_relay.specs.declared.first.AttemptEnd.TheVariants.{Followed}
 
-module _ {R W : Type 0} where
+module _ {D R W : Type 0} where
   -- behind a place that ends nothing, the next one is asked
-  pub goes_on : (devices : Devices R W) (turns number : ℕ) (start middle end : Position)
+  pub goes_on : (dialer : Dialer D R W) (turns number : ℕ) (start middle end : Position D)
       (places : List Place) (place : Place) (earlier attempts all : List Attempt)
-      (outcome : AttemptEnd) → GoesOn devices turns start (take number places) earlier middle
+      (outcome : AttemptEnd) → GoesOn dialer turns start (take number places) earlier middle
       → length (take number places) ≡ number
       → take (number + 1) places ≡ take number places ++ place ∷ []
-      → AsksPlace devices number place turns middle attempts outcome end
+      → AsksPlace dialer number place turns middle attempts outcome end
       → is_last outcome ≡ false → all ≡ earlier ++ attempts
-      → GoesOn devices turns start (take (number + 1) places) all end
-  goes_on devices turns number start middle end places place earlier attempts all outcome went count next asked on is =
-      subst (λ l. GoesOn devices turns start l all end) (sym next)
-      (subst (λ l. GoesOn devices turns start (take number places ++ place ∷ []) l end) (sym is)
+      → GoesOn dialer turns start (take (number + 1) places) all end
+  goes_on dialer turns number start middle end places place earlier attempts all outcome went count next asked on is =
+      subst (λ l. GoesOn dialer turns start l all end) (sym next)
+      (subst (λ l. GoesOn dialer turns start (take number places ++ place ∷ []) l end) (sym is)
       (one_asked (take number places) place earlier attempts outcome middle end went
-      (subst (λ n. AsksPlace devices n place turns middle attempts outcome end) (sym count) asked) on))
+      (subst (λ n. AsksPlace dialer n place turns middle attempts outcome end) (sym count) asked) on))
 
   -- behind the last place no other one is asked
-  pub stops_at : (devices : Devices R W) (turns number : ℕ) (start middle end : Position)
+  pub stops_at : (dialer : Dialer D R W) (turns number : ℕ) (start middle end : Position D)
       (places : List Place) (place : Place) (earlier attempts all : List Attempt)
-      (outcome : AttemptEnd) → GoesOn devices turns start (take number places) earlier middle
+      (outcome : AttemptEnd) → GoesOn dialer turns start (take number places) earlier middle
       → length (take number places) ≡ number
       → take (number + 1) places ≡ take number places ++ place ∷ []
-      → AsksPlace devices number place turns middle attempts outcome end
+      → AsksPlace dialer number place turns middle attempts outcome end
       → is_last outcome ≡ true → all ≡ earlier ++ attempts
-      → StopsAt devices turns start places all end
-  stops_at devices turns number start middle end places place earlier attempts all outcome went count next asked last is =
+      → StopsAt dialer turns start places all end
+  stops_at dialer turns number start middle end places place earlier attempts all outcome went count next asked last is =
       record {
         before = take number places;
         place = place;
@@ -46,7 +46,7 @@ module _ {R W : Type 0} where
         outcome = outcome;
         middle = middle;
         went = went;
-        asked = subst (λ n. AsksPlace devices n place turns middle attempts outcome end) (sym count) asked;
+        asked = subst (λ n. AsksPlace dialer n place turns middle attempts outcome end) (sym count) asked;
         stops = last;
         all = is;
       }

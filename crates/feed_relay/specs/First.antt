@@ -1,24 +1,27 @@
 -- How the first of several places that serves is found, and followed.
-use Rattle.std.specs.Prelude.{◌≡◌, ◌≢◌, ◌⊎◌, ℕ, ◌-◌, Bool, true, false, List, [], ◌∷◌, ◌++◌, length, Ok, Err}
-use Rattle.std.specs.Prelude.{Option, option_map, slice_get, unwrap_or}
+use Rattle.std.specs.Prelude.{◌≡◌, ◌≢◌, ◌⊎◌, ℕ, ◌-◌, Bool, true, false, List, [], ◌∷◌, ◌++◌, length, Result, Ok, Err}
+use Rattle.std.specs.Prelude.{Option, Some, None, option_map, slice_get, unwrap_or}
 use Rattle.feed_node.specs.Mirroring.{MirrorState}
 use Rattle.feed_answer.specs.Place.{Place}
+use Rattle.feed_http.specs.declared.fault.EngineFault.{EngineFault}
+use Rattle.feed_http.specs.declared.fault.Followed.{Followed as End}
 use Rattle.feed_http.specs.declared.fault.Followed.TheVariants as followed
 use Rattle.feed_http.specs.Device.{counted}
+use Rattle.feed_http.specs.Exchange.{exchange}
 use Rattle.feed_relay.specs.declared.first.Attempt.{Attempt}
 use Rattle.feed_relay.specs.declared.first.AttemptEnd.{AttemptEnd}
 use Rattle.feed_relay.specs.declared.first.AttemptEnd.TheVariants.{NoLink, Followed, Failed}
-use Rattle.feed_relay.specs.Exchange.{Devices}
+use Rattle.feed_relay.specs.Dialing.{Dialer}
 use Rattle.feed_relay.specs.Fault.{is_engine_memory}
-use Rattle.feed_relay.specs.Pulling.{Speaks}
+use Rattle.feed_relay.specs.Pulling.{PullsOnce}
 
--- a mirror, and how often a dial opened no connection
-pub record Position : Type 0 where
+-- a mirror, and what it connects to places with
+pub record Position (D : Type 0) : Type 0 where
   pub mirror : MirrorState
-  pub misses : ℕ
+  pub dial : D
 
-abbrev pub position : MirrorState → ℕ → Position
-position mirror misses = record { mirror = mirror; misses = misses }
+abbrev pub position : {D : Type 0} → MirrorState → D → Position D
+position mirror dial = record { mirror = mirror; dial = dial }
 
 -- memory ran out
 abbrev pub is_want_of_memory : AttemptEnd → Bool
@@ -43,46 +46,62 @@ is_last other = is_want_of_memory other
 abbrev pub attempt_at : ℕ → AttemptEnd → Attempt
 attempt_at place outcome = record { place = place; outcome = outcome }
 
-module _ {R W : Type 0} where
-  -- one attempt at a place; without a connection the mirror is what it was, and a miss is counted
-  abbrev pub Attempts : Devices R W → Place → ℕ → Position → AttemptEnd → Position → Type 0
-  Attempts devices place turns start NoLink end =
-      (end.mirror ≡ start.mirror) × (end.misses ≡ counted start.misses 1)
-  Attempts devices place turns start (Followed followed) end =
-      Speaks devices place turns start.mirror (Ok followed) end.mirror
-      × (end.misses ≡ start.misses)
-  Attempts devices place turns start (Failed fault) end =
-      Speaks devices place turns start.mirror (Err fault) end.mirror
-      × (end.misses ≡ start.misses)
+module _ {D R W : Type 0} where
+  -- a connection to the place of this number was opened, the place was asked on it and its response
+  -- followed, in at most so many reads, and the connection was given back
+  pub record Pulls (dialer : Dialer D R W) (number : ℕ) (place : Place) (turns : ℕ)
+      (start : Position D) (pulled : Result End EngineFault) (end : Position D) : Type 0 where
+    pub opened : D
+    pub reader : R
+    pub left : R
+    pub writer : W
+    pub written : W
+    pub dialed : dialer.dials start.dial number opened (Some (reader, writer))
+    pub spoke : PullsOnce place turns (exchange dialer.devices reader left writer written)
+        start.mirror pulled end.mirror
+    pub closed : dialer.closes opened left written end.dial
+    pub no_miss : dialer.misses end.dial ≡ dialer.misses start.dial
+
+  -- one attempt at the place of this number; without a connection the mirror is what it was, and a
+  -- miss is counted
+  abbrev pub Attempts : Dialer D R W → ℕ → Place → ℕ → Position D → AttemptEnd → Position D → Type 0
+  Attempts dialer number place turns start NoLink end =
+      (end.mirror ≡ start.mirror)
+      × dialer.dials start.dial number end.dial None
+      × (dialer.misses end.dial ≡ counted (dialer.misses start.dial) 1)
+  Attempts dialer number place turns start (Followed followed) end =
+      Pulls dialer number place turns start (Ok followed) end
+  Attempts dialer number place turns start (Failed fault) end =
+      Pulls dialer number place turns start (Err fault) end
 
   -- all attempts at the place of this number, and what the last one came to: there is one, or,
   -- where the token was refused, another one
-  abbrev pub AsksPlace : Devices R W → ℕ → Place → ℕ → Position → List Attempt → AttemptEnd
-      → Position → Type 0
-  AsksPlace devices number place turns start attempts outcome end =
+  abbrev pub AsksPlace : Dialer D R W → ℕ → Place → ℕ → Position D → List Attempt → AttemptEnd
+      → Position D → Type 0
+  AsksPlace dialer number place turns start attempts outcome end =
       (outcome ≢ Followed followed.TokenRefused)
       × (((attempts ≡ attempt_at number outcome ∷ [])
-      × Attempts devices place turns start outcome end)
-      ⊎ ((refused : Position)
+      × Attempts dialer number place turns start outcome end)
+      ⊎ ((refused : Position D)
       × (attempts ≡ attempt_at number (Followed followed.TokenRefused)
       ∷ attempt_at number outcome ∷ [])
-      × Attempts devices place turns start (Followed followed.TokenRefused) refused
-      × Attempts devices place turns refused outcome end))
+      × Attempts dialer number place turns start (Followed followed.TokenRefused) refused
+      × Attempts dialer number place turns refused outcome end))
 
   -- these places were asked, one after another, and behind each the next one is
-  pub data GoesOn (devices : Devices R W) (turns : ℕ) (start : Position)
-      : List Place → List Attempt → Position → Type 0 where
-    none_asked : GoesOn devices turns start [] [] start
+  pub data GoesOn (dialer : Dialer D R W) (turns : ℕ) (start : Position D)
+      : List Place → List Attempt → Position D → Type 0 where
+    none_asked : GoesOn dialer turns start [] [] start
     one_asked : (before : List Place) (place : Place) (earlier attempts : List Attempt)
-        (outcome : AttemptEnd) (middle end : Position)
-        → GoesOn devices turns start before earlier middle
-        → AsksPlace devices (length before) place turns middle attempts outcome end
+        (outcome : AttemptEnd) (middle end : Position D)
+        → GoesOn dialer turns start before earlier middle
+        → AsksPlace dialer (length before) place turns middle attempts outcome end
         → is_last outcome ≡ false
-        → GoesOn devices turns start (before ++ place ∷ []) (earlier ++ attempts) end
+        → GoesOn dialer turns start (before ++ place ∷ []) (earlier ++ attempts) end
 
   -- places were asked up to the one that comes behind these, and there it ended
-  pub record StopsAt (devices : Devices R W) (turns : ℕ) (start : Position) (places : List Place)
-      (attempts : List Attempt) (end : Position) : Type 0 where
+  pub record StopsAt (dialer : Dialer D R W) (turns : ℕ) (start : Position D) (places : List Place)
+      (attempts : List Attempt) (end : Position D) : Type 0 where
     pub before : List Place
     pub place : Place
     pub behind : List Place
@@ -90,15 +109,15 @@ module _ {R W : Type 0} where
     pub earlier : List Attempt
     pub last : List Attempt
     pub outcome : AttemptEnd
-    pub middle : Position
-    pub went : GoesOn devices turns start before earlier middle
-    pub asked : AsksPlace devices (length before) place turns middle last outcome end
+    pub middle : Position D
+    pub went : GoesOn dialer turns start before earlier middle
+    pub asked : AsksPlace dialer (length before) place turns middle last outcome end
     pub stops : is_last outcome ≡ true
     pub all : attempts ≡ earlier ++ last
 
   -- these places were asked in their order, up to the first behind which no further one is, or all
-  abbrev pub FollowsFirst : Devices R W → List Place → ℕ → Position → List Attempt → Position
-      → Type 0
-  FollowsFirst devices places turns start attempts end =
-      GoesOn devices turns start places attempts end
-      ⊎ StopsAt devices turns start places attempts end
+  abbrev pub FollowsFirst : Dialer D R W → List Place → ℕ → Position D → List Attempt
+      → Position D → Type 0
+  FollowsFirst dialer places turns start attempts end =
+      GoesOn dialer turns start places attempts end
+      ⊎ StopsAt dialer turns start places attempts end

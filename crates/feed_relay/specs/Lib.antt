@@ -1,5 +1,4 @@
 pub mod Dialing
-pub mod Exchange
 pub mod Fault
 pub mod First
 pub mod Pulling

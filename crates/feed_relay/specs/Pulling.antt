@@ -11,9 +11,7 @@ use Rattle.feed_http.specs.declared.fault.EngineFault.TheVariants.{Read, Write, 
 use Rattle.feed_http.specs.declared.fault.Followed.{Followed}
 use Rattle.feed_http.specs.Device.{HasFailed, AppendsFront, RoseBy, RoseAtMost}
 use Rattle.feed_http.specs.Following.{EndsAs, WasFollowed, BrokeOff, MetFault}
-use Rattle.feed_relay.specs.Exchange.{Exchange, Devices, exchange}
-
--- ---- on one connection
+use Rattle.feed_http.specs.Exchange.{Exchange}
 
 -- the request was written; where asking failed, a front of it
 abbrev pub HasAsked : List ℕ → Exchange → Result Followed EngineFault → Type 0
@@ -52,13 +50,3 @@ pub record PullsOnce (place : Place) (turns : ℕ) (spoken : Exchange) (start : 
   pub asked : HasAsked (request_text place start.since) spoken pulled
   pub came : IsFollowed turns spoken start pulled mirror
   pub reads : RoseAtMost spoken.reads_old spoken.reads_new turns
-
--- ---- on some connection
-
-module _ {R W : Type 0} where
-  -- what comes of it on some connection, on which no more is sent or read then
-  abbrev pub Speaks : Devices R W → Place → ℕ → MirrorState → Result Followed EngineFault
-      → MirrorState → Type 0
-  Speaks devices place turns start pulled mirror =
-      (reader : R) × (left : R) × (writer : W) × (written : W)
-      × PullsOnce place turns (exchange devices reader left writer written) start pulled mirror

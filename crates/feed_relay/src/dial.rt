@@ -1,6 +1,7 @@
 //! Where connections come from: only a program opens sockets.
-ghost use Rattle.std.specs.Prelude.{◌≡◌, ℕ};
+ghost use Rattle.std.specs.Prelude.{◌≡◌, ℕ, List, Option};
 ghost use Rattle.feed_relay.specs.Dialing.{misses_after};
+ghost use Rattle.feed_relay.specs.declared.first.Attempt.{Attempt as Tried};
 
 use crate::first::Attempt;
 use feed_http::{FeedRead, FeedWrite};
@@ -16,9 +17,21 @@ pub trait Dial {
     // How many calls opened none. The count stays at `u64::MAX`.
     ghost misses: { Self → ℕ };
 
+    // What a call for the place of this number makes of it, and which connection that opens.
+    ghost dials: { Self → ℕ → Self → Option (Self.Reader × Self.Writer) → Type 0 };
+
+    // What it is once a connection, at these ends, was given back.
+    ghost closes: { Self → Self.Reader → Self.Writer → Self → Type 0 };
+
     /// Opens a connection to the place of this number, counted from 0.
     fn dial(&mut self, place: usize) -> Option<(Self::Reader, Self::Writer)>
-        ensures misses { misses self.new ≡ misses_after (misses self.old) result };
+        ensures misses { misses self.new ≡ misses_after (misses self.old) result }
+        ensures dialed { dials self.old place self.new result };
+
+    /// Takes a connection back that it opened, and closes it.
+    fn close(&mut self, reader: Self::Reader, writer: Self::Writer)
+        ensures misses { misses self.new ≡ misses self.old }
+        ensures closed { closes self.old reader writer self.new };
 }
 
 /// What followers connect to.
@@ -32,7 +45,19 @@ pub trait Accept {
     // How many calls accepted none. The count stays at `u64::MAX`.
     ghost misses: { Self → ℕ };
 
+    // What a call makes of it, and which connection that accepts.
+    ghost accepts: { Self → List Tried → Self → Option (Self.Reader × Self.Writer) → Type 0 };
+
+    // What it is once a connection, at these ends, was given back.
+    ghost closes: { Self → Self.Reader → Self.Writer → Self → Type 0 };
+
     /// Waits for the next follower. The attempts to pull before that are there to be told first.
     fn accept(&mut self, attempts: &[Attempt]) -> Option<(Self::Reader, Self::Writer)>
-        ensures misses { misses self.new ≡ misses_after (misses self.old) result };
+        ensures misses { misses self.new ≡ misses_after (misses self.old) result }
+        ensures accepted { accepts self.old attempts.now self.new result };
+
+    /// Takes a connection back that it accepted, and closes it.
+    fn close(&mut self, reader: Self::Reader, writer: Self::Writer)
+        ensures misses { misses self.new ≡ misses self.old }
+        ensures closed { closes self.old reader writer self.new };
 }

@@ -2,7 +2,8 @@
 ghost use Rattle.std.specs.Prelude.{◌≡◌, ◌≢◌, ◌+◌, ◌≤◌, ◌++◌, List, length, None, IfOk, OnErr};
 ghost use Rattle.std.specs.Vec.{vec_capacity};
 ghost use Rattle.feed_relay.specs.declared.first.Attempt.{Attempt as Tried};
-ghost use Rattle.feed_relay.specs.Exchange.{devices_of};
+ghost use Rattle.feed_http.specs.Exchange.{devices_of};
+ghost use Rattle.feed_relay.specs.Dialing.{dialer_of};
 ghost use Rattle.feed_relay.specs.First.{position, is_last, is_want_of_memory, ran_out};
 ghost use Rattle.feed_relay.specs.First.{Attempts, AsksPlace};
 ghost use Rattle.feed_relay.specs.First.{FollowsFirst};
@@ -66,7 +67,8 @@ pub(crate) fn has_run_out(attempts: &[Attempt]) -> bool
     }
 }
 
-/// One attempt at the place of this number.
+/// One attempt at the place of this number: a connection to it is opened, asked and followed on, and
+/// given back.
 fn try_place<D: Dial>(
     alloc: Global,
     dial: &mut D,
@@ -75,18 +77,18 @@ fn try_place<D: Dial>(
     mirror: &mut Mirror,
     turns: u64,
 ) -> AttemptEnd
-    ensures tried { let devices = devices_of D.Reader.remaining D.Reader.reads D.Reader.failures
-        D.Writer.contents D.Writer.failures in
-        Attempts devices place.now turns (position mirror.old (D.misses dial.old)) result
-        (position mirror.new (D.misses dial.new)) }
+    ensures tried { let dialer = dialer_of (devices_of D.Reader.remaining D.Reader.reads
+        D.Reader.failures D.Writer.contents D.Writer.failures) D.misses D.dials D.closes in
+        Attempts dialer number place.now turns (position mirror.old dial.old) result
+        (position mirror.new dial.new) }
     ensures cut { mirror.old.connection ≡ None → mirror.new.connection ≡ None }
 {
-    let Some((reader, writer)) = dial.dial(number) else {
+    let Some((mut reader, mut writer)) = dial.dial(number) else {
         return AttemptEnd::NoLink;
     };
-    let mut reader = reader;
-    let mut writer = writer;
-    match pull_once(alloc, place, mirror, turns, &mut reader, &mut writer) {
+    let pulled = pull_once(alloc, place, mirror, turns, &mut reader, &mut writer);
+    dial.close(reader, writer);
+    match pulled {
         Ok(followed) => AttemptEnd::Followed(followed),
         Err(fault) => AttemptEnd::Failed(fault),
     }
@@ -104,12 +106,12 @@ fn ask_place<D: Dial>(
     attempts: &mut Vec<Attempt>,
 ) -> AttemptEnd
     requires { length attempts.old.items + 2 ≤ vec_capacity attempts.old }
-    ensures asked { let devices = devices_of D.Reader.remaining D.Reader.reads D.Reader.failures
-        D.Writer.contents D.Writer.failures in
+    ensures asked { let dialer = dialer_of (devices_of D.Reader.remaining D.Reader.reads
+        D.Reader.failures D.Writer.contents D.Writer.failures) D.misses D.dials D.closes in
         (tried : List Tried) × (attempts.new.items ≡ attempts.old.items ++ tried)
         × (length tried ≤ 2)
-        × AsksPlace devices number place.now turns (position mirror.old (D.misses dial.old)) tried
-        result (position mirror.new (D.misses dial.new)) }
+        × AsksPlace dialer number place.now turns (position mirror.old dial.old) tried
+        result (position mirror.new dial.new) }
     ensures known { result ≢ AttemptEnd.Followed Followed.TokenRefused }
     ensures capacity { vec_capacity attempts.new ≡ vec_capacity attempts.old }
     ensures cut { mirror.old.connection ≡ None → mirror.new.connection ≡ None }
@@ -142,11 +144,10 @@ pub fn follow_first<D: Dial>(
     mirror: &mut Mirror,
     turns: u64,
 ) -> Result<Vec<Attempt>, AllocError>
-    ensures followed { let devices = devices_of D.Reader.remaining D.Reader.reads
-        D.Reader.failures D.Writer.contents D.Writer.failures in
-        IfOk result (λ attempts. FollowsFirst devices places.now turns
-        (position mirror.old (D.misses dial.old)) attempts.items
-        (position mirror.new (D.misses dial.new))) }
+    ensures followed { let dialer = dialer_of (devices_of D.Reader.remaining D.Reader.reads
+        D.Reader.failures D.Writer.contents D.Writer.failures) D.misses D.dials D.closes in
+        IfOk result (λ attempts. FollowsFirst dialer places.now turns
+        (position mirror.old dial.old) attempts.items (position mirror.new dial.new)) }
     ensures cut { mirror.old.connection ≡ None → mirror.new.connection ≡ None }
     ensures memory { OnErr result ((mirror.new ≡ mirror.old) × (dial.new ≡ dial.old)) }
 {

@@ -1,6 +1,6 @@
 //! Asking for what a mirror lacks, and following the response.
 ghost use Rattle.std.specs.Prelude.{◌≡◌, None};
-ghost use Rattle.feed_relay.specs.Exchange.{devices_of, exchange};
+ghost use Rattle.feed_http.specs.Exchange.{devices_of, exchange};
 ghost use Rattle.feed_relay.specs.Pulling.{PullsOnce};
 
 use feed_http::{EngineFault, FeedRead, FeedWrite, Followed, Place, ask, follow};

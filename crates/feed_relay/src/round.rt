@@ -1,14 +1,14 @@
 //! One round of a relay.
-ghost use Rattle.std.specs.Prelude.{◌≡◌, not, None, is_some, IfOk, IfSome, OnErr, IsErrOf};
-ghost use Rattle.feed_http.specs.Device.{HasFailed};
-ghost use Rattle.feed_relay.specs.Exchange.{devices_of, exchange};
-ghost use Rattle.feed_relay.specs.First.{position, ran_out, FollowsFirst};
-ghost use Rattle.feed_relay.specs.Round.{ServesOnce, ServesNext};
+ghost use Rattle.std.specs.Prelude.{◌≡◌, IfOk, OnErr};
+ghost use Rattle.feed_http.specs.Exchange.{devices_of};
+ghost use Rattle.feed_relay.specs.Dialing.{dialer_of, acceptor_of};
+ghost use Rattle.feed_relay.specs.First.{position, FollowsFirst};
+ghost use Rattle.feed_relay.specs.Round.{ServesNext, ServesAfter};
 
 use crate::dial::{Accept, Dial};
 use crate::fault::NetworkFault;
 use crate::first::{Attempt, follow_first, has_run_out};
-use feed_http::{EngineFault, FeedRead, FeedWrite, Framing, Place, Served, serve_node};
+use feed_http::{Framing, Place, Served, serve_node};
 use feed_node::{Mirror, Node};
 use std::alloc::{AllocError, Global};
 
@@ -24,33 +24,8 @@ pub struct Round {
     pub served: Option<Result<Served, NetworkFault>>,
 }
 
-/// Serves a node on one connection, from the token that is asked with on.
-fn serve_once<R: FeedRead, W: FeedWrite>(
-    alloc: Global,
-    reader: &mut R,
-    writer: &mut W,
-    node: &Node,
-    contest: &str,
-    framing: Framing,
-) -> Result<Served, EngineFault>
-    ensures { let devices = devices_of R.remaining R.reads R.failures W.contents W.failures in
-        ServesOnce contest.now node.now.shown framing ENGINE_TURNS
-        (exchange devices reader.old reader.new writer.old writer.new) result }
-{
-    let back = 0;
-    serve_node(
-        alloc,
-        reader,
-        writer,
-        node,
-        contest,
-        framing,
-        ENGINE_TURNS,
-        back,
-    )
-}
-
-/// Serves a node on the next connection.
+/// Serves a node on the next connection, from the token that is asked with on, and gives the
+/// connection back.
 fn serve_next<A: Accept>(
     alloc: Global,
     downstream: &mut A,
@@ -59,18 +34,27 @@ fn serve_next<A: Accept>(
     contest: &str,
     framing: Framing,
 ) -> Result<Served, NetworkFault>
-    ensures served { let devices = devices_of A.Reader.remaining A.Reader.reads A.Reader.failures
-        A.Writer.contents A.Writer.failures in
-        ServesNext devices contest.now node.now.shown framing ENGINE_TURNS result }
-    ensures accept { IsErrOf result NetworkFault.Accept → HasFailed (A.misses downstream.old)
-        (A.misses downstream.new) }
+    ensures { let acceptor = acceptor_of (devices_of A.Reader.remaining A.Reader.reads
+        A.Reader.failures A.Writer.contents A.Writer.failures) A.misses A.accepts A.closes in
+        ServesNext acceptor attempts.now contest.now node.now.shown framing ENGINE_TURNS
+        downstream.old result downstream.new }
 {
-    let Some((reader, writer)) = downstream.accept(attempts) else {
+    let Some((mut reader, mut writer)) = downstream.accept(attempts) else {
         return Err(NetworkFault::Accept);
     };
-    let mut reader = reader;
-    let mut writer = writer;
-    match serve_once(alloc, &mut reader, &mut writer, node, contest, framing) {
+    let back = 0;
+    let served = serve_node(
+        alloc,
+        &mut reader,
+        &mut writer,
+        node,
+        contest,
+        framing,
+        ENGINE_TURNS,
+        back,
+    );
+    downstream.close(reader, writer);
+    match served {
         Ok(served) => Ok(served),
         Err(fault) => Err(NetworkFault::Engine(fault)),
     }
@@ -91,21 +75,15 @@ pub fn relay_round<D: Dial, A: Accept>(
     contest: &str,
     framing: Framing,
 ) -> Result<Round, AllocError>
-    ensures followed { let devices = devices_of D.Reader.remaining D.Reader.reads
-        D.Reader.failures D.Writer.contents D.Writer.failures in
-        IfOk result (λ round. FollowsFirst devices places.now turns
-        (position mirror.old (D.misses upstream.old)) round.attempts.items
-        (position mirror.new (D.misses upstream.new))) }
-    ensures served { let devices = devices_of A.Reader.remaining A.Reader.reads A.Reader.failures
-        A.Writer.contents A.Writer.failures in
-        IfOk result (λ round. IfSome round.served
-        (ServesNext devices contest.now mirror.new.node framing ENGINE_TURNS)) }
-    ensures accept { IfOk result (λ round. IfSome round.served
-        (λ served. IsErrOf served NetworkFault.Accept
-        → HasFailed (A.misses downstream.old) (A.misses downstream.new))) }
-    ensures memory { IfOk result (λ round. is_some round.served ≡ not (ran_out round.attempts.items)) }
-    ensures unserved { IfOk result (λ round. round.served ≡ None
-        → downstream.new ≡ downstream.old) }
+    ensures followed { let dialer = dialer_of (devices_of D.Reader.remaining D.Reader.reads
+        D.Reader.failures D.Writer.contents D.Writer.failures) D.misses D.dials D.closes in
+        IfOk result (λ round. FollowsFirst dialer places.now turns
+        (position mirror.old upstream.old) round.attempts.items
+        (position mirror.new upstream.new)) }
+    ensures served { let acceptor = acceptor_of (devices_of A.Reader.remaining A.Reader.reads
+        A.Reader.failures A.Writer.contents A.Writer.failures) A.misses A.accepts A.closes in
+        IfOk result (λ round. ServesAfter acceptor round.attempts.items contest.now
+        mirror.new.node framing ENGINE_TURNS downstream.old round.served downstream.new) }
     ensures untried { OnErr result ((mirror.new ≡ mirror.old) × (upstream.new ≡ upstream.old)
         × (downstream.new ≡ downstream.old)) }
 {

@@ -65,6 +65,10 @@ impl Dial for Dialer<'_, '_, '_> {
 
     ghost misses = { λ s. s.misses };
 
+    ghost dials = { λ _ _ _ _. Unit {0} };
+
+    ghost closes = { λ _ _ _ _. Unit {0} };
+
     fn dial(&mut self, place: usize) -> Option<(Stream<TcpStream>, Stream<TcpStream>)> {
         let opened = self.open(place);
         if opened.is_none() {
@@ -72,6 +76,8 @@ impl Dial for Dialer<'_, '_, '_> {
         }
         opened
     }
+
+    fn close(&mut self, _reader: Stream<TcpStream>, _writer: Stream<TcpStream>) {}
 }
 
 /// A connection, to read from and to write to. What is written goes out at once, where the system
@@ -109,6 +115,10 @@ impl Listen for Port {
 
     ghost misses = { λ p. p.misses };
 
+    ghost accepts = { λ _ _ _. Unit {0} };
+
+    ghost closes = { λ _ _ _ _. Unit {0} };
+
     fn accept(&mut self) -> Option<(Stream<TcpStream>, Stream<TcpStream>)> {
         let accepted = match self.listener.accept() {
             Ok((socket, _)) => both_ways(socket),
@@ -119,4 +129,6 @@ impl Listen for Port {
         }
         accepted
     }
+
+    fn close(&mut self, _reader: Stream<TcpStream>, _writer: Stream<TcpStream>) {}
 }

@@ -4,7 +4,8 @@ ghost use Rattle.feed_cli.specs.Pull.{host_text, first_address, place_at as plac
 ghost use Rattle.feed_cli.specs.Pull.{AreServers, RefusesOneOf, HasNoServers, StartsFrom, FailsToStart};
 ghost use Rattle.feed_cli.specs.Pull.{outcome_of_attempt, outcome_of_pull, PrintedPulled, PullFails};
 ghost use Rattle.feed_http.specs.Device.{HasFailed};
-ghost use Rattle.feed_relay.specs.Exchange.{devices_of};
+ghost use Rattle.feed_http.specs.Exchange.{devices_of};
+ghost use Rattle.feed_relay.specs.Dialing.{dialer_of};
 ghost use Rattle.feed_relay.specs.First.{position};
 ghost use Rattle.feed_answer.specs.Place.{Place as Named};
 
@@ -194,25 +195,25 @@ pub fn print_pulled<D: Dial, W: FeedWrite, E: FeedWrite>(
     out: &mut W,
     err: &mut E,
 ) -> Result<(), Fault>
-    ensures ok { let devices = devices_of D.Reader.remaining D.Reader.reads D.Reader.failures
-        D.Writer.contents D.Writer.failures in
-        OnOk result (PrintedPulled devices places.now options.now.turns
-        (position mirror.old (D.misses server.old)) (Ok tt)
-        (position mirror.new (D.misses server.new)) (W.contents out.old) (W.contents out.new)) }
+    ensures ok { let dialer = dialer_of (devices_of D.Reader.remaining D.Reader.reads
+        D.Reader.failures D.Writer.contents D.Writer.failures) D.misses D.dials D.closes in
+        OnOk result (PrintedPulled dialer places.now options.now.turns
+        (position mirror.old server.old) (Ok tt)
+        (position mirror.new server.new) (W.contents out.old) (W.contents out.new)) }
     ensures some { OnOk result (is_some mirror.new.node.published ≡ true) }
-    ensures err { let devices = devices_of D.Reader.remaining D.Reader.reads D.Reader.failures
-        D.Writer.contents D.Writer.failures in
-        IfErr result (λ why. PullFails devices places.now options.now.turns why
-        (position mirror.old (D.misses server.old)) (position mirror.new (D.misses server.new))
+    ensures err { let dialer = dialer_of (devices_of D.Reader.remaining D.Reader.reads
+        D.Reader.failures D.Writer.contents D.Writer.failures) D.misses D.dials D.closes in
+        IfErr result (λ why. PullFails dialer places.now options.now.turns why
+        (position mirror.old server.old) (position mirror.new server.new)
         (W.contents out.old) (W.contents out.new)) }
 
     // Where all was printed, an attempt could not be told.
-    ensures write { let devices = devices_of D.Reader.remaining D.Reader.reads D.Reader.failures
-        D.Writer.contents D.Writer.failures in
+    ensures write { let dialer = dialer_of (devices_of D.Reader.remaining D.Reader.reads
+        D.Reader.failures D.Writer.contents D.Writer.failures) D.misses D.dials D.closes in
         IsErrOf result Fault.Write → HasFailed (W.failures out.old) (W.failures out.new)
-        ⊎ PrintedPulled devices places.now options.now.turns
-        (position mirror.old (D.misses server.old)) (Ok tt)
-        (position mirror.new (D.misses server.new)) (W.contents out.old) (W.contents out.new) }
+        ⊎ PrintedPulled dialer places.now options.now.turns
+        (position mirror.old server.old) (Ok tt)
+        (position mirror.new server.new) (W.contents out.old) (W.contents out.new) }
 {
     let attempts = follow_first(alloc, server, places, mirror, options.turns)?;
     let mut teller = Teller::new("pull", err);

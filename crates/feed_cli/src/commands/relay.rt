@@ -26,9 +26,17 @@ impl<L: Listen, E: FeedWrite> Accept for Followers<'_, '_, L, E> {
 
     ghost misses = { λ f. L.misses f.listener.now };
 
+    ghost accepts = { λ f _ g r. L.accepts f.listener.now g.listener.now r };
+
+    ghost closes = { λ f r w g. L.closes f.listener.now r w g.listener.now };
+
     fn accept(&mut self, attempts: &[Attempt]) -> Option<(L::Reader, L::Writer)> {
         self.teller.tell_attempts(attempts);
         self.listener.accept()
+    }
+
+    fn close(&mut self, reader: L::Reader, writer: L::Writer) {
+        self.listener.close(reader, writer)
     }
 }
 

@@ -61,11 +61,9 @@ fn serve_next<L: Listen>(
     source: &mut Source,
     listener: &mut L,
 ) -> Result<(), NetworkFault> {
-    let Some((reader, writer)) = listener.accept() else {
+    let Some((mut reader, mut writer)) = listener.accept() else {
         return Err(NetworkFault::Accept);
     };
-    let mut reader = reader;
-    let mut writer = writer;
     let served = serve_live(
         alloc,
         &mut reader,
@@ -78,6 +76,7 @@ fn serve_next<L: Listen>(
         ENGINE_TURNS,
         options.back,
     );
+    listener.close(reader, writer);
     match served {
         Ok(_) => Ok(()),
         Err(fault) => Err(NetworkFault::Engine(fault)),

@@ -1,20 +1,21 @@
 use Rattle.std.proofs.Common.{rules, ◌≡◌, ap, ◌∙◌, subst, inr, refl, ◌++◌, ◌∷◌, [], arith, append_assoc}
 use Rattle.feed_http.specs.declared.fault.Followed.TheVariants.{TokenRefused}
-use Rattle.feed_relay.specs.Exchange.{devices_of}
+use Rattle.feed_http.specs.Exchange.{devices_of}
+use Rattle.feed_relay.specs.Dialing.{dialer_of}
 use Rattle.feed_relay.specs.First.{position, attempt_at, Attempts}
 use Rattle.feed_relay.specs.declared.first.AttemptEnd.TheVariants.{Followed}
 use Rattle.feed_relay.proofs.first.ask_place.Goals as goal
 
 pub returns-clause-asked : goal.returns-clause-asked
 returns-clause-asked g c =
-    let misses = g.D.Dial.misses in
+    let dial = g.D.Dial in
     let reader = g.D.Reader.FeedRead in
     let writer = g.D.Writer.FeedWrite in
-    let devices = devices_of reader.remaining reader.reads reader.failures writer.contents writer.failures in
+    let dialer = dialer_of (devices_of reader.remaining reader.reads reader.failures writer.contents writer.failures) dial.misses dial.dials dial.closes in
     let first = attempt_at c.args.number c.try_place-outcome.result in
     let again = attempt_at c.args.number c.try_place-again.result in
-    let start = position c.args.mirror.now (misses c.args.dial.now) in
-    let middle = position c.try_place-outcome.new.mirror (misses c.try_place-outcome.new.dial) in
+    let start = position c.args.mirror.now c.args.dial.now in
+    let middle = position c.try_place-outcome.new.mirror c.try_place-outcome.new.dial in
     let is : c.try_place-outcome.result ≡ Followed TokenRefused = search rules in (
       first ∷ again ∷ [],
       c.push_reserved-2.ensures.items ∙ ap (λ l. l ++ again ∷ []) c.push_reserved.ensures.items ∙ append_assoc c.args.attempts.now.items (first ∷ []) (again ∷ []),
@@ -24,7 +25,7 @@ returns-clause-asked g c =
         inr (
           middle,
           ap (λ o. attempt_at c.args.number o ∷ again ∷ []) is,
-          subst (λ o. Attempts devices c.args.place.now c.args.turns start o middle) is c.try_place-outcome.ensures.tried,
+          subst (λ o. Attempts dialer c.args.number c.args.place.now c.args.turns start o middle) is c.try_place-outcome.ensures.tried,
           c.try_place-again.ensures.tried,
         ),
       ),

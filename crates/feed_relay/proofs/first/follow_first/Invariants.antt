@@ -1,6 +1,7 @@
 -- The places so far were asked, and there is room for two attempts at each of the others.
 use Rattle.std.proofs.Common.{◌≡◌, ◌≤◌, ◌+◌, ◌*◌, length, take, None, vec_capacity}
-use Rattle.feed_relay.specs.Exchange.{devices_of}
+use Rattle.feed_http.specs.Exchange.{devices_of}
+use Rattle.feed_relay.specs.Dialing.{dialer_of}
 use Rattle.feed_relay.specs.First.{GoesOn, position}
 use Rattle.feed_relay.proofs.first.follow_first.Given as goal
 
@@ -10,9 +11,9 @@ invariant-places g l =
     let reader = g.D.Reader.FeedRead in
     let writer = g.D.Writer.FeedWrite in
     record {
-      goes : GoesOn (devices_of reader.remaining reader.reads reader.failures writer.contents writer.failures)
-          l.turns (position l.initial.mirror (dial.misses l.initial.dial)) (take l.number l.places)
-          l.attempts.items (position l.mirror (dial.misses l.dial));
+      goes : GoesOn (dialer_of (devices_of reader.remaining reader.reads reader.failures writer.contents writer.failures) dial.misses dial.dials dial.closes)
+          l.turns (position l.initial.mirror l.initial.dial) (take l.number l.places)
+          l.attempts.items (position l.mirror l.dial);
       few : length l.attempts.items ≤ l.number * 2;
       room : length l.places * 2 ≤ vec_capacity l.attempts;
       cut : l.initial.mirror.connection ≡ None → l.mirror.connection ≡ None;
