@@ -25,11 +25,7 @@ const REFUSED: u8 = 1;
 /// Prints what is replied to words that ask for no command: help and the version to `out`, why they
 /// are refused to `err`. The status is 0 where all of that text was printed, 1 for words that are
 /// refused, 4 where `out` failed, and 5 where memory had run out.
-pub fn answer_words<W: FeedWrite, E: FeedWrite>(
-    reply: &NoCommand,
-    out: &mut W,
-    err: &mut E,
-) -> u8
+pub fn answer_words<W: FeedWrite, E: FeedWrite>(reply: &NoCommand, out: &mut W, err: &mut E) -> u8
     ensures out { let wrote = wrote_by W.contents W.failures out.old out.new in
         Replies reply.now result wrote }
     ensures err { let wrote = wrote_by E.contents E.failures err.old err.new in

@@ -3,7 +3,8 @@ ghost use Rattle.std.specs.Prelude.{◌≡◌, Some, option_map, IfSome};
 ghost use Rattle.clap.specs.Matches.{found_of};
 ghost use Rattle.clap.specs.Words.{rows_of, subcommand_rows_of};
 ghost use Rattle.feed_words.specs.Addresses.{most_port};
-ghost use Rattle.feed_words.specs.Options.{text_at, IsNumber, IsNumberUpTo, IsNumberIfGiven, IsGiven, IsFramed, AsksLimits};
+ghost use Rattle.feed_words.specs.Options.{text_at, IsNumber, IsNumberUpTo, IsNumberIfGiven};
+ghost use Rattle.feed_words.specs.Options.{IsGiven, IsFramed, AsksLimits};
 ghost use Rattle.feed_words.specs.Words.{AsksTables, AsksServe, AsksPull, AsksRelay, AsksBy, AsksAt};
 
 use super::asked_live::live_options;
@@ -31,7 +32,11 @@ pub(super) fn number(matches: &ArgMatches<'_>, name: &str, most: u64) -> Option<
 }
 
 /// The same of an option that may be left out.
-pub(super) fn number_if_given(matches: &ArgMatches<'_>, name: &str, most: u64) -> Option<Option<u64>>
+pub(super) fn number_if_given(
+    matches: &ArgMatches<'_>,
+    name: &str,
+    most: u64,
+) -> Option<Option<u64>>
     ensures { IfSome result
         (λ n. IsNumberIfGiven name.now most (rows_of (found_of matches.now)) n) }
 {

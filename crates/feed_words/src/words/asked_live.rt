@@ -3,7 +3,8 @@ ghost use Rattle.std.specs.Prelude.{IfSome, codes};
 ghost use Rattle.clap.specs.Matches.{found_of};
 ghost use Rattle.clap.specs.Words.{rows_of};
 ghost use Rattle.feed_words.specs.Addresses.{most_port};
-ghost use Rattle.feed_words.specs.Live.{is_verbose as verbose_of, is_quiet as quiet_of, AsksUpstream, IsUpstream, AsksLive};
+ghost use Rattle.feed_words.specs.Live.{is_verbose as verbose_of, is_quiet as quiet_of};
+ghost use Rattle.feed_words.specs.Live.{AsksUpstream, IsUpstream, AsksLive};
 ghost use Rattle.feed_words.specs.Options.{IsNumberIfGiven, IsGiven};
 
 use super::asked::{framing, is_given, limits, number, number_if_given, port, text, text_if_given};
@@ -14,7 +15,8 @@ use clap::ArgMatches;
 
 /// A port that may be left out.
 fn port_if_given(matches: &ArgMatches<'_>, name: &str) -> Option<Option<u16>>
-    ensures { IfSome result (λ n. IsNumberIfGiven name.now most_port (rows_of (found_of matches.now)) n) }
+    ensures { IfSome result
+        (λ n. IsNumberIfGiven name.now most_port (rows_of (found_of matches.now)) n) }
 {
     let port = number_if_given(matches, name, MOST_PORT)?;
     Some(port.map(|port| port as u16))
@@ -50,8 +52,10 @@ fn upstream<'a>(matches: &ArgMatches<'a>) -> Option<Option<UpstreamOptions<'a>>>
 
 /// How much is reported.
 fn verbosity(matches: &ArgMatches<'_>) -> Option<Verbosity>
-    ensures verbose { IfSome result (λ much. IsGiven (codes "verbose") (rows_of (found_of matches.now)) (verbose_of much)) }
-    ensures quiet { IfSome result (λ much. IsGiven (codes "quiet") (rows_of (found_of matches.now)) (quiet_of much)) }
+    ensures verbose { IfSome result
+        (λ much. IsGiven (codes "verbose") (rows_of (found_of matches.now)) (verbose_of much)) }
+    ensures quiet { IfSome result
+        (λ much. IsGiven (codes "quiet") (rows_of (found_of matches.now)) (quiet_of much)) }
 {
     match (is_given(matches, "verbose"), is_given(matches, "quiet")) {
         (false, false) => Some(Verbosity::Normal),

@@ -20,7 +20,10 @@ pub(super) fn command<'a>(alloc: Global, name: &'a str, about: &'a str) -> Comma
 }
 
 /// A command with one more option.
-pub(super) fn add_option<'a>(command: Command<'a>, option: Arg<'a>) -> Result<Command<'a>, AllocError>
+pub(super) fn add_option<'a>(
+    command: Command<'a>,
+    option: Arg<'a>,
+) -> Result<Command<'a>, AllocError>
     requires { option.global ≡ false }
     ensures { IfOk result (λ c. app_of c ≡ with_rule (app_of command.entry) (rule_of option.entry)) }
 {
@@ -28,7 +31,10 @@ pub(super) fn add_option<'a>(command: Command<'a>, option: Arg<'a>) -> Result<Co
 }
 
 /// A command with the limits of its node.
-pub(super) fn with_limits<'a>(alloc: Global, command: Command<'a>) -> Result<Command<'a>, AllocError>
+pub(super) fn with_limits<'a>(
+    alloc: Global,
+    command: Command<'a>,
+) -> Result<Command<'a>, AllocError>
     ensures { IfOk result (λ c. app_of c ≡ limited (app_of command.entry)) }
 {
     add_option(

@@ -24,7 +24,10 @@ fn host<'a>(alloc: Global) -> Result<Arg<'a>, AllocError>
     ensures local { IfOk result (λ option. option.global ≡ false) }
 {
     text(alloc, "host", "H")
-        .help("The address or name of the server that is followed first; without it the feed is read from standard input")
+        .help(
+            "The address or name of the server that is followed first; \
+              without it the feed is read from standard input",
+        )
         .requires_arg("port")
 }
 
@@ -91,7 +94,10 @@ fn idle<'a>(alloc: Global) -> Arg<'a>
     ensures local { result.global ≡ false }
 {
     number(alloc, "idle", "SECONDS", MOST_IDLE)
-        .help("After how many seconds without a commit a screen is sent a line feed, 1 to 3600; a server that is silent for twice as long is left")
+        .help(
+            "After how many seconds without a commit a screen is sent a line feed, 1 to 3600; \
+              a server that is silent for twice as long is left",
+        )
         .default_value("120")
 }
 
