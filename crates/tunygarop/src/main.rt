@@ -1,6 +1,7 @@
 //! The program: its arguments, standard streams and sockets, for the commands of `feed_cli`.
 #![tactic(auto)]
 
+mod live;
 mod pull;
 mod relay;
 mod serve;
@@ -8,6 +9,7 @@ mod sockets;
 
 use feed_cli::stream::Stream;
 use feed_cli::{Fault, Request, parse_words, run, tell};
+use live::{live, parse_live};
 use pull::pull_feed;
 use relay::relay_feed;
 use serve::serve_feed;
@@ -50,8 +52,27 @@ fn run_request(rt: &HostRuntime, words: &[&str], request: &Request<'_>) -> u8 {
     }
 }
 
+/// Follows and serves for ever, or tells why not.
+fn run_live(rt: &HostRuntime, words: &[&str]) -> u8 {
+    let Some(options) = parse_live(words) else {
+        let _ = eprintln!(rt; "live: bad words");
+        return REFUSED;
+    };
+    match live(rt, &options) {
+        Ok(()) => 0,
+        Err(stopped) => {
+            let text = stopped.text();
+            let _ = eprintln!(rt; "live: {text}");
+            stopped.status()
+        }
+    }
+}
+
 /// Runs the command that these words ask for.
 fn status_of<'a>(rt: &HostRuntime, words: &'a [&'a str]) -> u8 {
+    if let [_, "live", rest @ ..] = words {
+        return run_live(rt, rest);
+    }
     let Ok(request) = parse_words(rt.alloc(), words) else {
         return run_local(rt, words);
     };
