@@ -1,5 +1,6 @@
 //! One screen's connection, as the turn keeps it beside its socket.
 
+use feed_hub::Key;
 use std::net::SocketAddr;
 
 /// For how long, in milliseconds, what still comes is read after the last byte was sent, and how
@@ -23,7 +24,7 @@ pub(crate) enum Stage {
 #[derive(Clone, Copy)]
 pub(crate) struct Conn {
     /// Its key in the hub; none where it has no seat there, or no longer.
-    pub(crate) key: Option<usize>,
+    pub(crate) key: Option<Key>,
     pub(crate) stage: Stage,
     /// The last write would have waited, or took a part alone.
     pub(crate) is_blocked: bool,

@@ -138,10 +138,6 @@ impl Screens {
     /// Says the next commit. Whether there may be more that can be said now.
     fn say_one(&mut self, alloc: Global, node: &Node, now: u64) -> bool {
         self.saying.waits = None;
-        if self.hub.start(node).is_err() {
-            self.saying.waits = Some(now.saturating_add(MEMORY_PAUSE));
-            return false;
-        }
         match self.hub.say_next(alloc, node) {
             Ok(Said::Looked(Pulled::More)) => {
                 self.spoke(now);
@@ -170,7 +166,8 @@ impl Screens {
 
     /// Ends the bodies of all who follow the log.
     pub(crate) fn end_feeds(&mut self, alloc: Global, now: u64) {
-        self.hub.end_all(alloc, now);
+        // Who there was no memory for is cut.
+        let _ = self.hub.end_all(alloc, now);
         self.spoke(now);
     }
 

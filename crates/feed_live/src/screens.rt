@@ -5,7 +5,7 @@ use crate::device::{Sockets, Stop};
 use crate::options::LiveLimits;
 use crate::relay::Saying;
 use crate::told::{How, Telling, Told};
-use feed_hub::Hub;
+use feed_hub::{Hub, Key};
 use feed_node::Node;
 use slab::Slab;
 use std::alloc::Global;
@@ -369,40 +369,39 @@ impl Screens {
         alloc: Global,
         node: &Node,
         contest: &str,
-        key: usize,
+        key: Key,
         at: usize,
         piece: &[u8],
         now: u64,
     ) -> bool {
         let mut rest = piece;
         for _ in 0..piece.len() {
-            let framing = self.limits.framing;
-            match self
-                .hub
-                .hear(alloc, node, contest, framing, 0, key, rest, now)
-            {
-                Ok(0) => break,
-                Ok(count) => rest = rest.get(count..).unwrap_or(&[]),
-                Err(_) => return false,
-            }
-            if !self.hub.front(key).is_empty() {
-                self.is_answered(at);
+            let Ok(heard) = self.hub.hear(alloc, node, contest, key, rest, now) else {
+                return false;
+            };
+            if let Some(status) = heard.status {
+                self.is_answered(at, status);
                 break;
             }
+            if heard.taken == 0 {
+                break;
+            }
+            rest = rest.get(heard.taken..).unwrap_or(&[]);
         }
         true
     }
 
-    fn is_answered(&mut self, at: usize) {
+    fn is_answered(&mut self, at: usize, status: u16) {
         if let Some(conn) = self.conns.get_mut(at) {
             conn.stage = Stage::Watches;
+            conn.status = status;
         }
     }
 
     // ---- what they are sent
 
     /// The seat of the connection at a place, where that can be written to now.
-    fn writable(&mut self, at: usize) -> Option<usize> {
+    fn writable(&mut self, at: usize) -> Option<Key> {
         let conn = self.conns.get_mut(at)?;
         conn.has_more = false;
         if conn.is_blocked || conn.stage != Stage::Watches {
@@ -448,17 +447,17 @@ impl Screens {
         told: &mut Telling,
         node: &Node,
         at: usize,
-        key: usize,
+        key: Key,
         now: u64,
     ) -> bool {
-        if !self.hub.front(key).is_empty() {
+        if !self.hub.prefix(key).is_empty() {
             return true;
         }
         if self.hub.refill(alloc, node, key, now).is_err() {
             self.end(sockets, told, at, How::Memory, now);
             return false;
         }
-        if !self.hub.front(key).is_empty() {
+        if !self.hub.prefix(key).is_empty() {
             return true;
         }
         if self.hub.is_over(key) {
@@ -468,7 +467,7 @@ impl Screens {
     }
 
     /// All was sent: what still comes is read for a while.
-    fn finish<S: Sockets>(&mut self, sockets: &mut S, at: usize, key: usize, now: u64) {
+    fn finish<S: Sockets>(&mut self, sockets: &mut S, at: usize, key: Key, now: u64) {
         self.hub.leave(key);
         sockets.shut(at);
         if let Some(conn) = self.conns.get_mut(at) {
@@ -481,12 +480,12 @@ impl Screens {
         &mut self,
         sockets: &mut S,
         at: usize,
-        key: usize,
+        key: Key,
         now: u64,
     ) -> Result<bool, Stop> {
-        let front = self.hub.front(key);
-        let length = front.len();
-        let count = match sockets.write(at, front) {
+        let prefix = self.hub.prefix(key);
+        let length = prefix.len();
+        let count = match sockets.write(at, prefix) {
             Ok(0) => return Err(Stop::Failed),
             Ok(count) => count,
             Err(Stop::Waits) => 0,

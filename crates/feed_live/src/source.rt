@@ -112,12 +112,8 @@ impl Source {
     }
 
     /// When something is due that no event will tell of.
-    pub(crate) fn due(&self, idle: u64, now: u64) -> u64 {
-        let due = match self.reach {
-            Reach::Away => now.saturating_add(50),
-            _ => now.saturating_add(1_000),
-        };
-        let _ = idle;
+    pub(crate) fn due(&self, idle: u64) -> u64 {
+        let due = self.upstream.due(idle);
         let due = match self.reach {
             Reach::Connects(since) => due.min(since.saturating_add(CONNECT_TIME)),
             _ => due,
@@ -189,7 +185,7 @@ impl Source {
         let server = self.upstream.place();
         self.leave(link, now);
         self.upstream.lost(&mut self.mirror, now);
-        let pause = 0;
+        let pause = self.upstream.due(0).saturating_sub(now);
         told.tell(Told::Lost { server, why, pause });
     }
 

@@ -321,7 +321,7 @@ impl Live {
             return due.min(at);
         }
         if self.source.has_servers() {
-            due = due.min(self.source.due(self.limits.idle, now));
+            due = due.min(self.source.due(self.limits.idle));
             if self.source.has_more() && self.screens.says_at().is_none() {
                 due = now;
             }
