@@ -14,7 +14,7 @@ use std::alloc::Global;
 const HEAD_TIME: u64 = 30_000;
 
 /// How long a request waits for a server to be heard, in milliseconds.
-const HOLD_TIME: u64 = 10_000;
+pub(crate) const HOLD_TIME: u64 = 10_000;
 
 /// How many connections are taken in one turn.
 const ACCEPTS: usize = 256;

@@ -3,7 +3,7 @@
 use crate::device::{Devices, Link, Ready, Sockets, Store};
 use crate::options::{LiveLimits, Start};
 use crate::saved::{Restored, Saved};
-use crate::screens::{Screens, Shown};
+use crate::screens::{HOLD_TIME, Screens, Shown};
 use crate::source::Source;
 use crate::told::{Telling, Told};
 use feed_node::Node;
@@ -54,6 +54,7 @@ pub struct Live {
     feeds: bool,
     /// When a relay that ends does so at the latest.
     ends_at: Option<u64>,
+    is_hold_told: bool,
 }
 
 impl Live {
@@ -94,6 +95,7 @@ impl Live {
             epoch: 0,
             feeds,
             ends_at: None,
+            is_hold_told: false,
         }
     }
 
@@ -242,7 +244,16 @@ impl Live {
         self.screens.sweep(sockets, &mut self.telling, now);
         self.screens.close_past(sockets, &mut self.telling, now);
         if !self.source.is_heard() {
-            self.screens.has_more = true;
+            self.hold(now);
+        }
+    }
+
+    /// Requests wait: those that waited for long enough are looked at again.
+    fn hold(&mut self, now: u64) {
+        self.screens.has_more = true;
+        if now >= HOLD_TIME && !self.is_hold_told {
+            self.is_hold_told = true;
+            self.telling.tell(Told::NotHeard);
         }
     }
 

@@ -7,8 +7,9 @@ mod store;
 mod telling;
 mod words;
 
+use crate::sockets::without_brackets;
 use feed_answer::Place;
-use feed_cli::addresses;
+use feed_cli::{AddressFault, Fault, NetworkFault, PullOptions, servers_of};
 use feed_live::{Devices, Input, Live, LiveLimits, Ready, Restored, Start, Turn, restore};
 use feed_node::{Limits, Mirror};
 use link::{LINK, Servers};
@@ -16,6 +17,7 @@ use mio::net::TcpListener;
 use mio::{Events, Interest, Poll, Token};
 use sockets::{FIRST_SCREEN, Port};
 use standard::{ERRORS, ErrorStream, INPUT, InputStream};
+use std::alloc::AllocError;
 use std::io;
 use std::io::ErrorKind;
 use std::net::{IpAddr, SocketAddr, ToSocketAddrs};
@@ -34,68 +36,29 @@ const EVENTS: usize = 1_024;
 /// How many bytes of the input one turn takes.
 const INPUT_PIECE: usize = 65_536;
 
-/// Why a relay can't begin, or ends.
-#[derive(Clone, Copy)]
-pub(crate) enum Stopped {
-    /// A text is no host, base or contest, or no list of addresses; or a number is out of range.
-    Words,
-    /// A server's name has no address.
-    NoAddress,
-    /// The port can't be listened at.
-    NoPort,
-    /// The state file can't be read.
-    State,
-    /// A call of the system failed.
-    System,
-    /// Memory ran out.
-    Memory,
-}
-
-impl Stopped {
-    pub(crate) fn text(self) -> &'static str {
-        match self {
-            Stopped::Words => "bad host, base, contest, address or limit",
-            Stopped::NoAddress => "a server's name has no address",
-            Stopped::NoPort => "can't listen there",
-            Stopped::State => "the state file can't be read",
-            Stopped::System => "a call of the system failed",
-            Stopped::Memory => "out of memory",
-        }
-    }
-
-    pub(crate) fn status(self) -> u8 {
-        match self {
-            Stopped::Words => 1,
-            Stopped::Memory => 5,
-            _ => 4,
-        }
-    }
-}
-
-impl From<io::Error> for Stopped {
-    fn from(error: io::Error) -> Stopped {
-        match error.kind() {
-            ErrorKind::OutOfMemory => Stopped::Memory,
-            _ => Stopped::System,
-        }
-    }
-}
-
-impl From<std::alloc::AllocError> for Stopped {
-    fn from(_error: std::alloc::AllocError) -> Stopped {
-        Stopped::Memory
+/// What the options say of servers, as the other commands take it.
+fn pull_options<'a>(
+    options: &LiveOptions<'a>,
+    host: &'a str,
+    limits: Limits,
+) -> PullOptions<'a> {
+    PullOptions {
+        host,
+        port: options.port,
+        from: options.from,
+        base: options.base,
+        contest: options.contest,
+        turns: 1,
+        resume: false,
+        limits,
     }
 }
 
 /// The first address that a host's name has. The system may ask for it, and waits then.
-fn address_of(rt: &HostRuntime, host: &str, port: u16) -> Result<SocketAddr, Stopped> {
-    let host = match host.strip_prefix('[') {
-        Some(rest) => rest.strip_suffix(']').unwrap_or(host),
-        None => host,
-    };
-    match (host, port).to_socket_addrs(rt) {
-        Ok(mut all) => all.next().ok_or(Stopped::NoAddress),
-        Err(_) => Err(Stopped::NoAddress),
+fn address_of(rt: &HostRuntime, host: &str, port: u16) -> Result<SocketAddr, Fault> {
+    match (without_brackets(host), port).to_socket_addrs(rt) {
+        Ok(mut all) => all.next().ok_or(Fault::of_network(NetworkFault::Connect)),
+        Err(_) => Err(Fault::of_network(NetworkFault::Connect)),
     }
 }
 
@@ -106,43 +69,49 @@ struct Asked {
     places: Vec<Place>,
 }
 
-impl Asked {
-    fn add(
-        &mut self,
-        rt: &HostRuntime,
-        options: &LiveOptions<'_>,
-        host: &str,
-        port: u16,
-    ) -> Result<(), Stopped> {
-        let name = format!(in rt.alloc(); "{host}:{port}")?;
-        let Ok(place) = Place::new(rt.alloc(), name.as_str(), options.base, options.contest) else {
-            return Err(Stopped::Words);
-        };
-        self.addresses.push(address_of(rt, host, port)?).map_err(|_| Stopped::Memory)?;
-        self.places.push(place).map_err(|_| Stopped::Memory)?;
-        Ok(())
+/// The servers that are asked: none where the feed is the input.
+fn servers(rt: &HostRuntime, options: &LiveOptions<'_>, limits: Limits) -> Result<Asked, Fault> {
+    let mut addresses = Vec::new(rt.alloc());
+    let Some(host) = options.host else {
+        return Ok(Asked {
+            addresses,
+            places: Vec::new(rt.alloc()),
+        });
+    };
+    let servers = servers_of(rt.alloc(), &pull_options(options, host, limits))?;
+    push(&mut addresses, address_of(rt, host, options.port)?)?;
+    for (host, port) in &servers.further {
+        push(&mut addresses, address_of(rt, host.as_str(), *port)?)?;
+    }
+    Ok(Asked {
+        addresses,
+        places: servers.places,
+    })
+}
+
+fn push(addresses: &mut Vec<SocketAddr>, address: SocketAddr) -> Result<(), Fault> {
+    match addresses.push(address) {
+        Ok(()) => Ok(()),
+        Err(_) => Err(Fault::Memory),
     }
 }
 
-/// The servers that are asked: none where the feed is the input.
-fn servers_of(rt: &HostRuntime, options: &LiveOptions<'_>) -> Result<Asked, Stopped> {
-    let mut asked = Asked {
-        addresses: Vec::new(rt.alloc()),
-        places: Vec::new(rt.alloc()),
-    };
-    let Some(host) = options.host else {
-        return Ok(asked);
-    };
-    asked.add(rt, options, host, options.port)?;
-    if let Some(list) = options.from {
-        let Ok(further) = addresses(rt.alloc(), list) else {
-            return Err(Stopped::Words);
-        };
-        for (host, port) in &further {
-            asked.add(rt, options, host.as_str(), *port)?;
-        }
+fn needs_memory<T: Drop>(outcome: Result<T, AllocError>) -> Result<T, Fault> {
+    match outcome {
+        Ok(value) => Ok(value),
+        Err(_) => Err(Fault::Memory),
     }
-    Ok(asked)
+}
+
+/// A call of the system failed.
+fn of_system<T: Drop>(outcome: io::Result<T>) -> Result<T, Fault> {
+    match outcome {
+        Ok(value) => Ok(value),
+        Err(error) => match error.kind() {
+            ErrorKind::OutOfMemory => Err(Fault::Memory),
+            _ => Err(Fault::Read),
+        },
+    }
 }
 
 /// What the state files have; nothing where there are none, or the feed is the input, which begins
@@ -152,14 +121,14 @@ fn restored(
     options: &LiveOptions<'_>,
     limits: Limits,
     names: Option<&Names>,
-) -> Result<Restored, Stopped> {
+) -> Result<Restored, Fault> {
     let alloc = rt.alloc();
     let (Some(names), Some(_)) = (names, options.host) else {
-        return Ok(restore(alloc, limits, &[], &[])?);
+        return needs_memory(restore(alloc, limits, &[], &[]));
     };
-    let before = read_file(rt, names.before.as_str()).map_err(|_| Stopped::State)?;
-    let file = read_file(rt, names.file.as_str()).map_err(|_| Stopped::State)?;
-    Ok(restore(alloc, limits, before.as_slice(), file.as_slice())?)
+    let before = of_system(read_file(rt, names.before.as_str()))?;
+    let file = of_system(read_file(rt, names.file.as_str()))?;
+    needs_memory(restore(alloc, limits, before.as_slice(), file.as_slice()))
 }
 
 /// Listens where screens are to come to.
@@ -167,18 +136,20 @@ fn listener_of(
     rt: &HostRuntime,
     poll: &Poll,
     options: &LiveOptions<'_>,
-) -> Result<Option<TcpListener>, Stopped> {
+) -> Result<Option<TcpListener>, Fault> {
     let Some(port) = options.listen else {
         return Ok(None);
     };
     let Ok(address) = options.address.parse::<IpAddr>() else {
-        return Err(Stopped::Words);
+        return Err(Fault::of_addresses(AddressFault::BadAddress(0)));
     };
     let Ok(mut listener) = TcpListener::bind(rt, SocketAddr::new(address, port)) else {
-        return Err(Stopped::NoPort);
+        return Err(Fault::of_network(NetworkFault::Bind));
     };
-    poll.registry()
-        .register(&mut listener, LISTENER, Interest::READABLE)?;
+    of_system(
+        poll.registry()
+            .register(&mut listener, LISTENER, Interest::READABLE),
+    )?;
     Ok(Some(listener))
 }
 
@@ -209,44 +180,56 @@ struct Engine<'r> {
     start: Instant,
 }
 
+/// The devices, and the port that is listened at.
+fn devices<'r>(
+    rt: &'r HostRuntime,
+    poll: &Poll,
+    options: &LiveOptions<'_>,
+    names: Option<Names>,
+    addresses: Vec<SocketAddr>,
+) -> Result<Devices<Port, Servers<'r>, Files<'r>>, Fault> {
+    let listener = listener_of(rt, poll, options)?;
+    let registry = poll.registry();
+    Ok(Devices {
+        sockets: Port::new(
+            of_system(registry.try_clone())?,
+            listener,
+            Vec::new(rt.alloc()),
+        ),
+        link: Servers::new(rt, of_system(registry.try_clone())?, addresses),
+        store: Files::new(rt, names),
+    })
+}
+
 /// Makes all that a relay runs on, and listens.
-fn prepare<'r>(rt: &'r HostRuntime, options: &LiveOptions<'_>) -> Result<Engine<'r>, Stopped> {
+fn prepare<'r>(rt: &'r HostRuntime, options: &LiveOptions<'_>) -> Result<Engine<'r>, Fault> {
     let alloc = rt.alloc();
-    let Ok(limits) = Limits::new(options.history, options.staged) else {
-        return Err(Stopped::Words);
-    };
-    let asked = servers_of(rt, options)?;
+    let limits = options.limits;
+    let asked = servers(rt, options, limits)?;
     let names = match options.state {
-        Some(path) => Some(Names::new(rt, path)?),
+        Some(path) => Some(of_system(Names::new(rt, path))?),
         None => None,
     };
-    let restored = restored(rt, options, limits, names.as_ref())?;
-    let poll = Poll::new(rt)?;
-    let listener = listener_of(rt, &poll, options)?;
-    let registry = poll.registry();
-    let mut devices = Devices {
-        sockets: Port::new(registry.try_clone()?, listener, Vec::new(alloc)),
-        link: Servers::new(rt, registry.try_clone()?, asked.addresses),
-        store: Files::new(rt, names),
-    };
     let start = Start {
+        restored: restored(rt, options, limits, names.as_ref())?,
+        blank: needs_memory(Mirror::new(alloc, limits))?,
         places: asked.places,
-        restored,
-        blank: Mirror::new(alloc, limits)?,
     };
-    let contest = String::from_str(alloc, options.contest)?;
+    let poll = of_system(Poll::new(rt))?;
+    let mut devices = devices(rt, &poll, options, names, asked.addresses)?;
+    let contest = needs_memory(String::from_str(alloc, options.contest))?;
     let live = Live::new(alloc, contest, limits_of(options), start, &mut devices.store, 0);
     Ok(Engine {
         rt,
-        events: Events::with_capacity(alloc, EVENTS)?,
-        ready: Vec::with_capacity(alloc, EVENTS)?,
+        events: needs_memory(Events::with_capacity(alloc, EVENTS))?,
+        ready: needs_memory(Vec::with_capacity(alloc, EVENTS))?,
         devices,
         live,
-        input: InputStream::new(registry),
-        errors: ErrorStream::new(registry, Vec::new(alloc)),
+        input: InputStream::new(poll.registry()),
+        errors: ErrorStream::new(poll.registry(), Vec::new(alloc)),
         poll,
         verbosity: options.verbosity,
-        start: Instant::now(rt)?,
+        start: of_system(Instant::now(rt))?,
     })
 }
 
@@ -359,14 +342,13 @@ impl Engine<'_> {
 }
 
 /// Follows a server, or standard input, and serves what that publishes.
-pub(crate) fn live(rt: &HostRuntime, options: &LiveOptions<'_>) -> Result<(), Stopped> {
+pub(crate) fn live_feed(rt: &HostRuntime, options: &LiveOptions<'_>) -> Result<(), Fault> {
     let mut engine = prepare(rt, options)?;
     if let Some(port) = options.listen {
         let address = options.address;
-        let text = format!(in rt.alloc(); "listening at {address}, port {port}")?;
+        let text = needs_memory(format!(in rt.alloc(); "listening at {address}, port {port}"))?;
         engine.line(text.as_str());
     }
     let reads_input = options.host.is_none() || options.until_eof;
-    engine.run(reads_input)?;
-    Ok(())
+    of_system(engine.run(reads_input))
 }

@@ -9,7 +9,7 @@ mod sockets;
 
 use feed_cli::stream::Stream;
 use feed_cli::{Fault, Request, parse_words, run, tell};
-use live::{live, parse_live};
+use live::{live_feed, parse_live};
 use pull::pull_feed;
 use relay::relay_feed;
 use serve::serve_feed;
@@ -54,16 +54,11 @@ fn run_request(rt: &HostRuntime, words: &[&str], request: &Request<'_>) -> u8 {
 
 /// Follows and serves for ever, or tells why not.
 fn run_live(rt: &HostRuntime, words: &[&str]) -> u8 {
-    let Some(options) = parse_live(words) else {
-        let _ = eprintln!(rt; "live: bad words");
-        return REFUSED;
-    };
-    match live(rt, &options) {
-        Ok(()) => 0,
-        Err(stopped) => {
-            let text = stopped.text();
-            let _ = eprintln!(rt; "live: {text}");
-            stopped.status()
+    match parse_live(words) {
+        Some(options) => ended(rt, "live", live_feed(rt, &options)),
+        None => {
+            let _ = eprintln!(rt; "live: bad option");
+            REFUSED
         }
     }
 }

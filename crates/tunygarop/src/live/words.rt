@@ -1,6 +1,12 @@
 //! The words of `live`.
 
 use feed_answer::Framing;
+use feed_node::Limits;
+
+/// The limits of the mirror, where the words say none.
+const HISTORY: usize = 1_000;
+
+const STAGED: usize = 1_000_000;
 
 /// How much is told.
 #[derive(Clone, Copy, PartialEq, Eq)]
@@ -33,12 +39,11 @@ pub(crate) struct LiveOptions<'a> {
     pub(crate) state: Option<&'a str>,
     pub(crate) until_eof: bool,
     pub(crate) verbosity: Verbosity,
-    pub(crate) history: usize,
-    pub(crate) staged: usize,
+    pub(crate) limits: Limits,
 }
 
 impl<'a> LiveOptions<'a> {
-    fn new() -> LiveOptions<'a> {
+    fn new(limits: Limits) -> LiveOptions<'a> {
         LiveOptions {
             host: None,
             port: 0,
@@ -54,8 +59,7 @@ impl<'a> LiveOptions<'a> {
             state: None,
             until_eof: false,
             verbosity: Verbosity::Normal,
-            history: 1_000,
-            staged: 1_000_000,
+            limits,
         }
     }
 
@@ -93,8 +97,12 @@ impl<'a> LiveOptions<'a> {
             "--screens" => self.screens = value.parse().ok()?,
             "--idle" => self.idle = value.parse().ok()?,
             "--window" => self.window = value.parse().ok()?,
-            "--history" => self.history = value.parse().ok()?,
-            "--staged" => self.staged = value.parse().ok()?,
+            "--history" => {
+                self.limits = Limits::new(value.parse().ok()?, self.limits.staged()).ok()?;
+            }
+            "--staged" => {
+                self.limits = Limits::new(self.limits.history(), value.parse().ok()?).ok()?;
+            }
             _ => return None,
         }
         Some(())
@@ -110,7 +118,7 @@ impl<'a> LiveOptions<'a> {
 
 /// What the words after the command's name ask for.
 pub(crate) fn parse_live<'a>(words: &[&'a str]) -> Option<LiveOptions<'a>> {
-    let mut options = LiveOptions::new();
+    let mut options = LiveOptions::new(Limits::new(HISTORY, STAGED).ok()?);
     let mut rest = words.iter();
     for _ in 0..words.len() {
         let Some(word) = rest.next() else {
