@@ -12,8 +12,9 @@ use feed_answer::{HEAD_BYTES, HeadRead, look_at_request};
 /// The most bytes of one read.
 pub(crate) const READ_BYTES: usize = 4096;
 
-/// How many bytes the next read asks for.
-fn most_wanted(len: usize) -> usize
+/// How many bytes the next read of a request's head may ask for at most, after so many bytes of it:
+/// 1 to 4,096, not past the most that a head may have, and one byte from there on.
+pub fn most_wanted(len: usize) -> usize
     ensures most { result ≡ most_after len }
     ensures some { 0 < result }
     ensures fits { result ≤ read_bytes }
@@ -53,8 +54,10 @@ fn read_piece<R: FeedRead>(reader: &mut R, bytes: &mut Vec<u8>) -> Result<usize,
     }
 }
 
-/// Whether a head may still become whole within the limits.
-fn is_needed(bytes: &[u8]) -> bool
+/// Whether more bytes are to be read after these, the first of a request: they begin with no whole
+/// head, and may go on to one within the limits. Else they are enough to be answered: a whole head,
+/// too many, or bytes that no head begins with.
+pub fn is_needed(bytes: &[u8]) -> bool
     ensures needed { IsTrue result → IsStillNeeded bytes.now }
     ensures enough { ¬ (IsTrue result) → IsEnough bytes.now }
 {

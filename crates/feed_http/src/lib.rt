@@ -5,7 +5,7 @@ mod asking;
 pub mod device;
 mod fault;
 mod following;
-mod head_reading;
+pub mod head_reading;
 mod laws;
 mod live;
 pub mod memory;

@@ -66,6 +66,12 @@ Watched Becomes None new = new ≡ None
 Watched Becomes (Some (Asks asking)) new = new ≡ Some (Asks asking)
 Watched Becomes (Some (Watches s)) new = (t : Screen) × (new ≡ Some (Watches t)) × Becomes s t
 
+-- a screen sits there of which this holds
+abbrev pub IsWatcher : (Screen → Type 0) → Option Seat → Type 0
+IsWatcher Holds None = ⊥
+IsWatcher Holds (Some (Asks asking)) = ⊥
+IsWatcher Holds (Some (Watches s)) = Holds s
+
 -- just those stay of whom this holds
 pub record KeepsThose (Holds : Seat → Type 0) (old new : Slab Seated) : Type 0 where
   pub kept : (key : Key) (seat : Seat) → seat_at new key ≡ Some seat

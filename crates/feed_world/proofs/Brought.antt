@@ -79,7 +79,7 @@ module _ (limits : Limits) (log : Log) where
       (place_since more own.0 start last n (subst (IsPlace limits log) own.1 h) own.3 g within)
 
   -- the blocks of a connection lead from one position to another
-  place_after : (place : Option Position) (c : Connection) (n : ℕ) → IsOpened limits log place c → IsPlace limits log (moved_by limits.history place (blocks_within log c.parts n))
+  pub place_after : (place : Option Position) (c : Connection) (n : ℕ) → IsOpened limits log place c → IsPlace limits log (moved_by limits.history place (blocks_within log c.parts n))
   place_after place c n o =
       subst (λ ps. IsPlace limits log (moved_by limits.history place (blocks_within log ps n))) (sym o.order.parts)
       (place_either c.fresh place c.start o.order.more c.last n o.mirror o.start o.order.go_on o.sent)
@@ -174,7 +174,7 @@ is_body (done p) = false
 is_body (failed fault p) = false
 
 -- a front of a list is its first items
-front_is : (front behind text : List ℕ) → front ++ behind ≡ text → take (length front) text ≡ front
+pub front_is : (front behind text : List ℕ) → front ++ behind ≡ text → take (length front) text ≡ front
 front_is front behind text e = ap (take (length front)) (sym e) ∙ take_front front behind
   where
     take_front : (xs ys : List ℕ) → take (length xs) (xs ++ ys) ≡ xs

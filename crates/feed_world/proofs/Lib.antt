@@ -4,6 +4,7 @@ pub mod Brought
 pub mod Commits
 pub mod Committed
 pub mod Connecting
+pub mod Following
 pub mod Fronts
 pub mod Grown
 pub mod Growth

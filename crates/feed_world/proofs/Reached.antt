@@ -10,7 +10,7 @@ use Rattle.feed_world.specs.States.{ConnectionState, FollowerState, WorldState, 
 use Rattle.feed_world.specs.World.{Mirror, World, place_at, connection_at}
 use Rattle.feed_world.proofs.Responses.{come_all}
 
-abbrev blocks_of : List Part → List Part
+abbrev pub blocks_of : List Part → List Part
 blocks_of [] = []
 blocks_of (part ∷ parts) = block_onto part (blocks_of parts)
 
@@ -21,7 +21,7 @@ within a b part bs cs e = by (nat_le a (a + b)) refl
     by true f = ap (block_onto part) e
     by false f = let less = leb-false a (a + b) f in absurd (omega arith)
 
-all_blocks : (log : Log) (parts : List Part) (n : ℕ) → n ≡ length (parts_text log parts) → blocks_within log parts n ≡ blocks_of parts
+pub all_blocks : (log : Log) (parts : List Part) (n : ℕ) → n ≡ length (parts_text log parts) → blocks_within log parts n ≡ blocks_of parts
 all_blocks log [] n e = refl
 all_blocks log (part ∷ parts) n e =
     let a = length (part_text log part) in
@@ -42,7 +42,7 @@ goes_to history (Commit n ∷ parts) k last p e g = goes_to history parts (k + 1
     by false is = let less = ltb-false p.at n is in omega (arith, g.0)
 goes_to history (Snapshot n ∷ parts) k last p e g = absurd g
 
-comes_to : (history : ℕ) (before : Option Position) (fresh : Bool) (start last : ℕ) (more : List Part)
+pub comes_to : (history : ℕ) (before : Option Position) (fresh : Bool) (start last : ℕ) (more : List Part)
     → (fresh ≡ false → (own : Position) × (before ≡ Some own) × (own.low ≤ start) × (start ≤ own.at)) → GoOn start more last
     → HasReached (moved_by history before (blocks_of (first_parts fresh start ++ more))) last
 comes_to history before true start last more s g = goes_to history more start last (record { at = start; low = start }) (omega arith) g

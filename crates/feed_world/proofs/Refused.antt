@@ -19,7 +19,7 @@ use Rattle.feed_world.specs.declared.event.Reply.TheVariants.{Refused, NotYet}
 use Rattle.feed_world.specs.States.{FollowsRefusal, refusal_reply}
 
 -- a refusal has no body that is followed, and no other fault than its status
-abbrev IsOfRefusal : Standing → Type 0
+abbrev pub IsOfRefusal : Standing → Type 0
 IsOfRefusal in_head = Unit {0}
 IsOfRefusal token_refused = Unit {0}
 IsOfRefusal (in_body payload) = ⊥
@@ -34,7 +34,7 @@ standing_of refusal had = by ((refusal_code refusal == 400) && had)
     by true = tt
     by false = tt
 
-at_of : (refusal : Refusal) (had : Bool) (n : ℕ) → IsOfRefusal (refusal_at had refusal n)
+pub at_of : (refusal : Refusal) (had : Bool) (n : ℕ) → IsOfRefusal (refusal_at had refusal n)
 at_of refusal had n = by (nat_lt n (length (refusal_head refusal)))
   where
     by : (b : Bool) → IsOfRefusal (if b then in_head else refusal_standing had refusal)

@@ -106,7 +106,7 @@ nodes_send limits log (Some p) k commit is_log is small comes =
 
 -- ---- the opening of an answer
 
-token_there : (low many i : ℕ) (token : List ℕ) → slice_get (tokens_from low many) i ≡ Some token → (token ≡ token_after (low + i)) × (i < many)
+pub token_there : (low many i : ℕ) (token : List ℕ) → slice_get (tokens_from low many) i ≡ Some token → (token ≡ token_after (low + i)) × (i < many)
 token_there low zero i token e = let nothing : None ≡ Some token = e in absurd (cc)
 token_there low (suc many) zero token e =
     let this : Some (token_after low) ≡ Some token = e in

@@ -1,5 +1,6 @@
 pub mod Codes
 pub mod Connection
+pub mod Following
 pub mod Laws
 pub mod Log
 pub mod Position

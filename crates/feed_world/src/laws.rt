@@ -1,8 +1,10 @@
 //! Laws of the definitions.
 
 ghost use Rattle.feed_world.specs.Laws.{GrowthKeeps, SendingKeepsOrder, DeliveriesCompose, NodesOpenInLog, SessionsStartBefore, NodesSendTheNext, PartsGoOn};
+ghost use Rattle.feed_world.specs.Following.{SessionsOpenAsAsked, PlacesStay, AllIsReached, ResponsesCarryFeed, MirrorsFollow, FailsKeepStates, RefusalsKeepNodes};
 ghost use Rattle.feed_world.specs.Reading.{FrontsAreRead, TokensTellStates};
 
+use feed_answer::{answer_laws, followed_laws};
 use feed_node::{node_laws, reading_laws};
 use feed_tables::table_laws;
 
@@ -31,3 +33,24 @@ pub fn sending_laws()
     ensures commits { NodesSendTheNext }
     ensures order { PartsGoOn }
 {}
+
+/// Where a mirror is that followed what a node at a place of a log sent to it. Who asks with a token
+/// is sent what comes after that, and who asks with none a snapshot. Whatever prefix of the bytes
+/// came, with the end of the body or without, the mirror is at a place of the log, no further than
+/// what was sent, and with all of it as far. No fault comes but a want of memory, and that leaves
+/// it at such a place, too. A refusal leaves what it shows.
+pub fn following_laws()
+    ensures opens { SessionsOpenAsAsked }
+    ensures places { PlacesStay }
+    ensures reached { AllIsReached }
+    ensures carried { ResponsesCarryFeed }
+    ensures follow { MirrorsFollow }
+    ensures fails { FailsKeepStates }
+    ensures refusals { RefusalsKeepNodes }
+{
+    reading_laws();
+    answer_laws();
+    followed_laws();
+    world_laws();
+    sending_laws();
+}
