@@ -1,6 +1,7 @@
 //! What a turn reads from and writes to, by what a contract can say of it.
 
-ghost use Rattle.std.specs.Prelude.{◌≡◌, ◌<◌, ◌≤◌, length, IfOk};
+ghost use Rattle.std.specs.Prelude.{◌≡◌, ◌≢◌, ◌<◌, ◌≤◌, ℕ, List, Option, None, length, IfOk};
+ghost use Rattle.std.specs.Io.KnownBytes.{Keeps, WriteAppends};
 
 use std::net::SocketAddr;
 
@@ -18,6 +19,9 @@ pub enum Stop {
 
 /// The sockets of screens, each at a number that is given to it.
 pub trait Sockets {
+    // The bytes that were written to the socket at a number, where they are known.
+    ghost written: { Self → ℕ → Option (List ℕ) } = { λ _ _. None };
+
     /// Takes the connection that has waited longest, and answers who it is. It never waits.
     fn accept(&mut self, at: usize) -> Result<SocketAddr, Stop>;
 
@@ -25,14 +29,19 @@ pub trait Sockets {
     fn read(&mut self, at: usize, buf: &mut [u8]) -> Result<usize, Stop>
         requires { 0 < length buf.old }
         ensures same { length buf.new ≡ length buf.old }
-        ensures bound { IfOk result (λ n. n ≤ length buf.new) };
+        ensures bound { IfOk result (λ n. n ≤ length buf.new) }
+        ensures written { (other : ℕ) → Keeps (written self.old other) (written self.new other) };
 
     /// Writes some of the bytes, from the first on, and answers how many.
     fn write(&mut self, at: usize, bytes: &[u8]) -> Result<usize, Stop>
-        ensures bound { IfOk result (λ n. n ≤ length bytes.now) };
+        ensures bound { IfOk result (λ n. n ≤ length bytes.now) }
+        ensures bytes { WriteAppends (written self.old at) (written self.new at) result bytes.now }
+        ensures others { (other : ℕ) → other ≢ at
+            → Keeps (written self.old other) (written self.new other) };
 
     /// Ends what is sent; what comes may still be read.
-    fn shut(&mut self, at: usize);
+    fn shut(&mut self, at: usize)
+        ensures written { (other : ℕ) → Keeps (written self.old other) (written self.new other) };
 
     /// Closes the connection, where there is one.
     fn close(&mut self, at: usize);

@@ -13,6 +13,7 @@
 
 mod conn;
 mod device;
+mod hand;
 mod options;
 mod relay;
 mod saved;

@@ -83,6 +83,8 @@ impl Screens {
 
     /// How many screens there are, where some came or went since that was told.
     pub(crate) fn report(&mut self) -> Option<Told> {
+        self.is_full = false;
+        self.is_stuck = false;
         let counts = self.counts;
         if counts.is_none() {
             return None;

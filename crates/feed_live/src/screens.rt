@@ -2,6 +2,7 @@
 
 use crate::conn::{Conn, Stage};
 use crate::device::{Sockets, Stop};
+use crate::hand::hand;
 use crate::options::LiveLimits;
 use crate::relay::Saying;
 use crate::told::{How, Telling, Told};
@@ -91,9 +92,9 @@ pub(crate) struct Screens {
     /// Somebody waits to be taken; not before this time.
     pub(crate) is_waited_for: bool,
     pub(crate) accept_at: u64,
-    /// That was told, and has not been seen otherwise since.
-    is_full: bool,
-    is_stuck: bool,
+    /// That was told in this minute.
+    pub(crate) is_full: bool,
+    pub(crate) is_stuck: bool,
 }
 
 impl Screens {
@@ -189,8 +190,7 @@ impl Screens {
                 return;
             }
             match self.accept_one(alloc, sockets, told, now) {
-                Ok(()) => self.is_stuck = false,
-                Err(Stop::Gone) => {}
+                Ok(()) | Err(Stop::Gone) => {}
                 Err(Stop::Waits) => {
                     self.is_waited_for = false;
                     return;
@@ -227,10 +227,7 @@ impl Screens {
         let mut conn = Conn::new(peer, now);
         self.counts.came = self.counts.came.saturating_add(1);
         match self.hub.open(alloc, now.saturating_add(HEAD_TIME)) {
-            Ok(key) => {
-                conn.key = Some(key);
-                self.is_full = false;
-            }
+            Ok(key) => conn.key = Some(key),
             Err(_) => {
                 self.refuse(sockets, told, at);
                 conn.status = 503;
@@ -483,15 +480,13 @@ impl Screens {
         key: Key,
         now: u64,
     ) -> Result<bool, Stop> {
-        let prefix = self.hub.prefix(key);
-        let length = prefix.len();
-        let count = match sockets.write(at, prefix) {
+        let length = self.hub.prefix(key).len();
+        let count = match hand(&mut self.hub, sockets, at, key, now) {
             Ok(0) => return Err(Stop::Failed),
             Ok(count) => count,
             Err(Stop::Waits) => 0,
             Err(stop) => return Err(stop),
         };
-        self.hub.sent(key, count, now);
         if let Some(conn) = self.conns.get_mut(at) {
             conn.is_blocked = count < length;
             conn.bytes = conn.bytes.saturating_add(count as u64);

@@ -83,11 +83,14 @@ impl Live {
         if feeds {
             source.begin_input();
         }
+        // What is restored was said before: only what is published from here on is news.
+        let mut screens = Screens::new(alloc, limits);
+        screens.relay(alloc, source.node(), now);
         Live {
             contest,
             limits,
             source,
-            screens: Screens::new(alloc, limits),
+            screens,
             saved,
             telling: Telling::new(alloc),
             ticked: now,
@@ -311,8 +314,16 @@ impl Live {
 
     fn is_over(&self, now: u64) -> bool {
         match self.ends_at {
-            Some(at) => at <= now || self.screens.conns.is_empty(),
+            Some(at) => at <= now || self.screens.conns.is_empty() && self.is_saved(),
             None => false,
+        }
+    }
+
+    /// Whether the state file has all that was published, as far as it can be written.
+    fn is_saved(&self) -> bool {
+        match &self.saved {
+            Some(saved) => !saved.has_more(),
+            None => true,
         }
     }
 

@@ -172,6 +172,8 @@ struct Engine<'r> {
     poll: Poll,
     events: Events,
     ready: Vec<Ready>,
+    // What the input gave is read into this.
+    piece: Vec<u8>,
     devices: Devices<Port, Servers<'r>, Files<'r>>,
     live: Live,
     input: InputStream,
@@ -223,6 +225,7 @@ fn prepare<'r>(rt: &'r HostRuntime, options: &LiveOptions<'_>) -> Result<Engine<
         rt,
         events: needs_memory(Events::with_capacity(alloc, EVENTS))?,
         ready: needs_memory(Vec::with_capacity(alloc, EVENTS))?,
+        piece: needs_memory(Vec::from_elem(alloc, 0u8, INPUT_PIECE))?,
         devices,
         live,
         input: InputStream::new(poll.registry()),
@@ -278,16 +281,18 @@ impl Engine<'_> {
 
     /// One turn, with what the input has where that is read.
     fn turn(&mut self, takes_input: bool) -> io::Result<Turn> {
-        let mut buf = [0u8; INPUT_PIECE];
+        let now = self.now()?;
         let mut input = Input::Nothing;
         if takes_input && self.input.is_ready() {
-            input = match self.input.read(self.rt, self.poll.registry(), &mut buf) {
+            let read = self
+                .input
+                .read(self.rt, self.poll.registry(), &mut self.piece);
+            input = match read {
                 Ok(0) => Input::End,
-                Ok(count) => Input::Bytes(&buf[..count]),
+                Ok(count) => Input::Bytes(self.piece.get(..count).unwrap_or(&[])),
                 Err(_) => Input::End,
             };
         }
-        let now = self.now()?;
         Ok(self.live.turn(
             self.rt.alloc(),
             &mut self.devices,
@@ -310,7 +315,14 @@ impl Engine<'_> {
                 }
             }
         }
+        self.errors.miss(self.live.missed());
         self.live.clear_told();
+        if self.errors.has_missed() {
+            let missed = self.errors.missed();
+            if let Ok(text) = format!(in alloc; "{missed} lines are left away") {
+                self.line(text.as_str());
+            }
+        }
         self.errors.write(self.rt, self.poll.registry());
     }
 

@@ -1,10 +1,9 @@
 //! The connection to one of the servers.
 
-use crate::live::sockets::stop_of;
+use crate::live::sockets::{read_once, write_once};
 use feed_live::{Link, Stop};
 use mio::net::TcpStream;
 use mio::{Interest, Registry, Token};
-use std::io::{Read, Write};
 use std::net::SocketAddr;
 
 /// The token of the connection.
@@ -74,14 +73,14 @@ impl Link for Servers<'_> {
 
     fn read(&mut self, buf: &mut [u8]) -> Result<usize, Stop> {
         match &mut self.stream {
-            Some(stream) => stream.read(buf).map_err(|error| stop_of(&error)),
+            Some(stream) => read_once(stream, buf),
             None => Err(Stop::Failed),
         }
     }
 
     fn write(&mut self, bytes: &[u8]) -> Result<usize, Stop> {
         match &mut self.stream {
-            Some(stream) => stream.write(bytes).map_err(|error| stop_of(&error)),
+            Some(stream) => write_once(stream, bytes),
             None => Err(Stop::Failed),
         }
     }

@@ -1,5 +1,7 @@
 //! The screens' sockets.
 
+ghost use Rattle.std.specs.Prelude.{◌≡◌, ◌≤◌, length, IfOk};
+
 use feed_live::{Sockets, Stop};
 use mio::net::{TcpListener, TcpStream};
 use mio::{Interest, Registry, Token};
@@ -18,14 +20,46 @@ pub(crate) struct Port {
     streams: Vec<Option<TcpStream>>,
 }
 
+/// How often a call that a signal broke off is made.
+const TRIES: usize = 8;
+
 /// What a failed call of a socket came to.
-pub(crate) fn stop_of(error: &io::Error) -> Stop {
+fn stop_of(error: &io::Error) -> Stop {
     match error.kind() {
         ErrorKind::WouldBlock => Stop::Waits,
-        ErrorKind::Interrupted => Stop::Waits,
         ErrorKind::ConnectionAborted => Stop::Gone,
+        ErrorKind::Interrupted => Stop::Gone,
         _ => Stop::Failed,
     }
+}
+
+/// Reads once; again where a signal broke that off.
+pub(crate) fn read_once(stream: &mut TcpStream, buf: &mut [u8]) -> Result<usize, Stop>
+    ensures same { length buf.new ≡ length buf.old }
+    ensures bound { IfOk result (λ n. n ≤ length buf.new) }
+{
+    for _ in 0..TRIES {
+        match stream.read(buf) {
+            Ok(count) => return Ok(count),
+            Err(error) if error.kind() == ErrorKind::Interrupted => {}
+            Err(error) => return Err(stop_of(&error)),
+        }
+    }
+    Err(Stop::Failed)
+}
+
+/// Writes once; again where a signal broke that off.
+pub(crate) fn write_once(stream: &mut TcpStream, bytes: &[u8]) -> Result<usize, Stop>
+    ensures bound { IfOk result (λ n. n ≤ length bytes.now) }
+{
+    for _ in 0..TRIES {
+        match stream.write(bytes) {
+            Ok(count) => return Ok(count),
+            Err(error) if error.kind() == ErrorKind::Interrupted => {}
+            Err(error) => return Err(stop_of(&error)),
+        }
+    }
+    Err(Stop::Failed)
 }
 
 impl Port {
@@ -78,14 +112,14 @@ impl Sockets for Port {
 
     fn read(&mut self, at: usize, buf: &mut [u8]) -> Result<usize, Stop> {
         match self.stream(at) {
-            Some(stream) => stream.read(buf).map_err(|error| stop_of(&error)),
+            Some(stream) => read_once(stream, buf),
             None => Err(Stop::Failed),
         }
     }
 
     fn write(&mut self, at: usize, bytes: &[u8]) -> Result<usize, Stop> {
         match self.stream(at) {
-            Some(stream) => stream.write(bytes).map_err(|error| stop_of(&error)),
+            Some(stream) => write_once(stream, bytes),
             None => Err(Stop::Failed),
         }
     }

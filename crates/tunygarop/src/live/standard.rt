@@ -110,6 +110,11 @@ impl ErrorStream {
         }
     }
 
+    /// So many lines more are left away.
+    pub(crate) fn miss(&mut self, count: u64) {
+        self.missed = self.missed.saturating_add(count);
+    }
+
     /// How many lines were not kept since this was asked last.
     pub(crate) fn missed(&mut self) -> u64 {
         let missed = self.missed;
