@@ -2,7 +2,7 @@
 
 _tunygarop() {
     local word=${COMP_WORDS[COMP_CWORD]} before=${COMP_WORDS[COMP_CWORD - 1]} command=${COMP_WORDS[1]}
-    local commands="tables check play serve pull relay"
+    local commands="tables check play serve pull relay live"
     local names option given
 
     COMPREPLY=()
@@ -23,10 +23,15 @@ _tunygarop() {
             mapfile -t COMPREPLY < <(compgen -A hostname -- "$word")
             return
             ;;
+        --state)
+            compopt -o filenames 2> /dev/null
+            mapfile -t COMPREPLY < <(compgen -f -- "$word")
+            return
+            ;;
         --history | --back | --staged | --turns | --turn | --count | --port | --listen)
             return
             ;;
-        --contest | --from | --base)
+        --contest | --from | --base | --address | --screens | --idle | --window)
             return
             ;;
     esac
@@ -44,6 +49,9 @@ _tunygarop() {
         pull) names="host port from contest base turns resume history staged" ;;
         relay)
             names="host port from contest base turns resume history staged listen count chunked"
+            ;;
+        live)
+            names="contest host port base from listen address screens idle window chunked state until-eof verbose quiet history staged"
             ;;
         help)
             [ "$COMP_CWORD" -eq 2 ] && mapfile -t COMPREPLY < <(compgen -W "$commands" -- "$word")

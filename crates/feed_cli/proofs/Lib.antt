@@ -1,8 +1,6 @@
-mod AddressLemmas
 mod CheckLemmas
 mod CommandLemmas
 mod PlayLemmas
 pub mod PrintingLemmas
 mod PullLemmas
 mod TablesLemmas
-mod WordsLemmas

@@ -1,18 +1,18 @@
 -- What the commands do, by what a command line asks for.
-use Rattle.std.specs.Prelude.{ℕ, List}
-use Rattle.clap.specs.Words.{Text}
-use Rattle.feed_http.specs.Device.{HasFailed as HasDeviceFailed}
+use Rattle.std.specs.Prelude.{◌≡◌, ◌⊎◌, ℕ, List, string_bytes}
+use Rattle.std.specs.Io.KnownBytes.{Appends, Keeps}
+use Rattle.feed_http.specs.Device.{AppendsFront, HasFailed as HasDeviceFailed}
 use Rattle.feed_cli.specs.Check.{CountsPrinted, CheckFails}
 use Rattle.feed_cli.specs.Fault.{IsToldStatus}
 use Rattle.feed_cli.specs.Play.{Played, PlayFails}
-use Rattle.feed_cli.specs.Streams.{Streams}
+use Rattle.feed_cli.specs.Streams.{Streams, Wrote}
 use Rattle.feed_cli.specs.Tables.{PrintedSome, TablesFail}
-use Rattle.feed_cli.specs.Words.{Asks}
 use Rattle.feed_cli.specs.declared.fault.Fault.{Fault}
 use Rattle.feed_cli.specs.declared.fault.Fault.TheVariants as fault
-use Rattle.feed_cli.specs.declared.words.Local.{Local}
-use Rattle.feed_cli.specs.declared.words.Local.TheVariants as local
-use Rattle.feed_cli.specs.declared.words.Request.TheVariants as request
+use Rattle.feed_words.specs.declared.request.Local.{Local}
+use Rattle.feed_words.specs.declared.request.Local.TheVariants as local
+use Rattle.feed_words.specs.declared.request.NoCommand.{NoCommand}
+use Rattle.feed_words.specs.declared.request.NoCommand.TheVariants as reply
 
 -- the command did what was asked for
 abbrev pub Succeeds : Local → Streams → Type 0
@@ -32,17 +32,29 @@ IsDeviceFault fault.Read s = HasDeviceFailed s.failed_reads_old s.failed_reads_n
 IsDeviceFault fault.Write s = HasDeviceFailed s.failed_writes_old s.failed_writes_new
 IsDeviceFault why s = Unit {0}
 
--- the words ask for a command, and it did what was asked for
-pub record HasSucceeded (words : List Text) (s : Streams) : Type 0 where
-  pub asked : Local
-  pub asks : Asks words (request.Local asked)
-  pub done : Succeeds asked s
-
--- the words ask for a command, it failed, and this is the status that tells it
-pub record HasFailed (words : List Text) (status : ℕ) (s : Streams) : Type 0 where
-  pub asked : Local
-  pub asks : Asks words (request.Local asked)
+-- the command failed, and this is the status that tells it
+pub record EndsBy (asked : Local) (status : ℕ) (s : Streams) : Type 0 where
   pub why : Fault
   pub failed : Fails asked why s
   pub device : IsDeviceFault why s
   pub told : IsToldStatus why status
+
+-- all of the text was written, or the device failed, and a front of it was
+abbrev pub IsWritten : List ℕ → Wrote → Type 0
+IsWritten text wrote =
+    Appends wrote.old wrote.new text
+    ⊎ (HasDeviceFailed wrote.failed_old wrote.failed_new × AppendsFront wrote.old wrote.new text)
+
+-- the status for words that ask for no command, and what was printed for them
+abbrev pub Replies : NoCommand → ℕ → Wrote → Type 0
+Replies reply.Memory status wrote = (status ≡ 5) × Keeps wrote.old wrote.new
+Replies (reply.Refused text) status wrote = (status ≡ 1) × Keeps wrote.old wrote.new
+Replies (reply.Shown text) status wrote =
+    ((status ≡ 0) × Appends wrote.old wrote.new (string_bytes text))
+    ⊎ ((status ≡ 4) × HasDeviceFailed wrote.failed_old wrote.failed_new
+    × AppendsFront wrote.old wrote.new (string_bytes text))
+
+-- why they are refused was told
+abbrev pub TellsRefusal : NoCommand → Wrote → Type 0
+TellsRefusal (reply.Refused text) wrote = IsWritten (string_bytes text) wrote
+TellsRefusal other wrote = Unit {0}

@@ -15,8 +15,8 @@ use Rattle.feed_play.specs.Fault.{is_memory}
 use Rattle.feed_relay.specs.Fault.{is_memory as is_network_memory}
 use Rattle.feed_relay.specs.declared.fault.NetworkFault.{NetworkFault}
 use Rattle.feed_relay.specs.declared.fault.NetworkFault.TheVariants as network
-use Rattle.feed_cli.specs.declared.address.AddressFault.{AddressFault}
-use Rattle.feed_cli.specs.declared.address.AddressFault.TheVariants as address
+use Rattle.feed_words.specs.declared.address.AddressFault.{AddressFault}
+use Rattle.feed_words.specs.declared.address.AddressFault.TheVariants as address
 use Rattle.feed_cli.specs.declared.fault.RemoteFault.{RemoteFault}
 use Rattle.feed_cli.specs.declared.fault.RemoteFault.TheVariants as remote
 use Rattle.feed_cli.specs.declared.fault.Fault.{Fault}

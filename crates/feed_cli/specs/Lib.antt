@@ -1,4 +1,3 @@
-pub mod Addresses
 pub mod Check
 pub mod Commands
 pub mod Fault
@@ -8,4 +7,3 @@ pub mod Pull
 pub mod Serve
 pub mod Streams
 pub mod Tables
-pub mod Words

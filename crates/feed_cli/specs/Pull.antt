@@ -18,13 +18,13 @@ use Rattle.feed_relay.specs.declared.fault.NetworkFault.TheVariants.{Connect, En
 use Rattle.feed_relay.specs.declared.first.Attempt.{Attempt}
 use Rattle.feed_relay.specs.declared.first.AttemptEnd.{AttemptEnd}
 use Rattle.feed_relay.specs.declared.first.AttemptEnd.TheVariants.{NoLink, Followed, Failed}
-use Rattle.feed_cli.specs.Addresses.{IsListOf, RefusesList}
+use Rattle.feed_words.specs.Addresses.{IsListOf, RefusesList}
 use Rattle.feed_cli.specs.Check.{IsWhole, InputTooLong}
 use Rattle.feed_cli.specs.Fault.{fault_of_network}
 use Rattle.feed_cli.specs.declared.fault.Fault.{Fault}
 use Rattle.feed_cli.specs.declared.fault.Fault.TheVariants as fault
 use Rattle.feed_cli.specs.declared.fault.RemoteFault.TheVariants as remote
-use Rattle.feed_cli.specs.declared.words.PullOptions.{PullOptions}
+use Rattle.feed_words.specs.declared.request.PullOptions.{PullOptions}
 
 -- ---- what it asks, and starts from
 

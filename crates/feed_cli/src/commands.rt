@@ -1,8 +1,7 @@
-//! The commands, as the words of a command line ask for them.
-ghost use Rattle.std.specs.Prelude.{◌≡◌, ◌≤◌, ◌⊎◌, map, IfErr, OnOk};
-ghost use Rattle.feed_cli.specs.Commands.{Succeeds, Fails, IsDeviceFault, HasSucceeded, HasFailed};
-ghost use Rattle.feed_cli.specs.Fault.{IsToldStatus};
-ghost use Rattle.feed_cli.specs.Streams.{streams_of};
+//! The commands, as a command line asks for them.
+ghost use Rattle.std.specs.Prelude.{◌≡◌, ◌≢◌, ◌≤◌, IfErr, OnOk};
+ghost use Rattle.feed_cli.specs.Commands.{Succeeds, Fails, IsDeviceFault, EndsBy, Replies, TellsRefusal};
+ghost use Rattle.feed_cli.specs.Streams.{streams_of, wrote_by};
 
 mod check;
 mod play;
@@ -12,33 +11,40 @@ pub mod serve;
 mod tables;
 
 use crate::fault::Fault;
-use crate::telling::{print, tell};
-use crate::words::{Local, PROGRAM, Request, parse_words};
+use crate::telling::tell;
 use check::print_counts;
-use clap::error::ErrorKind;
-use feed_http::device::{FeedRead, FeedWrite};
+use feed_http::device::{Failed, FeedRead, FeedWrite, write_all};
+use feed_words::{Local, NoCommand, PROGRAM};
 use play::print_played;
 use std::alloc::Global;
 use tables::print_tables;
 
-/// The status for words that ask for no command that is run here.
+/// The status for words that are refused.
 const REFUSED: u8 = 1;
 
-/// Prints what clap answers to words that ask for no command: help, or why they are refused.
-fn answer_words<W: FeedWrite, E: FeedWrite>(error: clap::Error, out: &mut W, err: &mut E) -> u8
-    ensures statuses { (result ≡ 0) ⊎ (result ≡ 1) ⊎ (result ≡ 4) ⊎ (result ≡ 5) }
-    ensures refused { result ≡ 1 → W.contents out.new ≡ W.contents out.old }
+/// Prints what is replied to words that ask for no command: help and the version to `out`, why they
+/// are refused to `err`. The status is 0 where all of that text was printed, 1 for words that are
+/// refused, 4 where `out` failed, and 5 where memory had run out.
+pub fn answer_words<W: FeedWrite, E: FeedWrite>(
+    reply: &NoCommand,
+    out: &mut W,
+    err: &mut E,
+) -> u8
+    ensures out { let wrote = wrote_by W.contents W.failures out.old out.new in
+        Replies reply.now result wrote }
+    ensures err { let wrote = wrote_by E.contents E.failures err.old err.new in
+        TellsRefusal reply.now wrote }
 {
-    if error.kind() == ErrorKind::OutOfMemory {
-        return tell(PROGRAM, Fault::Memory, err);
-    }
-    if error.use_stderr() {
-        let _ = print(err, &error);
-        return REFUSED;
-    }
-    match print(out, &error) {
-        Ok(()) => 0,
-        Err(fault) => tell(PROGRAM, fault, err),
+    match reply {
+        NoCommand::Memory => tell(PROGRAM, Fault::Memory, err),
+        NoCommand::Shown(text) => match write_all(out, text.as_bytes()) {
+            Ok(()) => 0,
+            Err(Failed) => tell(PROGRAM, Fault::Write, err),
+        },
+        NoCommand::Refused(text) => {
+            let _ = write_all(err, text.as_bytes());
+            REFUSED
+        }
     }
 }
 
@@ -67,41 +73,24 @@ pub fn perform<R: FeedRead, W: FeedWrite>(
     }
 }
 
-/// Runs the command that the words ask for, where it opens no connection, and answers the status that
-/// the program ends with: 0, or the first of these that applies: 1 for words that ask for no such
-/// command, 5 for want of memory, 4 for a device that failed or an input that did not end, 2 for a
-/// faulty input, 3 where nothing was published. At the words of a command that opens connections
-/// nothing is read or told, and the status is 1.
-pub fn run<'a, R: FeedRead, W: FeedWrite, E: FeedWrite>(
+/// Runs a command that opens no connection, tells its fault, and answers the status that the program
+/// ends with: 0, or the first of these that applies: 5 for want of memory, 4 for a device that failed
+/// or an input that did not end, 2 for a faulty input, 3 where nothing was published.
+pub fn run<R: FeedRead, W: FeedWrite, E: FeedWrite>(
     alloc: Global,
-    words: &'a [&'a str],
+    request: Local,
     input: &mut R,
     out: &mut W,
     err: &mut E,
 ) -> u8
-    ensures statuses { result ≤ 5 }
-
-    // Where the words ask for help, or for no command, nothing is read.
     ensures ok { let streams = streams_of R.remaining R.failures W.contents W.failures
         input.old input.new out.old out.new in
-        result ≡ 0 → (R.reads input.new ≡ R.reads input.old)
-        ⊎ HasSucceeded (map (λ word. word.now) words.entry.now) streams }
-    ensures refused { result ≡ 1 → (R.reads input.new ≡ R.reads input.old)
-        × (W.contents out.new ≡ W.contents out.old) }
-    ensures faulty { let streams = streams_of R.remaining R.failures W.contents W.failures
+        result ≡ 0 → Succeeds request streams }
+    ensures err { let streams = streams_of R.remaining R.failures W.contents W.failures
         input.old input.new out.old out.new in
-        (result ≡ 2) ⊎ (result ≡ 3)
-        → HasFailed (map (λ word. word.now) words.entry.now) result streams }
-    ensures broken { let streams = streams_of R.remaining R.failures W.contents W.failures
-        input.old input.new out.old out.new in
-        (result ≡ 4) ⊎ (result ≡ 5) → (R.reads input.new ≡ R.reads input.old)
-        ⊎ HasFailed (map (λ word. word.now) words.entry.now) result streams }
+        result ≢ 0 → EndsBy request result streams }
+    ensures statuses { (result ≢ 1) × (result ≤ 5) }
 {
-    let request = match parse_words(alloc, words) {
-        Ok(Request::Local(request)) => request,
-        Ok(_) => return REFUSED,
-        Err(error) => return answer_words(error, out, err),
-    };
     match perform(alloc, request, input, out) {
         Ok(()) => 0,
         Err(fault) => tell(request.name(), fault, err),

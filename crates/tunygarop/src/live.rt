@@ -5,11 +5,12 @@ mod sockets;
 mod standard;
 mod store;
 mod telling;
-mod words;
 
 use crate::sockets::without_brackets;
 use feed_answer::Place;
-use feed_cli::{AddressFault, Fault, NetworkFault, PullOptions, servers_of};
+use feed_cli::{
+    AddressFault, Fault, LiveOptions, NetworkFault, PullOptions, UpstreamOptions, Verbosity, servers_of,
+};
 use feed_live::{Devices, Input, Live, LiveLimits, Ready, Restored, Start, Turn, restore};
 use feed_node::{Limits, Mirror};
 use link::{LINK, Servers};
@@ -24,8 +25,6 @@ use std::net::{IpAddr, SocketAddr, ToSocketAddrs};
 use std::time::{Duration, Instant};
 use store::{Files, Names, read_file};
 use telling::{is_told, stamp, text_of};
-pub(crate) use words::parse_live;
-use words::{LiveOptions, Verbosity};
 
 /// The token of the listener.
 const LISTENER: Token = Token(0);
@@ -37,20 +36,16 @@ const EVENTS: usize = 1_024;
 const INPUT_PIECE: usize = 65_536;
 
 /// What the options say of servers, as the other commands take it.
-fn pull_options<'a>(
-    options: &LiveOptions<'a>,
-    host: &'a str,
-    limits: Limits,
-) -> PullOptions<'a> {
+fn pull_options<'a>(options: &LiveOptions<'a>, upstream: &UpstreamOptions<'a>) -> PullOptions<'a> {
     PullOptions {
-        host,
-        port: options.port,
-        from: options.from,
-        base: options.base,
+        host: upstream.host,
+        port: upstream.port,
+        from: upstream.from,
+        base: upstream.base,
         contest: options.contest,
         turns: 1,
         resume: false,
-        limits,
+        limits: options.limits,
     }
 }
 
@@ -70,16 +65,16 @@ struct Asked {
 }
 
 /// The servers that are asked: none where the feed is the input.
-fn servers(rt: &HostRuntime, options: &LiveOptions<'_>, limits: Limits) -> Result<Asked, Fault> {
+fn servers(rt: &HostRuntime, options: &LiveOptions<'_>) -> Result<Asked, Fault> {
     let mut addresses = Vec::new(rt.alloc());
-    let Some(host) = options.host else {
+    let Some(upstream) = &options.upstream else {
         return Ok(Asked {
             addresses,
             places: Vec::new(rt.alloc()),
         });
     };
-    let servers = servers_of(rt.alloc(), &pull_options(options, host, limits))?;
-    push(&mut addresses, address_of(rt, host, options.port)?)?;
+    let servers = servers_of(rt.alloc(), &pull_options(options, upstream))?;
+    push(&mut addresses, address_of(rt, upstream.host, upstream.port)?)?;
     for (host, port) in &servers.further {
         push(&mut addresses, address_of(rt, host.as_str(), *port)?)?;
     }
@@ -123,7 +118,7 @@ fn restored(
     names: Option<&Names>,
 ) -> Result<Restored, Fault> {
     let alloc = rt.alloc();
-    let (Some(names), Some(_)) = (names, options.host) else {
+    let (Some(names), Some(_)) = (names, &options.upstream) else {
         return needs_memory(restore(alloc, limits, &[], &[]));
     };
     let before = of_system(read_file(rt, names.before.as_str()))?;
@@ -155,9 +150,9 @@ fn listener_of(
 
 fn limits_of(options: &LiveOptions<'_>) -> LiveLimits {
     LiveLimits {
-        screens: options.screens as usize,
+        screens: options.screens,
         window: options.window,
-        idle: (options.idle as u64).saturating_mul(1_000),
+        idle: options.idle.saturating_mul(1_000),
         framing: options.framing,
         is_verbose: options.verbosity == Verbosity::Verbose,
         has_store: options.state.is_some(),
@@ -207,7 +202,7 @@ fn devices<'r>(
 fn prepare<'r>(rt: &'r HostRuntime, options: &LiveOptions<'_>) -> Result<Engine<'r>, Fault> {
     let alloc = rt.alloc();
     let limits = options.limits;
-    let asked = servers(rt, options, limits)?;
+    let asked = servers(rt, options)?;
     let names = match options.state {
         Some(path) => Some(of_system(Names::new(rt, path))?),
         None => None,
@@ -359,8 +354,10 @@ pub(crate) fn live_feed(rt: &HostRuntime, options: &LiveOptions<'_>) -> Result<(
     if let Some(port) = options.listen {
         let address = options.address;
         let text = needs_memory(format!(in rt.alloc(); "listening at {address}, port {port}"))?;
-        engine.line(text.as_str());
+        if options.verbosity != Verbosity::Quiet {
+            engine.line(text.as_str());
+        }
     }
-    let reads_input = options.host.is_none() || options.until_eof;
+    let reads_input = options.upstream.is_none() || options.until_eof;
     of_system(engine.run(reads_input))
 }

@@ -8,8 +8,8 @@ mod serve;
 mod sockets;
 
 use feed_cli::stream::Stream;
-use feed_cli::{Fault, Request, parse_words, run, tell};
-use live::{live_feed, parse_live};
+use feed_cli::{Fault, Local, NoCommand, Request, answer_words, parse_words, run, tell};
+use live::live_feed;
 use pull::pull_feed;
 use relay::relay_feed;
 use serve::serve_feed;
@@ -31,47 +31,43 @@ fn ended(rt: &HostRuntime, name: &str, ended: Result<(), Fault>) -> u8 {
     }
 }
 
-/// Runs a command that opens no connection, or tells what is wrong with the words.
-fn run_local(rt: &HostRuntime, words: &[&str]) -> u8 {
+/// Runs a command that opens no connection.
+fn run_local(rt: &HostRuntime, request: Local) -> u8 {
     run(
         rt.alloc(),
-        words,
+        request,
         &mut Stream::new(rt.stdin()),
         &mut Stream::new(rt.stdout()),
         &mut Stream::new(rt.stderr()),
     )
 }
 
-/// Runs a command that opens connections, or any other one that these words ask for.
-fn run_request(rt: &HostRuntime, words: &[&str], request: &Request<'_>) -> u8 {
+/// Tells what is replied to words that ask for no command.
+fn answer(rt: &HostRuntime, reply: &NoCommand) -> u8 {
+    answer_words(
+        reply,
+        &mut Stream::new(rt.stdout()),
+        &mut Stream::new(rt.stderr()),
+    )
+}
+
+/// Runs the command that is asked for.
+fn run_request(rt: &HostRuntime, request: &Request<'_>) -> u8 {
     match request {
+        Request::Local(request) => run_local(rt, *request),
         Request::Serve(options) => ended(rt, "serve", serve_feed(rt, options)),
         Request::Pull(options) => ended(rt, "pull", pull_feed(rt, options)),
         Request::Relay(options) => ended(rt, "relay", relay_feed(rt, options)),
-        Request::Local(_) => run_local(rt, words),
-    }
-}
-
-/// Follows and serves for ever, or tells why not.
-fn run_live(rt: &HostRuntime, words: &[&str]) -> u8 {
-    match parse_live(words) {
-        Some(options) => ended(rt, "live", live_feed(rt, &options)),
-        None => {
-            let _ = eprintln!(rt; "live: bad option");
-            REFUSED
-        }
+        Request::Live(options) => ended(rt, "live", live_feed(rt, options)),
     }
 }
 
 /// Runs the command that these words ask for.
 fn status_of<'a>(rt: &HostRuntime, words: &'a [&'a str]) -> u8 {
-    if let [_, "live", rest @ ..] = words {
-        return run_live(rt, rest);
+    match parse_words(rt.alloc(), words) {
+        Ok(request) => run_request(rt, &request),
+        Err(reply) => answer(rt, &reply),
     }
-    let Ok(request) = parse_words(rt.alloc(), words) else {
-        return run_local(rt, words);
-    };
-    run_request(rt, words, &request)
 }
 
 /// Runs the command that the program's arguments ask for.

@@ -8,16 +8,15 @@ ghost use Rattle.feed_relay.specs.Exchange.{devices_of};
 ghost use Rattle.feed_relay.specs.First.{position};
 ghost use Rattle.feed_answer.specs.Place.{Place as Named};
 
-use crate::address::addresses;
 use crate::fault::Fault;
 use crate::input::{INPUT_BYTES, read_all};
 use crate::snapshot::{outcome, print_snapshot};
 use crate::telling::Teller;
-use crate::words::PullOptions;
 use feed_http::device::{FeedRead, FeedWrite};
 use feed_http::{EngineFault, FollowFault, Followed, Place};
 use feed_node::Mirror;
 use feed_relay::{Attempt, AttemptEnd, Dial, NetworkFault, follow_first};
+use feed_words::{PullOptions, addresses};
 use std::alloc::{AllocError, Global};
 
 /// The servers that a command follows.

@@ -5,11 +5,11 @@ use crate::fault::Fault;
 use crate::listen::Listen;
 use crate::snapshot::print_snapshot;
 use crate::telling::Teller;
-use crate::words::RelayOptions;
 use feed_http::Place;
 use feed_http::device::FeedWrite;
 use feed_node::Mirror;
 use feed_relay::{Accept, Attempt, Dial, Round, relay_round};
+use feed_words::RelayOptions;
 use std::alloc::Global;
 
 /// Followers that are waited for once it was told why attempts failed.

@@ -8,12 +8,12 @@ use crate::fault::Fault;
 use crate::input::{INPUT_BYTES, read_all};
 use crate::listen::Listen;
 use crate::telling::Teller;
-use crate::words::ServeOptions;
 use feed_http::device::{FeedRead, FeedWrite};
 use feed_http::serve_live;
 use feed_node::Primary;
 use feed_relay::{ENGINE_TURNS, NetworkFault, commit_all, feed_batches};
 use feed_tables::Change;
+use feed_words::ServeOptions;
 use std::alloc::Global;
 use std::collections::VecDeque;
 

@@ -1,7 +1,7 @@
 //! What is told on standard error: a line for each thing that happened, with the time in UTC.
 
 use crate::live::link::Servers;
-use crate::live::words::Verbosity;
+use feed_cli::Verbosity;
 use feed_live::Told;
 use jiff::Timestamp;
 use std::alloc::{AllocError, Global};
@@ -28,14 +28,7 @@ pub(crate) fn is_told(told: &Told, verbosity: Verbosity) -> bool {
     match verbosity {
         Verbosity::Verbose => true,
         Verbosity::Normal => !matches!(told, Told::Screen { .. }),
-        Verbosity::Quiet => matches!(
-            told,
-            Told::Lost { .. }
-                | Told::Found { .. }
-                | Told::BadInput(_)
-                | Told::NoAccept
-                | Told::NotSaved { .. }
-        ),
+        Verbosity::Quiet => false,
     }
 }
 

@@ -1,0 +1,4 @@
+pub mod Addresses
+pub mod Live
+pub mod Options
+pub mod Words

@@ -1,0 +1,127 @@
+-- The command `live`: its options, and what they ask for.
+use Rattle.std.specs.Prelude.{◌≡◌, ◌⊎◌, ℕ, Bool, true, false, List, Option, Some, None, codes, is_some}
+use Rattle.std.specs.Prelude.{option_map}
+use Rattle.clap.specs.Words.{App, Row, Rule, new_app, with_rule}
+use Rattle.feed_words.specs.Addresses.{most_port}
+use Rattle.feed_words.specs.Options as options
+use Rattle.feed_words.specs.Options.{flag, number_in, text_option, with_default, with_limits, text_at}
+use Rattle.feed_words.specs.Options.{IsNumber, IsNumberIfGiven, IsGiven, IsFramed, AsksLimits}
+use Rattle.feed_words.specs.declared.request.LiveOptions.{LiveOptions}
+use Rattle.feed_words.specs.declared.request.UpstreamOptions.{UpstreamOptions}
+use Rattle.feed_words.specs.declared.request.Verbosity.{Verbosity}
+use Rattle.feed_words.specs.declared.request.Verbosity.TheVariants as verbosity
+
+-- the most screens, seconds of silence, and bytes that a screen may be late, that may be asked for
+abbrev pub most_screens : ℕ
+most_screens = 10000
+
+abbrev pub most_idle : ℕ
+most_idle = 3600
+
+abbrev pub most_window : ℕ
+most_window = 1073741824
+
+-- ---- the command
+
+-- the option, which has a rule on another one
+abbrev pub tied : Rule → Rule
+tied rule = record rule { is_free = false }
+
+abbrev pub host : Rule
+host = tied (text_option (codes "host"))
+
+abbrev pub port : Rule
+port = tied (number_in (codes "port") most_port)
+
+abbrev pub from : Rule
+from = tied options.from
+
+abbrev pub base : Rule
+base = tied options.base
+
+abbrev pub listen : Rule
+listen = tied (number_in (codes "listen") most_port)
+
+abbrev pub address : Rule
+address = tied (with_default (codes "127.0.0.1") (text_option (codes "address")))
+
+abbrev pub screens : Rule
+screens = with_default (codes "1000") (number_in (codes "screens") most_screens)
+
+abbrev pub idle : Rule
+idle = with_default (codes "120") (number_in (codes "idle") most_idle)
+
+abbrev pub window : Rule
+window = with_default (codes "1048576") (number_in (codes "window") most_window)
+
+abbrev pub state : Rule
+state = text_option (codes "state")
+
+abbrev pub until_eof : Rule
+until_eof = flag (codes "until-eof")
+
+abbrev pub verbose : Rule
+verbose = tied (flag (codes "verbose"))
+
+abbrev pub quiet : Rule
+quiet = flag (codes "quiet")
+
+-- a command with the options that say what is followed
+abbrev pub with_upstream : App → App
+with_upstream command =
+    with_rule (with_rule (with_rule (with_rule (with_rule command options.contest) host) port)
+    base) from
+
+-- a command with the options that say to whom it is served, and how
+abbrev pub with_screens : App → App
+with_screens command =
+    with_rule (with_rule (with_rule (with_rule (with_rule (with_rule command listen) address)
+    screens) idle) window) options.chunked
+
+-- a command with the options that say what is kept and reported, and when it ends
+abbrev pub with_course : App → App
+with_course command =
+    with_rule (with_rule (with_rule (with_rule command state) until_eof) verbose) quiet
+
+abbrev pub live : App
+live = with_limits (with_course (with_screens (with_upstream (new_app (codes "live")))))
+
+-- ---- what its options ask for
+
+-- the server that is followed first, and those that are asked where it fails
+pub record AsksUpstream (rows : List Row) (upstream : UpstreamOptions) : Type 0 where
+  pub host_is : text_at (codes "host") rows ≡ Some upstream.host.now
+  pub port_is : IsNumber (codes "port") most_port rows upstream.port
+  pub from_is : text_at (codes "from") rows ≡ option_map (λ text. text.now) upstream.from
+  pub base_is : text_at (codes "base") rows ≡ Some upstream.base.now
+
+-- a server is followed where `--host` is given, and else standard input
+abbrev pub IsUpstream : List Row → Option UpstreamOptions → Type 0
+IsUpstream rows (Some upstream) = AsksUpstream rows upstream
+IsUpstream rows None = text_at (codes "host") rows ≡ None
+
+-- as much is reported as the two options say
+abbrev pub is_verbose : Verbosity → Bool
+is_verbose verbosity.Verbose = true
+is_verbose other = false
+
+abbrev pub is_quiet : Verbosity → Bool
+is_quiet verbosity.Quiet = true
+is_quiet other = false
+
+-- the values of the options of `live`
+pub record AsksLive (rows : List Row) (options : LiveOptions) : Type 0 where
+  pub contest_is : text_at (codes "contest") rows ≡ Some options.contest.now
+  pub upstream_is : IsUpstream rows options.upstream
+  pub listen_is : IsNumberIfGiven (codes "listen") most_port rows options.listen
+  pub address_is : text_at (codes "address") rows ≡ Some options.address.now
+  pub screens_are : IsNumber (codes "screens") most_screens rows options.screens
+  pub idle_is : IsNumber (codes "idle") most_idle rows options.idle
+  pub window_is : IsNumber (codes "window") most_window rows options.window
+  pub framing_is : IsFramed rows options.framing
+  pub state_is : text_at (codes "state") rows ≡ option_map (λ text. text.now) options.state
+  pub is_some_use : (is_some options.listen ≡ true) ⊎ (is_some options.state ≡ true)
+  pub until_eof_is : IsGiven (codes "until-eof") rows options.until_eof
+  pub verbose_is : IsGiven (codes "verbose") rows (is_verbose options.verbosity)
+  pub quiet_is : IsGiven (codes "quiet") rows (is_quiet options.verbosity)
+  pub limits_are : AsksLimits rows options.limits

@@ -1,0 +1,13 @@
+//! The command line: its words, what they ask for, and lists of addresses.
+#![tactic(auto)]
+
+mod address;
+mod request;
+mod words;
+
+pub use address::{AddressFault, addresses};
+pub use request::{
+    LiveOptions, Local, NoCommand, PullOptions, RelayOptions, Request, ServeOptions, TablesOptions,
+    UpstreamOptions, Verbosity,
+};
+pub use words::{PROGRAM, parse_words};

@@ -1,0 +1,169 @@
+//! What a command line can ask for.
+
+use feed_answer::Framing;
+use feed_node::Limits;
+
+/// How `tables` feeds its mirror, and what it tells.
+#[derive(Clone, Copy)]
+pub struct TablesOptions {
+    /// The mirror's limits.
+    pub limits: Limits,
+    /// Whether a fault of the feed is told with the number of its line.
+    pub verbose: bool,
+}
+
+/// What `serve` serves, where, and to how many.
+#[derive(Clone, Copy)]
+pub struct ServeOptions<'a> {
+    /// The port of 127.0.0.1 that connections come to, 1 to 65,535.
+    pub port: u16,
+    /// The contest whose feed is served. Any text will do.
+    pub contest: &'a str,
+    /// How many connections are served, 1 to 1,000,000.
+    pub count: u64,
+    /// How many batches are committed each time that a reader is up to date, 1 to 1,000,000;
+    /// without it all are committed before the first connection.
+    pub turn: Option<usize>,
+    /// How the answers are framed.
+    pub framing: Framing,
+    /// How many commits before the token of a reader its feed begins, 0 to 65,536.
+    pub back: usize,
+    /// The primary's limits.
+    pub limits: Limits,
+}
+
+/// What `pull` follows, and how far.
+#[derive(Clone, Copy)]
+pub struct PullOptions<'a> {
+    /// The server's address or name.
+    pub host: &'a str,
+    /// The server's port, 1 to 65,535.
+    pub port: u16,
+    /// The addresses of further servers, which are asked where those before fail. Any text will do.
+    pub from: Option<&'a str>,
+    /// What stands before `/contests` in the path of the feed.
+    pub base: &'a str,
+    /// The contest whose feed is followed.
+    pub contest: &'a str,
+    /// The most reads of one connection, 1 to 1,000,000.
+    pub turns: u64,
+    /// Whether the mirror is first restored from standard input.
+    pub resume: bool,
+    /// The mirror's limits.
+    pub limits: Limits,
+}
+
+/// What `relay` follows, and to how many it serves that.
+#[derive(Clone, Copy)]
+pub struct RelayOptions<'a> {
+    /// What is followed in each round.
+    pub pull: PullOptions<'a>,
+    /// The port of 127.0.0.1 that connections come to, 1 to 65,535.
+    pub listen: u16,
+    /// How many rounds are made, with a connection each, 1 to 1,000,000.
+    pub count: u64,
+    /// How the answers are framed.
+    pub framing: Framing,
+}
+
+/// A server that is followed first, and those that are asked where it fails.
+#[derive(Clone, Copy)]
+pub struct UpstreamOptions<'a> {
+    /// The server's address or name.
+    pub host: &'a str,
+    /// The server's port, 1 to 65,535.
+    pub port: u16,
+    /// The addresses of further servers, as those of [`PullOptions`]. Any text will do.
+    pub from: Option<&'a str>,
+    /// What stands before `/contests` in the path of the feed.
+    pub base: &'a str,
+}
+
+/// How much `live` reports on standard error.
+#[derive(Clone, Copy, Debug, PartialEq, Eq)]
+pub enum Verbosity {
+    /// Why it ends, and nothing else.
+    Quiet,
+    /// What changes.
+    Normal,
+    /// What changes, and each screen.
+    Verbose,
+}
+
+/// What `live` follows, to whom it serves that, and what it keeps. It has a port to serve at, or a
+/// file to keep, or both.
+#[derive(Clone, Copy)]
+pub struct LiveOptions<'a> {
+    /// The contest whose feed is followed and served. Any text will do.
+    pub contest: &'a str,
+    /// What is followed; without it the feed is read from standard input.
+    pub upstream: Option<UpstreamOptions<'a>>,
+    /// The port that screens come to, 1 to 65,535; without it nobody is served.
+    pub listen: Option<u16>,
+    /// The address of this machine that they come to. Any text will do.
+    pub address: &'a str,
+    /// How many screens are served at once, 1 to 10,000.
+    pub screens: usize,
+    /// After how many seconds without a commit a screen is sent a line feed, 1 to 3,600.
+    pub idle: u64,
+    /// How many bytes a screen may be late before it is cut off, 1 to 1,073,741,824.
+    pub window: u64,
+    /// How the answers are framed.
+    pub framing: Framing,
+    /// The name of the file that keeps what was published. Any text will do.
+    pub state: Option<&'a str>,
+    /// Whether the command ends where standard input does.
+    pub until_eof: bool,
+    /// How much is reported.
+    pub verbosity: Verbosity,
+    /// The limits of the node that is served.
+    pub limits: Limits,
+}
+
+/// A command that reads standard input alone.
+#[derive(Clone, Copy)]
+pub enum Local {
+    /// The snapshot of what the feed on standard input publishes to a mirror.
+    Tables(TablesOptions),
+    /// What the lines of the feed on standard input are, counted.
+    Check,
+    /// What happens in a world by the script on standard input.
+    Play,
+}
+
+impl Local {
+    /// The name of the command.
+    pub fn name(&self) -> &'static str {
+        match self {
+            Local::Tables(_) => "tables",
+            Local::Check => "check",
+            Local::Play => "play",
+        }
+    }
+}
+
+/// What a command line asks for.
+#[derive(Clone, Copy)]
+pub enum Request<'a> {
+    /// A command that opens no connection.
+    Local(Local),
+    /// The feed on standard input, served by a primary.
+    Serve(ServeOptions<'a>),
+    /// The snapshot of what a server's feed publishes to a mirror.
+    Pull(PullOptions<'a>),
+    /// A server's feed, followed by a mirror and served by it.
+    Relay(RelayOptions<'a>),
+    /// A feed, followed for ever, and served to many screens at once.
+    Live(LiveOptions<'a>),
+}
+
+/// What is replied to words that ask for no command.
+#[derive(Debug, Drop)]
+pub enum NoCommand {
+    /// Memory ran out.
+    Memory,
+    /// They ask for help or for the version: this text.
+    Shown(String),
+    /// They are refused: this text says why.
+    Refused(String),
+}

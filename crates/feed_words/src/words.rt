@@ -1,0 +1,58 @@
+//! The words of a command line, and what they ask for.
+ghost use Rattle.std.specs.Prelude.{◌≡◌, map, IfOk};
+ghost use Rattle.feed_words.specs.Words.{Asks};
+
+mod asked;
+mod asked_live;
+mod line;
+mod live;
+mod options;
+
+use crate::request::{NoCommand, Request};
+use asked::request_entered;
+use clap::error::ErrorKind;
+use line::command_line;
+use std::alloc::Global;
+
+/// The name of the program.
+pub const PROGRAM: &str = "tunygarop";
+
+/// What clap replies to words that ask for no command.
+fn reply(alloc: Global, error: &clap::Error) -> NoCommand {
+    if error.kind() == ErrorKind::OutOfMemory {
+        return NoCommand::Memory;
+    }
+    let Ok(text) = format!(in alloc; "{error}") else {
+        return NoCommand::Memory;
+    };
+    if error.use_stderr() {
+        NoCommand::Refused(text)
+    } else {
+        NoCommand::Shown(text)
+    }
+}
+
+/// What the words ask for, or what clap replies to them.
+fn parse<'a>(alloc: Global, words: &'a [&'a str]) -> Result<Request<'a>, clap::Error>
+    ensures { IfOk result (λ request. Asks (map (λ word. word.now) words.entry.now) request) }
+{
+    let mut program = command_line(alloc)?;
+    let matches = program.try_get_matches_from_mut(words)?;
+    match request_entered(&matches) {
+        Some(request) => Ok(request),
+        None => Err(program.error(
+            ErrorKind::ValueValidation,
+            "no such command, or a number out of its range",
+        )?),
+    }
+}
+
+/// What the words ask for; the first of them is the program's name.
+pub fn parse_words<'a>(alloc: Global, words: &'a [&'a str]) -> Result<Request<'a>, NoCommand>
+    ensures { IfOk result (λ request. Asks (map (λ word. word.now) words.entry.now) request) }
+{
+    match parse(alloc, words) {
+        Ok(request) => Ok(request),
+        Err(error) => Err(reply(alloc, &error)),
+    }
+}

@@ -1,0 +1,199 @@
+//! What the options of a command ask for.
+ghost use Rattle.std.specs.Prelude.{◌≡◌, Some, option_map, IfSome};
+ghost use Rattle.clap.specs.Matches.{found_of};
+ghost use Rattle.clap.specs.Words.{rows_of, subcommand_rows_of};
+ghost use Rattle.feed_words.specs.Addresses.{most_port};
+ghost use Rattle.feed_words.specs.Options.{text_at, IsNumber, IsNumberUpTo, IsNumberIfGiven, IsGiven, IsFramed, AsksLimits};
+ghost use Rattle.feed_words.specs.Words.{AsksTables, AsksServe, AsksPull, AsksRelay, AsksBy, AsksAt};
+
+use super::asked_live::live_options;
+use super::options::{MOST_PORT, MOST_ROUNDS};
+use crate::request::{Local, PullOptions, RelayOptions, Request, ServeOptions, TablesOptions};
+use clap::ArgMatches;
+use feed_answer::Framing;
+use feed_node::{Limits, MOST_COMMITS};
+
+/// The number that an option's value says; none where it is out of its range, which its parser has
+/// refused.
+fn number_up_to(matches: &ArgMatches<'_>, name: &str, most: u64) -> Option<u64>
+    ensures { IfSome result (λ n. IsNumberUpTo name.now most (rows_of (found_of matches.now)) n) }
+{
+    let number = matches.get_one::<u64>(name)?;
+    if number <= most { Some(number) } else { None }
+}
+
+/// The same of an option whose value is 1 at least.
+pub(super) fn number(matches: &ArgMatches<'_>, name: &str, most: u64) -> Option<u64>
+    ensures { IfSome result (λ n. IsNumber name.now most (rows_of (found_of matches.now)) n) }
+{
+    let number = number_up_to(matches, name, most)?;
+    if 1 <= number { Some(number) } else { None }
+}
+
+/// The same of an option that may be left out.
+pub(super) fn number_if_given(matches: &ArgMatches<'_>, name: &str, most: u64) -> Option<Option<u64>>
+    ensures { IfSome result
+        (λ n. IsNumberIfGiven name.now most (rows_of (found_of matches.now)) n) }
+{
+    match matches.try_get_one::<u64>(name) {
+        Ok(None) => Some(None),
+        Ok(Some(number)) if 1 <= number && number <= most => Some(Some(number)),
+        _ => None,
+    }
+}
+
+/// A port.
+pub(super) fn port(matches: &ArgMatches<'_>, name: &str) -> Option<u16>
+    ensures { IfSome result (λ n. IsNumber name.now most_port (rows_of (found_of matches.now)) n) }
+{
+    Some(number(matches, name, MOST_PORT)? as u16)
+}
+
+/// The text of an option's value.
+pub(super) fn text<'a>(matches: &ArgMatches<'a>, name: &str) -> Option<&'a str>
+    ensures { IfSome result (λ t. text_at name.now (rows_of (found_of matches.now)) ≡ Some t.now) }
+{
+    matches.get_str(name)
+}
+
+/// The same of an option that may be left out.
+pub(super) fn text_if_given<'a>(matches: &ArgMatches<'a>, name: &str) -> Option<&'a str>
+    ensures { text_at name.now (rows_of (found_of matches.now)) ≡ option_map (λ t. t.now) result }
+{
+    matches.get_str(name)
+}
+
+/// Whether an option without a value is given.
+pub(super) fn is_given(matches: &ArgMatches<'_>, name: &str) -> bool
+    ensures { IsGiven name.now (rows_of (found_of matches.now)) result }
+{
+    matches.get_flag(name)
+}
+
+/// How answers are framed.
+pub(super) fn framing(matches: &ArgMatches<'_>) -> Framing
+    ensures { IsFramed (rows_of (found_of matches.now)) result }
+{
+    if is_given(matches, "chunked") {
+        Framing::Chunked
+    } else {
+        Framing::Close
+    }
+}
+
+/// The limits of a node.
+pub(super) fn limits(matches: &ArgMatches<'_>) -> Option<Limits>
+    ensures { IfSome result (λ limits. AsksLimits (rows_of (found_of matches.now)) limits) }
+{
+    let history = matches.get_one::<u64>("history")?;
+    let staged = matches.get_one::<u64>("staged")?;
+    let limits = Limits::new(history as usize, staged as usize).ok()?;
+    Some(limits)
+}
+
+/// What the options of `tables` ask for.
+fn tables_options(matches: &ArgMatches<'_>) -> Option<TablesOptions>
+    ensures { IfSome result (λ options. AsksTables (rows_of (found_of matches.now)) options) }
+{
+    Some(TablesOptions {
+        limits: limits(matches)?,
+        verbose: is_given(matches, "verbose"),
+    })
+}
+
+/// What the options of `serve` ask for.
+fn serve_options<'a>(matches: &ArgMatches<'a>) -> Option<ServeOptions<'a>>
+    ensures { IfSome result (λ options. AsksServe (rows_of (found_of matches.now)) options) }
+{
+    let port = port(matches, "port")?;
+    let contest = text(matches, "contest")?;
+    let count = number(matches, "count", MOST_ROUNDS)?;
+    let turn = number_if_given(matches, "turn", MOST_ROUNDS)?;
+    let back = number_up_to(matches, "back", MOST_COMMITS as u64)?;
+    let limits = limits(matches)?;
+    Some(ServeOptions {
+        port,
+        contest,
+        count,
+        turn: turn.map(|turn| turn as usize),
+        framing: framing(matches),
+        back: back as usize,
+        limits,
+    })
+}
+
+/// What the options of `pull` ask for, and those of `relay` that it has, too.
+fn pull_options<'a>(matches: &ArgMatches<'a>) -> Option<PullOptions<'a>>
+    ensures { IfSome result (λ options. AsksPull (rows_of (found_of matches.now)) options) }
+{
+    let host = text(matches, "host")?;
+    let port = port(matches, "port")?;
+    let from = text_if_given(matches, "from");
+    let base = text(matches, "base")?;
+    let contest = text(matches, "contest")?;
+    let turns = number(matches, "turns", MOST_ROUNDS)?;
+    let limits = limits(matches)?;
+    Some(PullOptions {
+        host,
+        port,
+        from,
+        base,
+        contest,
+        turns,
+        resume: is_given(matches, "resume"),
+        limits,
+    })
+}
+
+/// What the options of `relay` ask for.
+fn relay_options<'a>(matches: &ArgMatches<'a>) -> Option<RelayOptions<'a>>
+    ensures { IfSome result (λ options. AsksRelay (rows_of (found_of matches.now)) options) }
+{
+    let Some(pull) = pull_options(matches) else {
+        return None;
+    };
+    let listen = port(matches, "listen")?;
+    let count = number(matches, "count", MOST_ROUNDS)?;
+    Some(RelayOptions {
+        pull,
+        listen,
+        count,
+        framing: framing(matches),
+    })
+}
+
+/// What the command of this name asks for.
+fn request_named<'a>(name: &str, matches: &ArgMatches<'a>) -> Option<Request<'a>>
+    ensures { IfSome result (λ request. AsksBy name.now (rows_of (found_of matches.now)) request) }
+{
+    match name {
+        "tables" => Some(Request::Local(Local::Tables(tables_options(matches)?))),
+        "check" => Some(Request::Local(Local::Check)),
+        "play" => Some(Request::Local(Local::Play)),
+        "serve" => match serve_options(matches) {
+            Some(options) => Some(Request::Serve(options)),
+            None => None,
+        },
+        "pull" => match pull_options(matches) {
+            Some(options) => Some(Request::Pull(options)),
+            None => None,
+        },
+        "relay" => match relay_options(matches) {
+            Some(options) => Some(Request::Relay(options)),
+            None => None,
+        },
+        "live" => match live_options(matches) {
+            Some(options) => Some(Request::Live(options)),
+            None => None,
+        },
+        _ => None,
+    }
+}
+
+/// What the command asks for that was entered.
+pub(super) fn request_entered<'a>(matches: &ArgMatches<'a>) -> Option<Request<'a>>
+    ensures { IfSome result (λ request. AsksAt (subcommand_rows_of matches.now) request) }
+{
+    let (name, options) = matches.subcommand()?;
+    request_named(name, options)
+}

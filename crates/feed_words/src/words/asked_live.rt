@@ -1,0 +1,97 @@
+//! What the options of `live` ask for.
+ghost use Rattle.std.specs.Prelude.{IfSome, codes};
+ghost use Rattle.clap.specs.Matches.{found_of};
+ghost use Rattle.clap.specs.Words.{rows_of};
+ghost use Rattle.feed_words.specs.Addresses.{most_port};
+ghost use Rattle.feed_words.specs.Live.{is_verbose as verbose_of, is_quiet as quiet_of, AsksUpstream, IsUpstream, AsksLive};
+ghost use Rattle.feed_words.specs.Options.{IsNumberIfGiven, IsGiven};
+
+use super::asked::{framing, is_given, limits, number, number_if_given, port, text, text_if_given};
+use super::live::{MOST_IDLE, MOST_SCREENS, MOST_WINDOW};
+use super::options::MOST_PORT;
+use crate::request::{LiveOptions, UpstreamOptions, Verbosity};
+use clap::ArgMatches;
+
+/// A port that may be left out.
+fn port_if_given(matches: &ArgMatches<'_>, name: &str) -> Option<Option<u16>>
+    ensures { IfSome result (λ n. IsNumberIfGiven name.now most_port (rows_of (found_of matches.now)) n) }
+{
+    let port = number_if_given(matches, name, MOST_PORT)?;
+    Some(port.map(|port| port as u16))
+}
+
+/// The server that is followed first, and those that are asked where it fails.
+fn upstream_at<'a>(matches: &ArgMatches<'a>) -> Option<UpstreamOptions<'a>>
+    ensures { IfSome result (λ upstream. AsksUpstream (rows_of (found_of matches.now)) upstream) }
+{
+    let host = text(matches, "host")?;
+    let port = port(matches, "port")?;
+    let base = text(matches, "base")?;
+    Some(UpstreamOptions {
+        host,
+        port,
+        from: text_if_given(matches, "from"),
+        base,
+    })
+}
+
+/// What is followed: standard input where no server is given.
+fn upstream<'a>(matches: &ArgMatches<'a>) -> Option<Option<UpstreamOptions<'a>>>
+    ensures { IfSome result (λ upstream. IsUpstream (rows_of (found_of matches.now)) upstream) }
+{
+    if text_if_given(matches, "host").is_none() {
+        return Some(None);
+    }
+    match upstream_at(matches) {
+        Some(upstream) => Some(Some(upstream)),
+        None => None,
+    }
+}
+
+/// How much is reported.
+fn verbosity(matches: &ArgMatches<'_>) -> Option<Verbosity>
+    ensures verbose { IfSome result (λ much. IsGiven (codes "verbose") (rows_of (found_of matches.now)) (verbose_of much)) }
+    ensures quiet { IfSome result (λ much. IsGiven (codes "quiet") (rows_of (found_of matches.now)) (quiet_of much)) }
+{
+    match (is_given(matches, "verbose"), is_given(matches, "quiet")) {
+        (false, false) => Some(Verbosity::Normal),
+        (true, false) => Some(Verbosity::Verbose),
+        (false, true) => Some(Verbosity::Quiet),
+        (true, true) => None,
+    }
+}
+
+/// What the options of `live` ask for.
+pub(super) fn live_options<'a>(matches: &ArgMatches<'a>) -> Option<LiveOptions<'a>>
+    ensures { IfSome result (λ options. AsksLive (rows_of (found_of matches.now)) options) }
+{
+    let contest = text(matches, "contest")?;
+    let Some(upstream) = upstream(matches) else {
+        return None;
+    };
+    let listen = port_if_given(matches, "listen")?;
+    let state = text_if_given(matches, "state");
+    if listen.is_none() && state.is_none() {
+        return None;
+    }
+    let address = text(matches, "address")?;
+    let screens = number(matches, "screens", MOST_SCREENS)?;
+    let idle = number(matches, "idle", MOST_IDLE)?;
+    let window = number(matches, "window", MOST_WINDOW)?;
+    let verbosity = verbosity(matches)?;
+    let limits = limits(matches)?;
+    Some(LiveOptions {
+        contest,
+        upstream,
+        listen,
+        address,
+        screens: screens as usize,
+        idle,
+        window,
+        framing: framing(matches),
+        state,
+        until_eof: is_given(matches, "until-eof"),
+        verbosity,
+        limits,
+    })
+}

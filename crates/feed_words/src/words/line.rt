@@ -1,0 +1,148 @@
+//! The commands, as the command line declares them.
+ghost use Rattle.std.specs.Prelude.{◌≡◌, true, false, IfOk};
+ghost use Rattle.clap.specs.Words.{app_of, new_app, rule_of, with_rule, with_subcommand};
+ghost use Rattle.feed_words.specs.Options.{with_limits as limited};
+ghost use Rattle.feed_words.specs.Words as words;
+
+use super::live::live;
+use super::{PROGRAM, options};
+use clap::{Arg, Command};
+use std::alloc::{AllocError, Global};
+
+/// The version of the program.
+const VERSION: &str = "0.1.0";
+
+/// A command without options.
+pub(super) fn command<'a>(alloc: Global, name: &'a str, about: &'a str) -> Command<'a>
+    ensures { app_of result ≡ new_app name.entry.now }
+{
+    Command::new(alloc, name).about(about)
+}
+
+/// A command with one more option.
+pub(super) fn add_option<'a>(command: Command<'a>, option: Arg<'a>) -> Result<Command<'a>, AllocError>
+    requires { option.global ≡ false }
+    ensures { IfOk result (λ c. app_of c ≡ with_rule (app_of command.entry) (rule_of option.entry)) }
+{
+    command.arg(option)
+}
+
+/// A command with the limits of its node.
+pub(super) fn with_limits<'a>(alloc: Global, command: Command<'a>) -> Result<Command<'a>, AllocError>
+    ensures { IfOk result (λ c. app_of c ≡ limited (app_of command.entry)) }
+{
+    add_option(
+        add_option(command, options::history(alloc))?,
+        options::staged(alloc),
+    )
+}
+
+/// `tables`.
+fn tables<'a>(alloc: Global) -> Result<Command<'a>, AllocError>
+    ensures { IfOk result (λ c. app_of c ≡ words.tables) }
+{
+    let about = "Prints the tables that the event feed on standard input has published";
+    let limited = with_limits(alloc, command(alloc, "tables", about))?;
+    add_option(limited, options::verbose(alloc))
+}
+
+/// A command with the options that `serve` needs.
+fn with_served<'a>(alloc: Global, command: Command<'a>) -> Result<Command<'a>, AllocError>
+    ensures { IfOk result (λ c. app_of c ≡ words.with_served (app_of command.entry)) }
+{
+    let help = "The port of 127.0.0.1 that the feed is served at";
+    let served = add_option(command, options::port(alloc, help))?;
+    let served = add_option(served, options::contest(alloc))?;
+    add_option(served, options::count(alloc))
+}
+
+/// `serve`.
+fn serve<'a>(alloc: Global) -> Result<Command<'a>, AllocError>
+    ensures { IfOk result (λ c. app_of c ≡ words.serve) }
+{
+    let about = "Serves the event feed on standard input at a port of 127.0.0.1, as a primary";
+    let serve = with_served(alloc, command(alloc, "serve", about))?;
+    let serve = add_option(serve, options::turn(alloc))?;
+    let serve = add_option(serve, options::chunked(alloc))?;
+    let serve = add_option(serve, options::back(alloc))?;
+    with_limits(alloc, serve)
+}
+
+/// A command with the options that say what is followed.
+fn with_place<'a>(alloc: Global, command: Command<'a>) -> Result<Command<'a>, AllocError>
+    ensures { IfOk result (λ c. app_of c ≡ words.with_place (app_of command.entry)) }
+{
+    let help = "The port of the server that is followed";
+    let placed = add_option(command, options::host(alloc))?;
+    let placed = add_option(placed, options::port(alloc, help))?;
+    let placed = add_option(placed, options::from(alloc))?;
+    add_option(placed, options::contest(alloc))
+}
+
+/// A command with the options of `pull`.
+fn with_pull<'a>(alloc: Global, command: Command<'a>) -> Result<Command<'a>, AllocError>
+    ensures { IfOk result (λ c. app_of c ≡ words.with_pull (app_of command.entry)) }
+{
+    let pull = with_place(alloc, command)?;
+    let pull = add_option(pull, options::base(alloc))?;
+    let pull = add_option(pull, options::turns(alloc))?;
+    let pull = add_option(pull, options::resume(alloc))?;
+    with_limits(alloc, pull)
+}
+
+/// `pull`.
+fn pull<'a>(alloc: Global) -> Result<Command<'a>, AllocError>
+    ensures { IfOk result (λ c. app_of c ≡ words.pull) }
+{
+    let about =
+        "Follows a server's event feed on one connection, and prints the tables that it has published";
+    with_pull(alloc, command(alloc, "pull", about))
+}
+
+/// `relay`.
+fn relay<'a>(alloc: Global) -> Result<Command<'a>, AllocError>
+    ensures { IfOk result (λ c. app_of c ≡ words.relay) }
+{
+    let about =
+        "Follows a server's event feed and serves it at a port of 127.0.0.1, in turns, and prints the tables at the end";
+    let relay = with_pull(alloc, command(alloc, "relay", about))?;
+    let relay = add_option(relay, options::listen(alloc))?;
+    let relay = add_option(relay, options::count(alloc))?;
+    add_option(relay, options::chunked(alloc))
+}
+
+/// A command with one more command below it.
+fn with_command<'a>(above: Command<'a>, below: Command<'a>) -> Result<Command<'a>, AllocError>
+    requires { (app_of below).top.is_plain ≡ true }
+    ensures { IfOk result (λ c. app_of c ≡ with_subcommand (app_of above.entry) (app_of below.entry).top) }
+{
+    above.subcommand(below)
+}
+
+/// The program, with the commands that open no connection.
+fn local_program<'a>(alloc: Global) -> Result<Command<'a>, AllocError>
+    ensures { IfOk result (λ c. app_of c ≡ words.local_program) }
+{
+    let program = Command::new(alloc, PROGRAM)
+        .about("Mirrors the event feed of a programming contest (CLICS Contest API 2023-06)")
+        .version(VERSION)
+        .subcommand_required(true);
+    let check =
+        "Counts the lines of the event feed on standard input, or names the first that can't be read";
+    let play =
+        "Plays the script of events on standard input in a world of nodes, and prints what is replied";
+    let program = with_command(program, tables(alloc)?)?;
+    let program = with_command(program, command(alloc, "check", check))?;
+    with_command(program, command(alloc, "play", play))
+}
+
+/// The command line.
+pub(super) fn command_line<'a>(alloc: Global) -> Result<Command<'a>, AllocError>
+    ensures { IfOk result (λ c. app_of c ≡ words.command_line) }
+{
+    let program = local_program(alloc)?;
+    let program = with_command(program, serve(alloc)?)?;
+    let program = with_command(program, pull(alloc)?)?;
+    let program = with_command(program, relay(alloc)?)?;
+    with_command(program, live(alloc)?)
+}

@@ -1,0 +1,184 @@
+//! The command `live`, as the command line declares it.
+ghost use Rattle.std.specs.Prelude.{◌≡◌, true, false, IfOk};
+ghost use Rattle.clap.specs.Words.{app_of, rule_of};
+ghost use Rattle.feed_words.specs.Live as live;
+
+use super::line::{add_option, command, with_limits};
+use super::options;
+use super::options::{MOST_PORT, flag, number, text};
+use clap::{Arg, Command};
+use std::alloc::{AllocError, Global};
+
+/// The most screens that may be served at once.
+pub(super) const MOST_SCREENS: u64 = 10_000;
+
+/// The most seconds of silence that may be asked for.
+pub(super) const MOST_IDLE: u64 = 3_600;
+
+/// The most bytes that a screen may be late.
+pub(super) const MOST_WINDOW: u64 = 1_073_741_824;
+
+/// `--host H`, with `--port`.
+fn host<'a>(alloc: Global) -> Result<Arg<'a>, AllocError>
+    ensures rule { IfOk result (λ option. rule_of option ≡ live.host) }
+    ensures local { IfOk result (λ option. option.global ≡ false) }
+{
+    text(alloc, "host", "H")
+        .help("The address or name of the server that is followed first; without it the feed is read from standard input")
+        .requires_arg("port")
+}
+
+/// `--port P`, with `--host`.
+fn port<'a>(alloc: Global) -> Result<Arg<'a>, AllocError>
+    ensures rule { IfOk result (λ option. rule_of option ≡ live.port) }
+    ensures local { IfOk result (λ option. option.global ≡ false) }
+{
+    number(alloc, "port", "P", MOST_PORT)
+        .help("The port of the server that is followed first")
+        .requires_arg("host")
+}
+
+/// `--from LIST`, with `--host`.
+fn from<'a>(alloc: Global) -> Result<Arg<'a>, AllocError>
+    ensures rule { IfOk result (λ option. rule_of option ≡ live.from) }
+    ensures local { IfOk result (λ option. option.global ≡ false) }
+{
+    options::from(alloc).requires_arg("host")
+}
+
+/// `--base B`, with `--host`.
+fn base<'a>(alloc: Global) -> Result<Arg<'a>, AllocError>
+    ensures rule { IfOk result (λ option. rule_of option ≡ live.base) }
+    ensures local { IfOk result (λ option. option.global ≡ false) }
+{
+    options::base(alloc).requires_arg("host")
+}
+
+/// `--listen Q`, unless there is `--state`.
+fn listen<'a>(alloc: Global) -> Result<Arg<'a>, AllocError>
+    ensures rule { IfOk result (λ option. rule_of option ≡ live.listen) }
+    ensures local { IfOk result (λ option. option.global ≡ false) }
+{
+    number(alloc, "listen", "Q", MOST_PORT)
+        .help("The port that screens come to; without it there has to be --state")
+        .required_unless_present("state")
+}
+
+/// `--address A`, with `--listen`.
+fn address<'a>(alloc: Global) -> Result<Arg<'a>, AllocError>
+    ensures rule { IfOk result (λ option. rule_of option ≡ live.address) }
+    ensures local { IfOk result (λ option. option.global ≡ false) }
+{
+    text(alloc, "address", "A")
+        .help("The address of this machine that screens come to, as 0.0.0.0 or ::")
+        .default_value("127.0.0.1")
+        .requires_arg("listen")
+}
+
+/// `--screens N`.
+fn screens<'a>(alloc: Global) -> Arg<'a>
+    ensures rule { rule_of result ≡ live.screens }
+    ensures local { result.global ≡ false }
+{
+    number(alloc, "screens", "N", MOST_SCREENS)
+        .help("How many screens are served at once, 1 to 10000")
+        .default_value("1000")
+}
+
+/// `--idle SECONDS`.
+fn idle<'a>(alloc: Global) -> Arg<'a>
+    ensures rule { rule_of result ≡ live.idle }
+    ensures local { result.global ≡ false }
+{
+    number(alloc, "idle", "SECONDS", MOST_IDLE)
+        .help("After how many seconds without a commit a screen is sent a line feed, 1 to 3600; a server that is silent for twice as long is left")
+        .default_value("120")
+}
+
+/// `--window BYTES`.
+fn window<'a>(alloc: Global) -> Arg<'a>
+    ensures rule { rule_of result ≡ live.window }
+    ensures local { result.global ≡ false }
+{
+    number(alloc, "window", "BYTES", MOST_WINDOW)
+        .help("How many bytes a screen may be late before it is cut off, 1 to 1073741824")
+        .default_value("1048576")
+}
+
+/// `--state FILE`.
+fn state<'a>(alloc: Global) -> Arg<'a>
+    ensures rule { rule_of result ≡ live.state }
+    ensures local { result.global ≡ false }
+{
+    text(alloc, "state", "FILE").help("The file that keeps what was published, for the next start")
+}
+
+/// `--until-eof`.
+fn until_eof<'a>(alloc: Global) -> Arg<'a>
+    ensures rule { rule_of result ≡ live.until_eof }
+    ensures local { result.global ≡ false }
+{
+    flag(alloc, "until-eof").help("End where standard input ends")
+}
+
+/// `--verbose`, without `--quiet`.
+fn verbose<'a>(alloc: Global) -> Result<Arg<'a>, AllocError>
+    ensures rule { IfOk result (λ option. rule_of option ≡ live.verbose) }
+    ensures local { IfOk result (λ option. option.global ≡ false) }
+{
+    flag(alloc, "verbose")
+        .help("Report each screen, too")
+        .conflicts_with("quiet")
+}
+
+/// `--quiet`.
+fn quiet<'a>(alloc: Global) -> Arg<'a>
+    ensures rule { rule_of result ≡ live.quiet }
+    ensures local { result.global ≡ false }
+{
+    flag(alloc, "quiet").help("Report nothing but why the command ends")
+}
+
+/// A command with the options that say what is followed.
+fn with_upstream<'a>(alloc: Global, command: Command<'a>) -> Result<Command<'a>, AllocError>
+    ensures { IfOk result (λ c. app_of c ≡ live.with_upstream (app_of command.entry)) }
+{
+    let followed = add_option(command, options::contest(alloc))?;
+    let followed = add_option(followed, host(alloc)?)?;
+    let followed = add_option(followed, port(alloc)?)?;
+    let followed = add_option(followed, base(alloc)?)?;
+    add_option(followed, from(alloc)?)
+}
+
+/// A command with the options that say to whom it is served, and how.
+fn with_screens<'a>(alloc: Global, command: Command<'a>) -> Result<Command<'a>, AllocError>
+    ensures { IfOk result (λ c. app_of c ≡ live.with_screens (app_of command.entry)) }
+{
+    let served = add_option(command, listen(alloc)?)?;
+    let served = add_option(served, address(alloc)?)?;
+    let served = add_option(served, screens(alloc))?;
+    let served = add_option(served, idle(alloc))?;
+    let served = add_option(served, window(alloc))?;
+    add_option(served, options::chunked(alloc))
+}
+
+/// A command with the options that say what is kept and reported, and when it ends.
+fn with_course<'a>(alloc: Global, command: Command<'a>) -> Result<Command<'a>, AllocError>
+    ensures { IfOk result (λ c. app_of c ≡ live.with_course (app_of command.entry)) }
+{
+    let kept = add_option(command, state(alloc))?;
+    let kept = add_option(kept, until_eof(alloc))?;
+    let kept = add_option(kept, verbose(alloc)?)?;
+    add_option(kept, quiet(alloc))
+}
+
+/// `live`.
+pub(super) fn live<'a>(alloc: Global) -> Result<Command<'a>, AllocError>
+    ensures { IfOk result (λ c. app_of c ≡ live.live) }
+{
+    let about = "Follows an event feed for ever and serves it to many screens at once";
+    let live = with_upstream(alloc, command(alloc, "live", about))?;
+    let live = with_screens(alloc, live)?;
+    let live = with_course(alloc, live)?;
+    with_limits(alloc, live)
+}
