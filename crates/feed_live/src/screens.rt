@@ -114,7 +114,14 @@ impl Screens {
     }
 
     /// The connection at a place is over: its seat, its socket and its place are given back.
-    fn end<S: Sockets>(&mut self, sockets: &mut S, told: &mut Telling, at: usize, how: How, now: u64) {
+    fn end<S: Sockets>(
+        &mut self,
+        sockets: &mut S,
+        told: &mut Telling,
+        at: usize,
+        how: How,
+        now: u64,
+    ) {
         sockets.close(at);
         let Some(conn) = self.conns.try_remove(at) else {
             return;
@@ -320,7 +327,13 @@ impl Screens {
     }
 
     /// The peer sends no more; it may still read.
-    fn end_of_input<S: Sockets>(&mut self, sockets: &mut S, told: &mut Telling, at: usize, now: u64) {
+    fn end_of_input<S: Sockets>(
+        &mut self,
+        sockets: &mut S,
+        told: &mut Telling,
+        at: usize,
+        now: u64,
+    ) {
         self.is_read(at);
         match self.conns.get(at).map(|conn| conn.stage) {
             Some(Stage::Asks) => self.end(sockets, told, at, How::Left, now),

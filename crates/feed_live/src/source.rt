@@ -403,12 +403,7 @@ impl Source {
     }
 
     /// Says what had to wait.
-    pub(crate) fn say_more(
-        &mut self,
-        alloc: Global,
-        screens: &mut Screens,
-        now: u64,
-    ) {
+    pub(crate) fn say_more(&mut self, alloc: Global, screens: &mut Screens, now: u64) {
         screens.relay(alloc, self.mirror.node(), now);
     }
 

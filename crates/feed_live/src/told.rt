@@ -70,11 +70,20 @@ impl fmt::Display for How {
 #[derive(Clone, Copy, Debug)]
 pub enum Told {
     /// A server answers, after so long without one.
-    Found { server: usize, away: u64 },
+    Found {
+        server: usize,
+        away: u64,
+    },
     /// A server is left, and the next is asked after so long.
-    Lost { server: usize, why: Why, pause: u64 },
+    Lost {
+        server: usize,
+        why: Why,
+        pause: u64,
+    },
     /// A server doesn't hold the token that it was asked with.
-    Refused { server: usize },
+    Refused {
+        server: usize,
+    },
     /// The input can't be followed: nothing more of it is read.
     BadInput(FeedFault),
     /// The input has ended.
@@ -102,9 +111,13 @@ pub enum Told {
     /// Requests are answered 503, since no server was heard yet.
     NotHeard,
     /// The state file was begun again with a snapshot of so many bytes.
-    Saved { bytes: u64 },
+    Saved {
+        bytes: u64,
+    },
     /// The state file can't be written; that is tried again after so long.
-    NotSaved { pause: u64 },
+    NotSaved {
+        pause: u64,
+    },
 }
 
 /// What was told and not yet taken.

@@ -181,13 +181,9 @@ impl Live {
     /// Follows bytes of the input, where that is the feed.
     fn feed(&mut self, alloc: Global, piece: &[u8], now: u64) {
         if self.feeds {
-            self.feeds = self.source.take_input(
-                alloc,
-                &mut self.telling,
-                &mut self.screens,
-                piece,
-                now,
-            );
+            self.feeds = self
+                .source
+                .take_input(alloc, &mut self.telling, &mut self.screens, piece, now);
         }
     }
 

@@ -9,7 +9,8 @@ mod telling;
 use crate::sockets::without_brackets;
 use feed_answer::Place;
 use feed_cli::{
-    AddressFault, Fault, LiveOptions, NetworkFault, PullOptions, UpstreamOptions, Verbosity, servers_of,
+    AddressFault, Fault, LiveOptions, NetworkFault, PullOptions, UpstreamOptions, Verbosity,
+    servers_of,
 };
 use feed_live::{Devices, Input, Live, LiveLimits, Ready, Restored, Start, Turn, restore};
 use feed_node::{Limits, Mirror};
@@ -74,7 +75,10 @@ fn servers(rt: &HostRuntime, options: &LiveOptions<'_>) -> Result<Asked, Fault> 
         });
     };
     let servers = servers_of(rt.alloc(), &pull_options(options, upstream))?;
-    push(&mut addresses, address_of(rt, upstream.host, upstream.port)?)?;
+    push(
+        &mut addresses,
+        address_of(rt, upstream.host, upstream.port)?,
+    )?;
     for (host, port) in &servers.further {
         push(&mut addresses, address_of(rt, host.as_str(), *port)?)?;
     }
@@ -215,7 +219,14 @@ fn prepare<'r>(rt: &'r HostRuntime, options: &LiveOptions<'_>) -> Result<Engine<
     let poll = of_system(Poll::new(rt))?;
     let mut devices = devices(rt, &poll, options, names, asked.addresses)?;
     let contest = needs_memory(String::from_str(alloc, options.contest))?;
-    let live = Live::new(alloc, contest, limits_of(options), start, &mut devices.store, 0);
+    let live = Live::new(
+        alloc,
+        contest,
+        limits_of(options),
+        start,
+        &mut devices.store,
+        0,
+    );
     Ok(Engine {
         rt,
         events: needs_memory(Events::with_capacity(alloc, EVENTS))?,
@@ -288,13 +299,7 @@ impl Engine<'_> {
                 Err(_) => Input::End,
             };
         }
-        Ok(self.live.turn(
-            self.rt.alloc(),
-            &mut self.devices,
-            &self.ready,
-            input,
-            now,
-        ))
+        Ok(self.live.turn(self.rt.alloc(), &mut self.devices, &self.ready, input, now))
     }
 
     /// Writes what happened.

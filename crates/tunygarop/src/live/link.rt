@@ -48,7 +48,11 @@ impl Link for Servers<'_> {
             return Err(Stop::Failed);
         };
         let interests = Interest::READABLE | Interest::WRITABLE;
-        if self.registry.register(&mut stream, LINK, interests).is_err() {
+        if self
+            .registry
+            .register(&mut stream, LINK, interests)
+            .is_err()
+        {
             return Err(Stop::Failed);
         }
         self.stream = Some(stream);

@@ -57,9 +57,7 @@ pub(crate) fn text_of(
 
 fn text_of_rest(alloc: Global, told: &Told) -> Result<String, AllocError> {
     match *told {
-        Told::BadInput(fault) => {
-            format!(in alloc; "input: {fault}; nothing more of it is read")
-        }
+        Told::BadInput(fault) => { format!(in alloc; "input: {fault}; nothing more of it is read") }
         Told::EndOfInput => String::from_str(alloc, "input: ended"),
         Told::Screens {
             now,
@@ -69,7 +67,10 @@ fn text_of_rest(alloc: Global, told: &Told) -> Result<String, AllocError> {
         } => format!(in alloc; "screens: {now}; {came} came, {ended} ended, {cut} cut"),
         Told::Full => String::from_str(alloc, "screens: too many, one more is answered 503"),
         Told::NoAccept => {
-            String::from_str(alloc, "screens: none can be taken (too many open files?), for 1 s")
+            String::from_str(
+                alloc,
+                "screens: none can be taken (too many open files?), for 1 s",
+            )
         }
         Told::NotHeard => String::from_str(alloc, "screens: answered 503, no upstream was heard"),
         Told::Saved { bytes } => {
