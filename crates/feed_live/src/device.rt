@@ -25,7 +25,7 @@ pub trait Sockets {
     /// Takes the connection that has waited longest, and answers who it is. It never waits.
     fn accept(&mut self, at: usize) -> Result<SocketAddr, Stop>;
 
-    /// Reads some bytes into the first ones of `buf`, and answers how many: none where no more come.
+    /// Reads some bytes to the start of `buf`, and answers how many: none where no more come.
     fn read(&mut self, at: usize, buf: &mut [u8]) -> Result<usize, Stop>
         requires { 0 < length buf.old }
         ensures same { length buf.new ≡ length buf.old }
@@ -56,7 +56,7 @@ pub trait Link {
     /// is, or fails.
     fn is_open(&mut self) -> Result<bool, Stop>;
 
-    /// Reads some bytes into the first ones of `buf`, and answers how many: none where no more come.
+    /// Reads some bytes to the start of `buf`, and answers how many: none where no more come.
     fn read(&mut self, buf: &mut [u8]) -> Result<usize, Stop>
         requires { 0 < length buf.old }
         ensures same { length buf.new ≡ length buf.old }

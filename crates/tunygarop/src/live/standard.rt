@@ -127,7 +127,7 @@ impl ErrorStream {
         self.missed > 0 && self.kept.is_empty()
     }
 
-    /// Writes some of what is kept, where that does not wait. The next event tells when more can be.
+    /// Writes some of what is kept, where that does not wait. An event tells when more can be.
     pub(crate) fn write(&mut self, rt: &HostRuntime, registry: &Registry) {
         if !self.is_ready || self.kept.is_empty() {
             return;
