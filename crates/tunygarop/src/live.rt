@@ -285,20 +285,24 @@ impl Engine<'_> {
         Ok(())
     }
 
+    /// Reads what the input has, where that is to be read: how much, none at its end.
+    fn read_input(&mut self, takes_input: bool) -> Option<usize> {
+        if !takes_input || !self.input.is_ready() {
+            return None;
+        }
+        let registry = self.poll.registry();
+        Some(self.input.read(self.rt, registry, &mut self.piece))
+    }
+
     /// One turn, with what the input has where that is read.
     fn turn(&mut self, takes_input: bool) -> io::Result<Turn> {
         let now = self.now()?;
-        let mut input = Input::Nothing;
-        if takes_input && self.input.is_ready() {
-            let read = self
-                .input
-                .read(self.rt, self.poll.registry(), &mut self.piece);
-            input = match read {
-                Ok(0) => Input::End,
-                Ok(count) => Input::Bytes(self.piece.get(..count).unwrap_or(&[])),
-                Err(_) => Input::End,
-            };
-        }
+        let read = self.read_input(takes_input);
+        let input = match read {
+            None => Input::Nothing,
+            Some(0) => Input::End,
+            Some(count) => Input::Bytes(first(self.piece.as_slice(), count)),
+        };
         Ok(self.live.turn(self.rt.alloc(), &mut self.devices, &self.ready, input, now))
     }
 
@@ -351,6 +355,11 @@ impl Engine<'_> {
         }
         Ok(())
     }
+}
+
+/// The first bytes of a piece, so many.
+fn first(piece: &[u8], count: usize) -> &[u8] {
+    piece.get(..count).unwrap_or(piece)
 }
 
 /// Follows a server, or standard input, and serves what that publishes.

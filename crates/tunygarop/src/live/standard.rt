@@ -2,7 +2,6 @@
 
 use mio::unix::SourceFd;
 use mio::{Interest, Registry, Token};
-use std::io;
 use std::io::{Read, Write};
 
 /// The tokens of the two.
@@ -60,20 +59,18 @@ impl InputStream {
         self.is_ready
     }
 
-    /// Reads once what is there. The next event tells whether there is more.
-    pub(crate) fn read(
-        &mut self,
-        rt: &HostRuntime,
-        registry: &Registry,
-        buf: &mut [u8],
-    ) -> io::Result<usize> {
+    /// Reads once what is there, and answers how much: none at the end, and where it can't be read.
+    /// The next event tells whether there is more.
+    pub(crate) fn read(&mut self, rt: &HostRuntime, registry: &Registry, buf: &mut [u8]) -> usize {
         let count = rt.reader().read(buf).unwrap_or(0);
         self.has_ended = count == 0;
         if self.is_told_of {
-            self.is_ready = false;
-            registry.reregister(&mut SourceFd(&INPUT_FD), INPUT, Interest::READABLE)?;
+            let source = &mut SourceFd(&INPUT_FD);
+            self.is_ready = registry
+                .reregister(source, INPUT, Interest::READABLE)
+                .is_err();
         }
-        Ok(count)
+        count
     }
 }
 

@@ -58,7 +58,7 @@ pub(crate) fn text_of(
 fn text_of_rest(alloc: Global, told: &Told) -> Result<String, AllocError> {
     match *told {
         Told::BadInput(fault) => { format!(in alloc; "input: {fault}; nothing more of it is read") }
-        Told::EndOfInput => String::from_str(alloc, "input: ended"),
+        Told::EndOfInput => String::from_str(alloc, "end of the input"),
         Told::Screens {
             now,
             came,
