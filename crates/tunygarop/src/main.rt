@@ -1,6 +1,7 @@
 //! The program: its arguments, standard streams and sockets, for the commands of `feed_cli`.
 #![tactic(auto)]
 
+mod live;
 mod pull;
 mod relay;
 mod serve;
@@ -8,6 +9,7 @@ mod sockets;
 
 use feed_cli::stream::Stream;
 use feed_cli::{Fault, Local, NoCommand, Request, answer_words, parse_words, run, tell};
+use live::live_feed;
 use pull::pull_feed;
 use relay::relay_feed;
 use serve::serve_feed;
@@ -56,10 +58,7 @@ fn run_request(rt: &HostRuntime, request: &Request<'_>) -> u8 {
         Request::Serve(options) => ended(rt, "serve", serve_feed(rt, options)),
         Request::Pull(options) => ended(rt, "pull", pull_feed(rt, options)),
         Request::Relay(options) => ended(rt, "relay", relay_feed(rt, options)),
-        Request::Live(_) => {
-            let _ = eprintln!(rt; "live: this build has no sockets for it");
-            REFUSED
-        }
+        Request::Live(options) => ended(rt, "live", live_feed(rt, options)),
     }
 }
 

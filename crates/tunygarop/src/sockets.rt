@@ -51,7 +51,7 @@ impl<'r, 'o, 'f> Dialer<'r, 'o, 'f> {
 }
 
 /// An address without the brackets around it, where it has both.
-fn without_brackets(host: &str) -> &str {
+pub(crate) fn without_brackets(host: &str) -> &str {
     match host.strip_prefix('[') {
         Some(rest) => rest.strip_suffix(']').unwrap_or(host),
         None => host,

@@ -1,0 +1,96 @@
+//! One screen's connection, as the turn keeps it beside its socket.
+
+use feed_hub::Key;
+use std::net::SocketAddr;
+
+/// For how long, in milliseconds, what still comes is read after the last byte was sent, and how
+/// much of it. Closed with bytes unread, a connection may lose the end of its answer.
+const LINGER: u64 = 2_000;
+
+const LINGER_BYTES: usize = 65_536;
+
+/// How far a connection has come.
+#[derive(Clone, Copy, PartialEq, Eq)]
+pub(crate) enum Stage {
+    /// Its request comes.
+    Asks,
+    /// It is sent its answer, and what follows.
+    Watches,
+    /// All was sent: until then, and for so many bytes, what comes is read and forgotten.
+    Lingers { until: u64, left: usize },
+}
+
+/// A connection. Its socket is at the same place.
+#[derive(Clone, Copy)]
+pub(crate) struct Conn {
+    /// Its key in the hub; none where it has no seat there, or no longer.
+    pub(crate) key: Option<Key>,
+    pub(crate) stage: Stage,
+    /// The last write would have waited, or took a part alone.
+    pub(crate) is_blocked: bool,
+    /// There may be more to read, and more to write, of which no event will tell.
+    pub(crate) has_input: bool,
+    pub(crate) has_more: bool,
+    pub(crate) peer: SocketAddr,
+    pub(crate) since: u64,
+    pub(crate) status: u16,
+    pub(crate) bytes: u64,
+}
+
+impl Conn {
+    /// A connection that came just now.
+    pub(crate) fn new(peer: SocketAddr, now: u64) -> Conn {
+        Conn {
+            key: None,
+            stage: Stage::Asks,
+            is_blocked: false,
+            has_input: false,
+            has_more: false,
+            peer,
+            since: now,
+            status: 0,
+            bytes: 0,
+        }
+    }
+
+    /// Its socket became ready.
+    pub(crate) fn wake(&mut self, is_readable: bool, is_writable: bool) {
+        if is_readable {
+            self.has_input = true;
+        }
+        if is_writable {
+            self.is_blocked = false;
+        }
+    }
+
+    /// All was sent.
+    pub(crate) fn linger(&mut self, now: u64) {
+        self.key = None;
+        self.has_more = false;
+        self.stage = Stage::Lingers {
+            until: now.saturating_add(LINGER),
+            left: LINGER_BYTES,
+        };
+    }
+
+    /// So many bytes were read and forgotten. Whether the connection is to be closed.
+    pub(crate) fn forget(&mut self, count: usize) -> bool {
+        let Stage::Lingers { until, left } = self.stage else {
+            return false;
+        };
+        self.stage = Stage::Lingers {
+            until,
+            left: left.saturating_sub(count),
+        };
+        left <= count
+    }
+
+    /// Whether it has lingered for long enough.
+    pub(crate) fn is_past(&self, now: u64) -> bool {
+        match self.stage {
+            Stage::Lingers { until, .. } => until <= now,
+            Stage::Asks => false,
+            Stage::Watches => false,
+        }
+    }
+}

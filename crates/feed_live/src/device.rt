@@ -1,0 +1,125 @@
+//! What a turn reads from and writes to, by what a contract can say of it.
+
+ghost use Rattle.std.specs.Prelude.{◌≡◌, ◌≢◌, ◌<◌, ◌≤◌, ℕ, List, Option, None, length, IfOk};
+ghost use Rattle.std.specs.Io.KnownBytes.{Keeps, WriteAppends};
+
+use std::net::SocketAddr;
+
+/// Why a device did nothing.
+#[derive(Clone, Copy, Debug, PartialEq, Eq)]
+pub enum Stop {
+    /// It would have to wait: it is told when it is ready again.
+    Waits,
+    /// It is this one that failed, and the next may not: a connection that broke off before it was
+    /// taken.
+    Gone,
+    /// It failed.
+    Failed,
+}
+
+/// The sockets of screens, each at a number that is given to it.
+pub trait Sockets {
+    // The bytes that were written to the socket at a number, where they are known.
+    ghost written: { Self → ℕ → Option (List ℕ) } = { λ _ _. None };
+
+    /// Takes the connection that has waited longest, and answers who it is. It never waits.
+    fn accept(&mut self, at: usize) -> Result<SocketAddr, Stop>;
+
+    /// Reads some bytes to the start of `buf`, and answers how many: none where no more come.
+    fn read(&mut self, at: usize, buf: &mut [u8]) -> Result<usize, Stop>
+        requires { 0 < length buf.old }
+        ensures same { length buf.new ≡ length buf.old }
+        ensures bound { IfOk result (λ n. n ≤ length buf.new) }
+        ensures written { (other : ℕ) → Keeps (written self.old other) (written self.new other) };
+
+    /// Writes some of the bytes, from the first on, and answers how many.
+    fn write(&mut self, at: usize, bytes: &[u8]) -> Result<usize, Stop>
+        ensures bound { IfOk result (λ n. n ≤ length bytes.now) }
+        ensures bytes { WriteAppends (written self.old at) (written self.new at) result bytes.now }
+        ensures others { (other : ℕ) → other ≢ at
+            → Keeps (written self.old other) (written self.new other) };
+
+    /// Ends what is sent; what comes may still be read.
+    fn shut(&mut self, at: usize)
+        ensures written { (other : ℕ) → Keeps (written self.old other) (written self.new other) };
+
+    /// Closes the connection, where there is one.
+    fn close(&mut self, at: usize);
+}
+
+/// The connection to one server of several.
+pub trait Link {
+    /// Begins to connect to the server of this number. One that was open is closed.
+    fn connect(&mut self, server: usize) -> Result<(), Stop>;
+
+    /// Whether the connection that was begun is open. It is asked again after each event until it
+    /// is, or fails.
+    fn is_open(&mut self) -> Result<bool, Stop>;
+
+    /// Reads some bytes to the start of `buf`, and answers how many: none where no more come.
+    fn read(&mut self, buf: &mut [u8]) -> Result<usize, Stop>
+        requires { 0 < length buf.old }
+        ensures same { length buf.new ≡ length buf.old }
+        ensures bound { IfOk result (λ n. n ≤ length buf.new) };
+
+    /// Writes some of the bytes, from the first on, and answers how many.
+    fn write(&mut self, bytes: &[u8]) -> Result<usize, Stop>
+        ensures bound { IfOk result (λ n. n ≤ length bytes.now) };
+
+    /// Closes the connection, where there is one.
+    fn close(&mut self);
+}
+
+/// What becomes of the file that is kept beside the state file, when that is begun again.
+#[derive(Clone, Copy, Debug, PartialEq, Eq)]
+pub enum Before {
+    /// The former state file takes its place.
+    Replaced,
+    /// It stays.
+    Stays,
+    /// It goes: it is of another feed.
+    Goes,
+}
+
+/// The file of the state, the one that takes its place once it is whole, and the one before.
+pub trait Store {
+    /// Goes on with the file, of which only so many bytes count.
+    fn resume(&mut self, length: u64) -> Result<(), Stop>;
+
+    /// Appends some of the bytes to the file, from the first on, and answers how many.
+    fn append(&mut self, bytes: &[u8]) -> Result<usize, Stop>
+        ensures bound { IfOk result (λ n. n ≤ length bytes.now) };
+
+    /// Begins the file that is to take its place.
+    fn begin(&mut self) -> Result<(), Stop>;
+
+    /// Appends some of the bytes to that one, from the first on, and answers how many.
+    fn append_next(&mut self, bytes: &[u8]) -> Result<usize, Stop>
+        ensures bound { IfOk result (λ n. n ≤ length bytes.now) };
+
+    /// It takes the place of the file. What becomes of the one before is said, too.
+    fn replace(&mut self, before: Before) -> Result<(), Stop>;
+}
+
+/// All that a turn reads from and writes to.
+#[derive(Drop)]
+pub struct Devices<S, L, D> {
+    pub sockets: S,
+    pub link: L,
+    pub store: D,
+}
+
+/// What became ready.
+#[derive(Clone, Copy, Debug)]
+pub enum Ready {
+    /// A connection waits to be taken.
+    Listener,
+    /// The connection to a server.
+    Link,
+    /// The socket of a screen.
+    Screen {
+        at: usize,
+        is_readable: bool,
+        is_writable: bool,
+    },
+}

@@ -1,0 +1,39 @@
+//! The one place where a screen is sent anything of the hub's.
+
+ghost use Rattle.std.specs.Prelude.{◌≡◌, ◌≢◌, ◌≤◌, ◌++◌, List, ℕ, IfOk, OnErr, length, take};
+ghost use Rattle.std.specs.Io.KnownBytes.{Keeps, WriteAppends};
+ghost use Rattle.feed_node.specs.States.{NodeState};
+ghost use Rattle.feed_answer.specs.Answered.{AnswerParts};
+ghost use Rattle.feed_hub.specs.Hub.{IsSeated, ChangesOnly, prefix_at};
+
+use crate::device::{Sockets, Stop};
+use feed_hub::{Hub, Key};
+
+/// Writes once what the connection at a key is sent next, to the socket at a number, and tells the
+/// hub of just the bytes that the socket took. Answers how many these are.
+pub(crate) fn hand<S: Sockets>(
+    hub: &mut Hub,
+    sockets: &mut S,
+    at: usize,
+    key: Key,
+    now: u64,
+) -> Result<usize, Stop>
+    // what the socket was given is what the hub was told of, at the same key
+    ensures bytes { WriteAppends (S.written sockets.old at) (S.written sockets.new at) result
+        (prefix_at hub.old key) }
+    ensures bound { IfOk result (λ count. count ≤ length (prefix_at hub.old key)) }
+    ensures served { (nodes : List NodeState) (answer : AnswerParts) (handed : List ℕ)
+        → IsSeated nodes hub.old key answer handed
+        → IfOk result (λ count. IsSeated nodes hub.new key answer
+        (handed ++ take count (prefix_at hub.old key))) }
+
+    // and nothing else changes
+    ensures sockets { (other : ℕ) → other ≢ at
+        → Keeps (S.written sockets.old other) (S.written sockets.new other) }
+    ensures rest { IfOk result (λ _. ChangesOnly hub.old hub.new key) }
+    ensures err { OnErr result (hub.new ≡ hub.old) }
+{
+    let count = sockets.write(at, hub.prefix(key))?;
+    hub.sent(key, count, now);
+    Ok(count)
+}

@@ -1,0 +1,29 @@
+//! One turn of a relay that follows a server for ever and serves many screens: what came on its
+//! sockets is read, said and sent on, and nothing waits.
+//!
+//! The turn has no handle. What it reads from and writes to is given (`Devices`), and so is the
+//! time, in milliseconds. Whoever runs it waits until a device is ready, or the time has come that
+//! the turn named, and runs the next one. What happened is told as values (`Told`).
+//!
+//! A turn goes from upstream to the screens: what upstream sent is followed and said first, then
+//! whoever is gone is closed, then screens are written to and read from, and new ones come last. So
+//! nobody is answered with what is old already, and a place is given again only once the socket
+//! that had it is closed.
+#![tactic(auto)]
+
+mod conn;
+mod device;
+mod hand;
+mod options;
+mod relay;
+mod saved;
+mod screens;
+mod source;
+mod told;
+mod turn;
+
+pub use device::{Before, Devices, Link, Ready, Sockets, Stop, Store};
+pub use options::{LiveLimits, Start};
+pub use saved::{Restored, restore};
+pub use told::{How, Told, Why};
+pub use turn::{Input, Live, Turn};

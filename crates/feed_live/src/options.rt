@@ -1,0 +1,35 @@
+//! What a relay is asked to be.
+
+use crate::saved::Restored;
+use feed_answer::{Framing, Place};
+use feed_node::Mirror;
+
+/// How many screens, and how far back and how silent they may be.
+#[derive(Clone, Copy, Debug)]
+pub struct LiveLimits {
+    /// How many screens there may be at once.
+    pub screens: usize,
+    /// How many bytes a screen may be behind.
+    pub window: u64,
+    /// After how many milliseconds of silence a line feed is sent; a server that is silent for
+    /// twice that is left.
+    pub idle: u64,
+    pub framing: Framing,
+    /// Whether each screen is told of.
+    pub is_verbose: bool,
+    /// Whether there is a file that the state is kept in.
+    pub has_store: bool,
+    /// Whether the relay ends with the input.
+    pub ends_with_input: bool,
+}
+
+/// What a relay starts from.
+#[derive(Drop)]
+pub struct Start {
+    /// The servers that are asked; none where the feed is the input.
+    pub places: Vec<Place>,
+    /// What the state files had.
+    pub restored: Restored,
+    /// A mirror that has published nothing.
+    pub blank: Mirror,
+}

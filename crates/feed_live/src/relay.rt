@@ -1,0 +1,216 @@
+//! What the node has more is said to all screens.
+
+use crate::device::Sockets;
+use crate::screens::{Counts, Screens};
+use crate::told::{Telling, Told};
+use feed_hub::Said;
+use feed_node::{Node, Pulled};
+use std::alloc::Global;
+
+/// For how long nothing more is said after a window was, where a socket has yet to take it, in
+/// milliseconds.
+const SAY_PAUSE: u64 = 50;
+
+/// How many milliseconds after a failure for want of memory the same is tried again.
+const MEMORY_PAUSE: u64 = 1_000;
+
+/// After how many milliseconds a screen is cut that took none of its own bytes.
+const STALL: u64 = 60_000;
+
+/// What was said, and what is still to be done for it.
+#[derive(Clone, Copy)]
+pub(crate) struct Saying {
+    /// The log was trimmed in this turn.
+    is_trimmed: bool,
+    /// Something was said, or all were ended, and nobody was written to since. An end adds nothing
+    /// to the log.
+    is_due: bool,
+    /// There is more to say, at this time.
+    waits: Option<u64>,
+    /// Something was said last.
+    spoke: u64,
+}
+
+impl Saying {
+    pub(crate) fn new() -> Saying {
+        Saying {
+            is_trimmed: false,
+            is_due: false,
+            waits: None,
+            spoke: 0,
+        }
+    }
+}
+
+impl Screens {
+    /// A turn begins. Whether somebody had more to read or to write in the last one.
+    pub(crate) fn begin_turn(&mut self) -> bool {
+        self.saying.is_trimmed = false;
+        let had_more = self.has_more;
+        self.has_more = false;
+        had_more
+    }
+
+    /// Whether what had to wait can be said now: the time has come, or all took what was said.
+    pub(crate) fn says_now(&self, now: u64) -> bool {
+        match self.saying.waits {
+            Some(at) => at <= now || !self.is_any_blocked(),
+            None => false,
+        }
+    }
+
+    fn is_any_blocked(&self) -> bool {
+        for at in 0..self.conns.capacity() {
+            if self.conns.get(at).is_some_and(|conn| conn.is_blocked) {
+                return true;
+            }
+        }
+        false
+    }
+
+    /// When there is something to do of which no event will tell.
+    pub(crate) fn due(&self, now: u64) -> u64 {
+        if self.has_more || self.says_now(now) {
+            return now;
+        }
+        let says = self.saying.waits.unwrap_or(u64::MAX);
+        if self.is_waited_for {
+            says.min(self.accept_at)
+        } else {
+            says
+        }
+    }
+
+    /// How many screens there are, where some came or went since that was told.
+    pub(crate) fn report(&mut self) -> Option<Told> {
+        self.is_full = false;
+        self.is_stuck = false;
+        let counts = self.counts;
+        if counts.is_none() {
+            return None;
+        }
+        self.counts = Counts::none();
+        Some(Told::Screens {
+            now: self.conns.len(),
+            came: counts.came,
+            ended: counts.ended,
+            cut: counts.cut,
+        })
+    }
+
+    /// When there is more to say that has to wait.
+    pub(crate) fn says_at(&self) -> Option<u64> {
+        self.saying.waits
+    }
+
+    /// Whether what is said is as far as the node.
+    fn is_at(&self, node: &Node) -> bool {
+        match (self.hub.broadcast().told(), node.token()) {
+            (Some(told), Some(token)) => told.text() == token.text(),
+            (None, None) => true,
+            (Some(_), None) => false,
+            (None, Some(_)) => false,
+        }
+    }
+
+    /// Cuts who is too far behind, once a turn and only where there is something to say: so each
+    /// has the time from one commit to the next, however long they are.
+    fn trim(&mut self) {
+        if !self.saying.is_trimmed {
+            self.hub.trim();
+            self.saying.is_trimmed = true;
+        }
+    }
+
+    /// Says what the node has more. Whether it published since that was called last.
+    pub(crate) fn relay(&mut self, alloc: Global, node: &Node, now: u64) -> bool {
+        if self.is_at(node) {
+            self.saying.waits = None;
+            return false;
+        }
+        self.trim();
+        for _ in 0..node.kept().saturating_add(2) {
+            if !self.say_one(alloc, node, now) {
+                break;
+            }
+        }
+        true
+    }
+
+    /// Says the next commit. Whether there may be more that can be said now.
+    fn say_one(&mut self, alloc: Global, node: &Node, now: u64) -> bool {
+        self.saying.waits = None;
+        match self.hub.say_next(alloc, node) {
+            Ok(Said::Looked(Pulled::More)) => {
+                self.spoke(now);
+                true
+            }
+            Ok(Said::Looked(Pulled::UpToDate)) => false,
+            Ok(Said::Looked(Pulled::Gone)) => {
+                self.end_feeds(alloc, now);
+                true
+            }
+            Ok(Said::Waits) => {
+                self.saying.waits = Some(now.saturating_add(SAY_PAUSE));
+                false
+            }
+            Err(_) => {
+                self.saying.waits = Some(now.saturating_add(MEMORY_PAUSE));
+                false
+            }
+        }
+    }
+
+    fn spoke(&mut self, now: u64) {
+        self.saying.is_due = true;
+        self.saying.spoke = now;
+    }
+
+    /// Ends the bodies of all who follow the log.
+    pub(crate) fn end_feeds(&mut self, alloc: Global, now: u64) {
+        // Who there was no memory for is cut.
+        let _ = self.hub.end_all(alloc, now);
+        self.spoke(now);
+    }
+
+    /// Writes to all, where something was said.
+    pub(crate) fn drain_due<S: Sockets>(
+        &mut self,
+        alloc: Global,
+        sockets: &mut S,
+        told: &mut Telling,
+        node: &Node,
+        now: u64,
+    ) {
+        if !self.saying.is_due {
+            return;
+        }
+        self.saying.is_due = false;
+        self.sweep(sockets, told, now);
+        self.drain_all(alloc, sockets, told, node, now);
+    }
+
+    /// When a line feed is due after silence.
+    pub(crate) fn idles_at(&self) -> u64 {
+        self.saying.spoke.saturating_add(self.limits.idle)
+    }
+
+    /// Says a line feed to all, after silence.
+    pub(crate) fn idle(&mut self, alloc: Global, now: u64) {
+        if now < self.idles_at() {
+            return;
+        }
+        let _ = self.hub.say_idle(alloc);
+        for at in 0..self.conns.capacity() {
+            if let Some(key) = self.conns.get(at).and_then(|conn| conn.key) {
+                let _ = self.hub.idle(alloc, key, now);
+            }
+        }
+        self.spoke(now);
+    }
+
+    /// Cuts requests that are late, and screens that took nothing for too long.
+    pub(crate) fn cut_late(&mut self, now: u64) {
+        self.hub.cut_late(now, STALL);
+    }
+}

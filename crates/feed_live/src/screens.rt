@@ -1,0 +1,542 @@
+//! The screens: each has a socket, a connection at the same place, and a seat in the hub.
+
+use crate::conn::{Conn, Stage};
+use crate::device::{Sockets, Stop};
+use crate::hand::hand;
+use crate::options::LiveLimits;
+use crate::relay::Saying;
+use crate::told::{How, Telling, Told};
+use feed_hub::{Hub, Key};
+use feed_node::Node;
+use slab::Slab;
+use std::alloc::Global;
+
+/// How long a request's head may take, in milliseconds.
+const HEAD_TIME: u64 = 30_000;
+
+/// How long a request waits for a server to be heard, in milliseconds.
+pub(crate) const HOLD_TIME: u64 = 10_000;
+
+/// How many connections are taken in one turn.
+const ACCEPTS: usize = 256;
+
+/// For how long none is taken after that failed, in milliseconds.
+const ACCEPT_PAUSE: u64 = 1_000;
+
+/// How many connections there may be beside those that have a seat: refused, and lingering.
+const FURTHER: usize = 256;
+
+/// How many bytes one read takes.
+const PIECE: usize = 4096;
+
+/// What is sent where there are as many screens as there may be.
+const FULL: &[u8] = b"HTTP/1.1 503 Service Unavailable\r\n\
+Content-Type: application/json\r\nContent-Length: 41\r\nConnection: close\r\n\r\n\
+{\"code\":503,\"message\":\"too many screens\"}";
+
+/// What came and went since that was told last.
+#[derive(Clone, Copy)]
+pub(crate) struct Counts {
+    pub(crate) came: u64,
+    pub(crate) ended: u64,
+    pub(crate) cut: u64,
+}
+
+impl Counts {
+    pub(crate) fn none() -> Counts {
+        Counts {
+            came: 0,
+            ended: 0,
+            cut: 0,
+        }
+    }
+
+    pub(crate) fn is_none(&self) -> bool {
+        self.came == 0 && self.ended == 0 && self.cut == 0
+    }
+}
+
+/// What requests are answered with, and what those who were answered are sent.
+#[derive(Clone, Copy)]
+pub(crate) struct Shown<'a> {
+    pub(crate) node: &'a Node,
+    /// A node that has published nothing.
+    pub(crate) blank: &'a Node,
+    /// Requests wait until a server was heard.
+    pub(crate) is_held: bool,
+    pub(crate) contest: &'a str,
+}
+
+impl<'a> Shown<'a> {
+    /// What a request is answered with that came at a time; none while it waits.
+    fn answers(&self, since: u64, now: u64) -> Option<&'a Node> {
+        if !self.is_held {
+            return Some(self.node);
+        }
+        if since.saturating_add(HOLD_TIME) <= now {
+            return Some(self.blank);
+        }
+        None
+    }
+}
+
+#[derive(Drop)]
+pub(crate) struct Screens {
+    pub(crate) hub: Hub,
+    pub(crate) conns: Slab<Conn>,
+    pub(crate) limits: LiveLimits,
+    pub(crate) saying: Saying,
+    pub(crate) counts: Counts,
+    /// Some connection has more to read or to write, of which no event will tell.
+    pub(crate) has_more: bool,
+    /// Somebody waits to be taken; not before this time.
+    pub(crate) is_waited_for: bool,
+    pub(crate) accept_at: u64,
+    /// That was told in this minute.
+    pub(crate) is_full: bool,
+    pub(crate) is_stuck: bool,
+}
+
+impl Screens {
+    pub(crate) fn new(alloc: Global, limits: LiveLimits) -> Screens {
+        Screens {
+            hub: Hub::new(alloc, limits.framing, limits.window, limits.screens),
+            conns: Slab::new(alloc),
+            limits,
+            saying: Saying::new(),
+            counts: Counts::none(),
+            has_more: false,
+            is_waited_for: false,
+            accept_at: 0,
+            is_full: false,
+            is_stuck: false,
+        }
+    }
+
+    /// The connection at a place is over: its seat, its socket and its place are given back.
+    fn end<S: Sockets>(
+        &mut self,
+        sockets: &mut S,
+        told: &mut Telling,
+        at: usize,
+        how: How,
+        now: u64,
+    ) {
+        sockets.close(at);
+        let Some(conn) = self.conns.try_remove(at) else {
+            return;
+        };
+        if let Some(key) = conn.key {
+            self.hub.leave(key);
+        }
+        self.count(how);
+        if self.limits.is_verbose {
+            told.tell(Told::Screen {
+                peer: conn.peer,
+                how,
+                status: conn.status,
+                bytes: conn.bytes,
+                time: now.saturating_sub(conn.since),
+            });
+        }
+    }
+
+    fn count(&mut self, how: How) {
+        match how {
+            How::Cut => self.counts.cut = self.counts.cut.saturating_add(1),
+            _ => self.counts.ended = self.counts.ended.saturating_add(1),
+        }
+    }
+
+    /// Whether the hub cut the connection at a place.
+    fn is_cut(&self, at: usize) -> bool {
+        match self.conns.get(at) {
+            Some(conn) => match conn.key {
+                Some(key) => !self.hub.has(key),
+                None => false,
+            },
+            None => false,
+        }
+    }
+
+    /// Closes the sockets of those that the hub cut. To be called before a seat is given again.
+    pub(crate) fn sweep<S: Sockets>(&mut self, sockets: &mut S, told: &mut Telling, now: u64) {
+        for at in 0..self.conns.capacity() {
+            if self.is_cut(at) {
+                self.end(sockets, told, at, How::Cut, now);
+            }
+        }
+    }
+
+    /// Closes who has lingered for long enough.
+    pub(crate) fn close_past<S: Sockets>(&mut self, sockets: &mut S, told: &mut Telling, now: u64) {
+        for at in 0..self.conns.capacity() {
+            if self.conns.get(at).is_some_and(|conn| conn.is_past(now)) {
+                self.end(sockets, told, at, How::Done, now);
+            }
+        }
+    }
+
+    // ---- who comes
+
+    /// Takes who waits.
+    pub(crate) fn accept<S: Sockets>(
+        &mut self,
+        alloc: Global,
+        sockets: &mut S,
+        told: &mut Telling,
+        now: u64,
+    ) {
+        if !self.is_waited_for || now < self.accept_at {
+            return;
+        }
+        self.sweep(sockets, told, now);
+        for _ in 0..ACCEPTS {
+            if self.conns.len() >= self.limits.screens.saturating_add(FURTHER) {
+                self.accept_at = now.saturating_add(ACCEPT_PAUSE);
+                return;
+            }
+            match self.accept_one(alloc, sockets, told, now) {
+                Ok(()) | Err(Stop::Gone) => {}
+                Err(Stop::Waits) => {
+                    self.is_waited_for = false;
+                    return;
+                }
+                Err(Stop::Failed) => {
+                    self.stick(told, now);
+                    return;
+                }
+            }
+        }
+    }
+
+    /// No connection is taken for a while.
+    fn stick(&mut self, told: &mut Telling, now: u64) {
+        self.accept_at = now.saturating_add(ACCEPT_PAUSE);
+        if !self.is_stuck {
+            told.tell(Told::NoAccept);
+        }
+        self.is_stuck = true;
+    }
+
+    fn accept_one<S: Sockets>(
+        &mut self,
+        alloc: Global,
+        sockets: &mut S,
+        told: &mut Telling,
+        now: u64,
+    ) -> Result<(), Stop> {
+        if self.conns.reserve(1).is_err() {
+            return Err(Stop::Failed);
+        }
+        let at = self.conns.vacant_key();
+        let peer = sockets.accept(at)?;
+        let mut conn = Conn::new(peer, now);
+        self.counts.came = self.counts.came.saturating_add(1);
+        match self.hub.open(alloc, now.saturating_add(HEAD_TIME)) {
+            Ok(key) => conn.key = Some(key),
+            Err(_) => {
+                self.refuse(sockets, told, at);
+                conn.status = 503;
+                conn.linger(now);
+            }
+        }
+        if self.conns.insert(conn).is_err() {
+            sockets.close(at);
+        }
+        Ok(())
+    }
+
+    /// One more than there may be is told so.
+    fn refuse<S: Sockets>(&mut self, sockets: &mut S, told: &mut Telling, at: usize) {
+        let _ = sockets.write(at, FULL);
+        sockets.shut(at);
+        if !self.is_full {
+            told.tell(Told::Full);
+        }
+        self.is_full = true;
+    }
+
+    // ---- what they ask
+
+    /// An event came for the connection at a place.
+    pub(crate) fn wake(&mut self, at: usize, is_readable: bool, is_writable: bool) {
+        if let Some(conn) = self.conns.get_mut(at) {
+            conn.wake(is_readable, is_writable);
+        }
+    }
+
+    /// Reads from the connection at a place once, and writes to it once.
+    pub(crate) fn serve<S: Sockets>(
+        &mut self,
+        alloc: Global,
+        sockets: &mut S,
+        told: &mut Telling,
+        shown: &Shown<'_>,
+        at: usize,
+        now: u64,
+    ) {
+        if self.may_read(shown, at, now) {
+            self.read(alloc, sockets, told, shown, at, now);
+        }
+        self.drain(alloc, sockets, told, shown.node, at, now);
+        if self.has_more_at(shown, at, now) {
+            self.has_more = true;
+        }
+    }
+
+    /// Whether there may be something to read at a place that is to be read now.
+    fn may_read(&self, shown: &Shown<'_>, at: usize, now: u64) -> bool {
+        let Some(conn) = self.conns.get(at) else {
+            return false;
+        };
+        if conn.stage == Stage::Asks && shown.answers(conn.since, now).is_none() {
+            return false;
+        }
+        conn.has_input
+    }
+
+    /// Whether the connection at a place has more to read or to write.
+    fn has_more_at(&self, shown: &Shown<'_>, at: usize, now: u64) -> bool {
+        self.may_read(shown, at, now) || self.conns.get(at).is_some_and(|conn| conn.has_more)
+    }
+
+    fn read<S: Sockets>(
+        &mut self,
+        alloc: Global,
+        sockets: &mut S,
+        told: &mut Telling,
+        shown: &Shown<'_>,
+        at: usize,
+        now: u64,
+    ) {
+        let mut buf = [0u8; PIECE];
+        match sockets.read(at, &mut buf) {
+            Ok(0) => self.end_of_input(sockets, told, at, now),
+            Ok(count) => self.take(alloc, sockets, told, shown, at, &buf[..count], now),
+            Err(Stop::Waits) => self.is_read(at),
+            Err(_) => self.end(sockets, told, at, How::Left, now),
+        }
+    }
+
+    /// There is nothing more to read for now.
+    fn is_read(&mut self, at: usize) {
+        if let Some(conn) = self.conns.get_mut(at) {
+            conn.has_input = false;
+        }
+    }
+
+    /// The peer sends no more; it may still read.
+    fn end_of_input<S: Sockets>(
+        &mut self,
+        sockets: &mut S,
+        told: &mut Telling,
+        at: usize,
+        now: u64,
+    ) {
+        self.is_read(at);
+        match self.conns.get(at).map(|conn| conn.stage) {
+            Some(Stage::Asks) => self.end(sockets, told, at, How::Left, now),
+            Some(Stage::Lingers { .. }) => self.end(sockets, told, at, How::Done, now),
+            _ => {}
+        }
+    }
+
+    /// Bytes came: those of a request are heard, others are forgotten.
+    fn take<S: Sockets>(
+        &mut self,
+        alloc: Global,
+        sockets: &mut S,
+        told: &mut Telling,
+        shown: &Shown<'_>,
+        at: usize,
+        piece: &[u8],
+        now: u64,
+    ) {
+        let Some(conn) = self.conns.get_mut(at) else {
+            return;
+        };
+        match (conn.stage, conn.key) {
+            (Stage::Asks, Some(key)) => {
+                let Some(node) = shown.answers(conn.since, now) else {
+                    return;
+                };
+                if !self.hear(alloc, node, shown.contest, key, at, piece, now) {
+                    self.end(sockets, told, at, How::Memory, now);
+                }
+            }
+            _ => {
+                if conn.forget(piece.len()) {
+                    self.end(sockets, told, at, How::Done, now);
+                }
+            }
+        }
+    }
+
+    /// Hands bytes of a request to the hub. Whether there was memory for them.
+    fn hear(
+        &mut self,
+        alloc: Global,
+        node: &Node,
+        contest: &str,
+        key: Key,
+        at: usize,
+        piece: &[u8],
+        now: u64,
+    ) -> bool {
+        let mut rest = piece;
+        for _ in 0..piece.len() {
+            let Ok(heard) = self.hub.hear(alloc, node, contest, key, rest, now) else {
+                return false;
+            };
+            if let Some(status) = heard.status {
+                self.is_answered(at, status);
+                break;
+            }
+            if heard.taken == 0 {
+                break;
+            }
+            rest = rest.get(heard.taken..).unwrap_or(&[]);
+        }
+        true
+    }
+
+    fn is_answered(&mut self, at: usize, status: u16) {
+        if let Some(conn) = self.conns.get_mut(at) {
+            conn.stage = Stage::Watches;
+            conn.status = status;
+        }
+    }
+
+    // ---- what they are sent
+
+    /// The seat of the connection at a place, where that can be written to now.
+    fn writable(&mut self, at: usize) -> Option<Key> {
+        let conn = self.conns.get_mut(at)?;
+        conn.has_more = false;
+        if conn.is_blocked || conn.stage != Stage::Watches {
+            return None;
+        }
+        conn.key
+    }
+
+    /// Writes to the connection at a place, once: each has its turn.
+    pub(crate) fn drain<S: Sockets>(
+        &mut self,
+        alloc: Global,
+        sockets: &mut S,
+        told: &mut Telling,
+        node: &Node,
+        at: usize,
+        now: u64,
+    ) {
+        let Some(key) = self.writable(at) else {
+            return;
+        };
+        if !self.fill(alloc, sockets, told, node, at, key, now) {
+            return;
+        }
+        match self.write(sockets, at, key, now) {
+            Ok(true) => {
+                let has_more = self.fill(alloc, sockets, told, node, at, key, now);
+                if let Some(conn) = self.conns.get_mut(at) {
+                    conn.has_more = has_more;
+                }
+            }
+            Ok(false) => {}
+            Err(_) => self.end(sockets, told, at, How::Left, now),
+        }
+    }
+
+    /// Whether there is something to write at a place, now that it has what comes next. Where
+    /// nothing ever will be, it is shut.
+    fn fill<S: Sockets>(
+        &mut self,
+        alloc: Global,
+        sockets: &mut S,
+        told: &mut Telling,
+        node: &Node,
+        at: usize,
+        key: Key,
+        now: u64,
+    ) -> bool {
+        if !self.hub.prefix(key).is_empty() {
+            return true;
+        }
+        if self.hub.refill(alloc, node, key, now).is_err() {
+            self.end(sockets, told, at, How::Memory, now);
+            return false;
+        }
+        if !self.hub.prefix(key).is_empty() {
+            return true;
+        }
+        if self.hub.is_over(key) {
+            self.finish(sockets, at, key, now);
+        }
+        false
+    }
+
+    /// All was sent: what still comes is read for a while.
+    fn finish<S: Sockets>(&mut self, sockets: &mut S, at: usize, key: Key, now: u64) {
+        self.hub.leave(key);
+        sockets.shut(at);
+        if let Some(conn) = self.conns.get_mut(at) {
+            conn.linger(now);
+        }
+    }
+
+    /// One write of what is pending. Whether the socket took all of it.
+    fn write<S: Sockets>(
+        &mut self,
+        sockets: &mut S,
+        at: usize,
+        key: Key,
+        now: u64,
+    ) -> Result<bool, Stop> {
+        let length = self.hub.prefix(key).len();
+        let count = match hand(&mut self.hub, sockets, at, key, now) {
+            Ok(0) => return Err(Stop::Failed),
+            Ok(count) => count,
+            Err(Stop::Waits) => 0,
+            Err(stop) => return Err(stop),
+        };
+        if let Some(conn) = self.conns.get_mut(at) {
+            conn.is_blocked = count < length;
+            conn.bytes = conn.bytes.saturating_add(count as u64);
+        }
+        Ok(count == length)
+    }
+
+    /// Writes to all, after something was said.
+    pub(crate) fn drain_all<S: Sockets>(
+        &mut self,
+        alloc: Global,
+        sockets: &mut S,
+        told: &mut Telling,
+        node: &Node,
+        now: u64,
+    ) {
+        for at in 0..self.conns.capacity() {
+            self.drain(alloc, sockets, told, node, at, now);
+            if self.conns.get(at).is_some_and(|conn| conn.has_more) {
+                self.has_more = true;
+            }
+        }
+    }
+
+    /// Serves those who have more to read or to write.
+    pub(crate) fn serve_more<S: Sockets>(
+        &mut self,
+        alloc: Global,
+        sockets: &mut S,
+        told: &mut Telling,
+        shown: &Shown<'_>,
+        now: u64,
+    ) {
+        for at in 0..self.conns.capacity() {
+            if self.has_more_at(shown, at, now) {
+                self.serve(alloc, sockets, told, shown, at, now);
+            }
+        }
+    }
+}

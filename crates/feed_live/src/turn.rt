@@ -1,0 +1,349 @@
+//! The turn.
+
+use crate::device::{Devices, Link, Ready, Sockets, Store};
+use crate::options::{LiveLimits, Start};
+use crate::saved::{Restored, Saved};
+use crate::screens::{HOLD_TIME, Screens, Shown};
+use crate::source::Source;
+use crate::told::{Telling, Told};
+use feed_node::Node;
+use std::alloc::Global;
+
+/// How often late requests and screens that take nothing are looked for, in milliseconds.
+const TICK: u64 = 1_000;
+
+/// How often the number of screens is told, where it has changed, in milliseconds.
+const REPORT: u64 = 60_000;
+
+/// For how long a relay that ends sends on what is left, in milliseconds.
+const END_TIME: u64 = 2_000;
+
+/// What the input gave.
+#[derive(Clone, Copy)]
+pub enum Input<'a> {
+    Nothing,
+    Bytes(&'a [u8]),
+    End,
+}
+
+/// What comes after a turn.
+#[derive(Clone, Copy, Debug)]
+pub struct Turn {
+    /// When the next turn is due at the latest, where no device becomes ready before.
+    pub due: u64,
+    /// Whether the input may be read before that.
+    pub takes_input: bool,
+    /// Whether it was the last one.
+    pub is_over: bool,
+}
+
+/// A relay.
+#[derive(Drop)]
+pub struct Live {
+    contest: String,
+    limits: LiveLimits,
+    source: Source,
+    screens: Screens,
+    saved: Option<Saved>,
+    telling: Telling,
+    ticked: u64,
+    reported: u64,
+    /// How often the feed was published afresh when the state file was looked after last.
+    epoch: u64,
+    /// Whether the input is the feed and goes on.
+    feeds: bool,
+    /// When a relay that ends does so at the latest.
+    ends_at: Option<u64>,
+    is_hold_told: bool,
+}
+
+impl Live {
+    /// A relay that starts from what the state files had.
+    pub fn new<D: Store>(
+        alloc: Global,
+        contest: String,
+        limits: LiveLimits,
+        start: Start,
+        store: &mut D,
+        now: u64,
+    ) -> Live {
+        let Start {
+            places,
+            restored,
+            blank,
+        } = start;
+        let Restored { mirror, file } = restored;
+        let saved = if limits.has_store {
+            Some(Saved::new(alloc, store, mirror.node(), file))
+        } else {
+            None
+        };
+        let feeds = places.is_empty();
+        let mut source = Source::new(alloc, places, mirror, blank, now);
+        if feeds {
+            source.begin_input();
+        }
+        // What is restored was said before: only what is published from here on is news.
+        let mut screens = Screens::new(alloc, limits);
+        screens.relay(alloc, source.node(), now);
+        Live {
+            contest,
+            limits,
+            source,
+            screens,
+            saved,
+            telling: Telling::new(alloc),
+            ticked: now,
+            reported: now,
+            epoch: 0,
+            feeds,
+            ends_at: None,
+            is_hold_told: false,
+        }
+    }
+
+    /// What happened since this was cleared last.
+    pub fn told(&self) -> &[Told] {
+        self.telling.told()
+    }
+
+    /// How much more happened that there was no room for.
+    pub fn missed(&self) -> u64 {
+        self.telling.missed()
+    }
+
+    /// What was told is forgotten.
+    pub fn clear_told(&mut self) {
+        self.telling.clear();
+    }
+
+    /// What the relay shows.
+    pub fn node(&self) -> &Node {
+        self.source.node()
+    }
+
+    /// Does what is to be done now, and waits for nothing.
+    pub fn turn<S: Sockets, L: Link, D: Store>(
+        &mut self,
+        alloc: Global,
+        devices: &mut Devices<S, L, D>,
+        events: &[Ready],
+        input: Input<'_>,
+        now: u64,
+    ) -> Turn {
+        let had_more = self.screens.begin_turn();
+        self.note(events);
+        self.say_more(alloc, now);
+        self.take_input(alloc, input, now);
+        self.follow(alloc, &mut devices.link, now);
+        self.save(alloc, &mut devices.store, now);
+        self.tick(alloc, &mut devices.sockets, now);
+        let node = self.source.node();
+        self.screens
+            .drain_due(alloc, &mut devices.sockets, &mut self.telling, node, now);
+        self.serve(alloc, &mut devices.sockets, events, had_more, now);
+        self.screens
+            .accept(alloc, &mut devices.sockets, &mut self.telling, now);
+        self.next(now)
+    }
+
+    /// Marks what became ready.
+    fn note(&mut self, events: &[Ready]) {
+        for event in events {
+            match *event {
+                Ready::Listener => self.screens.is_waited_for = true,
+                Ready::Link => self.source.wake(),
+                Ready::Screen {
+                    at,
+                    is_readable,
+                    is_writable,
+                } => self.screens.wake(at, is_readable, is_writable),
+            }
+        }
+    }
+
+    /// Says what had to wait.
+    fn say_more(&mut self, alloc: Global, now: u64) {
+        if self.screens.says_now(now) {
+            self.source.say_more(alloc, &mut self.screens, now);
+        }
+    }
+
+    /// Takes what the input gave: it is the feed, or only its end counts.
+    fn take_input(&mut self, alloc: Global, input: Input<'_>, now: u64) {
+        match input {
+            Input::Nothing => self.feed(alloc, &[], now),
+            Input::Bytes(piece) => self.feed(alloc, piece, now),
+            Input::End => self.end(alloc, now),
+        }
+    }
+
+    /// Follows bytes of the input, where that is the feed.
+    fn feed(&mut self, alloc: Global, piece: &[u8], now: u64) {
+        if self.feeds {
+            self.feeds = self
+                .source
+                .take_input(alloc, &mut self.telling, &mut self.screens, piece, now);
+        }
+    }
+
+    /// The input has ended.
+    fn end(&mut self, alloc: Global, now: u64) {
+        if self.feeds {
+            self.telling.tell(Told::EndOfInput);
+        }
+        self.feeds = false;
+        if self.limits.ends_with_input && self.ends_at.is_none() {
+            self.ends_at = Some(now.saturating_add(END_TIME));
+            self.screens.end_feeds(alloc, now);
+        }
+    }
+
+    /// Goes on with the server that is followed, unless something is still to be said.
+    fn follow<L: Link>(&mut self, alloc: Global, link: &mut L, now: u64) {
+        if self.ends_at.is_some() || !self.source.has_servers() {
+            return;
+        }
+        let was_held = !self.source.is_heard();
+        self.source
+            .tick(alloc, link, &mut self.telling, self.limits.idle, now);
+        if self.source.has_more() && self.screens.says_at().is_none() {
+            self.source
+                .go_on(alloc, link, &mut self.telling, &mut self.screens, now);
+        }
+        if was_held && self.source.is_heard() {
+            self.screens.has_more = true;
+        }
+    }
+
+    /// Writes a slice of the state file.
+    fn save<D: Store>(&mut self, alloc: Global, store: &mut D, now: u64) {
+        let Some(saved) = &mut self.saved else {
+            return;
+        };
+        let epoch = self.source.epoch();
+        if epoch != self.epoch {
+            self.epoch = epoch;
+            saved.begin_again();
+        }
+        saved.save(alloc, store, &mut self.telling, self.source.node(), now);
+    }
+
+    /// Once a second, looks for who is late; and says a line feed after silence.
+    fn tick<S: Sockets>(&mut self, alloc: Global, sockets: &mut S, now: u64) {
+        if self.screens.conns.is_empty() {
+            return;
+        }
+        self.screens.idle(alloc, now);
+        if now.saturating_sub(self.ticked) < TICK {
+            return;
+        }
+        self.ticked = now;
+        self.screens.cut_late(now);
+        self.screens.sweep(sockets, &mut self.telling, now);
+        self.screens.close_past(sockets, &mut self.telling, now);
+        if !self.source.is_heard() {
+            self.hold(now);
+        }
+    }
+
+    /// Requests wait: those that waited for long enough are looked at again.
+    fn hold(&mut self, now: u64) {
+        self.screens.has_more = true;
+        if now >= HOLD_TIME && !self.is_hold_told {
+            self.is_hold_told = true;
+            self.telling.tell(Told::NotHeard);
+        }
+    }
+
+    /// Reads from and writes to the screens that became ready, and those that had more.
+    fn serve<S: Sockets>(
+        &mut self,
+        alloc: Global,
+        sockets: &mut S,
+        events: &[Ready],
+        had_more: bool,
+        now: u64,
+    ) {
+        let shown = Shown {
+            node: self.source.node(),
+            blank: self.source.blank(),
+            is_held: !self.source.is_heard(),
+            contest: self.contest.as_str(),
+        };
+        if had_more {
+            self.screens
+                .serve_more(alloc, sockets, &mut self.telling, &shown, now);
+        }
+        for event in events {
+            if let Ready::Screen { at, .. } = *event {
+                self.screens
+                    .serve(alloc, sockets, &mut self.telling, &shown, at, now);
+            }
+        }
+    }
+
+    /// Tells how many screens there are, where that has changed.
+    fn report(&mut self, now: u64) {
+        if now.saturating_sub(self.reported) < REPORT {
+            return;
+        }
+        self.reported = now;
+        if let Some(told) = self.screens.report() {
+            self.telling.tell(told);
+        }
+    }
+
+    /// What comes next.
+    fn next(&mut self, now: u64) -> Turn {
+        self.report(now);
+        Turn {
+            due: self.due(now),
+            takes_input: self.takes_input(),
+            is_over: self.is_over(now),
+        }
+    }
+
+    fn takes_input(&self) -> bool {
+        self.ends_at.is_none() && self.screens.says_at().is_none()
+    }
+
+    fn is_over(&self, now: u64) -> bool {
+        match self.ends_at {
+            Some(at) => at <= now || self.screens.conns.is_empty() && self.is_saved(),
+            None => false,
+        }
+    }
+
+    /// Whether the state file has all that was published, as far as it can be written.
+    fn is_saved(&self) -> bool {
+        match &self.saved {
+            Some(saved) => !saved.has_more(),
+            None => true,
+        }
+    }
+
+    /// When the next turn is due at the latest.
+    fn due(&self, now: u64) -> u64 {
+        let mut due = self.reported.saturating_add(REPORT);
+        if !self.screens.conns.is_empty() {
+            due = due
+                .min(self.ticked.saturating_add(TICK))
+                .min(self.screens.idles_at());
+        }
+        due = due.min(self.screens.due(now));
+        if let Some(saved) = &self.saved {
+            due = due.min(saved.due(now));
+        }
+        if let Some(at) = self.ends_at {
+            return due.min(at);
+        }
+        if self.source.has_servers() {
+            due = due.min(self.source.due(self.limits.idle));
+            if self.source.has_more() && self.screens.says_at().is_none() {
+                due = now;
+            }
+        }
+        due
+    }
+}

@@ -1,0 +1,105 @@
+//! What is told on standard error: a line for each thing that happened, with the time in UTC.
+
+use crate::live::link::Servers;
+use feed_cli::Verbosity;
+use feed_live::Told;
+use jiff::Timestamp;
+use std::alloc::{AllocError, Global};
+use std::net::SocketAddr;
+use std::time::{SystemTime, UNIX_EPOCH};
+
+/// The time, to the second.
+pub(crate) fn stamp(rt: &HostRuntime) -> Timestamp {
+    let seconds = match SystemTime::now(rt) {
+        Ok(now) => match now.duration_since(UNIX_EPOCH) {
+            Ok(since) => since.as_secs(),
+            Err(_) => 0,
+        },
+        Err(_) => 0,
+    };
+    match Timestamp::from_second(seconds.min(200_000_000_000) as i64) {
+        Ok(time) => time,
+        Err(_) => Timestamp::UNIX_EPOCH,
+    }
+}
+
+/// Whether a thing is told of at all.
+pub(crate) fn is_told(told: &Told, verbosity: Verbosity) -> bool {
+    match verbosity {
+        Verbosity::Verbose => true,
+        Verbosity::Normal => !matches!(told, Told::Screen { .. }),
+        Verbosity::Quiet => false,
+    }
+}
+
+/// The text of what is told, without the time.
+pub(crate) fn text_of(
+    alloc: Global,
+    told: &Told,
+    servers: &Servers<'_>,
+) -> Result<String, AllocError> {
+    match *told {
+        Told::Found { server, away } => {
+            let name = name_of(alloc, servers, server)?;
+            format!(in alloc; "upstream {name}: answers, after {away} ms")
+        }
+        Told::Lost { server, why, pause } => {
+            let name = name_of(alloc, servers, server)?;
+            format!(in alloc; "upstream {name}: {why}; next in {pause} ms")
+        }
+        Told::Refused { server } => {
+            let name = name_of(alloc, servers, server)?;
+            format!(in alloc; "upstream {name}: doesn't hold our token")
+        }
+        _ => text_of_rest(alloc, told),
+    }
+}
+
+fn text_of_rest(alloc: Global, told: &Told) -> Result<String, AllocError> {
+    match *told {
+        Told::BadInput(fault) => { format!(in alloc; "input: {fault}; nothing more of it is read") }
+        Told::EndOfInput => String::from_str(alloc, "end of the input"),
+        Told::Screens {
+            now,
+            came,
+            ended,
+            cut,
+        } => format!(in alloc; "screens: {now}; {came} came, {ended} ended, {cut} cut"),
+        Told::Full => String::from_str(alloc, "screens: too many, one more is answered 503"),
+        Told::NoAccept => {
+            String::from_str(
+                alloc,
+                "screens: none can be taken (too many open files?), for 1 s",
+            )
+        }
+        Told::NotHeard => String::from_str(alloc, "screens: answered 503, no upstream was heard"),
+        Told::Saved { bytes } => {
+            format!(in alloc; "state: begun again, with a snapshot of {bytes} bytes")
+        }
+        Told::NotSaved { pause } => {
+            format!(in alloc; "state: can't be written; tried again in {pause} ms")
+        }
+        _ => text_of_screen(alloc, told),
+    }
+}
+
+fn text_of_screen(alloc: Global, told: &Told) -> Result<String, AllocError> {
+    match *told {
+        Told::Screen {
+            peer,
+            how,
+            status,
+            bytes,
+            time,
+        } => format!(in alloc; "screen {peer}: {how}; {status}, {bytes} bytes, {time} ms"),
+        _ => Ok(String::new(alloc)),
+    }
+}
+
+fn name_of(alloc: Global, servers: &Servers<'_>, server: usize) -> Result<String, AllocError> {
+    let address: Option<SocketAddr> = servers.address(server);
+    match address {
+        Some(address) => format!(in alloc; "{address}"),
+        None => String::from_str(alloc, "?"),
+    }
+}
