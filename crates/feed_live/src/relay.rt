@@ -11,7 +11,7 @@ use std::alloc::Global;
 /// milliseconds.
 const SAY_PAUSE: u64 = 50;
 
-/// How many milliseconds after a failure for want of memory the same is tried again.
+/// How many milliseconds after a failure for lack of memory the same is tried again.
 const MEMORY_PAUSE: u64 = 1_000;
 
 /// After how many milliseconds a screen is cut that took none of its own bytes.
@@ -27,6 +27,8 @@ pub(crate) struct Saying {
     is_due: bool,
     /// There is more to say, at this time.
     waits: Option<u64>,
+    /// It waits since memory ran out, and not for sockets.
+    is_short: bool,
     /// Something was said last.
     spoke: u64,
 }
@@ -37,6 +39,7 @@ impl Saying {
             is_trimmed: false,
             is_due: false,
             waits: None,
+            is_short: false,
             spoke: 0,
         }
     }
@@ -51,10 +54,11 @@ impl Screens {
         had_more
     }
 
-    /// Whether what had to wait can be said now: the time has come, or all took what was said.
+    /// Whether what had to wait can be said now: the time has come, or all took what was said. After
+    /// memory ran out only the time counts, or the same would be tried again and again.
     pub(crate) fn says_now(&self, now: u64) -> bool {
         match self.saying.waits {
-            Some(at) => at <= now || !self.is_any_blocked(),
+            Some(at) => at <= now || (!self.saying.is_short && !self.is_any_blocked()),
             None => false,
         }
     }
@@ -140,6 +144,7 @@ impl Screens {
     /// Says the next commit. Whether there may be more that can be said now.
     fn say_one(&mut self, alloc: Global, node: &Node, now: u64) -> bool {
         self.saying.waits = None;
+        self.saying.is_short = false;
         match self.hub.say_next(alloc, node) {
             Ok(Said::Looked(Pulled::More)) => {
                 self.spoke(now);
@@ -155,6 +160,7 @@ impl Screens {
                 false
             }
             Err(_) => {
+                self.saying.is_short = true;
                 self.saying.waits = Some(now.saturating_add(MEMORY_PAUSE));
                 false
             }
