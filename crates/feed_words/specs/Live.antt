@@ -66,17 +66,23 @@ verbose = tied (flag (codes "verbose"))
 abbrev pub quiet : Rule
 quiet = flag (codes "quiet")
 
+-- a command with the options that name a server
+abbrev pub with_server : App → App
+with_server command = with_rule (with_rule command host) port
+
 -- a command with the options that say what is followed
 abbrev pub with_upstream : App → App
 with_upstream command =
-    with_rule (with_rule (with_rule (with_rule (with_rule command options.contest) host) port)
-    base) from
+    with_rule (with_rule (with_server (with_rule command options.contest)) base) from
+
+-- a command with the options that say to whom it is served
+abbrev pub with_listener : App → App
+with_listener command = with_rule (with_rule (with_rule command listen) address) screens
 
 -- a command with the options that say to whom it is served, and how
 abbrev pub with_screens : App → App
 with_screens command =
-    with_rule (with_rule (with_rule (with_rule (with_rule (with_rule command listen) address)
-    screens) idle) window) options.chunked
+    with_rule (with_rule (with_rule (with_listener command) idle) window) options.chunked
 
 -- a command with the options that say what is kept and reported, and when it ends
 abbrev pub with_course : App → App

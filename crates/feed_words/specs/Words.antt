@@ -64,10 +64,13 @@ abbrev pub local_program : App
 local_program =
     with_subcommand (with_subcommand (with_subcommand program tables.top) check.top) play.top
 
+-- the program, with those and the commands for trying
+abbrev pub program_for_trying : App
+program_for_trying =
+    with_subcommand (with_subcommand (with_subcommand local_program serve.top) pull.top) relay.top
+
 abbrev pub command_line : App
-command_line =
-    with_subcommand (with_subcommand (with_subcommand (with_subcommand local_program serve.top)
-    pull.top) relay.top) live.top
+command_line = with_subcommand program_for_trying live.top
 
 -- ---- what words ask for
 

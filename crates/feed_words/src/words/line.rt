@@ -142,13 +142,20 @@ fn local_program<'a>(alloc: Global) -> Result<Command<'a>, AllocError>
     with_command(program, command(alloc, "play", play))
 }
 
-/// The command line.
-pub(super) fn command_line<'a>(alloc: Global) -> Result<Command<'a>, AllocError>
-    ensures { IfOk result (λ c. app_of c ≡ words.command_line) }
+/// The program, with those and the commands for trying.
+fn program_for_trying<'a>(alloc: Global) -> Result<Command<'a>, AllocError>
+    ensures { IfOk result (λ c. app_of c ≡ words.program_for_trying) }
 {
     let program = local_program(alloc)?;
     let program = with_command(program, serve(alloc)?)?;
     let program = with_command(program, pull(alloc)?)?;
-    let program = with_command(program, relay(alloc)?)?;
+    with_command(program, relay(alloc)?)
+}
+
+/// The command line.
+pub(super) fn command_line<'a>(alloc: Global) -> Result<Command<'a>, AllocError>
+    ensures { IfOk result (λ c. app_of c ≡ words.command_line) }
+{
+    let program = program_for_trying(alloc)?;
     with_command(program, live(alloc)?)
 }

@@ -145,24 +145,38 @@ fn quiet<'a>(alloc: Global) -> Arg<'a>
     flag(alloc, "quiet").help("Report nothing but why the command ends")
 }
 
+/// A command with the options that name a server.
+fn with_server<'a>(alloc: Global, command: Command<'a>) -> Result<Command<'a>, AllocError>
+    ensures { IfOk result (λ c. app_of c ≡ live.with_server (app_of command.entry)) }
+{
+    let named = add_option(command, host(alloc)?)?;
+    add_option(named, port(alloc)?)
+}
+
 /// A command with the options that say what is followed.
 fn with_upstream<'a>(alloc: Global, command: Command<'a>) -> Result<Command<'a>, AllocError>
     ensures { IfOk result (λ c. app_of c ≡ live.with_upstream (app_of command.entry)) }
 {
     let followed = add_option(command, options::contest(alloc))?;
-    let followed = add_option(followed, host(alloc)?)?;
-    let followed = add_option(followed, port(alloc)?)?;
+    let followed = with_server(alloc, followed)?;
     let followed = add_option(followed, base(alloc)?)?;
     add_option(followed, from(alloc)?)
+}
+
+/// A command with the options that say to whom it is served.
+fn with_listener<'a>(alloc: Global, command: Command<'a>) -> Result<Command<'a>, AllocError>
+    ensures { IfOk result (λ c. app_of c ≡ live.with_listener (app_of command.entry)) }
+{
+    let served = add_option(command, listen(alloc)?)?;
+    let served = add_option(served, address(alloc)?)?;
+    add_option(served, screens(alloc))
 }
 
 /// A command with the options that say to whom it is served, and how.
 fn with_screens<'a>(alloc: Global, command: Command<'a>) -> Result<Command<'a>, AllocError>
     ensures { IfOk result (λ c. app_of c ≡ live.with_screens (app_of command.entry)) }
 {
-    let served = add_option(command, listen(alloc)?)?;
-    let served = add_option(served, address(alloc)?)?;
-    let served = add_option(served, screens(alloc))?;
+    let served = with_listener(alloc, command)?;
     let served = add_option(served, idle(alloc))?;
     let served = add_option(served, window(alloc))?;
     add_option(served, options::chunked(alloc))
