@@ -23,8 +23,9 @@ const ACCEPTS: usize = 256;
 /// For how long none is taken after that failed, in milliseconds.
 const ACCEPT_PAUSE: u64 = 1_000;
 
-/// How many connections there may be beside those that have a seat: refused, and lingering.
-const FURTHER: usize = 256;
+/// How many connections there may be beside those that have a seat: refused, and lingering. With a
+/// thousand screens all stay below the 1,024 descriptors that a process mostly may have.
+const FURTHER: usize = 8;
 
 /// How many bytes one read takes.
 const PIECE: usize = 4096;

@@ -118,10 +118,20 @@ impl Source {
             Reach::Connects(since) => due.min(since.saturating_add(CONNECT_TIME)),
             _ => due,
         };
-        match self.body_since {
-            Some(since) if !self.is_heard => due.min(since.saturating_add(QUIET)),
-            _ => due,
+        match self.heard_at() {
+            Some(at) => due.min(at),
+            None => due,
         }
+    }
+
+    /// When the server counts as heard though it publishes nothing: it answered with what comes after
+    /// our token. One that was asked for everything counts only once it has published.
+    fn heard_at(&self) -> Option<u64> {
+        if self.is_heard || self.is_fresh {
+            return None;
+        }
+        let since = self.body_since?;
+        Some(since.saturating_add(QUIET))
     }
 
     /// Whether there is a server to be asked.
@@ -146,8 +156,8 @@ impl Source {
                 self.lost(link, told, Why::Late, now);
             }
         }
-        if let Some(since) = self.body_since {
-            if since.saturating_add(QUIET) <= now {
+        if let Some(at) = self.heard_at() {
+            if at <= now {
                 self.is_heard = true;
             }
         }
@@ -183,6 +193,10 @@ impl Source {
     /// The server is left, and the next one is asked after a pause.
     fn lost<L: Link>(&mut self, link: &mut L, told: &mut Telling, why: Why, now: u64) {
         let server = self.upstream.place();
+        // A server that ended its answer has sent all that comes after our token.
+        if matches!(why, Why::Ended) && self.heard_at().is_some() {
+            self.is_heard = true;
+        }
         self.leave(link, now);
         self.upstream.lost(&mut self.mirror, now);
         let pause = self.upstream.due(0).saturating_sub(now);
