@@ -1,5 +1,6 @@
 mod CheckLemmas
 mod CommandLemmas
+mod MappedLemmas
 mod PlayLemmas
 pub mod PrintingLemmas
 mod PullLemmas

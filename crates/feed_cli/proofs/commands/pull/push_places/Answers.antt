@@ -2,7 +2,7 @@ use Rattle.std.proofs.Common.{ap, sym, subst, ◌∙◌, ◌<◌, ◌++◌, ◌�
 use Rattle.std.proofs.lemmas.List.{length-map}
 use Rattle.std.proofs.lemmas.Result.{err_from_is_err_and}
 use Rattle.feed_cli.specs.Pull.{place_at, RefusesServer}
-use Rattle.feed_cli.proofs.AddressLemmas.{mapped_at, more_mapped}
+use Rattle.feed_cli.proofs.MappedLemmas.{mapped_at, more_mapped}
 use Rattle.feed_cli.proofs.commands.pull.push_places.Goals as goal
 
 pub returns-in_err-push_place-clause-err : goal.returns-in_err-push_place-clause-err
