@@ -242,10 +242,20 @@ fn prepare<'r>(rt: &'r HostRuntime, options: &LiveOptions<'_>) -> Result<Engine<
     })
 }
 
+/// What the input has, of which so many bytes were read; nothing where it was not read.
+fn input_of(piece: &[u8], read: Option<usize>) -> Input<'_> {
+    match read {
+        None => Input::Nothing,
+        Some(0) => Input::End,
+        Some(count) => Input::Bytes(first(piece, count)),
+    }
+}
+
 impl Engine<'_> {
     /// The time since the start, in milliseconds.
     fn now(&self) -> io::Result<u64> {
-        Ok(self.start.elapsed(self.rt)?.as_millis() as u64)
+        let elapsed = self.start.elapsed(self.rt)?.as_millis();
+        Ok(u64::try_from(elapsed).unwrap_or(u64::MAX))
     }
 
     /// Writes a line, with the time.
@@ -298,12 +308,12 @@ impl Engine<'_> {
     fn turn(&mut self, takes_input: bool) -> io::Result<Turn> {
         let now = self.now()?;
         let read = self.read_input(takes_input);
-        let input = match read {
-            None => Input::Nothing,
-            Some(0) => Input::End,
-            Some(count) => Input::Bytes(first(self.piece.as_slice(), count)),
-        };
-        Ok(self.live.turn(self.rt.alloc(), &mut self.devices, &self.ready, input, now))
+        let alloc = self.rt.alloc();
+        let input = input_of(self.piece.as_slice(), read);
+        Ok(
+            self.live
+                .turn(alloc, &mut self.devices, &self.ready, input, now),
+        )
     }
 
     /// Writes what happened.
