@@ -5,6 +5,7 @@ mod sockets;
 mod standard;
 mod store;
 mod telling;
+mod watchers;
 
 use crate::sockets::without_brackets;
 use feed_answer::Place;

@@ -10,7 +10,7 @@ use std::io::{ErrorKind, Read, Write};
 use std::net::{Shutdown, SocketAddr};
 
 /// The token of the first screen's socket; those before it are other devices'.
-pub(crate) const FIRST_SCREEN: usize = 8;
+pub(crate) const FIRST_SCREEN: usize = 16;
 
 /// A port that screens connect to, and their sockets, each at its number.
 #[derive(Drop)]

@@ -1,0 +1,161 @@
+//! The answers to requests on the status port.
+
+use crate::health::{Headline, Level};
+use crate::metrics::Metrics;
+use crate::page::page_of;
+use crate::rows::{Row, rows_of};
+use crate::status::Status;
+use http::StatusCode;
+use httparse::Status as Parsed;
+use httparse::spans::{EMPTY_HEADER_SPAN, parse_request};
+use serde::Serialize;
+use std::alloc::{AllocError, Global};
+
+/// The most fields of a request's head.
+const MOST_FIELDS: usize = 64;
+
+/// What is asked for.
+#[derive(Clone, Copy, Debug, PartialEq, Eq)]
+enum Wanted {
+    Page,
+    Json,
+    Metrics,
+    Health,
+}
+
+impl Wanted {
+    fn at(path: &str) -> Option<Wanted> {
+        match path {
+            "/" => Some(Wanted::Page),
+            "/status.json" => Some(Wanted::Json),
+            "/metrics" => Some(Wanted::Metrics),
+            "/health" => Some(Wanted::Health),
+            _ => None,
+        }
+    }
+
+    /// The type of what is answered.
+    fn content_type(self) -> &'static str {
+        match self {
+            Wanted::Page => "text/html; charset=utf-8",
+            Wanted::Json => "application/json",
+            Wanted::Metrics => "text/plain; version=0.0.4; charset=utf-8",
+            Wanted::Health => "text/plain; charset=utf-8",
+        }
+    }
+}
+
+/// A request that can be answered.
+#[derive(Clone, Copy)]
+struct Asked {
+    wanted: Wanted,
+    has_body: bool,
+}
+
+/// What a request asks for, or the status that it is refused with: 400 where there is no whole
+/// head, 405 where the method is neither GET nor HEAD, 404 for another path.
+fn read_request(head: &[u8]) -> Result<Asked, StatusCode> {
+    let mut headers = [EMPTY_HEADER_SPAN; MOST_FIELDS];
+    let Ok(Parsed::Complete(spans)) = parse_request(head, &mut headers) else {
+        return Err(StatusCode::BAD_REQUEST);
+    };
+    let method = &head[spans.method.start..spans.method.end];
+    let has_body = method == b"GET".as_slice();
+    if !has_body && method != b"HEAD".as_slice() {
+        return Err(StatusCode::METHOD_NOT_ALLOWED);
+    }
+    let Ok(target) = std::str::from_utf8(&head[spans.path.start..spans.path.end]) else {
+        return Err(StatusCode::NOT_FOUND);
+    };
+    let path = match target.split_once('?') {
+        Some((path, _)) => path,
+        None => target,
+    };
+    match Wanted::at(path) {
+        Some(wanted) => Ok(Asked { wanted, has_body }),
+        None => Err(StatusCode::NOT_FOUND),
+    }
+}
+
+/// What is told as JSON.
+#[derive(Clone, Copy, Serialize)]
+struct Report<'a> {
+    level: Level,
+    headline: &'a str,
+    rows: &'a [Row],
+    status: &'a Status<'a>,
+}
+
+/// The status as JSON, with its level, its headline and the rows of the page's table.
+fn json(alloc: Global, status: &Status<'_>) -> Result<Vec<u8>, AllocError> {
+    let headline = format!(in alloc; "{}", Headline(status))?;
+    let rows = rows_of(alloc, status)?;
+    let report = Report {
+        level: status.level(),
+        headline: headline.as_str(),
+        rows: rows.as_slice(),
+        status,
+    };
+    match serde_json::to_vec(alloc, &report) {
+        Ok(text) => Ok(text),
+        Err(_) => Err(AllocError),
+    }
+}
+
+/// The status code and the body of an answer.
+fn body(
+    alloc: Global,
+    wanted: Wanted,
+    status: &Status<'_>,
+) -> Result<(StatusCode, Vec<u8>), AllocError> {
+    let body = match wanted {
+        Wanted::Page => page_of(alloc, status)?,
+        Wanted::Json => json(alloc, status)?,
+        Wanted::Metrics => format!(in alloc; "{}", Metrics(status))?.into_bytes(),
+        Wanted::Health => format!(in alloc; "{}\n", Headline(status))?.into_bytes(),
+    };
+    let code = match wanted {
+        Wanted::Health if !status.is_healthy() => StatusCode::SERVICE_UNAVAILABLE,
+        _ => StatusCode::OK,
+    };
+    Ok((code, body))
+}
+
+/// The head of an answer. The page may run its own script and ask its own server, and nothing else.
+fn head_of(
+    alloc: Global,
+    code: StatusCode,
+    kind: &str,
+    length: usize,
+) -> Result<Vec<u8>, AllocError> {
+    let number = code.as_u16();
+    let reason = code.canonical_reason().unwrap_or("");
+    let allow = match code {
+        StatusCode::METHOD_NOT_ALLOWED => "Allow: GET, HEAD\r\n",
+        _ => "",
+    };
+    let text = format!(in alloc;
+        "HTTP/1.1 {number} {reason}\r\nContent-Type: {kind}\r\nContent-Length: {length}\r\n\
+         {allow}Cache-Control: no-store\r\nX-Content-Type-Options: nosniff\r\n\
+         Content-Security-Policy: default-src 'none'; script-src 'unsafe-inline'; \
+         style-src 'unsafe-inline'; connect-src 'self'\r\nConnection: close\r\n\r\n"
+    )?;
+    Ok(text.into_bytes())
+}
+
+/// The whole answer to a request of which this is the head: `/` is the page, `/status.json` the
+/// status, `/metrics` the metrics for Prometheus, `/health` one line, with status 503 where upstream
+/// is silent for too long. For HEAD it has no body. The connection is closed after it.
+pub fn answer(alloc: Global, head: &[u8], status: &Status<'_>) -> Result<Vec<u8>, AllocError> {
+    match read_request(head) {
+        Ok(Asked { wanted, has_body }) => {
+            let (code, body) = body(alloc, wanted, status)?;
+            let mut text = head_of(alloc, code, wanted.content_type(), body.len())?;
+            if has_body {
+                text.extend_from_slice(body.as_slice())?;
+            }
+            Ok(text)
+        }
+        Err(code) => head_of(alloc, code, "text/plain; charset=utf-8", 0),
+    }
+}

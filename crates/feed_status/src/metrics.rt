@@ -1,0 +1,270 @@
+//! The metrics, in the text format of Prometheus (version 0.0.4).
+
+use crate::status::{BUCKETS, Latency, Status, UpstreamState};
+use std::fmt;
+use std::fmt::Write;
+
+/// Seconds, of a number of milliseconds.
+#[derive(Clone, Copy)]
+struct Seconds(u64);
+
+impl fmt::Display for Seconds {
+    fn fmt<W: fmt::Write>(&self, f: &mut fmt::Formatter<W>) -> fmt::Result {
+        let (whole, part) = (self.0 / 1_000, self.0 % 1_000);
+        write!(f, "{whole}.{part:03}")
+    }
+}
+
+/// One metric without labels.
+#[derive(Clone, Copy)]
+struct Metric<'a, V> {
+    name: &'a str,
+    kind: &'a str,
+    help: &'a str,
+    value: V,
+}
+
+impl<V: fmt::Display> fmt::Display for Metric<'_, V> {
+    fn fmt<W: fmt::Write>(&self, f: &mut fmt::Formatter<W>) -> fmt::Result {
+        let (name, kind, help) = (self.name, self.kind, self.help);
+        write!(
+            f,
+            "# HELP tunygarop_{name} {help}\n# TYPE tunygarop_{name} {kind}\n"
+        )?;
+        write!(f, "tunygarop_{name} {}\n", self.value)
+    }
+}
+
+/// The text of a label's value: a backslash, a quotation mark and a line feed are escaped.
+#[derive(Clone, Copy)]
+struct Label<'a>(&'a str);
+
+impl fmt::Display for Label<'_> {
+    fn fmt<W: fmt::Write>(&self, f: &mut fmt::Formatter<W>) -> fmt::Result {
+        for character in self.0.chars() {
+            match character {
+                '\\' => f.write_str("\\\\")?,
+                '"' => f.write_str("\\\"")?,
+                '\n' => f.write_str("\\n")?,
+                other => f.write_char(other)?,
+            }
+        }
+        Ok(())
+    }
+}
+
+fn gauge<'a, V>(name: &'a str, help: &'a str, value: V) -> Metric<'a, V> {
+    Metric {
+        name,
+        kind: "gauge",
+        help,
+        value,
+    }
+}
+
+fn counter<'a, V>(name: &'a str, help: &'a str, value: V) -> Metric<'a, V> {
+    Metric {
+        name,
+        kind: "counter",
+        help,
+        value,
+    }
+}
+
+/// All metrics of a relay.
+#[derive(Clone, Copy)]
+pub(crate) struct Metrics<'a>(pub(crate) &'a Status<'a>);
+
+impl fmt::Display for Metrics<'_> {
+    fn fmt<W: fmt::Write>(&self, f: &mut fmt::Formatter<W>) -> fmt::Result {
+        let status = self.0;
+        write!(f, "{}{}", About(status), Feed(status))?;
+        write!(f, "{}{}", OfUpstream(status), OfScreens(status))?;
+        write!(f, "{}{}", OfFile(status), Histogram(&status.latency))
+    }
+}
+
+#[derive(Clone, Copy)]
+struct About<'a>(&'a Status<'a>);
+
+impl fmt::Display for About<'_> {
+    fn fmt<W: fmt::Write>(&self, f: &mut fmt::Formatter<W>) -> fmt::Result {
+        let (version, contest) = (Label(self.0.version), Label(self.0.contest));
+        f.write_str("# HELP tunygarop_info The version and the contest.\n")?;
+        f.write_str("# TYPE tunygarop_info gauge\n")?;
+        write!(
+            f,
+            "tunygarop_info{{version=\"{version}\",contest=\"{contest}\"}} 1\n"
+        )?;
+        let uptime = Seconds(self.0.uptime_ms);
+        write!(
+            f,
+            "{}",
+            gauge("uptime_seconds", "How long the relay has run.", uptime)
+        )
+    }
+}
+
+#[derive(Clone, Copy)]
+struct Feed<'a>(&'a Status<'a>);
+
+impl fmt::Display for Feed<'_> {
+    fn fmt<W: fmt::Write>(&self, f: &mut fmt::Formatter<W>) -> fmt::Result {
+        let (commits, bytes) = (self.0.commits, self.0.bytes);
+        write!(
+            f,
+            "{}",
+            counter("commits_total", "Commits that were published.", commits)
+        )?;
+        write!(
+            f,
+            "{}",
+            counter("upstream_bytes_total", "Bytes that came.", bytes)
+        )?;
+        write!(
+            f,
+            "{}",
+            gauge("objects", "Objects that are published.", self.0.objects)
+        )
+    }
+}
+
+#[derive(Clone, Copy)]
+struct OfUpstream<'a>(&'a Status<'a>);
+
+impl fmt::Display for OfUpstream<'_> {
+    fn fmt<W: fmt::Write>(&self, f: &mut fmt::Formatter<W>) -> fmt::Result {
+        let upstream = &self.0.upstream;
+        let follows = match upstream.state {
+            UpstreamState::Following => 1u64,
+            UpstreamState::Input => 1,
+            _ => 0,
+        };
+        let healthy = u64::from(self.0.is_healthy());
+        let silent = Seconds(upstream.silent_ms);
+        write!(
+            f,
+            "{}",
+            gauge(
+                "healthy",
+                "1 unless upstream is silent for too long.",
+                healthy
+            )
+        )?;
+        write!(
+            f,
+            "{}",
+            gauge("following", "1 while upstream is followed.", follows)
+        )?;
+        write!(
+            f,
+            "{}",
+            gauge("upstream_silent_seconds", "Time without a byte.", silent)
+        )?;
+        let failures = upstream.failures;
+        write!(
+            f,
+            "{}",
+            gauge("upstream_failures", "Attempts failed in a row.", failures)
+        )
+    }
+}
+
+#[derive(Clone, Copy)]
+struct OfScreens<'a>(&'a Status<'a>);
+
+impl fmt::Display for OfScreens<'_> {
+    fn fmt<W: fmt::Write>(&self, f: &mut fmt::Formatter<W>) -> fmt::Result {
+        let screens = &self.0.screens;
+        write!(f, "{}", gauge("screens", "Open connections.", screens.open))?;
+        write!(
+            f,
+            "{}",
+            gauge("screens_asking", "Those not answered yet.", screens.asking)
+        )?;
+        write!(
+            f,
+            "{}",
+            gauge("screens_behind", "Those that lack bytes.", screens.behind)
+        )?;
+        write!(
+            f,
+            "{}",
+            gauge("screens_most", "The most at once.", screens.most)
+        )?;
+        write!(
+            f,
+            "{}",
+            counter("screens_opened_total", "Connections taken.", screens.opened)
+        )?;
+        write!(
+            f,
+            "{}",
+            counter(
+                "screens_refused_total",
+                "Requests refused.",
+                screens.refused
+            )
+        )?;
+        write!(
+            f,
+            "{}",
+            counter("screens_cut_total", "Slow screens cut.", screens.cut)
+        )?;
+        write!(
+            f,
+            "{}",
+            counter(
+                "screens_bytes_total",
+                "Bytes sent to screens.",
+                screens.bytes
+            )
+        )
+    }
+}
+
+#[derive(Clone, Copy)]
+struct OfFile<'a>(&'a Status<'a>);
+
+impl fmt::Display for OfFile<'_> {
+    fn fmt<W: fmt::Write>(&self, f: &mut fmt::Formatter<W>) -> fmt::Result {
+        let Some(file) = &self.0.state_file else {
+            return Ok(());
+        };
+        let age = Seconds(file.age_ms);
+        write!(
+            f,
+            "{}",
+            gauge("state_file_bytes", "Bytes of the state file.", file.bytes)
+        )?;
+        write!(
+            f,
+            "{}",
+            gauge("state_file_age_seconds", "Time since it was written.", age)
+        )
+    }
+}
+
+#[derive(Clone, Copy)]
+struct Histogram<'a>(&'a Latency);
+
+impl fmt::Display for Histogram<'_> {
+    fn fmt<W: fmt::Write>(&self, f: &mut fmt::Formatter<W>) -> fmt::Result {
+        f.write_str("# HELP tunygarop_latency_seconds From a commit's end to its last write.\n")?;
+        f.write_str("# TYPE tunygarop_latency_seconds histogram\n")?;
+        for (bound, count) in BUCKETS.iter().zip(self.0.at_most.iter()) {
+            let bound = Seconds(*bound);
+            write!(
+                f,
+                "tunygarop_latency_seconds_bucket{{le=\"{bound}\"}} {count}\n"
+            )?;
+        }
+        let (commits, sum) = (self.0.commits, Seconds(self.0.sum_ms));
+        write!(
+            f,
+            "tunygarop_latency_seconds_bucket{{le=\"+Inf\"}} {commits}\n"
+        )?;
+        write!(f, "tunygarop_latency_seconds_sum {sum}\n")?;
+        write!(f, "tunygarop_latency_seconds_count {commits}\n")
+    }
+}

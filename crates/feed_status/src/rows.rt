@@ -1,0 +1,104 @@
+//! The table of the page.
+
+use crate::status::{StateFile, Status, UpstreamState};
+use serde::Serialize;
+use std::alloc::{AllocError, Global};
+use std::fmt;
+
+/// One row of the table.
+#[derive(Debug, Drop, Serialize)]
+pub(crate) struct Row {
+    pub(crate) label: &'static str,
+    pub(crate) text: String,
+}
+
+/// A time as people read it: with its two greatest units.
+#[derive(Clone, Copy)]
+struct Time(u64);
+
+impl fmt::Display for Time {
+    fn fmt<W: fmt::Write>(&self, f: &mut fmt::Formatter<W>) -> fmt::Result {
+        let seconds = self.0 / 1_000;
+        let (minutes, hours) = (seconds / 60, seconds / 3_600);
+        if hours > 0 {
+            write!(f, "{hours} h {} min", minutes % 60)
+        } else if minutes > 0 {
+            write!(f, "{minutes} min {} s", seconds % 60)
+        } else {
+            write!(f, "{seconds} s")
+        }
+    }
+}
+
+fn word(state: UpstreamState) -> &'static str {
+    match state {
+        UpstreamState::Following => "following",
+        UpstreamState::Asking => "asking",
+        UpstreamState::Pausing => "waiting to ask again",
+        UpstreamState::Input => "following",
+        UpstreamState::Ended => "ended",
+    }
+}
+
+fn row_of(label: &'static str, text: Result<String, AllocError>) -> Result<Row, AllocError> {
+    Ok(Row { label, text: text? })
+}
+
+fn number(alloc: Global, label: &'static str, value: u64) -> Result<Row, AllocError> {
+    row_of(label, format!(in alloc; "{value}"))
+}
+
+fn state_file(alloc: Global, file: Option<StateFile>) -> Result<String, AllocError> {
+    match file {
+        None => String::from_str(alloc, "none"),
+        Some(StateFile { bytes, age_ms }) => {
+            let age = Time(age_ms);
+            format!(in alloc; "{bytes} bytes, written {age} ago")
+        }
+    }
+}
+
+/// The rows on the feed that is followed.
+fn of_feed(alloc: Global, status: &Status<'_>, to: &mut Vec<Row>) -> Result<(), AllocError> {
+    let upstream = &status.upstream;
+    let (state, since) = (word(upstream.state), Time(upstream.since_ms));
+    let silent = Time(upstream.silent_ms);
+    to.push(row_of("Contest", String::from_str(alloc, status.contest))?)?;
+    to.push(row_of("Upstream", String::from_str(alloc, upstream.name))?)?;
+    to.push(row_of("State", format!(in alloc; "{state}, for {since}"))?)?;
+    to.push(row_of("Last heard", format!(in alloc; "{silent} ago"))?)?;
+    to.push(number(alloc, "Failures in a row", upstream.failures)?)?;
+    to.push(row_of(
+        "Token",
+        String::from_str(alloc, status.token.unwrap_or("none")),
+    )?)?;
+    to.push(number(alloc, "Commits", status.commits)?)?;
+    to.push(number(alloc, "Objects", status.objects)?)?;
+    to.push(number(alloc, "Bytes in", status.bytes)?)?;
+    Ok(())
+}
+
+/// The rows on the screens.
+fn of_screens(alloc: Global, status: &Status<'_>, to: &mut Vec<Row>) -> Result<(), AllocError> {
+    let screens = &status.screens;
+    to.push(number(alloc, "Screens", screens.open)?)?;
+    to.push(number(alloc, "Not answered yet", screens.asking)?)?;
+    to.push(number(alloc, "Behind", screens.behind)?)?;
+    to.push(number(alloc, "Most at once", screens.most)?)?;
+    to.push(number(alloc, "Opened", screens.opened)?)?;
+    to.push(number(alloc, "Refused", screens.refused)?)?;
+    to.push(number(alloc, "Cut as slow", screens.cut)?)?;
+    to.push(number(alloc, "Bytes out", screens.bytes)?)?;
+    Ok(())
+}
+
+/// All rows.
+pub(crate) fn rows_of(alloc: Global, status: &Status<'_>) -> Result<Vec<Row>, AllocError> {
+    let mut rows = Vec::new(alloc);
+    of_feed(alloc, status, &mut rows)?;
+    of_screens(alloc, status, &mut rows)?;
+    rows.push(row_of("State file", state_file(alloc, status.state_file))?)?;
+    rows.push(row_of("Up for", format!(in alloc; "{}", Time(status.uptime_ms)))?)?;
+    rows.push(row_of("Version", String::from_str(alloc, status.version))?)?;
+    Ok(rows)
+}

@@ -1,0 +1,93 @@
+//! What a relay is at one moment. Times are in milliseconds.
+
+use serde::Serialize;
+
+/// The upper bounds of the buckets of a latency, in milliseconds.
+pub const BUCKETS: [u64; 12] = [1, 2, 5, 10, 20, 50, 100, 200, 500, 1_000, 2_000, 5_000];
+
+/// How things stand with the server that is followed.
+#[derive(Clone, Copy, Debug, PartialEq, Eq, Serialize)]
+#[serde(rename_all = "snake_case")]
+pub enum UpstreamState {
+    /// Its answer is followed.
+    Following,
+    /// It is asked, and has not answered yet.
+    Asking,
+    /// It is asked after a pause.
+    Pausing,
+    /// There is no server: the feed comes on standard input.
+    Input,
+    /// Standard input has ended, or can't be followed.
+    Ended,
+}
+
+/// The server that is followed.
+#[derive(Clone, Copy, Debug, Serialize)]
+pub struct Upstream<'a> {
+    /// Its host and port, or `standard input`.
+    pub name: &'a str,
+    pub state: UpstreamState,
+    /// For how long that is its state.
+    pub since_ms: u64,
+    /// For how long nothing came.
+    pub silent_ms: u64,
+    /// How many attempts failed since the last one that was answered.
+    pub failures: u64,
+}
+
+/// The connections on the feed's port.
+#[derive(Clone, Copy, Debug, Serialize)]
+pub struct Screens {
+    pub open: u64,
+    /// Of those open: whose request is not whole or not answered yet.
+    pub asking: u64,
+    /// Of those open: who lacks bytes of what was published.
+    pub behind: u64,
+    /// The most that were open at once.
+    pub most: u64,
+    /// How many were opened since the start.
+    pub opened: u64,
+    /// How many were answered with a status other than 200.
+    pub refused: u64,
+    /// How many were cut, since they were too slow.
+    pub cut: u64,
+    pub bytes: u64,
+}
+
+/// The state file.
+#[derive(Clone, Copy, Debug, Serialize)]
+pub struct StateFile {
+    pub bytes: u64,
+    /// How long ago it was written to.
+    pub age_ms: u64,
+}
+
+/// How long it took from the read that had the end of a commit to the last write of it to a screen
+/// that was up to date.
+#[derive(Clone, Copy, Debug, Serialize)]
+pub struct Latency {
+    /// How many commits took at most the time of each bucket.
+    pub at_most: [u64; 12],
+    pub commits: u64,
+    pub sum_ms: u64,
+}
+
+/// All that is told of a relay.
+#[derive(Clone, Copy, Debug, Serialize)]
+pub struct Status<'a> {
+    pub version: &'a str,
+    pub contest: &'a str,
+    pub uptime_ms: u64,
+    /// After how long without a byte a server is silent.
+    pub silence_ms: u64,
+    pub upstream: Upstream<'a>,
+    pub token: Option<&'a str>,
+    /// How many commits were published since the start.
+    pub commits: u64,
+    pub objects: u64,
+    /// How many bytes came from upstream.
+    pub bytes: u64,
+    pub screens: Screens,
+    pub state_file: Option<StateFile>,
+    pub latency: Latency,
+}

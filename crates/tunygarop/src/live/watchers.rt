@@ -1,0 +1,228 @@
+//! The status port: those who watch the relay ask it over HTTP, each with one connection. They are
+//! answered with what the relay is at that moment, and change nothing of it.
+
+use crate::live::sockets::{read_once, write_once};
+use feed_answer::{HEAD_BYTES, HeadRead, look_at_request};
+use feed_live::Stop;
+use feed_status::{Status, answer};
+use mio::net::{TcpListener, TcpStream};
+use mio::{Interest, Registry, Token};
+use slab::Slab;
+use std::alloc::{AllocError, Global};
+use std::net::Shutdown;
+
+/// The token of the listener.
+pub(crate) const WATCHERS: Token = Token(4);
+
+/// The token of the first connection, and how many there may be at once.
+pub(crate) const FIRST_WATCHER: usize = 8;
+
+pub(crate) const MOST_WATCHERS: usize = 8;
+
+/// For how long a connection is kept, in milliseconds.
+const TIME: u64 = 5_000;
+
+/// How many bytes one read takes.
+const PIECE: usize = 2_048;
+
+/// How many reads and writes one turn makes for each connection.
+const STEPS: usize = 8;
+
+/// One connection: what came of its request, and what is left of its answer.
+#[derive(Drop)]
+struct Watcher {
+    stream: TcpStream,
+    head: Vec<u8>,
+    answer: Vec<u8>,
+    sent: usize,
+    until: u64,
+    is_ready: bool,
+}
+
+/// What comes after a step.
+#[derive(Clone, Copy, PartialEq, Eq)]
+enum Step {
+    Again,
+    Waits,
+    Over,
+}
+
+impl Watcher {
+    /// Reads more of the request, and makes the answer once the head is whole or can't become so.
+    fn read(&mut self, alloc: Global, status: &Status<'_>) -> Step {
+        let mut piece = [0u8; PIECE];
+        let count = match read_once(&mut self.stream, &mut piece) {
+            Ok(0) => return Step::Over,
+            Ok(count) => count,
+            Err(Stop::Waits) => return Step::Waits,
+            Err(_) => return Step::Over,
+        };
+        match self.take(alloc, &piece[..count], status) {
+            Ok(()) => Step::Again,
+            Err(_) => Step::Over,
+        }
+    }
+
+    fn take(&mut self, alloc: Global, piece: &[u8], status: &Status<'_>) -> Result<(), AllocError> {
+        if self.head.len() <= HEAD_BYTES {
+            self.head.extend_from_slice(piece)?;
+        }
+        if self.answer.is_empty() && look_at_request(self.head.as_slice()) != HeadRead::More {
+            self.answer = answer(alloc, self.head.as_slice(), status)?;
+        }
+        Ok(())
+    }
+
+    /// Writes more of the answer. What still comes after it is read and forgotten, since a
+    /// connection that is closed with bytes unread may lose its end.
+    fn write(&mut self) -> Step {
+        let rest = self.answer.get(self.sent..).unwrap_or(&[]);
+        match write_once(&mut self.stream, rest) {
+            Ok(count) => {
+                self.sent = self.sent.saturating_add(count);
+                if self.sent >= self.answer.len() {
+                    let _ = self.stream.shutdown(Shutdown::Write);
+                }
+                Step::Again
+            }
+            Err(Stop::Waits) => Step::Waits,
+            Err(_) => Step::Over,
+        }
+    }
+
+    fn step(&mut self, alloc: Global, status: &Status<'_>) -> Step {
+        if self.sent < self.answer.len() {
+            self.write()
+        } else {
+            self.read(alloc, status)
+        }
+    }
+
+    /// Goes on as far as it can now. Whether the connection stays.
+    fn go_on(&mut self, alloc: Global, status: &Status<'_>) -> bool {
+        for _ in 0..STEPS {
+            match self.step(alloc, status) {
+                Step::Again => {}
+                Step::Waits => {
+                    self.is_ready = false;
+                    return true;
+                }
+                Step::Over => return false,
+            }
+        }
+        true
+    }
+}
+
+/// The status port, where there is one. Nobody who connects to it is ever waited for.
+#[derive(Drop)]
+pub(crate) struct Watchers {
+    registry: Registry,
+    listener: Option<TcpListener>,
+    is_waited_for: bool,
+    watchers: Slab<Watcher>,
+}
+
+impl Watchers {
+    pub(crate) fn new(
+        alloc: Global,
+        registry: Registry,
+        listener: Option<TcpListener>,
+    ) -> Watchers {
+        Watchers {
+            registry,
+            listener,
+            is_waited_for: false,
+            watchers: Slab::new(alloc),
+        }
+    }
+
+    /// An event came for the port.
+    pub(crate) fn wake(&mut self) {
+        self.is_waited_for = true;
+    }
+
+    /// An event came for the connection at a place.
+    pub(crate) fn wake_one(&mut self, at: usize) {
+        if let Some(watcher) = self.watchers.get_mut(at) {
+            watcher.is_ready = true;
+        }
+    }
+
+    /// When the next connection has been kept for long enough.
+    pub(crate) fn due(&self) -> u64 {
+        let mut due = u64::MAX;
+        for at in 0..MOST_WATCHERS {
+            if let Some(watcher) = self.watchers.get(at) {
+                due = due.min(watcher.until);
+            }
+        }
+        due
+    }
+
+    /// Whether there is something to do for them.
+    pub(crate) fn has_work(&self, now: u64) -> bool {
+        self.is_waited_for || self.due() <= now || self.is_any_ready()
+    }
+
+    fn is_any_ready(&self) -> bool {
+        for at in 0..MOST_WATCHERS {
+            if self
+                .watchers
+                .get(at)
+                .is_some_and(|watcher| watcher.is_ready)
+            {
+                return true;
+            }
+        }
+        false
+    }
+
+    /// Goes on with those that are ready, closes those that are late, and takes new ones.
+    pub(crate) fn serve(&mut self, alloc: Global, status: &Status<'_>, now: u64) {
+        for at in 0..MOST_WATCHERS {
+            let stays = match self.watchers.get_mut(at) {
+                None => true,
+                Some(watcher) => {
+                    watcher.until > now && (!watcher.is_ready || watcher.go_on(alloc, status))
+                }
+            };
+            if !stays {
+                let _ = self.watchers.try_remove(at);
+            }
+        }
+        self.accept(alloc, now);
+    }
+
+    /// Takes who waits, where there is room. Who finds none waits until a place is free.
+    fn accept(&mut self, alloc: Global, now: u64) {
+        for _ in 0..MOST_WATCHERS {
+            if !self.is_waited_for || self.watchers.len() >= MOST_WATCHERS {
+                return;
+            }
+            if self.accept_one(alloc, now).is_none() {
+                self.is_waited_for = false;
+            }
+        }
+    }
+
+    /// Takes one; none where nobody waits, or it can't be taken.
+    fn accept_one(&mut self, alloc: Global, now: u64) -> Option<()> {
+        let (mut stream, _) = self.listener.as_ref()?.accept().ok()?;
+        let at = self.watchers.vacant_key();
+        let token = Token(FIRST_WATCHER.saturating_add(at));
+        let interests = Interest::READABLE | Interest::WRITABLE;
+        self.registry.register(&mut stream, token, interests).ok()?;
+        self.watchers
+            .insert(Watcher {
+                stream,
+                head: Vec::new(alloc),
+                answer: Vec::new(alloc),
+                sent: 0,
+                until: now.saturating_add(TIME),
+                is_ready: false,
+            })
+            .ok()?;
+        Some(())
+    }
+}
