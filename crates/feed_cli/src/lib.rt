@@ -19,7 +19,7 @@ pub use feed_play::{PlayCause, PlayFault, play};
 pub use feed_relay::{Dial, NetworkFault};
 pub use feed_words::{
     AddressFault, LiveOptions, Local, NoCommand, PROGRAM, PullOptions, RelayOptions, Request,
-    ServeOptions, TablesOptions, UpstreamOptions, Verbosity, addresses, parse_words,
+    ServeOptions, TablesOptions, UpstreamOptions, VERSION, Verbosity, addresses, parse_words,
 };
 pub use listen::Listen;
 pub use telling::tell;

@@ -13,6 +13,7 @@
 
 mod conn;
 mod device;
+mod figures;
 mod hand;
 mod options;
 mod relay;
@@ -23,6 +24,7 @@ mod told;
 mod turn;
 
 pub use device::{Before, Devices, Link, Ready, Sockets, Stop, Store};
+pub use figures::{FeedFigures, Following, ScreenFigures, ScreenTotals};
 pub use options::{LiveLimits, Start};
 pub use saved::{Restored, restore};
 pub use told::{How, Told, Why};

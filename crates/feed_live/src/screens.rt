@@ -2,6 +2,7 @@
 
 use crate::conn::{Conn, Stage};
 use crate::device::{Sockets, Stop};
+use crate::figures::ScreenTotals;
 use crate::hand::hand;
 use crate::options::LiveLimits;
 use crate::relay::Saying;
@@ -88,6 +89,7 @@ pub(crate) struct Screens {
     pub(crate) limits: LiveLimits,
     pub(crate) saying: Saying,
     pub(crate) counts: Counts,
+    pub(crate) totals: ScreenTotals,
     /// Some connection has more to read or to write, of which no event will tell.
     pub(crate) has_more: bool,
     /// Somebody waits to be taken; not before this time.
@@ -106,6 +108,7 @@ impl Screens {
             limits,
             saying: Saying::new(),
             counts: Counts::none(),
+            totals: ScreenTotals::none(),
             has_more: false,
             is_waited_for: false,
             accept_at: 0,
@@ -144,7 +147,10 @@ impl Screens {
 
     fn count(&mut self, how: How) {
         match how {
-            How::Cut => self.counts.cut = self.counts.cut.saturating_add(1),
+            How::Cut => {
+                self.counts.cut = self.counts.cut.saturating_add(1);
+                self.totals.cut();
+            }
             _ => self.counts.ended = self.counts.ended.saturating_add(1),
         }
     }
@@ -239,12 +245,14 @@ impl Screens {
             Err(_) => {
                 self.refuse(sockets, told, at);
                 conn.status = 503;
+                self.totals.answer(503);
                 conn.linger(now);
             }
         }
         if self.conns.insert(conn).is_err() {
             sockets.close(at);
         }
+        self.totals.open(self.conns.len());
         Ok(())
     }
 
@@ -403,6 +411,7 @@ impl Screens {
     }
 
     fn is_answered(&mut self, at: usize, status: u16) {
+        self.totals.answer(status);
         if let Some(conn) = self.conns.get_mut(at) {
             conn.stage = Stage::Watches;
             conn.status = status;
@@ -505,6 +514,7 @@ impl Screens {
             conn.is_blocked = count < length;
             conn.bytes = conn.bytes.saturating_add(count as u64);
         }
+        self.totals.hand(count);
         Ok(count == length)
     }
 

@@ -1,6 +1,7 @@
 //! The server that is followed, and the mirror of what it sends.
 
 use crate::device::{Link, Stop};
+use crate::figures::{FeedFigures, Following};
 use crate::screens::Screens;
 use crate::told::{Telling, Told, Why};
 use feed_answer::{Place, request_text};
@@ -56,6 +57,7 @@ pub(crate) struct Source {
     rest: Vec<u8>,
     /// There may be more to read, of which no event will tell.
     has_more: bool,
+    figures: FeedFigures,
 }
 
 impl Source {
@@ -82,6 +84,7 @@ impl Source {
             epoch: 0,
             rest: Vec::new(alloc),
             has_more: false,
+            figures: FeedFigures::new(Following::Away, now),
         }
     }
 
@@ -104,6 +107,10 @@ impl Source {
 
     pub(crate) fn has_more(&self) -> bool {
         self.has_more
+    }
+
+    pub(crate) fn figures(&self) -> FeedFigures {
+        self.figures
     }
 
     /// An event came for the connection.
@@ -178,6 +185,7 @@ impl Source {
         }
         self.is_fresh = self.mirror.since().is_none();
         self.upstream.opened(&self.mirror, now);
+        self.figures.ask(self.upstream.place(), now);
         self.reach = Reach::Connects(now);
     }
 
@@ -198,6 +206,7 @@ impl Source {
             self.is_heard = true;
         }
         self.leave(link, now);
+        self.figures.lose(now);
         self.upstream.lost(&mut self.mirror, now);
         let pause = self.upstream.due(0).saturating_sub(now);
         told.tell(Told::Lost { server, why, pause });
@@ -299,7 +308,10 @@ impl Source {
         let mut buf = [0u8; PIECE];
         match link.read(&mut buf) {
             Ok(0) => self.lost(link, told, Why::Ended, now),
-            Ok(count) => self.take(alloc, link, told, screens, &buf[..count], now),
+            Ok(count) => {
+                self.figures.hear(count, now);
+                self.take(alloc, link, told, screens, &buf[..count], now);
+            }
             Err(Stop::Waits) => return false,
             Err(_) => self.lost(link, told, Why::Broke, now),
         }
@@ -387,6 +399,7 @@ impl Source {
             server: self.upstream.place(),
         });
         self.leave(link, now);
+        self.figures.change(Following::Away, now);
         self.upstream.ask_again(now);
     }
 
@@ -396,6 +409,7 @@ impl Source {
             return;
         }
         self.body_since = Some(now);
+        self.figures.find(now);
         told.tell(Told::Found {
             server: self.upstream.place(),
             away: now.saturating_sub(self.away_since),
@@ -412,6 +426,7 @@ impl Source {
         }
         if screens.relay(alloc, self.mirror.node(), now) {
             self.is_heard = true;
+            self.figures.publish();
             self.upstream.published();
         }
     }
@@ -424,8 +439,9 @@ impl Source {
     // ---- the input as the feed
 
     /// The input is a feed from here on.
-    pub(crate) fn begin_input(&mut self) {
+    pub(crate) fn begin_input(&mut self, now: u64) {
         self.mirror.begin();
+        self.figures.change(Following::Input, now);
     }
 
     /// What was kept of the input is followed, and then bytes that came. Whether it goes on.
@@ -437,6 +453,9 @@ impl Source {
         piece: &[u8],
         now: u64,
     ) -> bool {
+        if !piece.is_empty() {
+            self.figures.hear(piece.len(), now);
+        }
         let kept = self.kept(alloc);
         let fed = match self.feed(alloc, screens, kept.as_slice(), now) {
             Ok(()) => self.feed(alloc, screens, piece, now),
@@ -446,6 +465,7 @@ impl Source {
             Ok(()) => true,
             Err(fault) => {
                 told.tell(Told::BadInput(fault));
+                self.end_input(now);
                 false
             }
         }
@@ -471,9 +491,16 @@ impl Source {
             let (line, next) = split_line(rest);
             rest = next;
             self.mirror.feed(alloc, line)?;
-            screens.relay(alloc, self.mirror.node(), now);
+            if screens.relay(alloc, self.mirror.node(), now) {
+                self.figures.publish();
+            }
         }
         Ok(())
+    }
+
+    /// Nothing more of the input is a feed.
+    pub(crate) fn end_input(&mut self, now: u64) {
+        self.figures.change(Following::Ended, now);
     }
 }
 

@@ -42,9 +42,9 @@ pub struct Turn {
 pub struct Live {
     contest: String,
     limits: LiveLimits,
-    source: Source,
-    screens: Screens,
-    saved: Option<Saved>,
+    pub(crate) source: Source,
+    pub(crate) screens: Screens,
+    pub(crate) saved: Option<Saved>,
     telling: Telling,
     ticked: u64,
     reported: u64,
@@ -81,7 +81,7 @@ impl Live {
         let feeds = places.is_empty();
         let mut source = Source::new(alloc, places, mirror, blank, now);
         if feeds {
-            source.begin_input();
+            source.begin_input(now);
         }
         // What is restored was said before: only what is published from here on is news.
         let mut screens = Screens::new(alloc, limits);
@@ -191,6 +191,7 @@ impl Live {
     fn end(&mut self, alloc: Global, now: u64) {
         if self.feeds {
             self.telling.tell(Told::EndOfInput);
+            self.source.end_input(now);
         }
         self.feeds = false;
         if self.limits.ends_with_input && self.ends_at.is_none() {

@@ -77,7 +77,10 @@ impl fmt::Display for Headline<'_> {
             None => f.write_str(", nothing published yet")?,
         }
         let screens = &self.0.screens;
-        write!(f, ", {} screens", screens.open)?;
+        match screens.open {
+            1 => f.write_str(", 1 screen")?,
+            open => write!(f, ", {open} screens")?,
+        }
         match screens.behind {
             0 => f.write_str(", none behind"),
             behind => write!(f, ", {behind} behind"),

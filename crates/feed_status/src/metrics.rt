@@ -1,6 +1,6 @@
 //! The metrics, in the text format of Prometheus (version 0.0.4).
 
-use crate::status::{BUCKETS, Latency, Status, UpstreamState};
+use crate::status::{BOUNDS, Latency, Status, UpstreamState};
 use std::fmt;
 use std::fmt::Write;
 
@@ -12,6 +12,17 @@ impl fmt::Display for Seconds {
     fn fmt<W: fmt::Write>(&self, f: &mut fmt::Formatter<W>) -> fmt::Result {
         let (whole, part) = (self.0 / 1_000, self.0 % 1_000);
         write!(f, "{whole}.{part:03}")
+    }
+}
+
+/// Seconds, of a number of microseconds.
+#[derive(Clone, Copy)]
+struct FineSeconds(u64);
+
+impl fmt::Display for FineSeconds {
+    fn fmt<W: fmt::Write>(&self, f: &mut fmt::Formatter<W>) -> fmt::Result {
+        let (whole, part) = (self.0 / 1_000_000, self.0 % 1_000_000);
+        write!(f, "{whole}.{part:06}")
     }
 }
 
@@ -252,14 +263,14 @@ impl fmt::Display for Histogram<'_> {
     fn fmt<W: fmt::Write>(&self, f: &mut fmt::Formatter<W>) -> fmt::Result {
         f.write_str("# HELP tunygarop_latency_seconds From a commit's end to its last write.\n")?;
         f.write_str("# TYPE tunygarop_latency_seconds histogram\n")?;
-        for (bound, count) in BUCKETS.iter().zip(self.0.at_most.iter()) {
-            let bound = Seconds(*bound);
+        for (bound, count) in BOUNDS.iter().zip(self.0.at_most.iter()) {
+            let bound = FineSeconds(*bound);
             write!(
                 f,
                 "tunygarop_latency_seconds_bucket{{le=\"{bound}\"}} {count}\n"
             )?;
         }
-        let (commits, sum) = (self.0.commits, Seconds(self.0.sum_ms));
+        let (commits, sum) = (self.0.commits, FineSeconds(self.0.sum_us));
         write!(
             f,
             "tunygarop_latency_seconds_bucket{{le=\"+Inf\"}} {commits}\n"

@@ -25,7 +25,7 @@ h1 { margin: 0; padding: 1.2rem; font-size: clamp(1.6rem, 4.5vw, 5rem); line-hei
 main { display: flex; flex-wrap: wrap; gap: 1rem 3rem; padding: 1.2rem; }
 table { border-collapse: collapse; }
 th { font-weight: normal; text-align: left; padding: 0.1rem 1.5rem 0.1rem 0; opacity: 0.75; }
-td { font-variant-numeric: tabular-nums; overflow-wrap: anywhere; }
+td { max-width: 22rem; font-variant-numeric: tabular-nums; overflow-wrap: anywhere; }
 figure { margin: 0 0 1rem; }
 svg { width: min(90vw, 44rem); height: 7rem; background: #8881; }
 polyline { fill: none; stroke: #2a78d6; stroke-width: 2; vector-effect: non-scaling-stroke; }
@@ -46,9 +46,9 @@ const samples = [];
 const plots = [
   ["Commits a second", (now, before) => Math.max(0, now.commits - before.commits)],
   ["Screens", (now) => now.screens.open],
-  ["Slowest commit (ms, up to)", slowest],
+  ["Slowest commit (at most, in ms)", slowest],
 ];
-const bounds = [1, 2, 5, 10, 20, 50, 100, 200, 500, 1000, 2000, 5000, 10000];
+const bounds = [0.1, 0.25, 0.5, 1, 2.5, 5, 10, 25, 50, 100, 250, 1000, 10000];
 
 // The bound of the highest bucket that a commit fell into since the sample before.
 function slowest(now, before) {

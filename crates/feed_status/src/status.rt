@@ -2,8 +2,13 @@
 
 use serde::Serialize;
 
-/// The upper bounds of the buckets of a latency, in milliseconds.
-pub const BUCKETS: [u64; 12] = [1, 2, 5, 10, 20, 50, 100, 200, 500, 1_000, 2_000, 5_000];
+/// How many buckets a latency has.
+const BUCKETS: usize = 12;
+
+/// Their upper bounds, in microseconds.
+pub const BOUNDS: [u64; BUCKETS] = [
+    100, 250, 500, 1_000, 2_500, 5_000, 10_000, 25_000, 50_000, 100_000, 250_000, 1_000_000,
+];
 
 /// How things stand with the server that is followed.
 #[derive(Clone, Copy, Debug, PartialEq, Eq, Serialize)]
@@ -62,14 +67,36 @@ pub struct StateFile {
     pub age_ms: u64,
 }
 
-/// How long it took from the read that had the end of a commit to the last write of it to a screen
-/// that was up to date.
+/// How long it took from the read that had the end of a commit until it was written to each screen
+/// that was up to date and took it.
 #[derive(Clone, Copy, Debug, Serialize)]
 pub struct Latency {
-    /// How many commits took at most the time of each bucket.
-    pub at_most: [u64; 12],
+    /// How many commits took at most the time of each of the bounds.
+    pub at_most: [u64; BUCKETS],
     pub commits: u64,
-    pub sum_ms: u64,
+    pub sum_us: u64,
+}
+
+impl Latency {
+    /// No commit was measured.
+    pub fn none() -> Latency {
+        Latency {
+            at_most: [0; BUCKETS],
+            commits: 0,
+            sum_us: 0,
+        }
+    }
+
+    /// So many commits took so long each, in microseconds.
+    pub fn add(&mut self, commits: u64, time: u64) {
+        self.commits = self.commits.saturating_add(commits);
+        self.sum_us = self.sum_us.saturating_add(time.saturating_mul(commits));
+        for (at, bound) in BOUNDS.iter().enumerate() {
+            if time <= *bound {
+                self.at_most[at] = self.at_most[at].saturating_add(commits);
+            }
+        }
+    }
 }
 
 /// All that is told of a relay.

@@ -45,6 +45,9 @@ listen = tied (number_in (codes "listen") most_port)
 abbrev pub address : Rule
 address = tied (with_default (codes "127.0.0.1") (text_option (codes "address")))
 
+abbrev pub status : Rule
+status = number_in (codes "status") most_port
+
 abbrev pub screens : Rule
 screens = with_default (codes "1000") (number_in (codes "screens") most_screens)
 
@@ -89,8 +92,12 @@ abbrev pub with_course : App → App
 with_course command =
     with_rule (with_rule (with_rule (with_rule command state) until_eof) verbose) quiet
 
+-- a command with the options that say who may watch it
+abbrev pub with_watching : App → App
+with_watching command = with_rule command status
+
 abbrev pub live : App
-live = with_limits (with_course (with_screens (with_upstream (new_app (codes "live")))))
+live = with_limits (with_watching (with_course (with_screens (with_upstream (new_app (codes "live"))))))
 
 -- ---- what its options ask for
 
@@ -121,6 +128,7 @@ pub record AsksLive (rows : List Row) (options : LiveOptions) : Type 0 where
   pub upstream_is : IsUpstream rows options.upstream
   pub listen_is : IsNumberIfGiven (codes "listen") most_port rows options.listen
   pub address_is : text_at (codes "address") rows ≡ Some options.address.now
+  pub status_is : IsNumberIfGiven (codes "status") most_port rows options.status
   pub screens_are : IsNumber (codes "screens") most_screens rows options.screens
   pub idle_is : IsNumber (codes "idle") most_idle rows options.idle
   pub window_is : IsNumber (codes "window") most_window rows options.window

@@ -10,4 +10,4 @@ pub use request::{
     LiveOptions, Local, NoCommand, PullOptions, RelayOptions, Request, ServeOptions, TablesOptions,
     UpstreamOptions, Verbosity,
 };
-pub use words::{PROGRAM, parse_words};
+pub use words::{PROGRAM, VERSION, parse_words};

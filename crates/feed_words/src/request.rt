@@ -102,6 +102,8 @@ pub struct LiveOptions<'a> {
     pub listen: Option<u16>,
     /// The address of this machine that they come to. Any text will do.
     pub address: &'a str,
+    /// A further port of that address, 1 to 65,535, that those who watch the relay come to.
+    pub status: Option<u16>,
     /// How many screens are served at once, 1 to 10,000.
     pub screens: usize,
     /// After how many seconds without a commit a screen is sent a line feed, 1 to 3,600.

@@ -17,6 +17,9 @@ use std::alloc::Global;
 /// The name of the program.
 pub const PROGRAM: &str = "tunygarop";
 
+/// The version of the program.
+pub const VERSION: &str = "0.1.0";
+
 /// What clap replies to words that ask for no command.
 fn reply(alloc: Global, error: &clap::Error) -> NoCommand {
     if error.kind() == ErrorKind::OutOfMemory {

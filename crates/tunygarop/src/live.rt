@@ -6,6 +6,7 @@ mod standard;
 mod store;
 mod telling;
 mod watchers;
+mod watching;
 
 use crate::sockets::without_brackets;
 use feed_answer::Place;
@@ -13,7 +14,9 @@ use feed_cli::{
     AddressFault, Fault, LiveOptions, NetworkFault, PullOptions, UpstreamOptions, Verbosity,
     servers_of,
 };
-use feed_live::{Devices, Input, Live, LiveLimits, Ready, Restored, Start, Turn, restore};
+use feed_live::{
+    Devices, Following, Input, Live, LiveLimits, Ready, Restored, Start, Turn, restore,
+};
 use feed_node::{Limits, Mirror};
 use link::{LINK, Servers};
 use mio::net::TcpListener;
@@ -26,7 +29,9 @@ use std::io::ErrorKind;
 use std::net::{IpAddr, SocketAddr, ToSocketAddrs};
 use std::time::{Duration, Instant};
 use store::{Files, Names, read_file};
-use telling::{is_told, stamp, text_of};
+use telling::{is_told, name_of, stamp, text_of};
+use watchers::{FIRST_WATCHER, WATCHERS, Watchers};
+use watching::Watched;
 
 /// The token of the listener.
 const LISTENER: Token = Token(0);
@@ -131,13 +136,15 @@ fn restored(
     needs_memory(restore(alloc, limits, before.as_slice(), file.as_slice()))
 }
 
-/// Listens where screens are to come to.
+/// Listens at a port, where there is one.
 fn listener_of(
     rt: &HostRuntime,
     poll: &Poll,
     options: &LiveOptions<'_>,
+    port: Option<u16>,
+    token: Token,
 ) -> Result<Option<TcpListener>, Fault> {
-    let Some(port) = options.listen else {
+    let Some(port) = port else {
         return Ok(None);
     };
     let Ok(address) = options.address.parse::<IpAddr>() else {
@@ -148,7 +155,7 @@ fn listener_of(
     };
     of_system(
         poll.registry()
-            .register(&mut listener, LISTENER, Interest::READABLE),
+            .register(&mut listener, token, Interest::READABLE),
     )?;
     Ok(Some(listener))
 }
@@ -178,6 +185,8 @@ struct Engine<'r> {
     live: Live,
     input: InputStream,
     errors: ErrorStream,
+    watchers: Watchers,
+    watched: Watched,
     verbosity: Verbosity,
     start: Instant,
 }
@@ -190,7 +199,7 @@ fn devices<'r>(
     names: Option<Names>,
     addresses: Vec<SocketAddr>,
 ) -> Result<Devices<Port, Servers<'r>, Files<'r>>, Fault> {
-    let listener = listener_of(rt, poll, options)?;
+    let listener = listener_of(rt, poll, options, options.listen, LISTENER)?;
     let registry = poll.registry();
     Ok(Devices {
         sockets: Port::new(
@@ -219,6 +228,11 @@ fn prepare<'r>(rt: &'r HostRuntime, options: &LiveOptions<'_>) -> Result<Engine<
     };
     let poll = of_system(Poll::new(rt))?;
     let mut devices = devices(rt, &poll, options, names, asked.addresses)?;
+    let watchers = Watchers::new(
+        alloc,
+        of_system(poll.registry().try_clone())?,
+        listener_of(rt, &poll, options, options.status, WATCHERS)?,
+    );
     let contest = needs_memory(String::from_str(alloc, options.contest))?;
     let live = Live::new(
         alloc,
@@ -237,6 +251,11 @@ fn prepare<'r>(rt: &'r HostRuntime, options: &LiveOptions<'_>) -> Result<Engine<
         live,
         input: InputStream::new(poll.registry()),
         errors: ErrorStream::new(poll.registry(), Vec::new(alloc)),
+        watchers,
+        watched: Watched::new(
+            needs_memory(String::from_str(alloc, options.contest))?,
+            options,
+        ),
         poll,
         verbosity: options.verbosity,
         start: of_system(Instant::now(rt))?,
@@ -285,6 +304,14 @@ impl Engine<'_> {
                     self.errors.wake();
                     continue;
                 }
+                WATCHERS => {
+                    self.watchers.wake();
+                    continue;
+                }
+                Token(number) if number < FIRST_SCREEN => {
+                    self.watchers.wake_one(number.saturating_sub(FIRST_WATCHER));
+                    continue;
+                }
                 Token(number) => Ready::Screen {
                     at: number.saturating_sub(FIRST_SCREEN),
                     is_readable: event.is_readable(),
@@ -308,13 +335,38 @@ impl Engine<'_> {
     /// One turn, with what the input has where that is read.
     fn turn(&mut self, takes_input: bool) -> io::Result<Turn> {
         let now = self.now()?;
+        let began = Instant::now(self.rt)?;
+        let commits = self.live.feed_figures().commits;
         let read = self.read_input(takes_input);
         let alloc = self.rt.alloc();
         let input = input_of(self.piece.as_slice(), read);
-        Ok(
-            self.live
-                .turn(alloc, &mut self.devices, &self.ready, input, now),
-        )
+        let turn = self
+            .live
+            .turn(alloc, &mut self.devices, &self.ready, input, now);
+        let more = self.live.feed_figures().commits.saturating_sub(commits);
+        if more > 0 {
+            let time = began.elapsed(self.rt)?.as_micros();
+            self.watched
+                .add(more, u64::try_from(time).unwrap_or(u64::MAX));
+        }
+        Ok(turn)
+    }
+
+    /// Answers those who watch the relay.
+    fn watch(&mut self) -> io::Result<()> {
+        let now = self.now()?;
+        if !self.watchers.has_work(now) {
+            return Ok(());
+        }
+        let alloc = self.rt.alloc();
+        let feed = self.live.feed_figures();
+        let name = match feed.following {
+            Following::Input | Following::Ended => String::from_str(alloc, "standard input")?,
+            _ => name_of(alloc, &self.devices.link, feed.server)?,
+        };
+        let status = self.watched.status(&self.live, name.as_str(), now);
+        self.watchers.serve(alloc, &status, now);
+        Ok(())
     }
 
     /// Writes what happened.
@@ -354,11 +406,12 @@ impl Engine<'_> {
             let due = if takes_input && self.input.is_ready() {
                 0
             } else {
-                turn.due
+                turn.due.min(self.watchers.due())
             };
             self.wait(due)?;
             turn = self.turn(takes_input)?;
             goes_on = goes_on && !self.input.has_ended();
+            self.watch()?;
             self.tell();
             if turn.is_over {
                 break;

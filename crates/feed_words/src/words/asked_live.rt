@@ -79,6 +79,7 @@ pub(super) fn live_options<'a>(matches: &ArgMatches<'a>) -> Option<LiveOptions<'
         return None;
     }
     let address = text(matches, "address")?;
+    let status = port_if_given(matches, "status")?;
     let screens = number(matches, "screens", MOST_SCREENS)?;
     let idle = number(matches, "idle", MOST_IDLE)?;
     let window = number(matches, "window", MOST_WINDOW)?;
@@ -89,6 +90,7 @@ pub(super) fn live_options<'a>(matches: &ArgMatches<'a>) -> Option<LiveOptions<'
         upstream,
         listen,
         address,
+        status,
         screens: screens as usize,
         idle,
         window,

@@ -5,12 +5,9 @@ ghost use Rattle.feed_words.specs.Options.{with_limits as limited};
 ghost use Rattle.feed_words.specs.Words as words;
 
 use super::live::live;
-use super::{PROGRAM, options};
+use super::{PROGRAM, VERSION, options};
 use clap::{Arg, Command};
 use std::alloc::{AllocError, Global};
-
-/// The version of the program.
-const VERSION: &str = "0.1.0";
 
 /// A command without options.
 pub(super) fn command<'a>(alloc: Global, name: &'a str, about: &'a str) -> Command<'a>

@@ -78,6 +78,16 @@ fn address<'a>(alloc: Global) -> Result<Arg<'a>, AllocError>
         .requires_arg("listen")
 }
 
+/// `--status PORT`.
+fn status<'a>(alloc: Global) -> Arg<'a>
+    ensures rule { rule_of result ≡ live.status }
+    ensures local { result.global ≡ false }
+{
+    number(alloc, "status", "PORT", MOST_PORT).help(
+        "A further port of that address, with a page, JSON and metrics on the relay",
+    )
+}
+
 /// `--screens N`.
 fn screens<'a>(alloc: Global) -> Arg<'a>
     ensures rule { rule_of result ≡ live.screens }
@@ -192,6 +202,13 @@ fn with_course<'a>(alloc: Global, command: Command<'a>) -> Result<Command<'a>, A
     add_option(kept, quiet(alloc))
 }
 
+/// A command with the options that say who may watch it.
+fn with_watching<'a>(alloc: Global, command: Command<'a>) -> Result<Command<'a>, AllocError>
+    ensures { IfOk result (λ c. app_of c ≡ live.with_watching (app_of command.entry)) }
+{
+    add_option(command, status(alloc))
+}
+
 /// `live`.
 pub(super) fn live<'a>(alloc: Global) -> Result<Command<'a>, AllocError>
     ensures { IfOk result (λ c. app_of c ≡ live.live) }
@@ -200,5 +217,6 @@ pub(super) fn live<'a>(alloc: Global) -> Result<Command<'a>, AllocError>
     let live = with_upstream(alloc, command(alloc, "live", about))?;
     let live = with_screens(alloc, live)?;
     let live = with_course(alloc, live)?;
+    let live = with_watching(alloc, live)?;
     with_limits(alloc, live)
 }

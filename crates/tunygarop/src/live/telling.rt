@@ -96,7 +96,11 @@ fn text_of_screen(alloc: Global, told: &Told) -> Result<String, AllocError> {
     }
 }
 
-fn name_of(alloc: Global, servers: &Servers<'_>, server: usize) -> Result<String, AllocError> {
+pub(crate) fn name_of(
+    alloc: Global,
+    servers: &Servers<'_>,
+    server: usize,
+) -> Result<String, AllocError> {
     let address: Option<SocketAddr> = servers.address(server);
     match address {
         Some(address) => format!(in alloc; "{address}"),
