@@ -28,7 +28,7 @@ _tunygarop() {
             mapfile -t COMPREPLY < <(compgen -f -- "$word")
             return
             ;;
-        --history | --back | --staged | --turns | --turn | --count | --port | --listen)
+        --history | --back | --staged | --turns | --turn | --count | --port | --listen | --status)
             return
             ;;
         --contest | --from | --base | --address | --screens | --idle | --window)
@@ -51,7 +51,7 @@ _tunygarop() {
             names="host port from contest base turns resume history staged listen count chunked"
             ;;
         live)
-            names="contest host port base from listen address screens idle window chunked state until-eof verbose quiet history staged"
+            names="contest host port base from listen address screens idle window chunked state until-eof status verbose quiet history staged"
             ;;
         help)
             [ "$COMP_CWORD" -eq 2 ] && mapfile -t COMPREPLY < <(compgen -W "$commands" -- "$word")

@@ -35,6 +35,7 @@ complete -c tunygarop -n '__fish_seen_subcommand_from live' -l listen -x -d 'Por
 complete -c tunygarop -n '__fish_seen_subcommand_from live' -l address -x -d 'Address of this machine that screens come to'
 complete -c tunygarop -n '__fish_seen_subcommand_from live' -l screens -x -d 'How many screens are served at once, 1 to 10000'
 complete -c tunygarop -n '__fish_seen_subcommand_from live' -l idle -x -d 'Seconds of silence before a line feed is sent, 1 to 3600'
+complete -c tunygarop -n '__fish_seen_subcommand_from live' -l status -x -d 'Port of a page, JSON and metrics on the relay'
 complete -c tunygarop -n '__fish_seen_subcommand_from live' -l window -x -d 'Bytes that a screen may be late, 1 to 1073741824'
 complete -c tunygarop -n '__fish_seen_subcommand_from live' -l state -x -a '(__fish_complete_path)' -d 'File that keeps what was published'
 complete -c tunygarop -n '__fish_seen_subcommand_from live' -l until-eof -d 'End where standard input ends'
