@@ -31,6 +31,8 @@ pub(crate) struct Conn {
     /// There may be more to read, and more to write, of which no event will tell.
     pub(crate) has_input: bool,
     pub(crate) has_more: bool,
+    /// How many bytes of its answer are kept for it alone, until it took them all.
+    pub(crate) owes: usize,
     pub(crate) peer: SocketAddr,
     pub(crate) since: u64,
     pub(crate) status: u16,
@@ -46,6 +48,7 @@ impl Conn {
             is_blocked: false,
             has_input: false,
             has_more: false,
+            owes: 0,
             peer,
             since: now,
             status: 0,

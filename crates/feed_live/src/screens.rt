@@ -31,6 +31,11 @@ const FURTHER: usize = 8;
 /// How many bytes one read takes.
 const PIECE: usize = 4096;
 
+/// While so many bytes are kept for screens that have yet to take their answers, no further request
+/// is read: a snapshot of many megabytes is not made for a thousand at once. Those that wait are late
+/// as others are.
+const MOST_OWED: usize = 67_108_864;
+
 /// What is sent where there are as many screens as there may be.
 const FULL: &[u8] = b"HTTP/1.1 503 Service Unavailable\r\n\
 Content-Type: application/json\r\nContent-Length: 41\r\nConnection: close\r\n\r\n\
@@ -90,6 +95,8 @@ pub(crate) struct Screens {
     pub(crate) saying: Saying,
     pub(crate) counts: Counts,
     pub(crate) totals: ScreenTotals,
+    /// How many bytes of answers are kept for screens that have not taken them yet.
+    pub(crate) owed: usize,
     /// Some connection has more to read or to write, of which no event will tell.
     pub(crate) has_more: bool,
     /// Somebody waits to be taken; not before this time.
@@ -109,6 +116,7 @@ impl Screens {
             saying: Saying::new(),
             counts: Counts::none(),
             totals: ScreenTotals::none(),
+            owed: 0,
             has_more: false,
             is_waited_for: false,
             accept_at: 0,
@@ -127,6 +135,7 @@ impl Screens {
         now: u64,
     ) {
         sockets.close(at);
+        self.pay(at);
         let Some(conn) = self.conns.try_remove(at) else {
             return;
         };
@@ -299,10 +308,35 @@ impl Screens {
         let Some(conn) = self.conns.get(at) else {
             return false;
         };
-        if conn.stage == Stage::Asks && shown.answers(conn.since, now).is_none() {
+        if conn.stage == Stage::Asks && !self.may_answer(shown, conn.since, now) {
             return false;
         }
         conn.has_input
+    }
+
+    /// Whether a request that came at a time can be answered now.
+    fn may_answer(&self, shown: &Shown<'_>, since: u64, now: u64) -> bool {
+        self.owed < MOST_OWED && shown.answers(since, now).is_some()
+    }
+
+    /// So many bytes are kept for the connection at a place.
+    fn owe(&mut self, at: usize, bytes: usize) {
+        if let Some(conn) = self.conns.get_mut(at) {
+            conn.owes = bytes;
+            self.owed = self.owed.saturating_add(bytes);
+        }
+    }
+
+    /// Nothing is kept for it any more. Requests that waited for that are looked at.
+    fn pay(&mut self, at: usize) {
+        let Some(conn) = self.conns.get_mut(at) else {
+            return;
+        };
+        if self.owed >= MOST_OWED {
+            self.has_more = true;
+        }
+        self.owed = self.owed.saturating_sub(conn.owes);
+        conn.owes = 0;
     }
 
     /// Whether the connection at a place has more to read or to write.
@@ -400,6 +434,7 @@ impl Screens {
             };
             if let Some(status) = heard.status {
                 self.is_answered(at, status);
+                self.owe(at, self.hub.prefix(key).len());
                 break;
             }
             if heard.taken == 0 {
@@ -473,6 +508,7 @@ impl Screens {
         if !self.hub.prefix(key).is_empty() {
             return true;
         }
+        self.pay(at);
         if self.hub.refill(alloc, node, key, now).is_err() {
             self.end(sockets, told, at, How::Memory, now);
             return false;
