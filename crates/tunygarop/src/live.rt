@@ -1,6 +1,7 @@
 //! The command `live`: one relay, in one process and one thread, over sockets that never wait.
 
 mod link;
+mod making;
 mod sockets;
 mod standard;
 mod store;
@@ -8,169 +9,22 @@ mod telling;
 mod watchers;
 mod watching;
 
-use crate::sockets::without_brackets;
-use feed_answer::Place;
-use feed_cli::{
-    AddressFault, Fault, LiveOptions, NetworkFault, PullOptions, UpstreamOptions, Verbosity,
-    servers_of,
-};
-use feed_live::{
-    Devices, Following, Input, Live, LiveLimits, Ready, Restored, Start, Turn, restore,
-};
-use feed_node::{Limits, Mirror};
+use feed_cli::{Fault, LiveOptions, Verbosity};
+use feed_live::{Devices, Following, Input, Live, Ready, Turn};
 use link::{LINK, Servers};
-use mio::net::TcpListener;
-use mio::{Events, Interest, Poll, Token};
+use making::{needs_memory, of_system, prepare};
+use mio::{Events, Poll, Token};
 use sockets::{FIRST_SCREEN, Port};
 use standard::{ERRORS, ErrorStream, INPUT, InputStream};
-use std::alloc::AllocError;
 use std::io;
-use std::io::ErrorKind;
-use std::net::{IpAddr, SocketAddr, ToSocketAddrs};
 use std::time::{Duration, Instant};
-use store::{Files, Names, read_file};
+use store::Files;
 use telling::{is_told, name_of, stamp, text_of};
 use watchers::{FIRST_WATCHER, WATCHERS, Watchers};
 use watching::Watched;
 
 /// The token of the listener.
 const LISTENER: Token = Token(0);
-
-/// How many events one wait gives.
-const EVENTS: usize = 1_024;
-
-/// How many bytes of the input one turn takes.
-const INPUT_PIECE: usize = 65_536;
-
-/// What the options say of servers, as the other commands take it.
-fn pull_options<'a>(options: &LiveOptions<'a>, upstream: &UpstreamOptions<'a>) -> PullOptions<'a> {
-    PullOptions {
-        host: upstream.host,
-        port: upstream.port,
-        from: upstream.from,
-        base: upstream.base,
-        contest: options.contest,
-        turns: 1,
-        resume: false,
-        limits: options.limits,
-    }
-}
-
-/// The first address that a host's name has. The system may ask for it, and waits then.
-fn address_of(rt: &HostRuntime, host: &str, port: u16) -> Result<SocketAddr, Fault> {
-    match (without_brackets(host), port).to_socket_addrs(rt) {
-        Ok(mut all) => all.next().ok_or(Fault::of_network(NetworkFault::Connect)),
-        Err(_) => Err(Fault::of_network(NetworkFault::Connect)),
-    }
-}
-
-/// The servers: where each is, and what it is asked for.
-#[derive(Drop)]
-struct Asked {
-    addresses: Vec<SocketAddr>,
-    places: Vec<Place>,
-}
-
-/// The servers that are asked: none where the feed is the input.
-fn servers(rt: &HostRuntime, options: &LiveOptions<'_>) -> Result<Asked, Fault> {
-    let mut addresses = Vec::new(rt.alloc());
-    let Some(upstream) = &options.upstream else {
-        return Ok(Asked {
-            addresses,
-            places: Vec::new(rt.alloc()),
-        });
-    };
-    let servers = servers_of(rt.alloc(), &pull_options(options, upstream))?;
-    push(
-        &mut addresses,
-        address_of(rt, upstream.host, upstream.port)?,
-    )?;
-    for (host, port) in &servers.further {
-        push(&mut addresses, address_of(rt, host.as_str(), *port)?)?;
-    }
-    Ok(Asked {
-        addresses,
-        places: servers.places,
-    })
-}
-
-fn push(addresses: &mut Vec<SocketAddr>, address: SocketAddr) -> Result<(), Fault> {
-    match addresses.push(address) {
-        Ok(()) => Ok(()),
-        Err(_) => Err(Fault::Memory),
-    }
-}
-
-fn needs_memory<T: Drop>(outcome: Result<T, AllocError>) -> Result<T, Fault> {
-    match outcome {
-        Ok(value) => Ok(value),
-        Err(_) => Err(Fault::Memory),
-    }
-}
-
-/// A call of the system failed.
-fn of_system<T: Drop>(outcome: io::Result<T>) -> Result<T, Fault> {
-    match outcome {
-        Ok(value) => Ok(value),
-        Err(error) => match error.kind() {
-            ErrorKind::OutOfMemory => Err(Fault::Memory),
-            _ => Err(Fault::Read),
-        },
-    }
-}
-
-/// What the state files have; nothing where there are none, or the feed is the input, which begins
-/// anew.
-fn restored(
-    rt: &HostRuntime,
-    options: &LiveOptions<'_>,
-    limits: Limits,
-    names: Option<&Names>,
-) -> Result<Restored, Fault> {
-    let alloc = rt.alloc();
-    let (Some(names), Some(_)) = (names, &options.upstream) else {
-        return needs_memory(restore(alloc, limits, &[], &[]));
-    };
-    let before = of_system(read_file(rt, names.before.as_str()))?;
-    let file = of_system(read_file(rt, names.file.as_str()))?;
-    needs_memory(restore(alloc, limits, before.as_slice(), file.as_slice()))
-}
-
-/// Listens at a port, where there is one.
-fn listener_of(
-    rt: &HostRuntime,
-    poll: &Poll,
-    options: &LiveOptions<'_>,
-    port: Option<u16>,
-    token: Token,
-) -> Result<Option<TcpListener>, Fault> {
-    let Some(port) = port else {
-        return Ok(None);
-    };
-    let Ok(address) = options.address.parse::<IpAddr>() else {
-        return Err(Fault::of_addresses(AddressFault::BadAddress(0)));
-    };
-    let Ok(mut listener) = TcpListener::bind(rt, SocketAddr::new(address, port)) else {
-        return Err(Fault::of_network(NetworkFault::Bind));
-    };
-    of_system(
-        poll.registry()
-            .register(&mut listener, token, Interest::READABLE),
-    )?;
-    Ok(Some(listener))
-}
-
-fn limits_of(options: &LiveOptions<'_>) -> LiveLimits {
-    LiveLimits {
-        screens: options.screens,
-        window: options.window,
-        idle: options.idle.saturating_mul(1_000),
-        framing: options.framing,
-        is_verbose: options.verbosity == Verbosity::Verbose,
-        has_store: options.state.is_some(),
-        ends_with_input: options.until_eof,
-    }
-}
 
 /// All that a relay runs on.
 #[derive(Drop)]
@@ -189,77 +43,6 @@ struct Engine<'r> {
     watched: Watched,
     verbosity: Verbosity,
     start: Instant,
-}
-
-/// The devices, and the port that is listened at.
-fn devices<'r>(
-    rt: &'r HostRuntime,
-    poll: &Poll,
-    options: &LiveOptions<'_>,
-    names: Option<Names>,
-    addresses: Vec<SocketAddr>,
-) -> Result<Devices<Port, Servers<'r>, Files<'r>>, Fault> {
-    let listener = listener_of(rt, poll, options, options.listen, LISTENER)?;
-    let registry = poll.registry();
-    Ok(Devices {
-        sockets: Port::new(
-            of_system(registry.try_clone())?,
-            listener,
-            Vec::new(rt.alloc()),
-        ),
-        link: Servers::new(rt, of_system(registry.try_clone())?, addresses),
-        store: Files::new(rt, names),
-    })
-}
-
-/// Makes all that a relay runs on, and listens.
-fn prepare<'r>(rt: &'r HostRuntime, options: &LiveOptions<'_>) -> Result<Engine<'r>, Fault> {
-    let alloc = rt.alloc();
-    let limits = options.limits;
-    let asked = servers(rt, options)?;
-    let names = match options.state {
-        Some(path) => Some(of_system(Names::new(rt, path))?),
-        None => None,
-    };
-    let start = Start {
-        restored: restored(rt, options, limits, names.as_ref())?,
-        blank: needs_memory(Mirror::new(alloc, limits))?,
-        places: asked.places,
-    };
-    let poll = of_system(Poll::new(rt))?;
-    let mut devices = devices(rt, &poll, options, names, asked.addresses)?;
-    let watchers = Watchers::new(
-        alloc,
-        of_system(poll.registry().try_clone())?,
-        listener_of(rt, &poll, options, options.status, WATCHERS)?,
-    );
-    let contest = needs_memory(String::from_str(alloc, options.contest))?;
-    let live = Live::new(
-        alloc,
-        contest,
-        limits_of(options),
-        start,
-        &mut devices.store,
-        0,
-    );
-    Ok(Engine {
-        rt,
-        events: needs_memory(Events::with_capacity(alloc, EVENTS))?,
-        ready: needs_memory(Vec::with_capacity(alloc, EVENTS))?,
-        piece: needs_memory(Vec::from_elem(alloc, 0u8, INPUT_PIECE))?,
-        devices,
-        live,
-        input: InputStream::new(poll.registry()),
-        errors: ErrorStream::new(poll.registry(), Vec::new(alloc)),
-        watchers,
-        watched: Watched::new(
-            needs_memory(String::from_str(alloc, options.contest))?,
-            options,
-        ),
-        poll,
-        verbosity: options.verbosity,
-        start: of_system(Instant::now(rt))?,
-    })
 }
 
 /// What the input has, of which so many bytes were read; nothing where it was not read.
@@ -335,21 +118,36 @@ impl Engine<'_> {
     /// One turn, with what the input has where that is read.
     fn turn(&mut self, takes_input: bool) -> io::Result<Turn> {
         let now = self.now()?;
-        let began = Instant::now(self.rt)?;
-        let commits = self.live.feed_figures().commits;
         let read = self.read_input(takes_input);
         let alloc = self.rt.alloc();
         let input = input_of(self.piece.as_slice(), read);
-        let turn = self
-            .live
-            .turn(alloc, &mut self.devices, &self.ready, input, now);
-        let more = self.live.feed_figures().commits.saturating_sub(commits);
-        if more > 0 {
-            let time = began.elapsed(self.rt)?.as_micros();
-            self.watched
-                .add(more, u64::try_from(time).unwrap_or(u64::MAX));
+        Ok(
+            self.live
+                .turn(alloc, &mut self.devices, &self.ready, input, now),
+        )
+    }
+
+    /// One turn; it is measured where it published something.
+    fn measured_turn(&mut self, takes_input: bool) -> io::Result<Turn> {
+        let (began, before) = (self.microseconds()?, self.commits());
+        let turn = self.turn(takes_input)?;
+        let commits = self.commits().saturating_sub(before);
+        if commits > 0 {
+            let time = self.microseconds()?.saturating_sub(began);
+            self.watched.add(commits, time);
         }
         Ok(turn)
+    }
+
+    /// How many commits were published since the start.
+    fn commits(&self) -> u64 {
+        self.live.feed_figures().commits
+    }
+
+    /// The time since the start, in microseconds.
+    fn microseconds(&self) -> io::Result<u64> {
+        let elapsed = self.start.elapsed(self.rt)?.as_micros();
+        Ok(u64::try_from(elapsed).unwrap_or(u64::MAX))
     }
 
     /// Answers those who watch the relay.
@@ -409,7 +207,7 @@ impl Engine<'_> {
                 turn.due.min(self.watchers.due())
             };
             self.wait(due)?;
-            turn = self.turn(takes_input)?;
+            turn = self.measured_turn(takes_input)?;
             goes_on = goes_on && !self.input.has_ended();
             self.watch()?;
             self.tell();

@@ -3,6 +3,7 @@
 use feed_cli::{LiveOptions, VERSION};
 use feed_live::{FeedFigures, Following, Live, ScreenFigures};
 use feed_status::{Latency, Screens, StateFile, Status, Upstream, UpstreamState};
+use std::alloc::{AllocError, Global};
 
 /// What is told beside what the relay counts itself.
 #[derive(Drop)]
@@ -14,12 +15,12 @@ pub(crate) struct Watched {
 }
 
 impl Watched {
-    pub(crate) fn new(contest: String, options: &LiveOptions<'_>) -> Watched {
-        Watched {
-            contest,
+    pub(crate) fn new(alloc: Global, options: &LiveOptions<'_>) -> Result<Watched, AllocError> {
+        Ok(Watched {
+            contest: String::from_str(alloc, options.contest)?,
             silence: options.idle.saturating_mul(2_000),
             latency: Latency::none(),
-        }
+        })
     }
 
     /// A turn that published so many commits took so many microseconds.
