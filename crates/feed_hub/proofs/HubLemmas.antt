@@ -1,5 +1,5 @@
 -- A hub, seat by seat.
-use Rattle.std.proofs.Common.{◌≡◌, ◌≢◌, refl, sym, ap, ◌∙◌, subst, ℕ, ◌⊎◌, true, false, true≢false, List, [], ◌∷◌, ◌++◌, Option, Some, None, inl, inr, ◌≤◌, ◌+◌, ◌-◌, length, length-append, length-drop, append-nil, append_assoc, arith, take}
+use Rattle.std.proofs.Common.{◌≡◌, ◌≢◌, refl, sym, ap, ◌∙◌, subst, ℕ, ◌⊎◌, true, false, true≢false, List, [], ◌∷◌, ◌++◌, Option, Some, None, inl, inr, ◌≤◌, ◌+◌, ◌-◌, length, length-append, length-drop, arith, take}
 use Rattle.std.specs.Prelude.{◌==◌, IsSome, Result, Ok, Err, IfOk, OnOk}
 use Rattle.std.proofs.lemmas.Bool.Decides.{eqb_tells}
 use Rattle.slab.specs.Slab.{Slab, get, Updates}
@@ -9,7 +9,6 @@ use Rattle.feed_node.specs.declared.session.Pulled.TheVariants.{More, UpToDate, 
 use Rattle.feed_http.specs.Sessions.{Next, Nothing_new, Lost, Commit_after, next}
 use Rattle.feed_answer.specs.declared.framing.Framing.{Framing}
 use Rattle.feed_answer.specs.Answered.{AnswerParts}
-use Rattle.feed_answer.specs.Framed.{frame_end}
 use Rattle.feed_hub.specs.declared.asking.Asking.{Asking}
 use Rattle.feed_hub.specs.declared.broadcast.Broadcast.{Broadcast}
 use Rattle.feed_hub.specs.declared.hub.Heard.{Heard}
@@ -25,10 +24,10 @@ use Rattle.feed_hub.specs.Hub.{Takes, HearsOf, HearsAt}
 use Rattle.feed_hub.specs.Log.{Log, Has, behind}
 use Rattle.feed_hub.specs.Screen.{IsOnLog, IsFollowed, IsNotBehind, IsServed}
 use Rattle.feed_hub.specs.Seats.{seat_at, AreOnLog, HasAll, ChangesSeat, KeepsThose, IsSeatNotBehind, Watched, Ends, IsCutAt}
-use Rattle.feed_hub.specs.Steps.{opened, way_after, with_next, refilled, refilled_at, idled, idled_at, taken, way_from, IsFollower, ended, ended_at}
+use Rattle.feed_hub.specs.Steps.{opened, way_after, with_next, refilled, refilled_at, idled, idled_at, taken, way_from, IsGoingOn, ended}
 use Rattle.feed_hub.proofs.LoopLemmas.{left_off}
 use Rattle.feed_hub.proofs.SeatLemmas.{seat_found, removed_at}
-use Rattle.feed_hub.proofs.ServedLemmas.{served_opens, served_refused, going_ends}
+use Rattle.feed_hub.proofs.ServedLemmas.{served_opens, served_refused, ended_served}
 
 -- ---- keys
 
@@ -283,8 +282,8 @@ on_at_index log seats index generation s all at =
     on_of_way log s.way (λ place way. all key s place (seat_found seats key (record { generation = generation; seat = Watches s }) at refl) way)
 
 pub cut_at_index : (old new : Slab Seated) (index generation : ℕ) (s : Screen)
-    → get old index ≡ Some (record { generation = generation; seat = Watches s }) → IsFollower s → Updates old new index None → IsCutAt old new index
-cut_at_index old new index generation s at follows u =
+    → get old index ≡ Some (record { generation = generation; seat = Watches s }) → IsGoingOn s → Updates old new index None → IsCutAt old new index
+cut_at_index old new index generation s at goes_on u =
     let key : Key = record { index = index; generation = generation } in
     record {
       some = (
@@ -294,7 +293,7 @@ cut_at_index old new index generation s at follows u =
           record {
             screen = s;
             sat = seat_found old key (record { generation = generation; seat = Watches s }) at refl;
-            followed = follows;
+            going_on = goes_on;
             cut = removed_at old new index u key refl;
           },
         ),
@@ -341,36 +340,7 @@ joined_over t u r f g o p l m at ef eo el er (inl same) = inl (same ∙ er)
 joined_over t u r f g o p l m at ef eo el er (inr followed) =
     inr (subst (λ x. IsFollowed x o l t.framing at) ef (subst (λ x. IsFollowed g x l t.framing at) eo (subst (λ x. IsFollowed g p x t.framing at) el followed)))
 
-module _ {nodes : List NodeState} {common : Framing} {log : Log} {answer : AnswerParts} {handed : List ℕ} where
-  ended_served_at : (told : Option (List ℕ)) (own : List ℕ) (framing : Framing) (way : Way) (moved now : ℕ) (later : Log)
-      → IsServed nodes common log told answer handed (record { own = own; framing = framing; way = way; moved = moved })
-      → IsServed nodes common later None answer handed (ended_at way log now (record { own = own; framing = framing; way = way; moved = moved }))
-  ended_served_at told own framing (CatchesUp token) moved now later s =
-      record { due = s.due; owes = record { on = tt; rest = s.owes.rest }; is_due = s.is_due; framing = s.framing; alike = tt }
-  ended_served_at told own framing Over moved now later s =
-      record { due = s.due; owes = record { on = tt; rest = s.owes.rest }; is_due = s.is_due; framing = s.framing; alike = tt }
-  ended_served_at None own framing (OnLog at) moved now later s = absurd (true≢false (sym s.alike.1))
-  ended_served_at (Some token) own framing (OnLog at) moved now later s =
-      record {
-        due = s.due ++ frame_end answer.framing;
-        owes = record {
-          on = tt;
-          rest = ap (λ x. handed ++ x) (append-nil (own ++ (behind log at ++ frame_end framing)))
-              ∙ ap (λ x. handed ++ x) (sym (append_assoc own (behind log at) (frame_end framing)))
-              ∙ sym (append_assoc handed (own ++ behind log at) (frame_end framing))
-              ∙ ap (λ d. d ++ frame_end framing) s.owes.rest
-              ∙ ap (λ f. s.due ++ frame_end f) s.framing;
-        };
-        is_due = going_ends nodes answer token s.due s.is_due;
-        framing = s.framing;
-        alike = tt;
-      }
-
-  pub ended_served : (told : Option (List ℕ)) (s : Screen) (now : ℕ) (later : Log)
-      → IsServed nodes common log told answer handed s → IsServed nodes common later None answer handed (ended log now s)
-  ended_served told s now later served = ended_served_at told s.own s.framing s.way s.moved now later served
-
--- whoever was seated and served is so once all have left, or is cut
+-- whoever was seated and served is so once all have ended, or is cut
 pub ends_seated : (nodes : List NodeState) (b new : Broadcast) (now : ℕ) (old seats : Option Seat)
     → new.told ≡ None → new.framing ≡ b.framing
     → Ends b.log now old seats ⊎ (seats ≡ None)
@@ -379,7 +349,7 @@ pub ends_seated : (nodes : List NodeState) (b new : Broadcast) (now : ℕ) (old 
 ends_seated nodes b new now old seats told framing (inr none) = inr none
 ends_seated nodes b new now old seats told framing (inl ends) = inl (λ answer handed seated.
     let here : Ends b.log now (Some (Watches seated.0)) seats = subst (λ o. Ends b.log now o seats) seated.1 ends in
-    let served = ended_served b.told seated.0 now new.log seated.2 in
+    let served = ended_served b.told seated.0 now new.log None seated.2 in
     let over : IsServedBy nodes new answer handed (ended b.log now seated.0) =
     subst (λ o. IsServed nodes new.framing new.log o answer handed (ended b.log now seated.0)) (sym told)
     (subst (λ f. IsServed nodes f new.log None answer handed (ended b.log now seated.0)) (sym framing) served) in

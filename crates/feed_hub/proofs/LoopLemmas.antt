@@ -94,7 +94,7 @@ none_looked_at Holds old =
       len = omega arith;
     }
 
--- ---- who leaves the log
+-- ---- whose body ends
 
 -- so far below an index
 pub record LeaveBelow (log : Log) (now index : ℕ) (old seats : Slab Seated) (failed : Bool) : Type 0 where
@@ -144,16 +144,16 @@ module _ (log : Log) (now index : ℕ) (old seats new : Slab Seated) (failed : B
   below_it : (key : Key) → key.index < index + 1 → key.index ≢ index → key.index < index
   below_it key less differ = (let far : key.index ≢ index = differ in grind (arith, less, far))
 
-  -- the one at this index has left
+  -- the one at this index has ended
   ended_here : ((key : Key) → key.index ≡ index → Ends log now (seat_at seats key) (seat_at new key)) → (key : Key) → key.index ≡ index → Ends log now (seat_at old key) (seat_at new key)
   ended_here here key same = subst (λ o. Ends log now o (seat_at new key)) (so_far.later key (omega (arith, same))) (here key same)
 
   still_cut : (key : Key) → IsCut old seats key → key.index ≢ index → IsCut old new key
-  still_cut key c differ = record { screen = c.screen; sat = c.sat; followed = c.followed; cut = others key differ ∙ c.cut }
+  still_cut key c differ = record { screen = c.screen; sat = c.sat; going_on = c.going_on; cut = others key differ ∙ c.cut }
 
   cut_apart : (key : Key) → IsCut old seats key → ((k : Key) → k.index ≡ index → seat_at new k ≡ None) ⊎ (key.index ≢ index) → IsCut old new key
   cut_apart key c (inr differ) = still_cut key c differ
-  cut_apart key c (inl gone) = record { screen = c.screen; sat = c.sat; followed = c.followed; cut = by (eqb_tells key.index index) }
+  cut_apart key c (inl gone) = record { screen = c.screen; sat = c.sat; going_on = c.going_on; cut = by (eqb_tells key.index index) }
     where
       by : (((key.index == index) ≡ true) × (key.index ≡ index)) ⊎ (((key.index == index) ≡ false) × (key.index ≢ index)) → seat_at new key ≡ None
       by (inl (_, same)) = gone key same
@@ -191,7 +191,7 @@ module _ (log : Log) (now index : ℕ) (old seats new : Slab Seated) (failed : B
         left = λ key less. left_by key less (eqb_tells key.index index);
         later = later_on;
         err = λ _. (let k = c.some.0 in let is = c.some.1.0 in let one = c.some.1.1 in
-            (k, record { screen = one.screen; sat = sym (so_far.later k (omega (arith, is))) ∙ one.sat; followed = one.followed; cut = one.cut }));
+            (k, record { screen = one.screen; sat = sym (so_far.later k (omega (arith, is))) ∙ one.sat; going_on = one.going_on; cut = one.cut }));
         len = shorter;
       }
     where
