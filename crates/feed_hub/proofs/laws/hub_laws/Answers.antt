@@ -1,5 +1,6 @@
 use Rattle.feed_hub.proofs.LawLemmas.{screens_connect, screens_show, screens_reach, screens_follow}
 use Rattle.feed_hub.proofs.OpeningLemmas.{due_is_response, served_grows}
+use Rattle.feed_hub.proofs.FileLemmas.{files_restore, files_reach}
 use Rattle.feed_hub.proofs.laws.hub_laws.Goals as goal
 
 pub returns-clause-connections : goal.returns-clause-connections
@@ -19,3 +20,9 @@ returns-clause-grows c = served_grows
 
 pub returns-clause-reach : goal.returns-clause-reach
 returns-clause-reach c = screens_reach c.sending_laws.ensures.commits c.sending_laws.ensures.order c.world_laws.ensures.fronts c.following_laws.ensures.places c.following_laws.ensures.reached
+
+pub returns-clause-files : goal.returns-clause-files
+returns-clause-files c = files_restore c.reading_laws.ensures.one (screens_show c.sending_laws.ensures.commits c.sending_laws.ensures.order c.world_laws.ensures.fronts c.following_laws.ensures.places)
+
+pub returns-clause-files_reach : goal.returns-clause-files_reach
+returns-clause-files_reach c = files_reach (screens_reach c.sending_laws.ensures.commits c.sending_laws.ensures.order c.world_laws.ensures.fronts c.following_laws.ensures.places c.following_laws.ensures.reached)
