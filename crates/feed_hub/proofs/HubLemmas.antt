@@ -1,5 +1,5 @@
 -- A hub, seat by seat.
-use Rattle.std.proofs.Common.{◌≡◌, ◌≢◌, refl, sym, ap, ◌∙◌, subst, ℕ, ◌⊎◌, true, false, true≢false, List, [], ◌∷◌, ◌++◌, Option, Some, None, inl, inr, ◌≤◌, ◌+◌, ◌-◌, length, length-append, length-drop, arith, take}
+use Rattle.std.proofs.Common.{◌≡◌, ◌≢◌, refl, sym, ap, ◌∙◌, subst, ℕ, ◌⊎◌, true, false, true≢false, List, [], ◌∷◌, ◌++◌, Option, Some, None, inl, inr, ◌<◌, ◌≤◌, ◌^◌, ◌+◌, ◌-◌, length, length-append, length-drop, arith, take}
 use Rattle.std.specs.Prelude.{◌==◌, IsSome, Result, Ok, Err, IfOk, OnOk}
 use Rattle.std.proofs.lemmas.Bool.Decides.{eqb_tells}
 use Rattle.slab.specs.Slab.{Slab, get, Updates}
@@ -8,7 +8,7 @@ use Rattle.feed_node.specs.declared.session.Pulled.{Pulled}
 use Rattle.feed_node.specs.declared.session.Pulled.TheVariants.{More, UpToDate, Gone}
 use Rattle.feed_http.specs.Sessions.{Next, Nothing_new, Lost, Commit_after, next}
 use Rattle.feed_answer.specs.declared.framing.Framing.{Framing}
-use Rattle.feed_answer.specs.Answered.{AnswerParts}
+use Rattle.feed_answer.specs.Answered.{AnswerParts, AnswersTo}
 use Rattle.feed_hub.specs.declared.asking.Asking.{Asking}
 use Rattle.feed_hub.specs.declared.broadcast.Broadcast.{Broadcast}
 use Rattle.feed_hub.specs.declared.hub.Heard.{Heard}
@@ -43,6 +43,9 @@ key_tells a b = by (eqb_tells a.index b.index) (eqb_tells a.generation b.generat
 
 pub same_seat : (a b : Seat) → Some a ≡ Some b → a ≡ b
 same_seat a b e = cc
+
+pub same_asking : (a b : Asking) → Some (Asks a) ≡ Some (Asks b) → a ≡ b
+same_asking a b e = cc
 
 pub same_screen : (s t : Screen) → Some (Watches s) ≡ Some (Watches t) → s ≡ t
 same_screen s t e = cc
@@ -264,14 +267,14 @@ still_on log place (OnLog at) on holds has =
 -- ---- a screen begins
 
 pub opened_served : (nodes : List NodeState) (common : Framing) (log : Log) (told : Option (List ℕ)) (answer : AnswerParts) (now : ℕ)
-    → IsServed nodes common log told answer [] (opened answer now)
-opened_served nodes common log told answer now = by answer.session refl
+    → length answer.text < 2 ^ 64 → IsServed nodes common log told answer [] (opened answer now)
+opened_served nodes common log told answer now fits = by answer.session refl
   where
     by : (o : Option (List ℕ)) → answer.session ≡ o → IsServed nodes common log told answer [] (record { own = answer.text; framing = answer.framing; way = way_after answer.session; moved = now })
     by None e = subst (λ o. IsServed nodes common log told answer [] (record { own = answer.text; framing = answer.framing; way = way_after o; moved = now })) (sym e)
         (served_refused nodes answer common log told e)
     by (Some token) e = subst (λ o. IsServed nodes common log told answer [] (record { own = answer.text; framing = answer.framing; way = way_after o; moved = now })) (sym e)
-        (served_opens nodes answer common log told token e)
+        (served_opens nodes answer common log told token e fits)
 
 -- ---- a screen at an index
 
@@ -319,11 +322,11 @@ heard_fine b contest node now before head status (Watches t) h =
 
 pub heard_served : (b : Broadcast) (contest : List ℕ) (node : NodeState) (now : ℕ) (before : Asking) (head : List ℕ) (status : Option ℕ) (seat : Seat) (s : Screen)
     → HearsOf b contest node now before head status seat → seat ≡ Watches s
-    → (answer : AnswerParts) × ((nodes : List NodeState) → IsServedBy nodes b answer [] s)
+    → (answer : AnswerParts) × AnswersTo head contest node b.framing 0 answer × ((nodes : List NodeState) → IsServedBy nodes b answer [] s)
 heard_served b contest node now before head status (Asks asking) s h is = let no : Asks asking ≡ Watches s = is in absurd (cc)
 heard_served b contest node now before head status (Watches t) s h is =
     let same : opened h.answer now ≡ s = (let one : t ≡ s = cc in sym h.opens ∙ one) in
-    (h.answer, λ nodes. subst (λ x. IsServedBy nodes b h.answer [] x) same (opened_served nodes b.framing b.log b.told h.answer now))
+    (h.answer, h.answers, λ nodes. subst (λ x. IsServedBy nodes b h.answer [] x) same (opened_served nodes b.framing b.log b.told h.answer now h.fits))
 
 pub heard_at : (b : Broadcast) (contest : List ℕ) (node : NodeState) (now : ℕ) (piece : List ℕ) (heard : Heard) (asking : Asking) (old new : Option Seat) (seat : Seat)
     → old ≡ Some (Asks asking) → new ≡ Some seat → Takes asking.head.items piece heard.taken

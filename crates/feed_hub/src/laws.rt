@@ -2,6 +2,7 @@
 
 ghost use Rattle.feed_hub.specs.Laws.{ScreensAreConnections, ScreensShowStates, ScreensReach, ScreensAreFollowed, DueIsResponse, ServedGrows};
 ghost use Rattle.feed_hub.specs.Files.{FilesRestore, FilesReach};
+ghost use Rattle.feed_hub.specs.Follows.{ScreensFollow};
 
 use feed_answer::followed_laws;
 use feed_node::reading_laws;
@@ -19,6 +20,7 @@ pub fn hub_laws()
     ensures grows { ServedGrows }
     ensures files { FilesRestore }
     ensures files_reach { FilesReach }
+    ensures live_follows { ScreensFollow }
 {
     reading_laws();
     world_laws();
