@@ -3,6 +3,7 @@ use Rattle.std.proofs.Common.{◌≡◌, refl, sym, ap, ◌∙◌, subst, ℕ, �
 use Rattle.std.specs.Prelude.{if◌then◌else◌, is_none, is_some, ◌&&◌, ◌==◌, Result, Ok, Err}
 use Rattle.std.specs.Fmt.{digits}
 use Rattle.httparse.specs.Ascii.{crlf_bytes}
+use Rattle.std.proofs.Math.Seq.{take-length}
 use Rattle.std.proofs.lemmas.List.{take_min, take-append-le, take-append-drop}
 use Rattle.feed_node.specs.declared.session.OpenFault.{OpenFault}
 use Rattle.feed_node.specs.declared.session.OpenFault.TheVariants.{NotYet, NotHeld, Memory}
@@ -25,20 +26,20 @@ use Rattle.feed_answer.specs.Carried.{response_text, ended_text, carried_by, sta
 use Rattle.feed_answer.specs.Framed.{frame, frame_end}
 use Rattle.feed_answer.specs.Served.{opening_text}
 use Rattle.feed_answer.specs.FrameLaws.{AreTexts, joined}
-use Rattle.feed_answer.specs.FollowLaws.{StandsOnly, ResponsesAreFollowed, EndsAreFollowed, RefusalsAreFollowed}
+use Rattle.feed_answer.specs.FollowLaws.{StandsOnly, WholeCarriesAll, ResponsesAreFollowed, EndsAreFollowed, RefusalsAreFollowed}
 use Rattle.feed_answer.specs.Opening.{Started, opens}
 use Rattle.feed_world.specs.Connection.{Connection, sent_text}
-use Rattle.feed_world.specs.Following.{OpensAsked, SessionsOpenAsAsked, PlacesStay, IsBroughtBy, CarriesPrefix, CarryFeed, FollowsTo, MirrorsFollow, IsCutInLog, FailsKeepStates, RefusalsKeepNodes, brought_by}
+use Rattle.feed_world.specs.Following.{OpensAsked, SessionsOpenAsAsked, PlacesStay, AllIsReached, IsBroughtBy, CarriesPrefix, CarryFeed, FollowsTo, MirrorsFollow, IsCutInLog, FailsKeepStates, RefusalsKeepNodes, brought_by}
 use Rattle.feed_world.specs.Laws.{opened_text}
 use Rattle.feed_world.specs.Log.{Log, IsLog}
 use Rattle.feed_world.specs.Position.{Position, IsPlace, node_where}
 use Rattle.feed_world.specs.Reading.{IsOpened}
-use Rattle.feed_world.specs.States.{HasAsked}
+use Rattle.feed_world.specs.States.{HasAsked, HasReached}
 use Rattle.feed_world.specs.Step.{IsMemory}
 use Rattle.feed_hub.specs.Told.{Told, IsGoing, IsDue}
 use Rattle.feed_hub.specs.Screen.{pending, token_at}
 use Rattle.feed_hub.specs.Laws.{IsInLog, AreInLog, StandInOrder, ScreensAreConnections}
-use Rattle.feed_hub.specs.Follows.{HasAskedSo, MayStop, FollowsInLog, ScreensFollow}
+use Rattle.feed_hub.specs.Follows.{HasAskedSo, MayStop, FollowsInLog, ScreensFollow, ArrivesInLog, ScreensArrive}
 use Rattle.feed_hub.proofs.LawLemmas.{connection, its_text, is_opened}
 use Rattle.feed_hub.proofs.OpeningLemmas.{due_is_response}
 
@@ -310,6 +311,31 @@ module _ (connects : ScreensAreConnections) (opens_so : SessionsOpenAsAsked) (re
       follows_by (λ had. subst (CarryFeed had (sent_text log c)) (sym (is ∙ ap (λ t. t ++ frame_end answer.framing) is_response))
       (ended_carries responses ends answer.framing texts are (sent_text log c) all_text had))
 
+  -- with all of it the mirror is as far as the session
+  pub going_arrives : WholeCarriesAll → AllIsReached → due ≡ before → rest ≡ [] → (s : Standing) (follower : FollowerState) (mirror : MirrorState)
+      → FollowsAt begun handed s follower mirror → ArrivesInLog limits log token mirror
+  going_arrives all reached is none s follower mirror f =
+      let same : handed ≡ response_text answer.framing texts =
+      sym (append-nil handed) ∙ ap (λ r. handed ++ r) (sym none) ∙ whole ∙ is ∙ is_response in
+      let n = length (response_text answer.framing texts) in
+      let uncut : take n (response_text answer.framing texts) ≡ response_text answer.framing texts = take-length (response_text answer.framing texts) in
+      let f' : FollowsAt begun (take n (response_text answer.framing texts)) s follower mirror =
+      subst (λ bs. FollowsAt begun bs s follower mirror) (same ∙ sym uncut) f in
+      let stands : s ≡ in_body (joined texts) =
+      (responses answer.framing texts n follower.had_token are).only s f'.stands ∙ (all answer.framing texts n (omega arith)).1 in
+      let follows = follow limits log a.place c begun mirror follower (response_text answer.framing texts) n s is_log is_open a.asked
+      (response_carries responses ends answer.framing texts are (sent_text log c) all_text follower.had_token) f' in
+      let b : IsBroughtBy limits log a.place c (length (joined texts)) mirror =
+      subst (FollowsTo limits log a.place c begun mirror) stands follows in
+      record {
+        place = brought_by limits log a.place c (length (joined texts));
+        is_place = (places limits log a.place c (length (joined texts)) is_open).0;
+        shows = b.node;
+        last = in_order.last;
+        token_is = in_order.token_is;
+        reaches = subst (λ m. HasReached (brought_by limits log a.place c m) in_order.last) (ap length (sym all_text)) (reached limits log a.place c is_open);
+      }
+
 pub screens_are_safe : ScreensAreConnections → SessionsOpenAsAsked → ResponsesAreFollowed → EndsAreFollowed → RefusalsAreFollowed → RefusalsKeepNodes
     → PlacesStay → MirrorsFollow → FailsKeepStates → ScreensFollow
 screens_are_safe connects opens_so responses ends refusals kept places follow keep limits log nodes node head contest framing answer begun common lines told handed s
@@ -327,3 +353,11 @@ screens_are_safe connects opens_so responses ends refusals kept places follow ke
         let refusal = is_refusal head contest node framing answer answers none in
         refusal_follows refusals kept limits log begun answer refusal.0 refusal.1 handed (pending lines s)
         (served.owes.rest ∙ text ∙ ap (λ x. x.text) refusal.1) (begun_in_log limits log head contest begun a)
+
+pub screens_arrive : ScreensAreConnections → SessionsOpenAsAsked → ResponsesAreFollowed → EndsAreFollowed → PlacesStay → MirrorsFollow → FailsKeepStates
+    → WholeCarriesAll → AllIsReached → ScreensArrive
+screens_arrive connects opens_so responses ends places follow keep all reached limits log nodes node head contest framing answer begun common lines told handed token s
+    standing follower mirror is_log all_in node_in a answers served at none f =
+    going_arrives connects opens_so responses ends places follow keep limits log nodes node head contest framing answer begun handed (pending lines s) served.due
+    is_log all_in node_in a answers served.owes.rest token served.due (subst (λ o. IsDue nodes answer o served.due) at served.is_due) all reached refl none
+    standing follower mirror f

@@ -1,7 +1,8 @@
 -- THE PROMISE, up to each byte that a screen was handed: what a mirror makes of it (CLICS Contest API
 -- 2023-06, event feed and reconnection; RFC 9112).
-use Rattle.std.specs.Prelude.{◌≡◌, ◌⊎◌, ℕ, List, ◌++◌, take, Option, None, is_none, is_some}
+use Rattle.std.specs.Prelude.{◌≡◌, ◌⊎◌, ℕ, List, [], ◌++◌, take, Option, Some, None, is_none, is_some}
 use Rattle.feed_node.specs.Limits.{Limits}
+use Rattle.feed_node.specs.Log.{token_after}
 use Rattle.feed_node.specs.Mirroring.{MirrorState}
 use Rattle.feed_node.specs.States.{NodeState}
 use Rattle.feed_follow.specs.declared.fault.FollowFault.{FollowFault}
@@ -14,12 +15,12 @@ use Rattle.feed_answer.specs.Answered.{AnswerParts, AnswersTo}
 use Rattle.feed_answer.specs.Asked.{Asks, feed}
 use Rattle.feed_answer.specs.FollowLaws.{StandsOnly}
 use Rattle.feed_world.specs.Log.{Log, IsLog}
-use Rattle.feed_world.specs.Position.{Position, IsPlace}
-use Rattle.feed_world.specs.States.{HasAsked}
+use Rattle.feed_world.specs.Position.{Position, IsPlace, node_where}
+use Rattle.feed_world.specs.States.{HasAsked, HasReached}
 use Rattle.feed_world.specs.Step.{IsMemory}
 use Rattle.feed_hub.specs.declared.screen.Screen.{Screen}
 use Rattle.feed_hub.specs.Log.{Log as Shared}
-use Rattle.feed_hub.specs.Screen.{IsServed}
+use Rattle.feed_hub.specs.Screen.{pending, token_at, IsServed}
 use Rattle.feed_hub.specs.Laws.{IsInLog, AreInLog}
 
 -- A mirror asked with this head. It was at a place of the log, and asked with the token of that, or
@@ -64,3 +65,29 @@ ScreensFollow =
     → AnswersTo head contest node framing 0 answer
     → IsServed nodes common lines told answer handed s
     → FollowsInLog limits log answer begun handed
+
+-- a mirror that is at a place of the log, at this token or a later one
+pub record ArrivesInLog (limits : Limits) (log : Log) (token : List ℕ) (mirror : MirrorState)
+    : Type 0 where
+  pub place : Option Position
+  pub is_place : IsPlace limits log place
+  pub shows : mirror.node ≡ node_where log place
+  pub last : ℕ
+  pub token_is : token ≡ token_after last
+  pub reaches : HasReached place last
+
+-- Where nothing is pending for a screen whose body goes on, and its mirror followed all that it was
+-- handed, that is as far as the screen.
+abbrev pub ScreensArrive : Type 0
+ScreensArrive =
+    (limits : Limits) (log : Log) (nodes : List NodeState) (node : NodeState)
+    (head contest : List ℕ) (framing : Framing) (answer : AnswerParts) (begun : MirrorState)
+    (common : Framing) (lines : Shared) (told : Option (List ℕ)) (handed token : List ℕ)
+    (s : Screen) (standing : Standing) (follower : FollowerState) (mirror : MirrorState)
+    → IsLog limits log → AreInLog limits log nodes → IsInLog limits log node
+    → HasAskedSo limits log head contest begun
+    → AnswersTo head contest node framing 0 answer
+    → IsServed nodes common lines told answer handed s
+    → token_at told s.way ≡ Some token → pending lines s ≡ []
+    → FollowsAt begun handed standing follower mirror
+    → ArrivesInLog limits log token mirror

@@ -2,7 +2,7 @@
 
 ghost use Rattle.feed_hub.specs.Laws.{ScreensAreConnections, ScreensShowStates, ScreensReach, ScreensAreFollowed, DueIsResponse, ServedGrows};
 ghost use Rattle.feed_hub.specs.Files.{FilesRestore, FilesReach};
-ghost use Rattle.feed_hub.specs.Follows.{ScreensFollow};
+ghost use Rattle.feed_hub.specs.Follows.{ScreensFollow, ScreensArrive};
 
 use feed_answer::followed_laws;
 use feed_node::reading_laws;
@@ -21,6 +21,7 @@ pub fn hub_laws()
     ensures files { FilesRestore }
     ensures files_reach { FilesReach }
     ensures live_follows { ScreensFollow }
+    ensures live_arrives { ScreensArrive }
 {
     reading_laws();
     world_laws();

@@ -1,7 +1,7 @@
 use Rattle.feed_hub.proofs.LawLemmas.{screens_connect, screens_show, screens_reach, screens_follow}
 use Rattle.feed_hub.proofs.OpeningLemmas.{due_is_response, served_grows}
 use Rattle.feed_hub.proofs.FileLemmas.{files_restore, files_reach}
-use Rattle.feed_hub.proofs.FollowLemmas.{screens_are_safe}
+use Rattle.feed_hub.proofs.FollowLemmas.{screens_are_safe, screens_arrive}
 use Rattle.feed_hub.proofs.laws.hub_laws.Goals as goal
 
 pub returns-clause-connections : goal.returns-clause-connections
@@ -33,3 +33,9 @@ returns-clause-live_follows c =
     screens_are_safe (screens_connect c.sending_laws.ensures.commits c.sending_laws.ensures.order) c.following_laws.ensures.opens
     c.followed_laws.ensures.responses c.followed_laws.ensures.ends c.followed_laws.ensures.refusals c.following_laws.ensures.refusals
     c.following_laws.ensures.places c.following_laws.ensures.follow c.following_laws.ensures.fails
+
+pub returns-clause-live_arrives : goal.returns-clause-live_arrives
+returns-clause-live_arrives c =
+    screens_arrive (screens_connect c.sending_laws.ensures.commits c.sending_laws.ensures.order) c.following_laws.ensures.opens
+    c.followed_laws.ensures.responses c.followed_laws.ensures.ends c.following_laws.ensures.places c.following_laws.ensures.follow c.following_laws.ensures.fails
+    c.followed_laws.ensures.whole c.following_laws.ensures.reached
