@@ -1,5 +1,5 @@
 -- A hub, seat by seat.
-use Rattle.std.proofs.Common.{◌≡◌, ◌≢◌, refl, sym, ap, ◌∙◌, subst, ℕ, ◌⊎◌, true, false, true≢false, List, [], ◌∷◌, ◌++◌, Option, Some, None, inl, inr, ◌<◌, ◌≤◌, ◌^◌, ◌+◌, ◌-◌, length, length-append, length-drop, arith, take}
+use Rattle.std.proofs.Common.{◌≡◌, ◌≢◌, refl, sym, ap, ◌∙◌, subst, ℕ, ◌⊎◌, true, false, true≢false, List, [], ◌∷◌, ◌++◌, Option, Some, None, inl, inr, ◌<◌, ◌≤◌, ◌^◌, ◌+◌, ◌-◌, max, length, length-append, length-drop, arith, take}
 use Rattle.std.specs.Prelude.{◌==◌, IsSome, Result, Ok, Err, IfOk, OnOk}
 use Rattle.std.proofs.lemmas.Bool.Decides.{eqb_tells}
 use Rattle.slab.specs.Slab.{Slab, get, Updates}
@@ -21,9 +21,9 @@ use Rattle.feed_hub.specs.declared.seats.Seat.TheVariants.{Asks, Watches}
 use Rattle.feed_hub.specs.declared.seats.Seated.{Seated}
 use Rattle.feed_hub.specs.Broadcast.{IsServedBy, Gains, SaysNext}
 use Rattle.feed_hub.specs.Hub.{Takes, HearsOf, HearsAt}
-use Rattle.feed_hub.specs.Log.{Log, Has, behind}
+use Rattle.feed_hub.specs.Log.{Log, Has, behind, end_of, oldest_in}
 use Rattle.feed_hub.specs.Screen.{IsOnLog, IsFollowed, IsNotBehind, IsServed}
-use Rattle.feed_hub.specs.Seats.{seat_at, AreOnLog, HasAll, ChangesSeat, KeepsThose, IsSeatNotBehind, Watched, Ends, IsCutAt}
+use Rattle.feed_hub.specs.Seats.{seat_at, AreOnLog, HasAll, ChangesSeat, KeepsThose, IsSeatNotBehind, IsLeastPlace, Watched, Ends, IsCutAt}
 use Rattle.feed_hub.specs.Steps.{opened, way_after, with_next, refilled, refilled_at, idled, idled_at, taken, way_from, IsGoingOn, ended}
 use Rattle.feed_hub.proofs.LoopLemmas.{left_off}
 use Rattle.feed_hub.proofs.SeatLemmas.{seat_found, removed_at}
@@ -236,11 +236,39 @@ left_on log now old new common told later left key s at sits way =
 not_behind_at : (place at : ℕ) (way : Way) → IsNotBehind place way → way ≡ OnLog at → place ≤ at
 not_behind_at place at way holds e = subst (IsNotBehind place) e holds
 
+-- who is there once some were cut is not behind the least place
+pub still_there : (place least end : ℕ) (old new : Slab Seated) → KeepsThose (IsSeatNotBehind place) old new → IsLeastPlace new end least
+    → (key : Key) (seat : Seat) → seat_at new key ≡ Some seat → (seat_at old key ≡ Some seat) × IsSeatNotBehind least seat
+still_there place least end old new keeps is key seat sits = ((keeps.kept key seat sits).0, is.all key seat sits)
+
+-- the log has that place, and not more than the window behind it
+module _ (common : Framing) (told : Option (List ℕ)) (log : Log) (window least : ℕ) (old new : Slab Seated) (on : AreOnLog common told log old)
+    (keeps : KeepsThose (IsSeatNotBehind (oldest_in window log)) old new) (is : IsLeastPlace new (end_of log) least) where
+  pub has_least : Has log least
+  has_least = record { from = by is.needed; to = is.within }
+    where
+      by : (least ≡ end_of log) ⊎ ((key : Key) × (s : Screen) × (seat_at new key ≡ Some (Watches s)) × (s.way ≡ OnLog least)) → log.base ≤ least
+      by (inl same) = let e : least ≡ log.base + length log.bytes = same in omega (arith, e)
+      by (inr (key, s, sits, way)) = (on key s least (keeps.kept key (Watches s) sits).0 way).has.from
+
+  pub few_left : length (behind log least) ≤ window
+  few_left = by is.needed
+    where
+      longer : length (behind log least) ≡ length log.bytes - (least - log.base)
+      longer = length-drop (least - log.base) log.bytes
+
+      by : (least ≡ end_of log) ⊎ ((key : Key) × (s : Screen) × (seat_at new key ≡ Some (Watches s)) × (s.way ≡ OnLog least)) → length (behind log least) ≤ window
+      by (inl same) = let e : least ≡ log.base + length log.bytes = same in omega (arith, e, longer)
+      by (inr (key, s, sits, way)) =
+          let above : max log.base (log.base + length log.bytes - window) ≤ least =
+          not_behind_at (oldest_in window log) least s.way (keeps.kept key (Watches s) sits).1 way in
+          omega (arith, above, longer)
+
 -- the log forgets what lies before a place, and who lacks something of that is cut
 pub trims_on : (common : Framing) (told : Option (List ℕ)) (log : Log) (place : ℕ) (old new : Slab Seated) → AreOnLog common told log old
-    → Has log place → KeepsThose (IsSeatNotBehind place) old new → AreOnLog common told (record { base = place; bytes = behind log place }) new
+    → Has log place → ((key : Key) (seat : Seat) → seat_at new key ≡ Some seat → (seat_at old key ≡ Some seat) × IsSeatNotBehind place seat) → AreOnLog common told (record { base = place; bytes = behind log place }) new
 trims_on common told log place old new on has keeps key s at sits way =
-    let kept = keeps.kept key (Watches s) sits in
+    let kept = keeps key (Watches s) sits in
     let before = on key s at kept.0 way in
     let above : place ≤ at = not_behind_at place at s.way kept.1 way in
     let from : log.base ≤ place = has.from in
@@ -360,7 +388,8 @@ ends_seated nodes b new now old seats told framing (inl ends) = inl (λ answer h
 
 -- whoever was seated and served is so once the log was trimmed, or is cut
 pub trims_seated : (nodes : List NodeState) (b new : Broadcast) (place : ℕ) (key : Key) (old seats : Slab Seated)
-    → AreOnLog b.framing b.told b.log old → Has b.log place → KeepsThose (IsSeatNotBehind place) old seats
+    → AreOnLog b.framing b.told b.log old → Has b.log place
+    → ((key : Key) (seat : Seat) → seat_at seats key ≡ Some seat → (seat_at old key ≡ Some seat) × IsSeatNotBehind place seat)
     → new.log ≡ record { base = place; bytes = behind b.log place }
     → ((answer : AnswerParts) (handed : List ℕ) (s : Screen) → IsServedBy nodes b answer handed s → IsOnLog new.log s.way → IsServedBy nodes new answer handed s)
     → ((answer : AnswerParts) (handed : List ℕ) → ((s : Screen) × (seat_at old key ≡ Some (Watches s)) × IsServedBy nodes b answer handed s)
@@ -372,12 +401,44 @@ trims_seated nodes b new place key old seats on has keeps log served = by (seat_
         → (s : Screen) × (seat_at seats key ≡ Some (Watches s)) × IsServedBy nodes new answer handed s) ⊎ (seat_at seats key ≡ None)
     by None e = inr e
     by (Some seat) e = inl (λ answer handed seated.
-        let kept = keeps.kept key seat e in
+        let kept = keeps key seat e in
         let same : seat ≡ Watches seated.0 = same_seat seat (Watches seated.0) (sym kept.0 ∙ seated.1) in
         let holds : IsNotBehind place seated.0.way = subst (IsSeatNotBehind place) same kept.1 in
         let there : IsOnLog new.log seated.0.way = subst (λ l. IsOnLog l seated.0.way) (sym log)
         (still_on b.log place seated.0.way (on_log b.framing b.told b.log old key seated.0 on seated.1) holds has) in
         (seated.0, e ∙ ap Some same, served answer handed seated.0 seated.2 there))
+
+-- ---- once the log was trimmed
+
+module _ (b new : Broadcast) (window place least end : ℕ) (old seats : Slab Seated) (on : AreOnLog b.framing b.told b.log old)
+    (place_is : place ≡ oldest_in window b.log) (end_is : end ≡ end_of b.log)
+    (keeps : KeepsThose (IsSeatNotBehind place) old seats) (is : IsLeastPlace seats end least)
+    (log : new.log ≡ record { base = least; bytes = behind b.log least }) where
+  kept_within : KeepsThose (IsSeatNotBehind (oldest_in window b.log)) old seats
+  kept_within = subst (λ p. KeepsThose (IsSeatNotBehind p) old seats) place_is keeps
+
+  pub is_least : IsLeastPlace seats (end_of b.log) least
+  is_least = subst (λ e. IsLeastPlace seats e least) end_is is
+
+  pub has_it : Has b.log least
+  has_it = has_least b.framing b.told b.log window least old seats on kept_within is_least
+
+  pub trimmed_few : length new.log.bytes ≤ window
+  trimmed_few = subst (λ l. length l.bytes ≤ window) (sym log) (few_left b.framing b.told b.log window least old seats on kept_within is_least)
+
+  pub trimmed_on : new.told ≡ b.told → new.framing ≡ b.framing → AreOnLog new.framing new.told new.log seats
+  trimmed_on told framing =
+      subst (λ f. AreOnLog f new.told new.log seats) (sym framing)
+      (subst (λ o. AreOnLog b.framing o new.log seats) (sym told)
+      (subst (λ l. AreOnLog b.framing b.told l seats) (sym log)
+      (trims_on b.framing b.told b.log least old seats on has_it (still_there place least end old seats keeps is))))
+
+  pub trimmed_seated : (nodes : List NodeState) (key : Key)
+      → ((answer : AnswerParts) (handed : List ℕ) (s : Screen) → IsServedBy nodes b answer handed s → IsOnLog new.log s.way → IsServedBy nodes new answer handed s)
+      → ((answer : AnswerParts) (handed : List ℕ) → ((s : Screen) × (seat_at old key ≡ Some (Watches s)) × IsServedBy nodes b answer handed s)
+      → (s : Screen) × (seat_at seats key ≡ Some (Watches s)) × IsServedBy nodes new answer handed s) ⊎ (seat_at seats key ≡ None)
+  trimmed_seated nodes key served =
+      trims_seated nodes b new least key old seats on has_it (still_there place least end old seats keeps is) log served
 
 pub served_over : (nodes : List NodeState) (answer : AnswerParts) (handed : List ℕ) (s t : Screen)
     (f g : Framing) (l m : Log) (o p : Option (List ℕ)) → g ≡ f → m ≡ l → p ≡ o

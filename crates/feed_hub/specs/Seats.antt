@@ -1,5 +1,5 @@
 -- Connections, each at a key that is given once.
-use Rattle.std.specs.Prelude.{◌≡◌, ◌≢◌, ℕ, ◌<◌, ◌==◌, List, [], Option, Some, None, if◌then◌else◌}
+use Rattle.std.specs.Prelude.{◌≡◌, ◌≢◌, ◌⊎◌, ℕ, ◌<◌, ◌≤◌, ◌==◌, List, [], Option, Some, None, if◌then◌else◌}
 use Rattle.slab.specs.Slab.{Slab, get, HasRoomFor}
 use Rattle.feed_answer.specs.declared.framing.Framing.{Framing}
 use Rattle.feed_hub.specs.declared.screen.Screen.{Screen}
@@ -82,6 +82,16 @@ IsSeatNotBehind place (Watches s) = IsNotBehind place s.way
 abbrev pub IsOnTime : ℕ → ℕ → Seat → Type 0
 IsOnTime now stall (Asks asking) = now < asking.until
 IsOnTime now stall (Watches s) = IsMoving now stall s
+
+-- ---- what of the log is needed
+
+-- the place of the screen on the log that is furthest back, and this end where nobody is on it
+pub record IsLeastPlace (seats : Slab Seated) (end least : ℕ) : Type 0 where
+  pub all : (key : Key) (seat : Seat) → seat_at seats key ≡ Some seat
+      → IsSeatNotBehind least seat
+  pub within : least ≤ end
+  pub needed : (least ≡ end) ⊎ ((key : Key) × (s : Screen)
+      × (seat_at seats key ≡ Some (Watches s)) × (s.way ≡ OnLog least))
 
 -- ---- whose body ends
 
