@@ -1,5 +1,5 @@
 -- A hub, seat by seat.
-use Rattle.std.proofs.Common.{◌≡◌, ◌≢◌, refl, sym, ap, ◌∙◌, subst, ℕ, ◌⊎◌, true, false, true≢false, List, [], ◌∷◌, ◌++◌, Option, Some, None, inl, inr, ◌≤◌, ◌+◌, ◌-◌, length, length-append, length-drop, append-nil, append_assoc, arith, take}
+use Rattle.std.proofs.Common.{◌≡◌, ◌≢◌, refl, sym, ap, ◌∙◌, subst, ℕ, ◌⊎◌, true, false, true≢false, List, [], ◌∷◌, ◌++◌, Option, Some, None, inl, inr, ◌<◌, ◌≤◌, ◌^◌, ◌+◌, ◌-◌, max, length, length-append, length-drop, arith, take}
 use Rattle.std.specs.Prelude.{◌==◌, IsSome, Result, Ok, Err, IfOk, OnOk}
 use Rattle.std.proofs.lemmas.Bool.Decides.{eqb_tells}
 use Rattle.slab.specs.Slab.{Slab, get, Updates}
@@ -8,8 +8,7 @@ use Rattle.feed_node.specs.declared.session.Pulled.{Pulled}
 use Rattle.feed_node.specs.declared.session.Pulled.TheVariants.{More, UpToDate, Gone}
 use Rattle.feed_http.specs.Sessions.{Next, Nothing_new, Lost, Commit_after, next}
 use Rattle.feed_answer.specs.declared.framing.Framing.{Framing}
-use Rattle.feed_answer.specs.Answered.{AnswerParts}
-use Rattle.feed_answer.specs.Framed.{frame_end}
+use Rattle.feed_answer.specs.Answered.{AnswerParts, AnswersTo}
 use Rattle.feed_hub.specs.declared.asking.Asking.{Asking}
 use Rattle.feed_hub.specs.declared.broadcast.Broadcast.{Broadcast}
 use Rattle.feed_hub.specs.declared.hub.Heard.{Heard}
@@ -22,13 +21,13 @@ use Rattle.feed_hub.specs.declared.seats.Seat.TheVariants.{Asks, Watches}
 use Rattle.feed_hub.specs.declared.seats.Seated.{Seated}
 use Rattle.feed_hub.specs.Broadcast.{IsServedBy, Gains, SaysNext}
 use Rattle.feed_hub.specs.Hub.{Takes, HearsOf, HearsAt}
-use Rattle.feed_hub.specs.Log.{Log, Has, behind}
+use Rattle.feed_hub.specs.Log.{Log, Has, behind, end_of, oldest_in}
 use Rattle.feed_hub.specs.Screen.{IsOnLog, IsFollowed, IsNotBehind, IsServed}
-use Rattle.feed_hub.specs.Seats.{seat_at, AreOnLog, HasAll, ChangesSeat, KeepsThose, IsSeatNotBehind, Watched, Ends, IsCutAt}
-use Rattle.feed_hub.specs.Steps.{opened, way_after, with_next, refilled, refilled_at, idled, idled_at, taken, way_from, IsFollower, ended, ended_at}
+use Rattle.feed_hub.specs.Seats.{seat_at, AreOnLog, HasAll, ChangesSeat, KeepsThose, IsSeatNotBehind, IsLeastPlace, Watched, Ends, IsCutAt}
+use Rattle.feed_hub.specs.Steps.{opened, way_after, with_next, refilled, refilled_at, idled, idled_at, taken, way_from, IsGoingOn, ended}
 use Rattle.feed_hub.proofs.LoopLemmas.{left_off}
 use Rattle.feed_hub.proofs.SeatLemmas.{seat_found, removed_at}
-use Rattle.feed_hub.proofs.ServedLemmas.{served_opens, served_refused, going_ends}
+use Rattle.feed_hub.proofs.ServedLemmas.{served_opens, served_refused, ended_served}
 
 -- ---- keys
 
@@ -44,6 +43,9 @@ key_tells a b = by (eqb_tells a.index b.index) (eqb_tells a.generation b.generat
 
 pub same_seat : (a b : Seat) → Some a ≡ Some b → a ≡ b
 same_seat a b e = cc
+
+pub same_asking : (a b : Asking) → Some (Asks a) ≡ Some (Asks b) → a ≡ b
+same_asking a b e = cc
 
 pub same_screen : (s t : Screen) → Some (Watches s) ≡ Some (Watches t) → s ≡ t
 same_screen s t e = cc
@@ -234,11 +236,39 @@ left_on log now old new common told later left key s at sits way =
 not_behind_at : (place at : ℕ) (way : Way) → IsNotBehind place way → way ≡ OnLog at → place ≤ at
 not_behind_at place at way holds e = subst (IsNotBehind place) e holds
 
+-- who is there once some were cut is not behind the least place
+pub still_there : (place least end : ℕ) (old new : Slab Seated) → KeepsThose (IsSeatNotBehind place) old new → IsLeastPlace new end least
+    → (key : Key) (seat : Seat) → seat_at new key ≡ Some seat → (seat_at old key ≡ Some seat) × IsSeatNotBehind least seat
+still_there place least end old new keeps is key seat sits = ((keeps.kept key seat sits).0, is.all key seat sits)
+
+-- the log has that place, and not more than the window behind it
+module _ (common : Framing) (told : Option (List ℕ)) (log : Log) (window least : ℕ) (old new : Slab Seated) (on : AreOnLog common told log old)
+    (keeps : KeepsThose (IsSeatNotBehind (oldest_in window log)) old new) (is : IsLeastPlace new (end_of log) least) where
+  pub has_least : Has log least
+  has_least = record { from = by is.needed; to = is.within }
+    where
+      by : (least ≡ end_of log) ⊎ ((key : Key) × (s : Screen) × (seat_at new key ≡ Some (Watches s)) × (s.way ≡ OnLog least)) → log.base ≤ least
+      by (inl same) = let e : least ≡ log.base + length log.bytes = same in omega (arith, e)
+      by (inr (key, s, sits, way)) = (on key s least (keeps.kept key (Watches s) sits).0 way).has.from
+
+  pub few_left : length (behind log least) ≤ window
+  few_left = by is.needed
+    where
+      longer : length (behind log least) ≡ length log.bytes - (least - log.base)
+      longer = length-drop (least - log.base) log.bytes
+
+      by : (least ≡ end_of log) ⊎ ((key : Key) × (s : Screen) × (seat_at new key ≡ Some (Watches s)) × (s.way ≡ OnLog least)) → length (behind log least) ≤ window
+      by (inl same) = let e : least ≡ log.base + length log.bytes = same in omega (arith, e, longer)
+      by (inr (key, s, sits, way)) =
+          let above : max log.base (log.base + length log.bytes - window) ≤ least =
+          not_behind_at (oldest_in window log) least s.way (keeps.kept key (Watches s) sits).1 way in
+          omega (arith, above, longer)
+
 -- the log forgets what lies before a place, and who lacks something of that is cut
 pub trims_on : (common : Framing) (told : Option (List ℕ)) (log : Log) (place : ℕ) (old new : Slab Seated) → AreOnLog common told log old
-    → Has log place → KeepsThose (IsSeatNotBehind place) old new → AreOnLog common told (record { base = place; bytes = behind log place }) new
+    → Has log place → ((key : Key) (seat : Seat) → seat_at new key ≡ Some seat → (seat_at old key ≡ Some seat) × IsSeatNotBehind place seat) → AreOnLog common told (record { base = place; bytes = behind log place }) new
 trims_on common told log place old new on has keeps key s at sits way =
-    let kept = keeps.kept key (Watches s) sits in
+    let kept = keeps key (Watches s) sits in
     let before = on key s at kept.0 way in
     let above : place ≤ at = not_behind_at place at s.way kept.1 way in
     let from : log.base ≤ place = has.from in
@@ -265,14 +295,14 @@ still_on log place (OnLog at) on holds has =
 -- ---- a screen begins
 
 pub opened_served : (nodes : List NodeState) (common : Framing) (log : Log) (told : Option (List ℕ)) (answer : AnswerParts) (now : ℕ)
-    → IsServed nodes common log told answer [] (opened answer now)
-opened_served nodes common log told answer now = by answer.session refl
+    → length answer.text < 2 ^ 64 → IsServed nodes common log told answer [] (opened answer now)
+opened_served nodes common log told answer now fits = by answer.session refl
   where
     by : (o : Option (List ℕ)) → answer.session ≡ o → IsServed nodes common log told answer [] (record { own = answer.text; framing = answer.framing; way = way_after answer.session; moved = now })
     by None e = subst (λ o. IsServed nodes common log told answer [] (record { own = answer.text; framing = answer.framing; way = way_after o; moved = now })) (sym e)
         (served_refused nodes answer common log told e)
     by (Some token) e = subst (λ o. IsServed nodes common log told answer [] (record { own = answer.text; framing = answer.framing; way = way_after o; moved = now })) (sym e)
-        (served_opens nodes answer common log told token e)
+        (served_opens nodes answer common log told token e fits)
 
 -- ---- a screen at an index
 
@@ -283,8 +313,8 @@ on_at_index log seats index generation s all at =
     on_of_way log s.way (λ place way. all key s place (seat_found seats key (record { generation = generation; seat = Watches s }) at refl) way)
 
 pub cut_at_index : (old new : Slab Seated) (index generation : ℕ) (s : Screen)
-    → get old index ≡ Some (record { generation = generation; seat = Watches s }) → IsFollower s → Updates old new index None → IsCutAt old new index
-cut_at_index old new index generation s at follows u =
+    → get old index ≡ Some (record { generation = generation; seat = Watches s }) → IsGoingOn s → Updates old new index None → IsCutAt old new index
+cut_at_index old new index generation s at goes_on u =
     let key : Key = record { index = index; generation = generation } in
     record {
       some = (
@@ -294,7 +324,7 @@ cut_at_index old new index generation s at follows u =
           record {
             screen = s;
             sat = seat_found old key (record { generation = generation; seat = Watches s }) at refl;
-            followed = follows;
+            going_on = goes_on;
             cut = removed_at old new index u key refl;
           },
         ),
@@ -320,11 +350,11 @@ heard_fine b contest node now before head status (Watches t) h =
 
 pub heard_served : (b : Broadcast) (contest : List ℕ) (node : NodeState) (now : ℕ) (before : Asking) (head : List ℕ) (status : Option ℕ) (seat : Seat) (s : Screen)
     → HearsOf b contest node now before head status seat → seat ≡ Watches s
-    → (answer : AnswerParts) × ((nodes : List NodeState) → IsServedBy nodes b answer [] s)
+    → (answer : AnswerParts) × AnswersTo head contest node b.framing 0 answer × ((nodes : List NodeState) → IsServedBy nodes b answer [] s)
 heard_served b contest node now before head status (Asks asking) s h is = let no : Asks asking ≡ Watches s = is in absurd (cc)
 heard_served b contest node now before head status (Watches t) s h is =
     let same : opened h.answer now ≡ s = (let one : t ≡ s = cc in sym h.opens ∙ one) in
-    (h.answer, λ nodes. subst (λ x. IsServedBy nodes b h.answer [] x) same (opened_served nodes b.framing b.log b.told h.answer now))
+    (h.answer, h.answers, λ nodes. subst (λ x. IsServedBy nodes b h.answer [] x) same (opened_served nodes b.framing b.log b.told h.answer now h.fits))
 
 pub heard_at : (b : Broadcast) (contest : List ℕ) (node : NodeState) (now : ℕ) (piece : List ℕ) (heard : Heard) (asking : Asking) (old new : Option Seat) (seat : Seat)
     → old ≡ Some (Asks asking) → new ≡ Some seat → Takes asking.head.items piece heard.taken
@@ -341,36 +371,7 @@ joined_over t u r f g o p l m at ef eo el er (inl same) = inl (same ∙ er)
 joined_over t u r f g o p l m at ef eo el er (inr followed) =
     inr (subst (λ x. IsFollowed x o l t.framing at) ef (subst (λ x. IsFollowed g x l t.framing at) eo (subst (λ x. IsFollowed g p x t.framing at) el followed)))
 
-module _ {nodes : List NodeState} {common : Framing} {log : Log} {answer : AnswerParts} {handed : List ℕ} where
-  ended_served_at : (told : Option (List ℕ)) (own : List ℕ) (framing : Framing) (way : Way) (moved now : ℕ) (later : Log)
-      → IsServed nodes common log told answer handed (record { own = own; framing = framing; way = way; moved = moved })
-      → IsServed nodes common later None answer handed (ended_at way log now (record { own = own; framing = framing; way = way; moved = moved }))
-  ended_served_at told own framing (CatchesUp token) moved now later s =
-      record { due = s.due; owes = record { on = tt; rest = s.owes.rest }; is_due = s.is_due; framing = s.framing; alike = tt }
-  ended_served_at told own framing Over moved now later s =
-      record { due = s.due; owes = record { on = tt; rest = s.owes.rest }; is_due = s.is_due; framing = s.framing; alike = tt }
-  ended_served_at None own framing (OnLog at) moved now later s = absurd (true≢false (sym s.alike.1))
-  ended_served_at (Some token) own framing (OnLog at) moved now later s =
-      record {
-        due = s.due ++ frame_end answer.framing;
-        owes = record {
-          on = tt;
-          rest = ap (λ x. handed ++ x) (append-nil (own ++ (behind log at ++ frame_end framing)))
-              ∙ ap (λ x. handed ++ x) (sym (append_assoc own (behind log at) (frame_end framing)))
-              ∙ sym (append_assoc handed (own ++ behind log at) (frame_end framing))
-              ∙ ap (λ d. d ++ frame_end framing) s.owes.rest
-              ∙ ap (λ f. s.due ++ frame_end f) s.framing;
-        };
-        is_due = going_ends nodes answer token s.due s.is_due;
-        framing = s.framing;
-        alike = tt;
-      }
-
-  pub ended_served : (told : Option (List ℕ)) (s : Screen) (now : ℕ) (later : Log)
-      → IsServed nodes common log told answer handed s → IsServed nodes common later None answer handed (ended log now s)
-  ended_served told s now later served = ended_served_at told s.own s.framing s.way s.moved now later served
-
--- whoever was seated and served is so once all have left, or is cut
+-- whoever was seated and served is so once all have ended, or is cut
 pub ends_seated : (nodes : List NodeState) (b new : Broadcast) (now : ℕ) (old seats : Option Seat)
     → new.told ≡ None → new.framing ≡ b.framing
     → Ends b.log now old seats ⊎ (seats ≡ None)
@@ -379,7 +380,7 @@ pub ends_seated : (nodes : List NodeState) (b new : Broadcast) (now : ℕ) (old 
 ends_seated nodes b new now old seats told framing (inr none) = inr none
 ends_seated nodes b new now old seats told framing (inl ends) = inl (λ answer handed seated.
     let here : Ends b.log now (Some (Watches seated.0)) seats = subst (λ o. Ends b.log now o seats) seated.1 ends in
-    let served = ended_served b.told seated.0 now new.log seated.2 in
+    let served = ended_served b.told seated.0 now new.log None seated.2 in
     let over : IsServedBy nodes new answer handed (ended b.log now seated.0) =
     subst (λ o. IsServed nodes new.framing new.log o answer handed (ended b.log now seated.0)) (sym told)
     (subst (λ f. IsServed nodes f new.log None answer handed (ended b.log now seated.0)) (sym framing) served) in
@@ -387,7 +388,8 @@ ends_seated nodes b new now old seats told framing (inl ends) = inl (λ answer h
 
 -- whoever was seated and served is so once the log was trimmed, or is cut
 pub trims_seated : (nodes : List NodeState) (b new : Broadcast) (place : ℕ) (key : Key) (old seats : Slab Seated)
-    → AreOnLog b.framing b.told b.log old → Has b.log place → KeepsThose (IsSeatNotBehind place) old seats
+    → AreOnLog b.framing b.told b.log old → Has b.log place
+    → ((key : Key) (seat : Seat) → seat_at seats key ≡ Some seat → (seat_at old key ≡ Some seat) × IsSeatNotBehind place seat)
     → new.log ≡ record { base = place; bytes = behind b.log place }
     → ((answer : AnswerParts) (handed : List ℕ) (s : Screen) → IsServedBy nodes b answer handed s → IsOnLog new.log s.way → IsServedBy nodes new answer handed s)
     → ((answer : AnswerParts) (handed : List ℕ) → ((s : Screen) × (seat_at old key ≡ Some (Watches s)) × IsServedBy nodes b answer handed s)
@@ -399,12 +401,44 @@ trims_seated nodes b new place key old seats on has keeps log served = by (seat_
         → (s : Screen) × (seat_at seats key ≡ Some (Watches s)) × IsServedBy nodes new answer handed s) ⊎ (seat_at seats key ≡ None)
     by None e = inr e
     by (Some seat) e = inl (λ answer handed seated.
-        let kept = keeps.kept key seat e in
+        let kept = keeps key seat e in
         let same : seat ≡ Watches seated.0 = same_seat seat (Watches seated.0) (sym kept.0 ∙ seated.1) in
         let holds : IsNotBehind place seated.0.way = subst (IsSeatNotBehind place) same kept.1 in
         let there : IsOnLog new.log seated.0.way = subst (λ l. IsOnLog l seated.0.way) (sym log)
         (still_on b.log place seated.0.way (on_log b.framing b.told b.log old key seated.0 on seated.1) holds has) in
         (seated.0, e ∙ ap Some same, served answer handed seated.0 seated.2 there))
+
+-- ---- once the log was trimmed
+
+module _ (b new : Broadcast) (window place least end : ℕ) (old seats : Slab Seated) (on : AreOnLog b.framing b.told b.log old)
+    (place_is : place ≡ oldest_in window b.log) (end_is : end ≡ end_of b.log)
+    (keeps : KeepsThose (IsSeatNotBehind place) old seats) (is : IsLeastPlace seats end least)
+    (log : new.log ≡ record { base = least; bytes = behind b.log least }) where
+  kept_within : KeepsThose (IsSeatNotBehind (oldest_in window b.log)) old seats
+  kept_within = subst (λ p. KeepsThose (IsSeatNotBehind p) old seats) place_is keeps
+
+  pub is_least : IsLeastPlace seats (end_of b.log) least
+  is_least = subst (λ e. IsLeastPlace seats e least) end_is is
+
+  pub has_it : Has b.log least
+  has_it = has_least b.framing b.told b.log window least old seats on kept_within is_least
+
+  pub trimmed_few : length new.log.bytes ≤ window
+  trimmed_few = subst (λ l. length l.bytes ≤ window) (sym log) (few_left b.framing b.told b.log window least old seats on kept_within is_least)
+
+  pub trimmed_on : new.told ≡ b.told → new.framing ≡ b.framing → AreOnLog new.framing new.told new.log seats
+  trimmed_on told framing =
+      subst (λ f. AreOnLog f new.told new.log seats) (sym framing)
+      (subst (λ o. AreOnLog b.framing o new.log seats) (sym told)
+      (subst (λ l. AreOnLog b.framing b.told l seats) (sym log)
+      (trims_on b.framing b.told b.log least old seats on has_it (still_there place least end old seats keeps is))))
+
+  pub trimmed_seated : (nodes : List NodeState) (key : Key)
+      → ((answer : AnswerParts) (handed : List ℕ) (s : Screen) → IsServedBy nodes b answer handed s → IsOnLog new.log s.way → IsServedBy nodes new answer handed s)
+      → ((answer : AnswerParts) (handed : List ℕ) → ((s : Screen) × (seat_at old key ≡ Some (Watches s)) × IsServedBy nodes b answer handed s)
+      → (s : Screen) × (seat_at seats key ≡ Some (Watches s)) × IsServedBy nodes new answer handed s) ⊎ (seat_at seats key ≡ None)
+  trimmed_seated nodes key served =
+      trims_seated nodes b new least key old seats on has_it (still_there place least end old seats keeps is) log served
 
 pub served_over : (nodes : List NodeState) (answer : AnswerParts) (handed : List ℕ) (s t : Screen)
     (f g : Framing) (l m : Log) (o p : Option (List ℕ)) → g ≡ f → m ≡ l → p ≡ o

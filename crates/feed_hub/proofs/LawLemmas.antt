@@ -81,18 +81,18 @@ first_text log true k = append-nil (state_text log k)
 first_text log false k = refl
 
 -- the connection that carries them
-abbrev connection : (log : Log) (k : ℕ) (texts : List (List ℕ)) (token : List ℕ) (fresh : Bool) → StandInOrder log k texts token → Connection
+abbrev pub connection : (log : Log) (k : ℕ) (texts : List (List ℕ)) (token : List ℕ) (fresh : Bool) → StandInOrder log k texts token → Connection
 connection log k texts token fresh s = record { framing = Close; fresh = fresh; start = k; parts = first_parts fresh k ++ s.parts; delivered = 0; last = s.last; over = false }
 
 module _ (limits : Limits) (log : Log) (k : ℕ) (texts : List (List ℕ)) (token : List ℕ) (place : Option Position) (fresh : Bool)
     (s : StandInOrder log k texts token) (is_place : IsPlace limits log place)
     (start : fresh ≡ false → (own : Position) × (place ≡ Some own) × (own.low ≤ k) × (k ≤ own.at)) where
-  its_text : sent_text log (connection log k texts token fresh s) ≡ opened_text log fresh k ++ joined texts
+  pub its_text : sent_text log (connection log k texts token fresh s) ≡ opened_text log fresh k ++ joined texts
   its_text =
       flat_map-append (part_text log) (first_parts fresh k) s.parts ∙ ap (λ t. t ++ parts_text log s.parts) (first_text log fresh k)
       ∙ ap (λ t. opened_text log fresh k ++ t) (sym s.text_is)
 
-  is_opened : IsOpened limits log place (connection log k texts token fresh s)
+  pub is_opened : IsOpened limits log place (connection log k texts token fresh s)
   is_opened = record { mirror = is_place; start = start; order = record { more = s.parts; parts = refl; go_on = s.go_on }; sent = s.in_log }
 
 pub screens_show : NodesSendTheNext → PartsGoOn → FrontsAreRead → PlacesStay → ScreensShowStates

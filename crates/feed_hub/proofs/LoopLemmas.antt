@@ -6,14 +6,16 @@ use Rattle.std.proofs.lemmas.Bool.Decides.{eqb_tells}
 use Rattle.std.proofs.lemmas.List.{get_or_past}
 use Rattle.slab.specs.Slab.{Slab, get, slab_len, Updates}
 use Rattle.feed_hub.specs.declared.screen.Screen.{Screen}
-use Rattle.feed_hub.specs.declared.screen.Way.TheVariants.{OnLog}
+use Rattle.feed_hub.specs.declared.screen.Way.TheVariants.{CatchesUp, OnLog, Over}
+use Rattle.feed_hub.specs.declared.screen.Way.{Way}
 use Rattle.feed_hub.specs.declared.seats.Key.{Key}
 use Rattle.feed_hub.specs.declared.seats.Seat.{Seat}
 use Rattle.feed_hub.specs.declared.seats.Seat.TheVariants.{Asks, Watches}
 use Rattle.feed_hub.specs.declared.seats.Seated.{Seated}
 use Rattle.feed_hub.specs.Log.{Log, Has}
-use Rattle.feed_hub.specs.Seats.{seat_at, KeepsThose, HasAll, Ends, IsCut, IsCutAt, IsSomeCut}
-use Rattle.feed_hub.proofs.SeatLemmas.{found_at, empty_at, updated_elsewhere, removed_at}
+use Rattle.feed_hub.specs.Screen.{IsNotBehind}
+use Rattle.feed_hub.specs.Seats.{seat_at, KeepsThose, IsSeatNotBehind, IsLeastPlace, HasAll, Ends, IsCut, IsCutAt, IsSomeCut}
+use Rattle.feed_hub.proofs.SeatLemmas.{found_at, seat_found, key_at, empty_at, updated_elsewhere, removed_at}
 use Rattle.feed_hub.proofs.StepLemmas.{ended_is_off}
 
 same_some : (a b : Seat) → Some a ≡ Some b → a ≡ b
@@ -94,7 +96,76 @@ none_looked_at Holds old =
       len = omega arith;
     }
 
--- ---- who leaves the log
+-- ---- what of the log is needed
+
+-- so far below an index
+pub record LeastBelow (seats : Slab Seated) (end index least : ℕ) : Type 0 where
+  pub below : (key : Key) (seat : Seat) → key.index < index → seat_at seats key ≡ Some seat → IsSeatNotBehind least seat
+  pub within : least ≤ end
+  pub needed : (least ≡ end) ⊎ ((key : Key) × (s : Screen) × (seat_at seats key ≡ Some (Watches s)) × (s.way ≡ OnLog least))
+
+pub none_needs : (seats : Slab Seated) (end : ℕ) → LeastBelow seats end 0 end
+none_needs seats end = record { below = λ key seat less sits. absurd (omega (arith, less)); within = omega arith; needed = inl refl }
+
+way_before : (less least : ℕ) (way : Way) → less ≤ least → IsNotBehind least way → IsNotBehind less way
+way_before less least (CatchesUp token) few holds = tt
+way_before less least (OnLog at) few holds = let h : least ≤ at = holds in omega (arith, few, h)
+way_before less least Over few holds = tt
+
+seat_before : (less least : ℕ) (seat : Seat) → less ≤ least → IsSeatNotBehind least seat → IsSeatNotBehind less seat
+seat_before less least (Asks asking) few holds = tt
+seat_before less least (Watches s) few holds = way_before less least s.way few holds
+
+module _ (seats : Slab Seated) (end index least : ℕ) (so_far : LeastBelow seats end index least) where
+  -- nobody sits there
+  pub none_more : get seats index ≡ None → LeastBelow seats end (index + 1) least
+  none_more none =
+      record { below = λ key seat less sits. by key seat less sits (eqb_tells key.index index); within = so_far.within; needed = so_far.needed }
+    where
+      by : (key : Key) (seat : Seat) → key.index < index + 1 → seat_at seats key ≡ Some seat
+          → (((key.index == index) ≡ true) × (key.index ≡ index)) ⊎ (((key.index == index) ≡ false) × (key.index ≢ index)) → IsSeatNotBehind least seat
+      by key seat less sits (inl (_, same)) =
+          let nobody : None ≡ Some seat = sym (empty_at seats key (ap (get seats) same ∙ none)) ∙ sits in absurd (cc)
+      by key seat less sits (inr (_, differ)) =
+          let before : key.index < index = (let far : key.index ≢ index = differ in grind (arith, less, far)) in
+          so_far.below key seat before sits
+
+  -- who sits there may be further back
+  pub one_more : (less : ℕ) (seated : Seated) → get seats index ≡ Some seated → IsSeatNotBehind less seated.seat → less ≤ least
+      → (less ≡ least) ⊎ ((s : Screen) × (seated.seat ≡ Watches s) × (s.way ≡ OnLog less)) → LeastBelow seats end (index + 1) less
+  one_more less seated at holds few some =
+      record {
+        below = λ key seat less' sits. by key seat less' sits (eqb_tells key.index index);
+        within = (let w : least ≤ end = so_far.within in omega (arith, few, w));
+        needed = need some;
+      }
+    where
+      by : (key : Key) (seat : Seat) → key.index < index + 1 → seat_at seats key ≡ Some seat
+          → (((key.index == index) ≡ true) × (key.index ≡ index)) ⊎ (((key.index == index) ≡ false) × (key.index ≢ index)) → IsSeatNotBehind less seat
+      by key seat less' sits (inl (_, same)) =
+          let there : Some seated ≡ Some (record { generation = key.generation; seat = seat }) = sym at ∙ ap (get seats) (sym same) ∙ found_at seats key seat sits in
+          let is : seated ≡ record { generation = key.generation; seat = seat } = cc in
+          subst (λ x. IsSeatNotBehind less x.seat) is holds
+      by key seat less' sits (inr (_, differ)) =
+          let before : key.index < index = (let far : key.index ≢ index = differ in grind (arith, less', far)) in
+          seat_before less least seat few (so_far.below key seat before sits)
+
+      need : (less ≡ least) ⊎ ((s : Screen) × (seated.seat ≡ Watches s) × (s.way ≡ OnLog less))
+          → (less ≡ end) ⊎ ((key : Key) × (s : Screen) × (seat_at seats key ≡ Some (Watches s)) × (s.way ≡ OnLog less))
+      need (inl same) =
+          subst (λ n. (n ≡ end) ⊎ ((key : Key) × (s : Screen) × (seat_at seats key ≡ Some (Watches s)) × (s.way ≡ OnLog n))) (sym same) so_far.needed
+      need (inr (s, is, way)) =
+          inr (key_at index seated, s, seat_found seats (key_at index seated) seated at refl ∙ ap Some is, way)
+
+  pub all_need : length seats.slots ≤ index → IsLeastPlace seats end least
+  all_need short =
+      record { all = λ key seat sits. by key seat sits (cases_lt key.index index); within = so_far.within; needed = so_far.needed }
+    where
+      by : (key : Key) (seat : Seat) → seat_at seats key ≡ Some seat → (key.index < index) ⊎ (index ≤ key.index) → IsSeatNotBehind least seat
+      by key seat sits (inl less) = so_far.below key seat less sits
+      by key seat sits (inr past) = let nobody : None ≡ Some seat = sym (nobody_past seats key index short past) ∙ sits in absurd (cc)
+
+-- ---- whose body ends
 
 -- so far below an index
 pub record LeaveBelow (log : Log) (now index : ℕ) (old seats : Slab Seated) (failed : Bool) : Type 0 where
@@ -144,16 +215,16 @@ module _ (log : Log) (now index : ℕ) (old seats new : Slab Seated) (failed : B
   below_it : (key : Key) → key.index < index + 1 → key.index ≢ index → key.index < index
   below_it key less differ = (let far : key.index ≢ index = differ in grind (arith, less, far))
 
-  -- the one at this index has left
+  -- the one at this index has ended
   ended_here : ((key : Key) → key.index ≡ index → Ends log now (seat_at seats key) (seat_at new key)) → (key : Key) → key.index ≡ index → Ends log now (seat_at old key) (seat_at new key)
   ended_here here key same = subst (λ o. Ends log now o (seat_at new key)) (so_far.later key (omega (arith, same))) (here key same)
 
   still_cut : (key : Key) → IsCut old seats key → key.index ≢ index → IsCut old new key
-  still_cut key c differ = record { screen = c.screen; sat = c.sat; followed = c.followed; cut = others key differ ∙ c.cut }
+  still_cut key c differ = record { screen = c.screen; sat = c.sat; going_on = c.going_on; cut = others key differ ∙ c.cut }
 
   cut_apart : (key : Key) → IsCut old seats key → ((k : Key) → k.index ≡ index → seat_at new k ≡ None) ⊎ (key.index ≢ index) → IsCut old new key
   cut_apart key c (inr differ) = still_cut key c differ
-  cut_apart key c (inl gone) = record { screen = c.screen; sat = c.sat; followed = c.followed; cut = by (eqb_tells key.index index) }
+  cut_apart key c (inl gone) = record { screen = c.screen; sat = c.sat; going_on = c.going_on; cut = by (eqb_tells key.index index) }
     where
       by : (((key.index == index) ≡ true) × (key.index ≡ index)) ⊎ (((key.index == index) ≡ false) × (key.index ≢ index)) → seat_at new key ≡ None
       by (inl (_, same)) = gone key same
@@ -191,7 +262,7 @@ module _ (log : Log) (now index : ℕ) (old seats new : Slab Seated) (failed : B
         left = λ key less. left_by key less (eqb_tells key.index index);
         later = later_on;
         err = λ _. (let k = c.some.0 in let is = c.some.1.0 in let one = c.some.1.1 in
-            (k, record { screen = one.screen; sat = sym (so_far.later k (omega (arith, is))) ∙ one.sat; followed = one.followed; cut = one.cut }));
+            (k, record { screen = one.screen; sat = sym (so_far.later k (omega (arith, is))) ∙ one.sat; going_on = one.going_on; cut = one.cut }));
         len = shorter;
       }
     where

@@ -27,7 +27,7 @@ module _ (nodes more : List NodeState) (all : (node : NodeState) → Contains no
 
   going_grows : (answer : AnswerParts) (token due : List ℕ) → IsGoing nodes answer token due → IsGoing more answer token due
   going_grows answer token due g =
-      record { opened = g.opened; session = g.session; texts = g.texts; told = told_grows g.opened g.texts token g.told; due_is = g.due_is }
+      record { opened = g.opened; session = g.session; texts = g.texts; told = told_grows g.opened g.texts token g.told; due_is = g.due_is; opening_fits = g.opening_fits; fit = g.fit }
 
   due_grows : (answer : AnswerParts) (at : Option (List ℕ)) (due : List ℕ) → IsDue nodes answer at due → IsDue more answer at due
   due_grows answer (Some token) due g = going_grows answer token due g

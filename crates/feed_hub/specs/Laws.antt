@@ -23,10 +23,14 @@ use Rattle.feed_hub.specs.Log.{Log as Shared}
 use Rattle.feed_hub.specs.Screen.{IsServed}
 use Rattle.feed_hub.specs.Told.{Told, told_text}
 
--- each of these nodes is at a place of the log, or has published nothing
+-- it shows nothing, or is at a place of the log: it shows the state of that at its token
+abbrev pub IsInLog : Limits → Log → NodeState → Type 0
+IsInLog limits log node =
+    (place : Option Position) × IsPlace limits log place × (node ≡ node_where log place)
+
+-- so it is with each of these nodes
 abbrev pub AreInLog : Limits → Log → List NodeState → Type 0
-AreInLog limits log nodes = (node : NodeState) → Contains nodes node
-    → (place : Option Position) × IsPlace limits log place × (node ≡ node_where log place)
+AreInLog limits log nodes = (node : NodeState) → Contains nodes node → IsInLog limits log node
 
 -- the texts are parts of a connection, in order from number k on, and end at this token
 pub record StandInOrder (log : Log) (k : ℕ) (texts : List (List ℕ)) (token : List ℕ) : Type 0 where

@@ -1,5 +1,5 @@
 -- Connections, each at a key that is given once.
-use Rattle.std.specs.Prelude.{◌≡◌, ◌≢◌, ℕ, ◌<◌, ◌==◌, List, [], Option, Some, None, if◌then◌else◌}
+use Rattle.std.specs.Prelude.{◌≡◌, ◌≢◌, ◌⊎◌, ℕ, ◌<◌, ◌≤◌, ◌==◌, List, [], Option, Some, None, if◌then◌else◌}
 use Rattle.slab.specs.Slab.{Slab, get, HasRoomFor}
 use Rattle.feed_answer.specs.declared.framing.Framing.{Framing}
 use Rattle.feed_hub.specs.declared.screen.Screen.{Screen}
@@ -10,7 +10,7 @@ use Rattle.feed_hub.specs.declared.seats.Seat.TheVariants.{Asks, Watches}
 use Rattle.feed_hub.specs.declared.seats.Seated.{Seated}
 use Rattle.feed_hub.specs.Log.{Log, Has}
 use Rattle.feed_hub.specs.Screen.{IsFollowed, IsNotBehind, IsMoving}
-use Rattle.feed_hub.specs.Steps.{ended, IsFollower}
+use Rattle.feed_hub.specs.Steps.{ended, IsGoingOn}
 
 -- what sits there, if it is of this generation
 abbrev pub of_generation : ℕ → Option Seated → Option Seat
@@ -83,22 +83,32 @@ abbrev pub IsOnTime : ℕ → ℕ → Seat → Type 0
 IsOnTime now stall (Asks asking) = now < asking.until
 IsOnTime now stall (Watches s) = IsMoving now stall s
 
--- ---- who leaves the log
+-- ---- what of the log is needed
+
+-- the place of the screen on the log that is furthest back, and this end where nobody is on it
+pub record IsLeastPlace (seats : Slab Seated) (end least : ℕ) : Type 0 where
+  pub all : (key : Key) (seat : Seat) → seat_at seats key ≡ Some seat
+      → IsSeatNotBehind least seat
+  pub within : least ≤ end
+  pub needed : (least ≡ end) ⊎ ((key : Key) × (s : Screen)
+      × (seat_at seats key ≡ Some (Watches s)) × (s.way ≡ OnLog least))
+
+-- ---- whose body ends
 
 -- the log has what each screen on it is to be sent
 abbrev pub HasAll : Log → Slab Seated → Type 0
 HasAll log seats = (key : Key) (s : Screen) (at : ℕ)
     → seat_at seats key ≡ Some (Watches s) → s.way ≡ OnLog at → Has log at
 
--- a screen that was on the log is sent what that has for it and the end of the body, and no more
+-- a screen is sent what it has, what the log has for it and the end of the body, and no more
 abbrev pub Ends : Log → ℕ → Option Seat → Option Seat → Type 0
 Ends log now old new = Watched (λ s t. t ≡ ended log now s) old new
 
--- a screen on the log sat at this key, and is cut
+-- a screen whose body hadn't ended sat at this key, and is cut
 pub record IsCut (old new : Slab Seated) (key : Key) : Type 0 where
   pub screen : Screen
   pub sat : seat_at old key ≡ Some (Watches screen)
-  pub followed : IsFollower screen
+  pub going_on : IsGoingOn screen
   pub cut : seat_at new key ≡ None
 
 abbrev pub IsSomeCut : Slab Seated → Slab Seated → Type 0

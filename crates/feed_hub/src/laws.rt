@@ -1,13 +1,16 @@
 //! Laws of the definitions.
 
 ghost use Rattle.feed_hub.specs.Laws.{ScreensAreConnections, ScreensShowStates, ScreensReach, ScreensAreFollowed, DueIsResponse, ServedGrows};
+ghost use Rattle.feed_hub.specs.Files.{FilesRestore, FilesReach};
+ghost use Rattle.feed_hub.specs.Follows.{ScreensFollow, ScreensArrive};
 
 use feed_answer::followed_laws;
+use feed_node::reading_laws;
 use feed_world::{following_laws, sending_laws, world_laws};
 
 /// What screens are sent is what connections of a world are sent: so, whatever prefix of it came,
 /// what a mirror that reads it shows is a state of the primary's log. With all of it, the mirror is
-/// as far as the session.
+/// as far as the session. So it is with any prefix of a file that was written, and with all of it.
 pub fn hub_laws()
     ensures connections { ScreensAreConnections }
     ensures states { ScreensShowStates }
@@ -15,7 +18,12 @@ pub fn hub_laws()
     ensures followed { ScreensAreFollowed }
     ensures due { DueIsResponse }
     ensures grows { ServedGrows }
+    ensures files { FilesRestore }
+    ensures files_reach { FilesReach }
+    ensures live_follows { ScreensFollow }
+    ensures live_arrives { ScreensArrive }
 {
+    reading_laws();
     world_laws();
     sending_laws();
     following_laws();

@@ -6,7 +6,7 @@ ghost use Rattle.feed_node.specs.States.{NodeState};
 ghost use Rattle.feed_answer.specs.Answered.{AnswerParts};
 ghost use Rattle.feed_hub.specs.Steps.{idled, taken, HasNext, IsWaiting};
 ghost use Rattle.feed_hub.specs.Seats.{seat_at, Others, SameSeats, KeepsThose, IsOnTime, Watched, IsWatcher, IsAskingSeat, IsOverSeat};
-ghost use Rattle.feed_hub.specs.Hub.{IsSeated, IsStillSeated, prefix_at, SameLimits, ChangesOnly, IsNew, Takes, HearsOf, HearsAt, Refills};
+ghost use Rattle.feed_hub.specs.Hub.{IsSeated, IsStillSeated, IsAnsweredBy, prefix_at, SameLimits, ChangesOnly, IsNew, Takes, HearsOf, HearsAt, Refills};
 
 use crate::asking::Asking;
 use crate::broadcast::Broadcast;
@@ -90,10 +90,12 @@ impl Hub {
         ensures heard { IfOk result (λ heard. HearsAt self.old.broadcast contest.now node.now.shown
             now piece.now heard (seat_at self.old.seats.slab key)
             (seat_at self.new.seats.slab key)) }
-        ensures served { (nodes : List NodeState) (s : Screen)
-            → IsAskingSeat (seat_at self.old.seats.slab key)
+        ensures served { (nodes : List NodeState) (asking : Asking) (s : Screen)
+            → seat_at self.old.seats.slab key ≡ Some (Seat.Asks asking)
             → seat_at self.new.seats.slab key ≡ Some (Seat.Watches s)
-            → (answer : AnswerParts) × IsSeated nodes self.new key answer [] }
+            → IfOk result (λ heard. IsAnsweredBy node.now.shown contest.now
+            self.old.broadcast.framing (asking.head.items ++ take heard.taken piece.now)
+            (λ answer. IsSeated nodes self.new key answer [])) }
         ensures err { OnErr result (IsAskingSeat (seat_at self.old.seats.slab key)
             × (seat_at self.new.seats.slab key ≡ None)) }
         ensures rest { ChangesOnly self.old self.new key }

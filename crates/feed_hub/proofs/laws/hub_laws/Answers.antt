@@ -1,5 +1,7 @@
 use Rattle.feed_hub.proofs.LawLemmas.{screens_connect, screens_show, screens_reach, screens_follow}
 use Rattle.feed_hub.proofs.OpeningLemmas.{due_is_response, served_grows}
+use Rattle.feed_hub.proofs.FileLemmas.{files_restore, files_reach}
+use Rattle.feed_hub.proofs.FollowLemmas.{screens_are_safe, screens_arrive}
 use Rattle.feed_hub.proofs.laws.hub_laws.Goals as goal
 
 pub returns-clause-connections : goal.returns-clause-connections
@@ -19,3 +21,21 @@ returns-clause-grows c = served_grows
 
 pub returns-clause-reach : goal.returns-clause-reach
 returns-clause-reach c = screens_reach c.sending_laws.ensures.commits c.sending_laws.ensures.order c.world_laws.ensures.fronts c.following_laws.ensures.places c.following_laws.ensures.reached
+
+pub returns-clause-files : goal.returns-clause-files
+returns-clause-files c = files_restore c.reading_laws.ensures.one (screens_show c.sending_laws.ensures.commits c.sending_laws.ensures.order c.world_laws.ensures.fronts c.following_laws.ensures.places)
+
+pub returns-clause-files_reach : goal.returns-clause-files_reach
+returns-clause-files_reach c = files_reach (screens_reach c.sending_laws.ensures.commits c.sending_laws.ensures.order c.world_laws.ensures.fronts c.following_laws.ensures.places c.following_laws.ensures.reached)
+
+pub returns-clause-live_follows : goal.returns-clause-live_follows
+returns-clause-live_follows c =
+    screens_are_safe (screens_connect c.sending_laws.ensures.commits c.sending_laws.ensures.order) c.following_laws.ensures.opens
+    c.followed_laws.ensures.responses c.followed_laws.ensures.ends c.followed_laws.ensures.refusals c.following_laws.ensures.refusals
+    c.following_laws.ensures.places c.following_laws.ensures.follow c.following_laws.ensures.fails
+
+pub returns-clause-live_arrives : goal.returns-clause-live_arrives
+returns-clause-live_arrives c =
+    screens_arrive (screens_connect c.sending_laws.ensures.commits c.sending_laws.ensures.order) c.following_laws.ensures.opens
+    c.followed_laws.ensures.responses c.followed_laws.ensures.ends c.following_laws.ensures.places c.following_laws.ensures.follow c.following_laws.ensures.fails
+    c.followed_laws.ensures.whole c.following_laws.ensures.reached

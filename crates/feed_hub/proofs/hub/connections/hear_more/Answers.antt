@@ -1,4 +1,4 @@
-use Rattle.std.proofs.Common.{◌∙◌, sym, subst, refl}
+use Rattle.std.proofs.Common.{rules, ◌∙◌, sym, subst, refl}
 use Rattle.feed_answer.specs.Answered.{parts_of, AnswersTo}
 use Rattle.feed_http.specs.HeadReading.{IsReadAsNeeded, IsEnough}
 use Rattle.feed_hub.proofs.hub.connections.hear_more.Goals as goal
@@ -13,6 +13,7 @@ returns-clause-heard c b same =
       answer = answer;
       answers = subst (λ h. AnswersTo h c.args.contest.now c.args.node.now.shown b.framing 0 answer) (c.head.ensures ∙ taken)
           (subst (λ f. AnswersTo c.head.result.now c.args.contest.now c.args.node.now.shown f 0 answer) (sym same) c.in_ok-answered.ensures.ok);
+      fits = search rules;
       opens = c.in_ok-screen.ensures.ok;
       status_is = refl;
     }
