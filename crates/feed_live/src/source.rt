@@ -1,5 +1,7 @@
 //! The server that is followed, and the mirror of what it sends.
 
+mod input;
+
 use crate::device::{Link, Stop};
 use crate::figures::{FeedFigures, Following};
 use crate::screens::Screens;
@@ -7,7 +9,7 @@ use crate::told::{Telling, Told, Why};
 use feed_answer::{Place, request_text};
 use feed_follow::{FollowFault, Progress};
 use feed_hub::Upstream;
-use feed_node::{FeedFault, Mirror, Node};
+use feed_node::{Mirror, Node};
 use memchr::memchr;
 use std::alloc::{AllocError, Global};
 use std::mem;
@@ -434,73 +436,6 @@ impl Source {
     /// Says what had to wait.
     pub(crate) fn say_more(&mut self, alloc: Global, screens: &mut Screens, now: u64) {
         screens.relay(alloc, self.mirror.node(), now);
-    }
-
-    // ---- the input as the feed
-
-    /// The input is a feed from here on.
-    pub(crate) fn begin_input(&mut self, now: u64) {
-        self.mirror.begin();
-        self.figures.change(Following::Input, now);
-    }
-
-    /// What was kept of the input is followed, and then bytes that came. Whether it goes on.
-    pub(crate) fn take_input(
-        &mut self,
-        alloc: Global,
-        told: &mut Telling,
-        screens: &mut Screens,
-        piece: &[u8],
-        now: u64,
-    ) -> bool {
-        if !piece.is_empty() {
-            self.figures.hear(piece.len(), now);
-        }
-        let kept = self.kept(alloc);
-        let fed = match self.feed(alloc, screens, kept.as_slice(), now) {
-            Ok(()) => self.feed(alloc, screens, piece, now),
-            Err(fault) => Err(fault),
-        };
-        match fed {
-            Ok(()) => true,
-            Err(fault) => {
-                told.tell(Told::BadInput(fault));
-                self.end_input(now);
-                false
-            }
-        }
-    }
-
-    /// Follows bytes of the input, up to a commit after which nothing more can be said for now.
-    fn feed(
-        &mut self,
-        alloc: Global,
-        screens: &mut Screens,
-        piece: &[u8],
-        now: u64,
-    ) -> Result<(), FeedFault> {
-        let mut rest = piece;
-        for _ in 0..piece.len() {
-            if rest.is_empty() {
-                break;
-            }
-            if screens.says_at().is_some() {
-                self.keep(rest)?;
-                break;
-            }
-            let (line, next) = split_line(rest);
-            rest = next;
-            self.mirror.feed(alloc, line)?;
-            if screens.relay(alloc, self.mirror.node(), now) {
-                self.figures.publish();
-            }
-        }
-        Ok(())
-    }
-
-    /// Nothing more of the input is a feed.
-    pub(crate) fn end_input(&mut self, now: u64) {
-        self.figures.change(Following::Ended, now);
     }
 }
 
