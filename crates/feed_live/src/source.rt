@@ -200,7 +200,7 @@ impl Source {
         Ok(())
     }
 
-    /// The server is left, and the next one is asked after a pause.
+    /// The server is left, and the next one is asked: after a pause where each of them failed.
     fn lost<L: Link>(&mut self, link: &mut L, told: &mut Telling, why: Why, now: u64) {
         let server = self.upstream.place();
         // A server that ended its answer has sent all that comes after our token.
@@ -395,14 +395,14 @@ impl Source {
         }
     }
 
-    /// The server does not hold the token.
+    /// The server does not hold the token: the others are asked with it before it is forgotten.
     fn refused<L: Link>(&mut self, link: &mut L, told: &mut Telling, now: u64) {
         told.tell(Told::Refused {
             server: self.upstream.place(),
         });
         self.leave(link, now);
         self.figures.change(Following::Away, now);
-        self.upstream.ask_again(now);
+        self.upstream.refused(&mut self.mirror, now);
     }
 
     /// The server answers with the feed.
