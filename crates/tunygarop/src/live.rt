@@ -6,7 +6,7 @@ mod standard;
 mod store;
 mod telling;
 
-use crate::sockets::without_brackets;
+use crate::hosts::without_brackets;
 use feed_answer::Place;
 use feed_cli::{
     AddressFault, Fault, LiveOptions, NetworkFault, PullOptions, UpstreamOptions, Verbosity,
@@ -45,7 +45,9 @@ fn pull_options<'a>(options: &LiveOptions<'a>, upstream: &UpstreamOptions<'a>) -
         base: upstream.base,
         contest: options.contest,
         turns: 1,
+        silence: None,
         resume: false,
+        verbose: false,
         limits: options.limits,
     }
 }
