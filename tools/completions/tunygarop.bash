@@ -31,7 +31,7 @@ _tunygarop() {
         --history | --back | --staged | --turns | --turn | --count | --port | --listen | --status)
             return
             ;;
-        --contest | --from | --base | --address | --screens | --idle | --window)
+        --contest | --from | --base | --address | --screens | --idle | --window | --silence)
             return
             ;;
     esac
@@ -45,10 +45,10 @@ _tunygarop() {
         tables) names="history staged verbose" ;;
         check) names="" ;;
         play) names="" ;;
-        serve) names="port contest count turn chunked back history staged" ;;
-        pull) names="host port from contest base turns resume history staged" ;;
+        serve) names="port contest count turn chunked back verbose history staged" ;;
+        pull) names="host port from contest base turns silence resume verbose history staged" ;;
         relay)
-            names="host port from contest base turns resume history staged listen count chunked"
+            names="host port from contest base turns silence resume verbose history staged listen count chunked"
             ;;
         live)
             names="contest host port base from listen address screens idle window chunked state until-eof status verbose quiet history staged"

@@ -18,6 +18,10 @@ use Rattle.feed_words.specs.Addresses.{most_port}
 abbrev pub most_rounds : ℕ
 most_rounds = 1000000
 
+-- the most seconds of silence that may be asked for
+abbrev pub most_silence : ℕ
+most_silence = 3600
+
 -- an option with a number from the least to the most
 abbrev pub number_between : Text → ℕ → ℕ → Rule
 number_between name least most = record (new_rule name) {
@@ -87,6 +91,9 @@ base = with_default [] (text_option (codes "base"))
 
 abbrev pub turns : Rule
 turns = with_default (codes "1000000") (number_in (codes "turns") most_rounds)
+
+abbrev pub silence : Rule
+silence = number_in (codes "silence") most_silence
 
 abbrev pub resume : Rule
 resume = flag (codes "resume")

@@ -7,7 +7,7 @@ use Rattle.clap.specs.Words.{App, Row, Text, new_app, subcommand_of, with_rule, 
 use Rattle.feed_node.specs.Limits.{most_commits}
 use Rattle.feed_words.specs.Addresses.{most_port}
 use Rattle.feed_words.specs.Live.{live, AsksLive}
-use Rattle.feed_words.specs.Options.{most_rounds, verbose, port, listen, contest, count, turn, chunked, back, host, from, base, turns, resume, with_limits}
+use Rattle.feed_words.specs.Options.{most_rounds, most_silence, verbose, port, listen, contest, count, turn, chunked, back, host, from, base, turns, silence, resume, with_limits}
 use Rattle.feed_words.specs.Options.{text_at, IsNumber, IsNumberUpTo, IsNumberIfGiven, IsGiven, IsFramed, AsksLimits}
 use Rattle.feed_words.specs.declared.request.Local.TheVariants as local
 use Rattle.feed_words.specs.declared.request.Request.{Request}
@@ -23,14 +23,22 @@ use Rattle.feed_words.specs.declared.request.RelayOptions.{RelayOptions}
 abbrev pub with_place : App → App
 with_place command = with_rule (with_rule (with_rule (with_rule command host) port) from) contest
 
+-- a command with the options that say what is followed, and how far
+abbrev pub with_followed : App → App
+with_followed command =
+    with_rule (with_rule (with_rule (with_place command) base) turns) silence
+
 -- a command with the options of `pull`
 abbrev pub with_pull : App → App
-with_pull command =
-    with_limits (with_rule (with_rule (with_rule (with_place command) base) turns) resume)
+with_pull command = with_limits (with_rule (with_rule (with_followed command) resume) verbose)
 
 -- a command with the options that `serve` needs
 abbrev pub with_served : App → App
 with_served command = with_rule (with_rule (with_rule command port) contest) count
+
+-- a command with the options that say what `serve` sends
+abbrev pub with_sent : App → App
+with_sent command = with_rule (with_rule (with_rule command turn) chunked) back
 
 abbrev pub tables : App
 tables = with_rule (with_limits (new_app (codes "tables"))) verbose
@@ -42,9 +50,7 @@ abbrev pub play : App
 play = new_app (codes "play")
 
 abbrev pub serve : App
-serve =
-    with_limits (with_rule (with_rule (with_rule (with_served (new_app (codes "serve"))) turn)
-    chunked) back)
+serve = with_limits (with_rule (with_sent (with_served (new_app (codes "serve")))) verbose)
 
 abbrev pub pull : App
 pull = with_pull (new_app (codes "pull"))
@@ -87,6 +93,7 @@ pub record AsksServe (rows : List Row) (options : ServeOptions) : Type 0 where
   pub turn_is : IsNumberIfGiven (codes "turn") most_rounds rows options.turn
   pub back_is : IsNumberUpTo (codes "back") most_commits rows options.back
   pub framing_is : IsFramed rows options.framing
+  pub verbose_is : IsGiven (codes "verbose") rows options.verbose
   pub limits_are : AsksLimits rows options.limits
 
 -- the values of the options of `pull`
@@ -97,7 +104,9 @@ pub record AsksPull (rows : List Row) (options : PullOptions) : Type 0 where
   pub base_is : text_at (codes "base") rows ≡ Some options.base.now
   pub contest_is : text_at (codes "contest") rows ≡ Some options.contest.now
   pub turns_are : IsNumber (codes "turns") most_rounds rows options.turns
+  pub silence_is : IsNumberIfGiven (codes "silence") most_silence rows options.silence
   pub resume_is : IsGiven (codes "resume") rows options.resume
+  pub verbose_is : IsGiven (codes "verbose") rows options.verbose
   pub limits_are : AsksLimits rows options.limits
 
 -- the values of the options of `relay`

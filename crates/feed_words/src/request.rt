@@ -28,6 +28,8 @@ pub struct ServeOptions<'a> {
     pub framing: Framing,
     /// How many commits before the token of a reader its feed begins, 0 to 65,536.
     pub back: usize,
+    /// Whether each connection is reported.
+    pub verbose: bool,
     /// The primary's limits.
     pub limits: Limits,
 }
@@ -47,8 +49,13 @@ pub struct PullOptions<'a> {
     pub contest: &'a str,
     /// The most reads of one connection, 1 to 1,000,000.
     pub turns: u64,
+    /// After how many seconds without a connection or a byte a server is left, 1 to 3,600; without
+    /// it there is no such time.
+    pub silence: Option<u64>,
     /// Whether the mirror is first restored from standard input.
     pub resume: bool,
+    /// Whether each connection is reported.
+    pub verbose: bool,
     /// The mirror's limits.
     pub limits: Limits,
 }

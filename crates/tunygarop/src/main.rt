@@ -1,14 +1,19 @@
 //! The program: its arguments, standard streams and sockets, for the commands of `feed_cli`.
 #![tactic(auto)]
 
+mod connection;
+mod ending;
+mod errors;
+mod hosts;
 mod live;
 mod pull;
 mod relay;
 mod serve;
 mod sockets;
 
+use ending::{Failure, ended};
 use feed_cli::stream::Stream;
-use feed_cli::{Fault, Local, NoCommand, Request, answer_words, parse_words, run, tell};
+use feed_cli::{Local, NoCommand, Request, answer_words, parse_words, run};
 use live::live_feed;
 use pull::pull_feed;
 use relay::relay_feed;
@@ -22,14 +27,6 @@ const REFUSED: u8 = 1;
 
 /// The status for want of memory.
 const WANT_OF_MEMORY: u8 = 5;
-
-/// Tells why the command of this name failed, where it did, and answers the status.
-fn ended(rt: &HostRuntime, name: &str, ended: Result<(), Fault>) -> u8 {
-    match ended {
-        Ok(()) => 0,
-        Err(fault) => tell(name, fault, &mut Stream::new(rt.stderr())),
-    }
-}
 
 /// Runs a command that opens no connection.
 fn run_local(rt: &HostRuntime, request: Local) -> u8 {
@@ -58,7 +55,7 @@ fn run_request(rt: &HostRuntime, request: &Request<'_>) -> u8 {
         Request::Serve(options) => ended(rt, "serve", serve_feed(rt, options)),
         Request::Pull(options) => ended(rt, "pull", pull_feed(rt, options)),
         Request::Relay(options) => ended(rt, "relay", relay_feed(rt, options)),
-        Request::Live(options) => ended(rt, "live", live_feed(rt, options)),
+        Request::Live(options) => ended(rt, "live", live_feed(rt, options).map_err(Failure::from)),
     }
 }
 

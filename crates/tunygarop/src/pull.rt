@@ -1,15 +1,38 @@
 //! The command `pull`, over the standard streams and sockets.
 
+use crate::ending::Failure;
+use crate::errors::{Errors, Reporter};
+use crate::hosts::Hosts;
 use crate::sockets::Dialer;
 use feed_cli::stream::Stream;
-use feed_cli::{Fault, PullOptions, print_pulled, servers_of, start_mirror};
+use feed_cli::{PullOptions, print_pulled, servers_of, start_mirror};
 
 /// Follows the feed of the first server that serves to the end of a connection, and prints the
 /// tables.
-pub(crate) fn pull_feed(rt: &HostRuntime, options: &PullOptions<'_>) -> Result<(), Fault> {
+pub(crate) fn pull_feed(rt: &HostRuntime, options: &PullOptions<'_>) -> Result<(), Failure> {
+    let hosts = Hosts::new(rt.alloc(), options)?;
+    pull_from(rt, options, &hosts)
+}
+
+/// The same, of servers with these names.
+fn pull_from(rt: &HostRuntime, options: &PullOptions<'_>, hosts: &Hosts) -> Result<(), Failure> {
+    let named = PullOptions {
+        host: hosts.host(),
+        from: hosts.from(),
+        ..*options
+    };
+    pull_named(rt, &named)
+}
+
+/// The same, of servers whose names are as a request has them.
+fn pull_named(rt: &HostRuntime, options: &PullOptions<'_>) -> Result<(), Failure> {
     let servers = servers_of(rt.alloc(), options)?;
-    let mut mirror = start_mirror(rt.alloc(), options, &mut Stream::new(rt.stdin()))?;
-    let mut dialer = Dialer::new(rt, options, &servers.further);
+    let mut mirror = match start_mirror(rt.alloc(), options, &mut Stream::new(rt.stdin())) {
+        Ok(mirror) => mirror,
+        Err(fault) => return Err(Failure::of_saved_tables(fault)),
+    };
+    let reporter = Reporter::new(rt, "pull", options.verbose);
+    let mut dialer = Dialer::new(rt, reporter, options, &servers.further);
     print_pulled(
         rt.alloc(),
         options,
@@ -17,6 +40,7 @@ pub(crate) fn pull_feed(rt: &HostRuntime, options: &PullOptions<'_>) -> Result<(
         &mut mirror,
         &mut dialer,
         &mut Stream::new(rt.stdout()),
-        &mut Stream::new(rt.stderr()),
-    )
+        &mut Errors::new(rt),
+    )?;
+    Ok(())
 }

@@ -1,16 +1,39 @@
 //! The command `relay`, over the standard streams and sockets.
 
+use crate::ending::Failure;
+use crate::errors::{Errors, Reporter};
+use crate::hosts::Hosts;
 use crate::sockets::{Dialer, Port};
 use feed_cli::stream::Stream;
-use feed_cli::{Fault, RelayOptions, print_relayed, servers_of, start_mirror};
+use feed_cli::{PullOptions, RelayOptions, print_relayed, servers_of, start_mirror};
 
 /// Follows the feed of the first server that serves, and serves it, in turns, and prints the tables
 /// at the end.
-pub(crate) fn relay_feed(rt: &HostRuntime, options: &RelayOptions<'_>) -> Result<(), Fault> {
+pub(crate) fn relay_feed(rt: &HostRuntime, options: &RelayOptions<'_>) -> Result<(), Failure> {
+    let hosts = Hosts::new(rt.alloc(), &options.pull)?;
+    relay_from(rt, options, &hosts)
+}
+
+/// The same, of servers with these names.
+fn relay_from(rt: &HostRuntime, options: &RelayOptions<'_>, hosts: &Hosts) -> Result<(), Failure> {
+    let pull = PullOptions {
+        host: hosts.host(),
+        from: hosts.from(),
+        ..options.pull
+    };
+    relay_named(rt, &RelayOptions { pull, ..*options })
+}
+
+/// The same, of servers whose names are as a request has them.
+fn relay_named(rt: &HostRuntime, options: &RelayOptions<'_>) -> Result<(), Failure> {
     let servers = servers_of(rt.alloc(), &options.pull)?;
-    let mut mirror = start_mirror(rt.alloc(), &options.pull, &mut Stream::new(rt.stdin()))?;
-    let mut port = Port::bind(rt, options.listen)?;
-    let mut dialer = Dialer::new(rt, &options.pull, &servers.further);
+    let mut mirror = match start_mirror(rt.alloc(), &options.pull, &mut Stream::new(rt.stdin())) {
+        Ok(mirror) => mirror,
+        Err(fault) => return Err(Failure::of_saved_tables(fault)),
+    };
+    let reporter = Reporter::new(rt, "relay", options.pull.verbose);
+    let mut port = Port::bind(rt, reporter, options.listen)?;
+    let mut dialer = Dialer::new(rt, reporter, &options.pull, &servers.further);
     print_relayed(
         rt.alloc(),
         options,
@@ -19,6 +42,7 @@ pub(crate) fn relay_feed(rt: &HostRuntime, options: &RelayOptions<'_>) -> Result
         &mut dialer,
         &mut port,
         &mut Stream::new(rt.stdout()),
-        &mut Stream::new(rt.stderr()),
-    )
+        &mut Errors::new(rt),
+    )?;
+    Ok(())
 }

@@ -1,13 +1,35 @@
 //! The command `serve`, over the standard streams and sockets.
 
+use crate::ending::Failure;
+use crate::errors::{Errors, Reporter};
 use crate::sockets::Port;
+use feed_answer::{Framing, answer};
 use feed_cli::stream::Stream;
 use feed_cli::{Fault, ServeOptions, serve_all, start_source};
+use feed_node::{Limits, Mirror};
+use std::alloc::Global;
+
+/// What a node answers to a request for its feed while it has published nothing.
+const NOTHING_PUBLISHED: u16 = 503;
+
+/// Whether a request can name the contest: a node is asked for it as it is spelled.
+fn can_be_named(alloc: Global, contest: &str, limits: Limits) -> Result<bool, Fault> {
+    let asked = Mirror::new(alloc, limits)?;
+    let head = format!(in alloc; "GET /contests/{contest}/event-feed HTTP/1.1\r\n\r\n")?;
+    let node = asked.node();
+    let answered = answer(alloc, head.as_bytes(), node, contest, Framing::Close, 0)?;
+    Ok(answered.status == NOTHING_PUBLISHED)
+}
 
 /// Serves the feed on standard input.
-pub(crate) fn serve_feed(rt: &HostRuntime, options: &ServeOptions<'_>) -> Result<(), Fault> {
-    let mut source = start_source(rt.alloc(), options, &mut Stream::new(rt.stdin()))?;
-    let mut port = Port::bind(rt, options.port)?;
-    let mut err = Stream::new(rt.stderr());
-    serve_all(rt.alloc(), options, &mut source, &mut port, &mut err)
+pub(crate) fn serve_feed(rt: &HostRuntime, options: &ServeOptions<'_>) -> Result<(), Failure> {
+    let alloc = rt.alloc();
+    let mut source = start_source(alloc, options, &mut Stream::new(rt.stdin()))?;
+    let reporter = Reporter::new(rt, "serve", options.verbose);
+    let mut port = Port::bind(rt, reporter, options.port)?;
+    if !can_be_named(alloc, options.contest, options.limits)? {
+        reporter.line("no request can name this contest");
+    }
+    serve_all(alloc, options, &mut source, &mut port, &mut Errors::new(rt))?;
+    Ok(())
 }

@@ -1,67 +1,117 @@
-//! Connections over TCP.
+//! Servers that are connected to, and a port that followers connect to.
 ghost use Rattle.std.specs.Prelude.{◌≡◌};
 
-use feed_cli::stream::Stream;
+use crate::connection::{Incoming, Outgoing, both_ways, linger, text_of_asked, text_of_served};
+use crate::errors::Reporter;
+use crate::hosts::without_brackets;
 use feed_cli::{Dial, Fault, Listen, NetworkFault, PullOptions};
-use std::net::{Ipv4Addr, TcpListener, TcpStream};
+use std::io;
+use std::net::{Ipv4Addr, SocketAddr, TcpListener, TcpStream, ToSocketAddrs};
+use std::time::{Duration, Instant};
 
 /// Servers that are connected to by their addresses or names.
 #[derive(Drop)]
 pub(crate) struct Dialer<'r, 'o, 'f> {
     rt: &'r HostRuntime,
+    reporter: Reporter<'r>,
     host: &'o str,
     port: u16,
     further: &'f [(String, u16)],
+    // How long each may be silent.
+    silence: Option<Duration>,
+    // The server of the connection that is open.
+    server: usize,
     misses: u64,
+}
+
+/// Connects to the first address of a host that accepts that in time.
+fn connect_within(
+    rt: &HostRuntime,
+    host: &str,
+    port: u16,
+    silence: Duration,
+) -> io::Result<TcpStream> {
+    let start = Instant::now(rt)?;
+    let mut last = io::ErrorKind::TimedOut;
+    for address in (host, port).to_socket_addrs(rt)? {
+        let left = silence.saturating_sub(start.elapsed(rt)?);
+        if left.is_zero() {
+            break;
+        }
+        match TcpStream::connect_timeout(rt, &address, left) {
+            Ok(stream) => {
+                stream.set_read_timeout(Some(silence))?;
+                return Ok(stream);
+            }
+            Err(error) => last = error.kind(),
+        }
+    }
+    Err(last.into())
 }
 
 impl<'r, 'o, 'f> Dialer<'r, 'o, 'f> {
     /// No connection was asked for yet. An address of IPv6 may stand in brackets.
     pub(crate) fn new(
         rt: &'r HostRuntime,
+        reporter: Reporter<'r>,
         options: &PullOptions<'o>,
         further: &'f [(String, u16)],
     ) -> Dialer<'r, 'o, 'f> {
         Dialer {
             rt,
+            reporter,
             host: options.host,
             port: options.port,
             further,
+            silence: options.silence.map(|seconds| Duration::from_secs(seconds)),
+            server: 0,
             misses: 0,
         }
     }
 
-    /// Connects to the server with this number: the first one, or the next further one.
-    fn open(&self, number: usize) -> Option<(Stream<TcpStream>, Stream<TcpStream>)> {
+    /// Connects to the server with this number: the first one, or one of the further ones.
+    fn open(&self, number: usize) -> Option<(Incoming, Outgoing)> {
         match number.checked_sub(1) {
             None => self.connect(self.host, self.port),
-            Some(behind) => {
-                let (host, port) = self.further.get(behind)?;
+            Some(after) => {
+                let (host, port) = self.further.get(after)?;
                 self.connect(host.as_str(), *port)
             }
         }
     }
 
-    fn connect(&self, host: &str, port: u16) -> Option<(Stream<TcpStream>, Stream<TcpStream>)> {
-        match TcpStream::connect(self.rt, (without_brackets(host), port)) {
-            Ok(socket) => both_ways(socket),
-            Err(_) => None,
+    fn connect(&self, host: &str, port: u16) -> Option<(Incoming, Outgoing)> {
+        let host = without_brackets(host);
+        let connected = match self.silence {
+            Some(silence) => connect_within(self.rt, host, port, silence),
+            None => TcpStream::connect(self.rt, (host, port)),
+        };
+        both_ways(self.rt, connected.ok()?)
+    }
+
+    /// Reports what came of asking the server with this number.
+    fn report(&self, number: usize, came: &str) {
+        match number.checked_sub(1) {
+            None => self.report_of(self.host, self.port, came),
+            Some(after) => {
+                if let Some((host, port)) = self.further.get(after) {
+                    self.report_of(host.as_str(), *port, came);
+                }
+            }
+        }
+    }
+
+    fn report_of(&self, host: &str, port: u16, came: &str) {
+        if let Ok(peer) = format!(in self.rt.alloc(); "server {host}:{port}") {
+            self.reporter.connection(peer.as_str(), came);
         }
     }
 }
 
-/// An address without the brackets around it, where it has both.
-pub(crate) fn without_brackets(host: &str) -> &str {
-    match host.strip_prefix('[') {
-        Some(rest) => rest.strip_suffix(']').unwrap_or(host),
-        None => host,
-    }
-}
-
 impl Dial for Dialer<'_, '_, '_> {
-    type Reader = Stream<TcpStream>;
+    type Reader = Incoming;
 
-    type Writer = Stream<TcpStream>;
+    type Writer = Outgoing;
 
     ghost misses = { λ s. s.misses };
 
@@ -69,49 +119,80 @@ impl Dial for Dialer<'_, '_, '_> {
 
     ghost closes = { λ _ _ _ _. Unit {0} };
 
-    fn dial(&mut self, place: usize) -> Option<(Stream<TcpStream>, Stream<TcpStream>)> {
+    fn dial(&mut self, place: usize) -> Option<(Incoming, Outgoing)> {
         let opened = self.open(place);
+        self.server = place;
         if opened.is_none() {
+            self.report(place, "no connection");
             self.misses = self.misses.saturating_add(1);
         }
         opened
     }
 
-    fn close(&mut self, _reader: Stream<TcpStream>, _writer: Stream<TcpStream>) {}
-}
-
-/// A connection, to read from and to write to. What is written goes out at once, where the system
-/// allows that.
-fn both_ways(socket: TcpStream) -> Option<(Stream<TcpStream>, Stream<TcpStream>)> {
-    let reader = socket.try_clone().ok()?;
-    let _ = socket.set_nodelay(true);
-    Some((Stream::new(reader), Stream::new(socket)))
-}
-
-/// A port of 127.0.0.1 that followers connect to.
-#[derive(Drop)]
-pub(crate) struct Port {
-    listener: TcpListener,
-    misses: u64,
-}
-
-impl Port {
-    /// Listens at the port of this number.
-    pub(crate) fn bind(rt: &HostRuntime, number: u16) -> Result<Port, Fault> {
-        match TcpListener::bind(rt, (Ipv4Addr::LOCALHOST, number)) {
-            Ok(listener) => Ok(Port {
-                listener,
-                misses: 0,
-            }),
-            Err(_) => Err(Fault::of_network(NetworkFault::Bind)),
+    fn close(&mut self, reader: Incoming, writer: Outgoing) {
+        if let Ok(came) = text_of_asked(self.rt, &reader, &writer) {
+            self.report(self.server, came.as_str());
         }
     }
 }
 
-impl Listen for Port {
-    type Reader = Stream<TcpStream>;
+/// A port of 127.0.0.1 that followers connect to.
+#[derive(Drop)]
+pub(crate) struct Port<'r> {
+    rt: &'r HostRuntime,
+    reporter: Reporter<'r>,
+    listener: TcpListener,
+    // Where the connection comes from that is open.
+    peer: Option<SocketAddr>,
+    misses: u64,
+}
 
-    type Writer = Stream<TcpStream>;
+impl<'r> Port<'r> {
+    /// Listens at the port of this number.
+    pub(crate) fn bind(
+        rt: &'r HostRuntime,
+        reporter: Reporter<'r>,
+        number: u16,
+    ) -> Result<Port<'r>, Fault> {
+        match TcpListener::bind(rt, (Ipv4Addr::LOCALHOST, number)) {
+            Ok(listener) => {
+                reporter.listening(number);
+                Ok(Port {
+                    rt,
+                    reporter,
+                    listener,
+                    peer: None,
+                    misses: 0,
+                })
+            }
+            Err(_) => Err(Fault::of_network(NetworkFault::Bind)),
+        }
+    }
+
+    /// Accepts a connection, and keeps where it comes from.
+    fn accept_next(&mut self) -> Option<(Incoming, Outgoing)>
+        ensures { self.new.misses ≡ self.old.misses }
+    {
+        let (stream, peer) = self.listener.accept().ok()?;
+        self.peer = Some(peer);
+        both_ways(self.rt, stream)
+    }
+
+    /// Reports what came of the connection.
+    fn report(&self, writer: &Outgoing) {
+        let (Some(peer), Ok(came)) = (self.peer, text_of_served(self.rt, writer)) else {
+            return;
+        };
+        if let Ok(peer) = format!(in self.rt.alloc(); "reader {peer}") {
+            self.reporter.connection(peer.as_str(), came.as_str());
+        }
+    }
+}
+
+impl Listen for Port<'_> {
+    type Reader = Incoming;
+
+    type Writer = Outgoing;
 
     ghost misses = { λ p. p.misses };
 
@@ -119,16 +200,16 @@ impl Listen for Port {
 
     ghost closes = { λ _ _ _ _. Unit {0} };
 
-    fn accept(&mut self) -> Option<(Stream<TcpStream>, Stream<TcpStream>)> {
-        let accepted = match self.listener.accept() {
-            Ok((socket, _)) => both_ways(socket),
-            Err(_) => None,
-        };
+    fn accept(&mut self) -> Option<(Incoming, Outgoing)> {
+        let accepted = self.accept_next();
         if accepted.is_none() {
             self.misses = self.misses.saturating_add(1);
         }
         accepted
     }
 
-    fn close(&mut self, _reader: Stream<TcpStream>, _writer: Stream<TcpStream>) {}
+    fn close(&mut self, reader: Incoming, writer: Outgoing) {
+        self.report(&writer);
+        linger(self.rt, reader, &writer);
+    }
 }

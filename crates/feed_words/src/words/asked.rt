@@ -1,14 +1,15 @@
 //! What the options of a command ask for.
-ghost use Rattle.std.specs.Prelude.{◌≡◌, Some, option_map, IfSome};
+ghost use Rattle.std.specs.Prelude.{◌≡◌, Some, codes, option_map, IfSome};
 ghost use Rattle.clap.specs.Matches.{found_of};
 ghost use Rattle.clap.specs.Words.{rows_of, subcommand_rows_of};
 ghost use Rattle.feed_words.specs.Addresses.{most_port};
+ghost use Rattle.feed_words.specs.Options.{most_rounds, most_silence};
 ghost use Rattle.feed_words.specs.Options.{text_at, IsNumber, IsNumberUpTo, IsNumberIfGiven};
 ghost use Rattle.feed_words.specs.Options.{IsGiven, IsFramed, AsksLimits};
 ghost use Rattle.feed_words.specs.Words.{AsksTables, AsksServe, AsksPull, AsksRelay, AsksBy, AsksAt};
 
 use super::asked_live::live_options;
-use super::options::{MOST_PORT, MOST_ROUNDS};
+use super::options::{MOST_PORT, MOST_ROUNDS, MOST_SILENCE};
 use crate::request::{Local, PullOptions, RelayOptions, Request, ServeOptions, TablesOptions};
 use clap::ArgMatches;
 use feed_answer::Framing;
@@ -123,8 +124,21 @@ fn serve_options<'a>(matches: &ArgMatches<'a>) -> Option<ServeOptions<'a>>
         turn: turn.map(|turn| turn as usize),
         framing: framing(matches),
         back: back as usize,
+        verbose: is_given(matches, "verbose"),
         limits,
     })
+}
+
+/// The most reads of a connection, and the most seconds of silence.
+fn patience(matches: &ArgMatches<'_>) -> Option<(u64, Option<u64>)>
+    ensures turns { IfSome result
+        (λ p. IsNumber (codes "turns") most_rounds (rows_of (found_of matches.now)) p.0) }
+    ensures silence { IfSome result
+        (λ p. IsNumberIfGiven (codes "silence") most_silence (rows_of (found_of matches.now)) p.1) }
+{
+    let turns = number(matches, "turns", MOST_ROUNDS)?;
+    let silence = number_if_given(matches, "silence", MOST_SILENCE)?;
+    Some((turns, silence))
 }
 
 /// What the options of `pull` ask for, and those of `relay` that it has, too.
@@ -136,7 +150,7 @@ fn pull_options<'a>(matches: &ArgMatches<'a>) -> Option<PullOptions<'a>>
     let from = text_if_given(matches, "from");
     let base = text(matches, "base")?;
     let contest = text(matches, "contest")?;
-    let turns = number(matches, "turns", MOST_ROUNDS)?;
+    let (turns, silence) = patience(matches)?;
     let limits = limits(matches)?;
     Some(PullOptions {
         host,
@@ -145,7 +159,9 @@ fn pull_options<'a>(matches: &ArgMatches<'a>) -> Option<PullOptions<'a>>
         base,
         contest,
         turns,
+        silence,
         resume: is_given(matches, "resume"),
+        verbose: is_given(matches, "verbose"),
         limits,
     })
 }

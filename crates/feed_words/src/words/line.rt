@@ -9,6 +9,9 @@ use super::{PROGRAM, VERSION, options};
 use clap::{Arg, Command};
 use std::alloc::{AllocError, Global};
 
+/// What `--verbose` does in a command that opens connections.
+const CONNECTIONS: &str = "Report each connection, too";
+
 /// A command without options.
 pub(super) fn command<'a>(alloc: Global, name: &'a str, about: &'a str) -> Command<'a>
     ensures { app_of result ≡ new_app name.entry.now }
@@ -46,7 +49,8 @@ fn tables<'a>(alloc: Global) -> Result<Command<'a>, AllocError>
 {
     let about = "Prints the tables that the event feed on standard input has published";
     let limited = with_limits(alloc, command(alloc, "tables", about))?;
-    add_option(limited, options::verbose(alloc))
+    let help = "Tell the number of the faulty line, too";
+    add_option(limited, options::verbose(alloc, help))
 }
 
 /// A command with the options that `serve` needs.
@@ -59,15 +63,23 @@ fn with_served<'a>(alloc: Global, command: Command<'a>) -> Result<Command<'a>, A
     add_option(served, options::count(alloc))
 }
 
+/// A command with the options that say what `serve` sends.
+fn with_sent<'a>(alloc: Global, command: Command<'a>) -> Result<Command<'a>, AllocError>
+    ensures { IfOk result (λ c. app_of c ≡ words.with_sent (app_of command.entry)) }
+{
+    let sent = add_option(command, options::turn(alloc))?;
+    let sent = add_option(sent, options::chunked(alloc))?;
+    add_option(sent, options::back(alloc))
+}
+
 /// `serve`.
 fn serve<'a>(alloc: Global) -> Result<Command<'a>, AllocError>
     ensures { IfOk result (λ c. app_of c ≡ words.serve) }
 {
     let about = "Serves the event feed on standard input at a port of 127.0.0.1, as a primary";
     let serve = with_served(alloc, command(alloc, "serve", about))?;
-    let serve = add_option(serve, options::turn(alloc))?;
-    let serve = add_option(serve, options::chunked(alloc))?;
-    let serve = add_option(serve, options::back(alloc))?;
+    let serve = with_sent(alloc, serve)?;
+    let serve = add_option(serve, options::verbose(alloc, CONNECTIONS))?;
     with_limits(alloc, serve)
 }
 
@@ -82,14 +94,23 @@ fn with_place<'a>(alloc: Global, command: Command<'a>) -> Result<Command<'a>, Al
     add_option(placed, options::contest(alloc))
 }
 
+/// A command with the options that say what is followed, and how far.
+fn with_followed<'a>(alloc: Global, command: Command<'a>) -> Result<Command<'a>, AllocError>
+    ensures { IfOk result (λ c. app_of c ≡ words.with_followed (app_of command.entry)) }
+{
+    let followed = with_place(alloc, command)?;
+    let followed = add_option(followed, options::base(alloc))?;
+    let followed = add_option(followed, options::turns(alloc))?;
+    add_option(followed, options::silence(alloc))
+}
+
 /// A command with the options of `pull`.
 fn with_pull<'a>(alloc: Global, command: Command<'a>) -> Result<Command<'a>, AllocError>
     ensures { IfOk result (λ c. app_of c ≡ words.with_pull (app_of command.entry)) }
 {
-    let pull = with_place(alloc, command)?;
-    let pull = add_option(pull, options::base(alloc))?;
-    let pull = add_option(pull, options::turns(alloc))?;
+    let pull = with_followed(alloc, command)?;
     let pull = add_option(pull, options::resume(alloc))?;
+    let pull = add_option(pull, options::verbose(alloc, CONNECTIONS))?;
     with_limits(alloc, pull)
 }
 

@@ -16,6 +16,9 @@ pub(crate) const MOST_PORT: u64 = 65_535;
 /// The greatest number of connections, rounds, reads and batches that may be asked for.
 pub(crate) const MOST_ROUNDS: u64 = 1_000_000;
 
+/// The most seconds of silence that may be asked for.
+pub(crate) const MOST_SILENCE: u64 = 3_600;
+
 /// `--NAME VALUE`, with a number from the least to the most.
 pub(crate) fn number_between<'a>(
     alloc: Global,
@@ -80,11 +83,11 @@ pub(crate) fn staged<'a>(alloc: Global) -> Arg<'a>
 }
 
 /// `--verbose`.
-pub(crate) fn verbose<'a>(alloc: Global) -> Arg<'a>
+pub(crate) fn verbose<'a>(alloc: Global, help: &'a str) -> Arg<'a>
     ensures rule { rule_of result ≡ words.verbose }
     ensures local { result.global ≡ false }
 {
-    flag(alloc, "verbose").help("Tell the number of the faulty line, too")
+    flag(alloc, "verbose").help(help)
 }
 
 /// `--port P`.
@@ -194,6 +197,17 @@ pub(crate) fn turns<'a>(alloc: Global) -> Arg<'a>
     number(alloc, "turns", "T", MOST_ROUNDS)
         .help("The most reads of one connection, 1 to 1000000")
         .default_value("1000000")
+}
+
+/// `--silence SECONDS`.
+pub(crate) fn silence<'a>(alloc: Global) -> Arg<'a>
+    ensures rule { rule_of result ≡ words.silence }
+    ensures local { result.global ≡ false }
+{
+    number(alloc, "silence", "SECONDS", MOST_SILENCE).help(
+        "After how many seconds without a connection or a byte a server is left, 1 to 3600; \
+          without it there is no such time",
+    )
 }
 
 /// `--resume`.

@@ -1,5 +1,6 @@
 //! What a relay is made of, before its first turn: state files are read, and ports opened.
 
+use crate::hosts::without_brackets;
 use crate::live::link::Servers;
 use crate::live::sockets::Port;
 use crate::live::standard::{ErrorStream, InputStream};
@@ -7,7 +8,6 @@ use crate::live::store::{Files, Names, read_file};
 use crate::live::watchers::{WATCHERS, Watchers};
 use crate::live::watching::Watched;
 use crate::live::{Engine, LISTENER};
-use crate::sockets::without_brackets;
 use feed_answer::Place;
 use feed_cli::{
     AddressFault, Fault, LiveOptions, NetworkFault, PullOptions, UpstreamOptions, Verbosity,
@@ -38,7 +38,9 @@ fn pull_options<'a>(options: &LiveOptions<'a>, upstream: &UpstreamOptions<'a>) -
         base: upstream.base,
         contest: options.contest,
         turns: 1,
+        silence: None,
         resume: false,
+        verbose: false,
         limits: options.limits,
     }
 }
