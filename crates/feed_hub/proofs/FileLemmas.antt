@@ -25,14 +25,16 @@ use Rattle.feed_hub.specs.Files.{RestoresInLog, FilesRestore, FilesReach}
 
 module _ (one : ReadingIsOne) (limits : Limits) (log : Log) (bytes : List ℕ)
     (shown : (front behind : List ℕ) → front ++ behind ≡ bytes → ShowsState limits log None true front) where
-  reads_in_log : (front behind : List ℕ) (notes : List Line) → front ++ behind ≡ bytes → Reads limits first_opening front notes
+  reads_in_log : (front behind : List ℕ) (notes : List Line) → front ++ behind ≡ bytes
+      → Reads limits first_opening front notes
       → IsInLog limits log (keep_latest limits.history (reads limits.history first_opening notes))
   reads_in_log front behind notes whole good =
       let s = shown front behind whole in
       let same : s.notes ≡ notes = one.notes limits first_opening front s.notes notes s.nothing_bad good in
       (s.at, s.is_place, ap (λ ns. keep_latest limits.history (reads limits.history first_opening ns)) (sym same) ∙ s.shows)
 
-  fed_in_log : (notes : List Line) (mirror : MirrorState) → mirror.limits ≡ limits → StandsAt first_opening bytes notes mirror → IsInLog limits log mirror.node
+  fed_in_log : (notes : List Line) (mirror : MirrorState) → mirror.limits ≡ limits
+      → StandsAt first_opening bytes notes mirror → IsInLog limits log mirror.node
   fed_in_log notes mirror bounds stands =
       let good = subst (λ l. Reads l first_opening bytes notes) bounds stands.nothing_bad in
       let there = reads_in_log bytes [] notes (append-nil bytes) good in (
@@ -53,7 +55,8 @@ module _ (one : ReadingIsOne) (limits : Limits) (log : Log) (bytes : List ℕ)
         ap (λ m. m.node) lost.state ∙ ap (λ l. keep_latest l.history (reads l.history first_opening lost.notes)) bounds ∙ there.2,
       )
 
-  none_stops : (before piece : List ℕ) (notes : List Line) (old new : MirrorState) (fault : FeedFault) → before ++ piece ≡ bytes → old.limits ≡ limits
+  none_stops : (before piece : List ℕ) (notes : List Line) (old new : MirrorState) (fault : FeedFault)
+      → before ++ piece ≡ bytes → old.limits ≡ limits
       → HasStopped first_opening (before ++ piece) notes fault old new → ⊥
   none_stops before piece notes old new fault whole bounds stopped =
       let s = shown bytes [] (append-nil bytes) in
@@ -61,7 +64,8 @@ module _ (one : ReadingIsOne) (limits : Limits) (log : Log) (bytes : List ℕ)
       (subst (λ bs. FaultsAt limits first_opening bs notes fault) whole
       (subst (λ l. FaultsAt l first_opening (before ++ piece) notes fault) bounds stopped.first))
 
-  fails_in_log : (before piece : List ℕ) (old new : MirrorState) (fault : FeedFault) → before ++ piece ≡ bytes → old.limits ≡ limits
+  fails_in_log : (before piece : List ℕ) (old new : MirrorState) (fault : FeedFault)
+      → before ++ piece ≡ bytes → old.limits ≡ limits
       → Faulted first_opening before piece old new fault → (fault ≡ Memory) × IsInLog limits log new.node
   fails_in_log before piece old new Memory whole bounds lost = (refl, cut_in_log before piece old new whole bounds lost)
   fails_in_log before piece old new NotOpen whole bounds f = absurd (none_stops before piece f.0 old new NotOpen whole bounds f.1)
@@ -86,7 +90,8 @@ module _ (one : ReadingIsOne) (limits : Limits) (log : Log) (bytes : List ℕ)
 -- ---- what a record has is that
 
 -- the snapshot of a record is that of a state of the log
-begins_at : (limits : Limits) (log : Log) (place : Option Position) (p : Published) → IsPlace limits log place → (node_where log place).published ≡ Some p
+begins_at : (limits : Limits) (log : Log) (place : Option Position) (p : Published)
+    → IsPlace limits log place → (node_where log place).published ≡ Some p
     → (k : ℕ) × (k ≤ length log) × (p ≡ record { tables = state_after log k; token = token_after k })
 begins_at limits log None p is_place e = let no : None ≡ Some p = e in absurd (cc)
 begins_at limits log (Some q) p is_place e =
@@ -106,7 +111,8 @@ module _ (limits : Limits) (log : Log) (nodes : List NodeState) (written : List 
   its_bytes : written ++ r.own ≡ opened_text log true begun.0 ++ joined recorded.texts
   its_bytes = recorded.all ∙ ap (λ p. snapshot_text p.tables p.token ++ joined recorded.texts) begun.2
 
-  pub record_shows : ScreensShowStates → (front behind : List ℕ) → front ++ behind ≡ written → ShowsState limits log None true front
+  pub record_shows : ScreensShowStates → (front behind : List ℕ) → front ++ behind ≡ written
+      → ShowsState limits log None true front
   record_shows shows front behind whole =
       shows limits log nodes begun.0 recorded.texts r.token None true front (behind ++ r.own) is_log in_log begun.1 its_told tt
       (λ e. let no : true ≡ false = e in absurd (cc))

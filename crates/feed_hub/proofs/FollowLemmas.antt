@@ -55,21 +55,25 @@ piece_of : (before piece later rest bytes all : List ℕ) → (before ++ piece) 
 piece_of before piece later rest bytes all e f =
     sym (append_assoc (before ++ piece) later rest) ∙ ap (λ bs. bs ++ rest) e ∙ f
 
-moved_in : (limits : Limits) (log : Log) (one other : NodeState) → other ≡ one → IsInLog limits log one → IsInLog limits log other
+moved_in : (limits : Limits) (log : Log) (one other : NodeState) → other ≡ one → IsInLog limits log one
+    → IsInLog limits log other
 moved_in limits log one other same there = (there.0, there.1, same ∙ there.2)
 
-begun_in_log : (limits : Limits) (log : Log) (head contest : List ℕ) (begun : MirrorState) → HasAskedSo limits log head contest begun
+begun_in_log : (limits : Limits) (log : Log) (head contest : List ℕ) (begun : MirrorState)
+    → HasAskedSo limits log head contest begun
     → IsInLog limits log begun.node
 begun_in_log limits log head contest begun a = (a.place, a.is_place, ap (λ o. o.before) a.asked.opening)
 
 -- ---- a refusal
 
 -- an answer without a session refuses
-is_refusal : (head contest : List ℕ) (node : NodeState) (framing : Framing) (answer : AnswerParts) → AnswersTo head contest node framing 0 answer
+is_refusal : (head contest : List ℕ) (node : NodeState) (framing : Framing) (answer : AnswerParts)
+    → AnswersTo head contest node framing 0 answer
     → answer.session ≡ None → (refusal : Refusal) × (answer ≡ refusing refusal)
 is_refusal head contest node framing answer answers none = by answers.asked answers.answer_is
   where
-    of_opens : (f : Framing) (o : Result Started OpenFault) → answer ≡ answer_opened f o → (refusal : Refusal) × (answer ≡ refusing refusal)
+    of_opens : (f : Framing) (o : Result Started OpenFault) → answer ≡ answer_opened f o
+        → (refusal : Refusal) × (answer ≡ refusing refusal)
     of_opens f (Ok started) e = let no : Some started.token ≡ None = sym (ap (λ a. a.session) e) ∙ none in absurd (cc)
     of_opens f (Err NotYet) e = (NothingPublished, e)
     of_opens f (Err NotHeld) e = (TokenNotHeld, e)
@@ -91,12 +95,14 @@ IsOfRefusal (failed fault payload) = ⊥
 refusal_is_of : (refusal : Refusal) (had : Bool) (n : ℕ) → IsOfRefusal (refusal_at had refusal n)
 refusal_is_of refusal had n = by (nat_lt n (length (refusal_head refusal))) ((refusal_code refusal == 400) && had)
   where
-    by : (a b : Bool) → IsOfRefusal (if a then in_head else (if b then token_refused else failed (Status (refusal_code refusal)) []))
+    by : (a b : Bool)
+        → IsOfRefusal (if a then in_head else (if b then token_refused else failed (Status (refusal_code refusal)) []))
     by true b = tt
     by false true = tt
     by false false = tt
 
-leaves_node : (begun mirror : MirrorState) (s : Standing) → IsOfRefusal s → Leaves begun s mirror → mirror.node ≡ begun.node
+leaves_node : (begun mirror : MirrorState) (s : Standing) → IsOfRefusal s → Leaves begun s mirror
+    → mirror.node ≡ begun.node
 leaves_node begun mirror in_head is l = ap (λ m. m.node) l
 leaves_node begun mirror token_refused is l = ap (λ m. m.node) l
 leaves_node begun mirror (failed (Status n) payload) is l = ap (λ m. m.node) l
@@ -124,7 +130,8 @@ module _ (refusals : RefusalsAreFollowed) (keep : RefusalsKeepNodes) (limits : L
         (refusals refusal (min n (length handed)) (is_some begun.since)),
   )
 
-  refusal_shows : (n : ℕ) (s : Standing) (follower : FollowerState) (mirror : MirrorState) → FollowsAt begun (take n handed) s follower mirror
+  refusal_shows : (n : ℕ) (s : Standing) (follower : FollowerState) (mirror : MirrorState)
+      → FollowsAt begun (take n handed) s follower mirror
       → IsInLog limits log mirror.node
   refusal_shows n s follower mirror f =
       let m = min n (length handed) in
@@ -133,8 +140,10 @@ module _ (refusals : RefusalsAreFollowed) (keep : RefusalsKeepNodes) (limits : L
       moved_in limits log begun.node mirror.node
       (leaves_node begun mirror s (subst IsOfRefusal (sym same) (refusal_is_of refusal follower.had_token m)) f.leaves) in_log
 
-  refusal_fails : (before piece later : List ℕ) (mirror : MirrorState) (fault : FollowFault) → (before ++ piece) ++ later ≡ handed
-      → Fails begun (is_some begun.since) before piece mirror fault → MayStop answer fault × IsInLog limits log mirror.node
+  refusal_fails : (before piece later : List ℕ) (mirror : MirrorState) (fault : FollowFault)
+      → (before ++ piece) ++ later ≡ handed
+      → Fails begun (is_some begun.since) before piece mirror fault
+      → MayStop answer fault × IsInLog limits log mirror.node
   refusal_fails before piece later mirror fault e fails =
       let kept = keep refusal begun mirror (is_some begun.since) before piece (later ++ rest) fault
       (piece_of before piece later rest handed (refusal_text refusal) e whole) fails in
@@ -153,9 +162,11 @@ module _ (refusals : RefusalsAreFollowed) (keep : RefusalsKeepNodes) (limits : L
 
 -- ---- a feed
 
-module _ (responses : ResponsesAreFollowed) (ends : EndsAreFollowed) (framing : Framing) (texts : List (List ℕ)) (are : AreTexts texts)
+module _ (responses : ResponsesAreFollowed) (ends : EndsAreFollowed) (framing : Framing)
+    (texts : List (List ℕ)) (are : AreTexts texts)
     (text : List ℕ) (is : joined texts ≡ text) where
-  within : (n : ℕ) (b : Bool) → CarriesPrefix text (if b then in_head else in_body (take (carried_by framing texts n) (joined texts)))
+  within : (n : ℕ) (b : Bool)
+      → CarriesPrefix text (if b then in_head else in_body (take (carried_by framing texts n) (joined texts)))
   within n true = tt
   within n false = (drop (carried_by framing texts n) (joined texts), take-append-drop (carried_by framing texts n) (joined texts) ∙ is)
 
@@ -174,9 +185,12 @@ module _ (responses : ResponsesAreFollowed) (ends : EndsAreFollowed) (framing : 
   ended_carries had n = (ended_at framing texts n, ends framing texts n had are, at_end framing refl n)
 
 -- where bytes carry the text of such a connection, who follows them is in the log
-module _ (places : PlacesStay) (follow : MirrorsFollow) (keep : FailsKeepStates) (limits : Limits) (log : Log) (place : Option Position) (c : Connection)
-    (begun : MirrorState) (answer : AnswerParts) (handed rest due : List ℕ) (is_log : IsLog limits log) (opened : IsOpened limits log place c)
-    (asked : HasAsked limits log place c.fresh begun) (whole : handed ++ rest ≡ due) (carry : (had : Bool) → CarryFeed had (sent_text log c) due)
+module _ (places : PlacesStay) (follow : MirrorsFollow) (keep : FailsKeepStates) (limits : Limits)
+    (log : Log) (place : Option Position) (c : Connection)
+    (begun : MirrorState) (answer : AnswerParts) (handed rest due : List ℕ) (is_log : IsLog limits log)
+    (opened : IsOpened limits log place c)
+    (asked : HasAsked limits log place c.fresh begun) (whole : handed ++ rest ≡ due)
+    (carry : (had : Bool) → CarryFeed had (sent_text log c) due)
     (in_log : IsInLog limits log begun.node) where
   due_of : (n : ℕ) → take n handed ≡ take (min n (length handed)) due
   due_of n = front_of handed rest n ∙ ap (take (min n (length handed))) whole
@@ -189,7 +203,8 @@ module _ (places : PlacesStay) (follow : MirrorsFollow) (keep : FailsKeepStates)
       let w = carry (is_some begun.since) (min n (length handed)) in
       (w.0, subst (λ bs. StandsOnly (is_some begun.since) bs w.0) (sym (due_of n)) w.1)
 
-  feed_shows : (n : ℕ) (s : Standing) (follower : FollowerState) (mirror : MirrorState) → FollowsAt begun (take n handed) s follower mirror
+  feed_shows : (n : ℕ) (s : Standing) (follower : FollowerState) (mirror : MirrorState)
+      → FollowsAt begun (take n handed) s follower mirror
       → IsInLog limits log mirror.node
   feed_shows n s follower mirror f =
       by s (follow limits log place c begun mirror follower due (min n (length handed)) s is_log opened asked (carry follower.had_token)
@@ -202,8 +217,10 @@ module _ (places : PlacesStay) (follow : MirrorsFollow) (keep : FailsKeepStates)
       by (done payload) b = brought_in (length payload) mirror b
       by (failed fault payload) never = absurd never
 
-  feed_fails : (before piece later : List ℕ) (mirror : MirrorState) (fault : FollowFault) → (before ++ piece) ++ later ≡ handed
-      → Fails begun (is_some begun.since) before piece mirror fault → MayStop answer fault × IsInLog limits log mirror.node
+  feed_fails : (before piece later : List ℕ) (mirror : MirrorState) (fault : FollowFault)
+      → (before ++ piece) ++ later ≡ handed
+      → Fails begun (is_some begun.since) before piece mirror fault
+      → MayStop answer fault × IsInLog limits log mirror.node
   feed_fails before piece later mirror fault e fails =
       let kept = keep limits log place c begun mirror (is_some begun.since) due before piece (later ++ rest) fault is_log opened asked
       (carry (is_some begun.since)) (piece_of before piece later rest handed due e whole) fails in
@@ -237,7 +254,8 @@ started limits log head contest begun p answer opened a o some =
 
 -- ---- what was framed in memory fits into that
 
-chunk_length : (text : List ℕ) → length (digits 16 false (length text) ++ crlf_bytes ++ text ++ crlf_bytes) ≡ length (digits 16 false (length text)) + 2 + length text + 2
+chunk_length : (text : List ℕ)
+    → length (digits 16 false (length text) ++ crlf_bytes ++ text ++ crlf_bytes) ≡ length (digits 16 false (length text)) + 2 + length text + 2
 chunk_length text =
     let a = length-append (digits 16 false (length text) ++ crlf_bytes ++ text) crlf_bytes in
     let b = length-append (digits 16 false (length text) ++ crlf_bytes) text in
@@ -251,7 +269,8 @@ frame_length Chunked (b ∷ bytes) =
     let a : length (frame Chunked (b ∷ bytes)) ≡ length (digits 16 false (length (b ∷ bytes))) + 2 + length (b ∷ bytes) + 2 = chunk_length (b ∷ bytes) in
     omega (arith, a)
 
-opened_fits : (framing : Framing) (opened text : List ℕ) → text ≡ opening_text framing opened → length text < 2 ^ 64 → length opened < 2 ^ 64
+opened_fits : (framing : Framing) (opened text : List ℕ) → text ≡ opening_text framing opened
+    → length text < 2 ^ 64 → length opened < 2 ^ 64
 opened_fits framing opened text is fits =
     let a : length (feed_head framing ++ frame framing opened) ≡ length (feed_head framing) + length (frame framing opened) =
     length-append (feed_head framing) (frame framing opened) in
@@ -261,11 +280,15 @@ opened_fits framing opened text is fits =
 
 -- ---- all of it
 
-module _ (connects : ScreensAreConnections) (opens_so : SessionsOpenAsAsked) (responses : ResponsesAreFollowed) (ends : EndsAreFollowed)
+module _ (connects : ScreensAreConnections) (opens_so : SessionsOpenAsAsked)
+    (responses : ResponsesAreFollowed) (ends : EndsAreFollowed)
     (places : PlacesStay) (follow : MirrorsFollow) (keep : FailsKeepStates)
-    (limits : Limits) (log : Log) (nodes : List NodeState) (node : NodeState) (head contest : List ℕ) (framing : Framing) (answer : AnswerParts)
-    (begun : MirrorState) (handed rest due : List ℕ) (is_log : IsLog limits log) (all_in : AreInLog limits log nodes) (node_in : IsInLog limits log node)
-    (a : HasAskedSo limits log head contest begun) (answers : AnswersTo head contest node framing 0 answer) (whole : handed ++ rest ≡ due)
+    (limits : Limits) (log : Log) (nodes : List NodeState) (node : NodeState) (head contest : List ℕ)
+    (framing : Framing) (answer : AnswerParts)
+    (begun : MirrorState) (handed rest due : List ℕ) (is_log : IsLog limits log)
+    (all_in : AreInLog limits log nodes) (node_in : IsInLog limits log node)
+    (a : HasAskedSo limits log head contest begun) (answers : AnswersTo head contest node framing 0 answer)
+    (whole : handed ++ rest ≡ due)
     (token before : List ℕ) (g : IsGoing nodes answer token before) where
   found : (p : Position) × (node_in.0 ≡ Some p) × OpensAsked log p begun.since 0 answer g.opened
   found = opens_so limits log node node_in.0 head contest a.minor begun.since framing 0 answer g.opened is_log node_in.1 node_in.2 a.asks answers g.session
@@ -312,7 +335,8 @@ module _ (connects : ScreensAreConnections) (opens_so : SessionsOpenAsAsked) (re
       (ended_carries responses ends answer.framing texts are (sent_text log c) all_text had))
 
   -- with all of it the mirror is as far as the session
-  pub going_arrives : WholeCarriesAll → AllIsReached → due ≡ before → rest ≡ [] → (s : Standing) (follower : FollowerState) (mirror : MirrorState)
+  pub going_arrives : WholeCarriesAll → AllIsReached → due ≡ before → rest ≡ []
+      → (s : Standing) (follower : FollowerState) (mirror : MirrorState)
       → FollowsAt begun handed s follower mirror → ArrivesInLog limits log token mirror
   going_arrives all reached is none s follower mirror f =
       let same : handed ≡ response_text answer.framing texts =
@@ -336,7 +360,8 @@ module _ (connects : ScreensAreConnections) (opens_so : SessionsOpenAsAsked) (re
         reaches = subst (λ m. HasReached (brought_by limits log a.place c m) in_order.last) (ap length (sym all_text)) (reached limits log a.place c is_open);
       }
 
-pub screens_are_safe : ScreensAreConnections → SessionsOpenAsAsked → ResponsesAreFollowed → EndsAreFollowed → RefusalsAreFollowed → RefusalsKeepNodes
+pub screens_are_safe : ScreensAreConnections → SessionsOpenAsAsked → ResponsesAreFollowed → EndsAreFollowed
+    → RefusalsAreFollowed → RefusalsKeepNodes
     → PlacesStay → MirrorsFollow → FailsKeepStates → ScreensFollow
 screens_are_safe connects opens_so responses ends refusals kept places follow keep limits log nodes node head contest framing answer begun common lines told handed s
     is_log all_in node_in a answers served =
@@ -354,7 +379,8 @@ screens_are_safe connects opens_so responses ends refusals kept places follow ke
         refusal_follows refusals kept limits log begun answer refusal.0 refusal.1 handed (pending lines s)
         (served.owes.rest ∙ text ∙ ap (λ x. x.text) refusal.1) (begun_in_log limits log head contest begun a)
 
-pub screens_arrive : ScreensAreConnections → SessionsOpenAsAsked → ResponsesAreFollowed → EndsAreFollowed → PlacesStay → MirrorsFollow → FailsKeepStates
+pub screens_arrive : ScreensAreConnections → SessionsOpenAsAsked → ResponsesAreFollowed → EndsAreFollowed
+    → PlacesStay → MirrorsFollow → FailsKeepStates
     → WholeCarriesAll → AllIsReached → ScreensArrive
 screens_arrive connects opens_so responses ends places follow keep all reached limits log nodes node head contest framing answer begun common lines told handed token s
     standing follower mirror is_log all_in node_in a answers served at none f =

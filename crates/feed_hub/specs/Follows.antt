@@ -1,5 +1,5 @@
--- THE PROMISE, up to each byte that a screen was handed: what a mirror makes of it (CLICS Contest API
--- 2023-06, event feed and reconnection; RFC 9112).
+-- THE PROMISE, up to each byte that a screen was handed: what a mirror makes of it (CLICS Contest
+-- API 2023-06, event feed and reconnection; RFC 9112).
 use Rattle.std.specs.Prelude.{◌≡◌, ◌⊎◌, ℕ, List, [], ◌++◌, take, Option, Some, None, is_none, is_some}
 use Rattle.feed_node.specs.Limits.{Limits}
 use Rattle.feed_node.specs.Log.{token_after}
@@ -40,9 +40,9 @@ MayStop answer fault =
     IsMemory fault
     ⊎ ((answer.session ≡ None) × ((fault ≡ Status answer.status) ⊎ (fault ≡ Closed)))
 
--- Whatever prefix of these bytes came to the mirror, in any pieces. They stand in one way. The mirror
--- shows nothing or a state of the log at its token, also once it stopped; and nothing stops it but
--- what is said above.
+-- Whatever prefix of these bytes came to the mirror, in any pieces. They stand in one way. The
+-- mirror shows nothing or a state of the log at its token, also once it stopped; and nothing stops
+-- it but what is said above.
 pub record FollowsInLog (limits : Limits) (log : Log) (answer : AnswerParts) (begun : MirrorState)
     (handed : List ℕ) : Type 0 where
   pub stands : (n : ℕ) → (s : Standing) × StandsOnly (is_some begun.since) (take n handed) s
