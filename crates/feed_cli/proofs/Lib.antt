@@ -4,4 +4,5 @@ mod MappedLemmas
 mod PlayLemmas
 pub mod PrintingLemmas
 mod PullLemmas
+pub mod ServeLemmas
 mod TablesLemmas

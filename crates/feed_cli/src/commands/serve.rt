@@ -1,6 +1,6 @@
 //! A feed, served by a primary.
-ghost use Rattle.std.specs.Prelude.{IfOk, IsErrOf};
-ghost use Rattle.feed_cli.specs.Serve.{Starts};
+ghost use Rattle.std.specs.Prelude.{IfOk, IfErr, OnOk, IsErrOf};
+ghost use Rattle.feed_cli.specs.Serve.{Starts, StartFails, Takes, FailsTaking, EndsTaking};
 ghost use Rattle.feed_http.specs.Device.{HasFailed};
 ghost use Rattle.feed_http.specs.Live.{intake_of};
 
@@ -34,6 +34,8 @@ pub fn start_source<R: FeedRead>(
     ensures ok { IfOk result (λ source. Starts options.now.turn options.now.limits
         (R.remaining input.old) (R.remaining input.new)
         (intake_of source.primary source.waiting.items)) }
+    ensures err { IfErr result (λ why. StartFails options.now.turn options.now.limits why
+        (R.remaining input.old) (R.remaining input.new)) }
     ensures read { IsErrOf result Fault.Read
         → HasFailed (R.failures input.old) (R.failures input.new) }
 {
@@ -60,7 +62,13 @@ fn serve_next<L: Listen>(
     options: &ServeOptions<'_>,
     source: &mut Source,
     listener: &mut L,
-) -> Result<(), NetworkFault> {
+) -> Result<(), NetworkFault>
+    ensures ok { OnOk result (Takes (intake_of source.old.primary source.old.waiting.items)
+        (intake_of source.new.primary source.new.waiting.items)) }
+    ensures err { IfErr result (λ why. FailsTaking why
+        (intake_of source.old.primary source.old.waiting.items)
+        (intake_of source.new.primary source.new.waiting.items)) }
+{
     let Some((mut reader, mut writer)) = listener.accept() else {
         return Err(NetworkFault::Accept);
     };
@@ -83,23 +91,48 @@ fn serve_next<L: Listen>(
     }
 }
 
-/// Serves one connection after another. A connection's fault is told, and serving goes on.
+/// Serves one connection, and tells its fault. A fault that is more than a connection's ends serving.
+fn serve_and_tell<L: Listen, E: FeedWrite>(
+    alloc: Global,
+    options: &ServeOptions<'_>,
+    source: &mut Source,
+    listener: &mut L,
+    teller: &mut Teller<'_, E>,
+) -> Result<(), Fault>
+    ensures ok { OnOk result (Takes (intake_of source.old.primary source.old.waiting.items)
+        (intake_of source.new.primary source.new.waiting.items)) }
+    ensures err { IfErr result (λ why. EndsTaking why
+        (intake_of source.old.primary source.old.waiting.items)
+        (intake_of source.new.primary source.new.waiting.items)) }
+{
+    if let Err(fault) = serve_next(alloc, options, source, listener) {
+        let fault = Fault::of_network(fault);
+        if !fault.is_of_a_connection() {
+            return Err(fault);
+        }
+        teller.tell(fault);
+    }
+    Ok(())
+}
+
+/// Serves one connection after another. A connection's fault is told, and serving goes on. What was
+/// taken of the batches, in order and each once, is what the primary committed.
 pub fn serve_all<L: Listen, E: FeedWrite>(
     alloc: Global,
     options: &ServeOptions<'_>,
     source: &mut Source,
     listener: &mut L,
     err: &mut E,
-) -> Result<(), Fault> {
+) -> Result<(), Fault>
+    ensures ok { OnOk result (Takes (intake_of source.old.primary source.old.waiting.items)
+        (intake_of source.new.primary source.new.waiting.items)) }
+    ensures err { IfErr result (λ why. EndsTaking why
+        (intake_of source.old.primary source.old.waiting.items)
+        (intake_of source.new.primary source.new.waiting.items)) }
+{
     let mut teller = Teller::new("serve", err);
     'connections: for _ in 0..options.count {
-        if let Err(fault) = serve_next(alloc, options, source, listener) {
-            let fault = Fault::of_network(fault);
-            if !fault.is_of_a_connection() {
-                return Err(fault);
-            }
-            teller.tell(fault);
-        }
+        serve_and_tell(alloc, options, source, listener, &mut teller)?;
     }
     teller.outcome()
 }

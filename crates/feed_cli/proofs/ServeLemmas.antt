@@ -1,0 +1,240 @@
+-- Lemmas on what the command `serve` commits.
+use Rattle.std.proofs.Common.{◌≡◌, ◌⊎◌, inl, inr, refl, sym, ap, ◌∙◌, subst, Bool, true, false, List, [], ◌∷◌, ◌++◌, append_assoc, append-nil, take-append-drop, true≢false, map, ℕ, Ok, Err, Result, take, drop, length, Option, Some, None}
+use Rattle.std.specs.Prelude.{Vec}
+use Rattle.feed_tables.specs.declared.change.Change.{Change}
+use Rattle.feed_node.specs.Log.{PrimaryState, new_primary}
+use Rattle.feed_node.specs.declared.commit.Commit.{Commit}
+use Rattle.feed_node.specs.declared.primary.CommitFault.{CommitFault}
+use Rattle.feed_node.specs.declared.primary.CommitFault.TheVariants as commit
+use Rattle.feed_http.specs.Live.{Intake, intake_of, Accepts, accepts_none, accepts_one, TakesTurn, HasSent, none_sent, commit_sent, turn_taken, SendsLiveTo, WroteLive, RefusesInTurn, ServedLive, ServesLive}
+use Rattle.feed_http.specs.Exchange.{Exchange}
+use Rattle.feed_http.specs.declared.fault.EngineFault.{EngineFault}
+use Rattle.feed_http.specs.declared.fault.Served.{Served}
+use Rattle.feed_answer.specs.Answered.{AnswerParts}
+use Rattle.feed_answer.specs.declared.framing.Framing.{Framing}
+use Rattle.feed_http.specs.declared.fault.EngineFault.TheVariants as engine
+use Rattle.feed_relay.specs.declared.fault.NetworkFault.{NetworkFault}
+use Rattle.feed_relay.specs.declared.fault.NetworkFault.TheVariants as network
+use Rattle.feed_note.specs.Batches.{batch_changes}
+use Rattle.feed_note.specs.Counts.{AreRead}
+use Rattle.feed_note.specs.declared.line.Line.{Line}
+use Rattle.feed_node.specs.Limits.{Limits}
+use Rattle.feed_cli.specs.Check.{IsWhole}
+use Rattle.feed_cli.specs.Fault.{fault_of_network, fault_of_commit, is_one_connections}
+use Rattle.feed_cli.specs.Serve.{new_source, RefusedAtStart, StartFails, Takes, TakesAndDrops, FailsTaking, EndsTaking}
+use Rattle.feed_cli.specs.declared.fault.Fault.{Fault}
+use Rattle.feed_cli.specs.declared.fault.Fault.TheVariants as fault
+use Rattle.feed_cli.specs.declared.fault.RemoteFault.TheVariants as remote
+
+-- batches, and then more
+accepts_more : (first : PrimaryState) (earlier : List (List Change)) (mid : PrimaryState)
+    (later : List (List Change)) (last : PrimaryState) → Accepts first earlier mid
+    → Accepts mid later last → Accepts first (earlier ++ later) last
+accepts_more first earlier mid later last run accepts_none =
+    subst (λ l. Accepts first l mid) (sym (append-nil earlier)) run
+accepts_more first earlier mid later last run (accepts_one before primary batch more fine) =
+    subst (λ l. Accepts first l last) (append_assoc earlier before (batch ∷ []))
+    (accepts_one (earlier ++ before) primary batch
+    (accepts_more first earlier mid before primary run more) fine)
+
+pub takes_none : (start : Intake) → Takes start start
+takes_none start = record { taken = []; accepted = accepts_none; batches = refl }
+
+pub takes_more : (start mid now : Intake) → Takes start mid → Takes mid now → Takes start now
+takes_more start mid now before after = record {
+  taken = before.taken ++ after.taken;
+  accepted = accepts_more start.primary before.taken mid.primary after.taken now.primary
+      before.accepted after.accepted;
+  batches = before.batches ∙ ap (λ l. before.taken ++ l) after.batches
+      ∙ sym (append_assoc before.taken after.taken now.batches);
+}
+
+pub drops_later : (start mid : Intake) (why : CommitFault) (now : Intake) → Takes start mid
+    → TakesAndDrops mid why now → TakesAndDrops start why now
+drops_later start mid why now before after = record {
+  taken = before.taken ++ after.taken;
+  batch = after.batch;
+  accepted = accepts_more start.primary before.taken mid.primary after.taken now.primary
+      before.accepted after.accepted;
+  batches = before.batches ∙ ap (λ l. before.taken ++ l) after.batches
+      ∙ sym (append_assoc before.taken after.taken (after.batch ∷ now.batches));
+  refused = after.refused;
+}
+
+takes_turn : (turn : ℕ) (before now : Intake) → TakesTurn turn before now → Takes before now
+takes_turn turn before now takes = record {
+  taken = take turn before.batches;
+  accepted = takes.accepted;
+  batches = sym (take-append-drop turn before.batches)
+      ∙ ap (λ l. take turn before.batches ++ l) (sym takes.left);
+}
+
+takes_sent : (turn : ℕ) (start : Intake) (opened : List ℕ) (sent : List Commit) (now : Intake)
+    (token : List ℕ) → HasSent turn start opened sent now token → Takes start now
+takes_sent turn start opened sent now token none_sent = takes_none start
+takes_sent turn start opened sent now token (commit_sent earlier same at commit run is) =
+    takes_sent turn start opened earlier now at run
+takes_sent turn start opened sent now token (turn_taken same before later at run new takes) =
+    takes_more start before now (takes_sent turn start opened sent before token run)
+    (takes_turn turn before now takes)
+
+takes_to : (turn : ℕ) (start : Intake) (session : Option (List ℕ)) (sent : List Commit)
+    (gone : Bool) (now : Intake) → SendsLiveTo turn start session sent gone now → Takes start now
+takes_to turn start None sent gone now (_, _, same) =
+    subst (λ n. Takes start n) (sym same) (takes_none start)
+takes_to turn start (Some opened) sent gone now (token, run, over) =
+    takes_sent turn start opened sent now token run
+
+takes_wrote : (turn : ℕ) (start : Intake) (answer : AnswerParts) (now : Intake)
+    (old new : Option (List ℕ)) → WroteLive turn start answer now old new → Takes start now
+takes_wrote turn start answer now old new (inl (wrote, same)) =
+    subst (λ n. Takes start n) (sym same) (takes_none start)
+takes_wrote turn start answer now old new (inr (opened, text, is, cut, wrote)) =
+    takes_sent turn start opened cut.sent now cut.token cut.has_sent
+
+drops_in_turn : (turn : ℕ) (start before : Intake) (why : CommitFault) (now : Intake)
+    → Takes start before → RefusesInTurn turn before why now → TakesAndDrops start why now
+drops_in_turn turn start before why now takes refuses = drops_later start before why now takes (record {
+  taken = refuses.earlier;
+  batch = refuses.batch;
+  accepted = refuses.accepted;
+  batches = refuses.batches;
+  refused = refuses.refused;
+})
+
+pub drops_at_once : (turn : ℕ) (start : Intake) (why : CommitFault) (now : Intake)
+    → RefusesInTurn turn start why now → TakesAndDrops start why now
+drops_at_once turn start why now refuses =
+    drops_in_turn turn start start why now (takes_none start) refuses
+
+-- what was served says what was taken
+pub takes_served : (turn : ℕ) (contest : List ℕ) (framing : Framing) (back turns : ℕ)
+    (spoken : Exchange) (start : Intake) (served : Served) (now : Intake)
+    → ServesLive turn contest framing back turns spoken start (Ok served) now → Takes start now
+takes_served turn contest framing back turns spoken start served now live =
+    let ((answer, text, has, sends, wrote), gone, left) = live.came in
+    takes_to turn start answer.session sends.sent sends.gone now sends.sends
+
+pub fails_served : (turn : ℕ) (contest : List ℕ) (framing : Framing) (back turns : ℕ)
+    (spoken : Exchange) (start : Intake) (why : EngineFault) (now : Intake)
+    → ServesLive turn contest framing back turns spoken start (Err why) now
+    → FailsTaking (network.Engine why) start now
+fails_served turn contest framing back turns spoken start engine.Read now live =
+    let (broke, same, failed) = live.came in same
+fails_served turn contest framing back turns spoken start engine.Turns now live =
+    let (broke, same, rose) = live.came in same
+fails_served turn contest framing back turns spoken start engine.Write now live =
+    let ((answer, has, wrote), failed) = live.came in
+    takes_wrote turn start answer now spoken.written_old spoken.written_new wrote
+fails_served turn contest framing back turns spoken start (engine.Commit why) now live =
+    let (answer, has, wrote) = live.came in
+    let (opened, text, is, refused, appends) = wrote in
+    drops_in_turn turn start refused.before why now
+    (takes_sent turn start opened refused.sent refused.before refused.token refused.has_sent)
+    refused.refuses
+fails_served turn contest framing back turns spoken start engine.Memory now live = unserved live.came
+  where
+    unserved : ServedLive turn contest framing back turns spoken start (Err engine.Memory) now
+        → Takes start now
+    unserved (inl (wrote, same)) = subst (λ n. Takes start n) (sym same) (takes_none start)
+    unserved (inr (answer, has, wrote)) =
+        takes_wrote turn start answer now spoken.written_old spoken.written_new wrote
+fails_served turn contest framing back turns spoken start (engine.Follow why) now live =
+    absurd live.came
+
+-- a fault of one connection drops nothing
+pub goes_on : (why : NetworkFault) (start now : Intake)
+    → is_one_connections (fault_of_network why) ≡ true → FailsTaking why start now
+    → Takes start now
+goes_on network.Connect start now one fails = absurd fails
+goes_on network.Bind start now one fails = absurd fails
+goes_on network.Accept start now one fails = absurd (true≢false (sym one))
+goes_on (network.Engine engine.Read) start now one fails =
+    subst (λ n. Takes start n) (sym fails) (takes_none start)
+goes_on (network.Engine engine.Turns) start now one fails =
+    subst (λ n. Takes start n) (sym fails) (takes_none start)
+goes_on (network.Engine engine.Write) start now one fails = fails
+goes_on (network.Engine engine.Memory) start now one fails = absurd (true≢false (sym one))
+goes_on (network.Engine (engine.Commit commit.EmptyBatch)) start now one fails = absurd (true≢false (sym one))
+goes_on (network.Engine (engine.Commit commit.LastToken)) start now one fails = absurd (true≢false (sym one))
+goes_on (network.Engine (engine.Commit commit.TooLarge)) start now one fails = absurd (true≢false (sym one))
+goes_on (network.Engine (engine.Commit commit.Memory)) start now one fails = absurd (true≢false (sym one))
+goes_on (network.Engine (engine.Follow why)) start now one fails = absurd fails
+
+-- any other one ends it
+pub ends_it : (why : NetworkFault) (start now : Intake)
+    → is_one_connections (fault_of_network why) ≡ false → FailsTaking why start now
+    → EndsTaking (fault_of_network why) start now
+ends_it network.Connect start now one fails = absurd fails
+ends_it network.Bind start now one fails = absurd fails
+ends_it network.Accept start now one fails =
+    subst (λ n. Takes start n) (sym fails) (takes_none start)
+ends_it (network.Engine engine.Read) start now one fails = absurd (true≢false one)
+ends_it (network.Engine engine.Turns) start now one fails = absurd (true≢false one)
+ends_it (network.Engine engine.Write) start now one fails = absurd (true≢false one)
+ends_it (network.Engine engine.Memory) start now one fails = inl fails
+ends_it (network.Engine (engine.Commit commit.EmptyBatch)) start now one fails = fails
+ends_it (network.Engine (engine.Commit commit.LastToken)) start now one fails = fails
+ends_it (network.Engine (engine.Commit commit.TooLarge)) start now one fails = fails
+ends_it (network.Engine (engine.Commit commit.Memory)) start now one fails = inr fails
+ends_it (network.Engine (engine.Follow why)) start now one fails = absurd fails
+
+-- and what was taken before it counts
+pub ends_later : (why : Fault) (start mid now : Intake) → Takes start mid
+    → EndsTaking why mid now → EndsTaking why start now
+ends_later fault.Memory start mid now before (inl after) = inl (takes_more start mid now before after)
+ends_later fault.Memory start mid now before (inr after) =
+    inr (drops_later start mid commit.Memory now before after)
+ends_later fault.Write start mid now before after = takes_more start mid now before after
+ends_later fault.Read start mid now before after = absurd after
+ends_later fault.Turns start mid now before after = absurd after
+ends_later fault.TooLong start mid now before after = absurd after
+ends_later (fault.Feed why) start mid now before after = absurd after
+ends_later (fault.Survey why) start mid now before after = absurd after
+ends_later (fault.Play why) start mid now before after = absurd after
+ends_later fault.Unpublished start mid now before after = absurd after
+ends_later (fault.Remote (remote.Place why)) start mid now before after = absurd after
+ends_later (fault.Remote (remote.Address why)) start mid now before after = absurd after
+ends_later (fault.Remote (remote.Batch why)) start mid now before after = absurd after
+ends_later (fault.Remote (remote.Commit why)) start mid now before after = absurd after
+ends_later (fault.Remote (remote.Network network.Accept)) start mid now before after =
+    takes_more start mid now before after
+ends_later (fault.Remote (remote.Network network.Connect)) start mid now before after = absurd after
+ends_later (fault.Remote (remote.Network network.Bind)) start mid now before after = absurd after
+ends_later (fault.Remote (remote.Network (network.Engine (engine.Commit why)))) start mid now before after =
+    drops_later start mid why now before after
+ends_later (fault.Remote (remote.Network (network.Engine engine.Memory))) start mid now before after = absurd after
+ends_later (fault.Remote (remote.Network (network.Engine engine.Read))) start mid now before after = absurd after
+ends_later (fault.Remote (remote.Network (network.Engine engine.Write))) start mid now before after = absurd after
+ends_later (fault.Remote (remote.Network (network.Engine engine.Turns))) start mid now before after = absurd after
+ends_later (fault.Remote (remote.Network (network.Engine (engine.Follow why)))) start mid now before after = absurd after
+
+-- a batch was refused at the start, before anything was served
+module _ {A : Type 0} where
+  pub refused_at_start : (turn : Option ℕ) (limits : Limits) (old new : Option (List ℕ))
+      (bytes : List ℕ) (notes : List Line) (primary : PrimaryState) (waiting : List (Vec Change A))
+      (many : ℕ) (why : CommitFault) (now : Intake) → turn ≡ None → IsWhole old new bytes
+      → AreRead bytes notes → primary ≡ new_primary limits
+      → map (λ batch. batch.items) waiting ≡ batch_changes notes
+      → RefusesInTurn many (intake_of primary waiting) why now
+      → StartFails turn limits (fault_of_commit why) old new
+  refused_at_start turn limits old new bytes notes primary waiting many why now none whole read is all refuses =
+      told why (record {
+        bytes = bytes;
+        notes = notes;
+        now = now;
+        at_once = none;
+        whole = whole;
+        read = read;
+        refuses = subst (λ l. TakesAndDrops (new_source limits l) why now) all
+            (subst (λ p. TakesAndDrops
+            (record { primary = p; batches = map (λ batch. batch.items) waiting }) why now) is
+            (drops_at_once many (intake_of primary waiting) why now refuses));
+      })
+    where
+      told : (w : CommitFault) → RefusedAtStart turn limits old new w
+          → StartFails turn limits (fault_of_commit w) old new
+      told commit.EmptyBatch r = r
+      told commit.LastToken r = r
+      told commit.TooLarge r = r
+      told commit.Memory r = tt
