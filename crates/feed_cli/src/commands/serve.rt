@@ -91,7 +91,8 @@ fn serve_next<L: Listen>(
     }
 }
 
-/// Serves one connection, and tells its fault. A fault that is more than a connection's ends serving.
+/// Serves one connection, and tells its fault. A fault that is more than a connection's ends the
+/// serving.
 fn serve_and_tell<L: Listen, E: FeedWrite>(
     alloc: Global,
     options: &ServeOptions<'_>,
