@@ -435,7 +435,8 @@ impl Screens {
             };
             if let Some(status) = heard.status {
                 self.is_answered(at, status);
-                self.owe(at, self.hub.prefix(key).len());
+                let kept = self.hub.prefix(key).len();
+                self.owe(at, kept);
                 break;
             }
             if heard.taken == 0 {
