@@ -198,7 +198,7 @@ struct Ends<'r> {
 }
 
 /// Listens, and makes the ends.
-fn ends<'r>(
+fn open_ends<'r>(
     rt: &'r HostRuntime,
     options: &LiveOptions<'_>,
     names: Option<Names>,
@@ -222,7 +222,7 @@ struct Buffers {
     piece: Vec<u8>,
 }
 
-fn buffers(alloc: Global) -> Result<Buffers, AllocError> {
+fn make_buffers(alloc: Global) -> Result<Buffers, AllocError> {
     Ok(Buffers {
         events: Events::with_capacity(alloc, EVENTS)?,
         ready: Vec::with_capacity(alloc, EVENTS)?,
@@ -263,7 +263,7 @@ fn start_of(
 }
 
 /// Reads the state files.
-fn plan(rt: &HostRuntime, options: &LiveOptions<'_>) -> Result<Plan, Fault> {
+fn make_plan(rt: &HostRuntime, options: &LiveOptions<'_>) -> Result<Plan, Fault> {
     let names = names_of(rt, options)?;
     let contest = needs_memory(String::from_str(rt.alloc(), options.contest))?;
     let Asked { addresses, places } = servers(rt, options)?;
@@ -282,10 +282,10 @@ pub(super) fn prepare<'r>(
     options: &LiveOptions<'_>,
 ) -> Result<Engine<'r>, Fault> {
     let start = of_system(Instant::now(rt))?;
-    let buffers = needs_memory(buffers(rt.alloc()))?;
+    let buffers = needs_memory(make_buffers(rt.alloc()))?;
     let watched = needs_memory(Watched::new(rt.alloc(), options))?;
-    let plan = plan(rt, options)?;
-    let ends = ends(rt, options, plan.names, plan.addresses)?;
+    let plan = make_plan(rt, options)?;
+    let ends = open_ends(rt, options, plan.names, plan.addresses)?;
     Ok(engine(
         rt,
         options,
