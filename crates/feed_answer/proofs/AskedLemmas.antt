@@ -60,7 +60,7 @@ asks_readable : (bytes method path : List ℕ) (minor : ℕ) (since : Option (Li
     → Requests bytes method path minor since → ¬ (HasNoRequest bytes)
 asks_readable bytes method path minor since r none = none r.head r.target r.is_request
 
--- two requests at the front of the bytes are one
+-- two requests at the start of the bytes are one
 pub record AreOne (method path method2 path2 : List ℕ) (minor minor2 : ℕ)
     (since since2 : Option (List ℕ)) : Type 0 where
   pub methods : method ≡ method2

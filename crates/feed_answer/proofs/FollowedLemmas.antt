@@ -1,4 +1,4 @@
--- What a server writes is followed, front by front.
+-- What a server writes is followed, prefix by prefix.
 use Rattle.std.proofs.Common.{◌≡◌, inl, inr, ⊎_elim, ℕ, ◌+◌, ◌-◌, ◌<◌, ◌≤◌, Bool, true, false, cond, List, [], ◌++◌, length, take, drop, refl, sym, ap, ◌∙◌, subst, arith, append-nil, append_assoc, length-append, length-take, take-append-drop}
 use Rattle.std.specs.Prelude.{nat_lt, ◌==◌}
 use Rattle.std.specs.List.{flat_map}
@@ -19,9 +19,9 @@ use Rattle.feed_answer.specs.Answer.{feed_head, refusal_head, refusal_body, refu
 use Rattle.feed_answer.specs.Framed.{frame, frame_end}
 use Rattle.feed_answer.specs.FrameLaws.{AreTexts, IsUnfinished, joined}
 use Rattle.feed_answer.specs.Carried.{response_text, ended_text, carried_by, standing_at, ended_at, refusal_standing}
-use Rattle.feed_answer.specs.FollowLaws.{StandsOnly, HeadsAreRead, ResponsesAreFollowed, EndsAreFollowed, FrontsCarryMore, WholeCarriesAll, RefusalsAreFollowed}
+use Rattle.feed_answer.specs.FollowLaws.{StandsOnly, HeadsAreRead, ResponsesAreFollowed, EndsAreFollowed, PrefixesCarryMore, WholeCarriesAll, RefusalsAreFollowed}
 use Rattle.feed_answer.proofs.FrameLemmas.{frames_end}
-use Rattle.feed_answer.proofs.FrontLemmas.{take_past, front_carried, chunks_front, plain_front, ended_front, all_carried, more_carried}
+use Rattle.feed_answer.proofs.PrefixLemmas.{take_past, prefix_carried, chunks_prefix, plain_prefix, ended_prefix, all_carried, more_carried}
 use Rattle.feed_answer.proofs.OurHeads.{IsWritten, feed_tree, feed_written, feed_codings, feed_lengths, feed_behind, feed_done, refusal_tree, refusal_written, refusal_status, refusal_codings, refusal_lengths, refusal_behind}
 
 -- ---- the heads
@@ -56,7 +56,7 @@ heads_are_read = (
   },
 )
 
--- ---- fronts of a text that begins with a head of ours
+-- ---- prefixes of a text that begins with a head of ours
 
 line_count-append : (a b : List ℕ) → line_count (a ++ b) ≡ line_count a + line_count b
 line_count-append a b = sum_by-append (λ x. cond (x == line_feed) 1 0) a b
@@ -109,8 +109,8 @@ module _ (once : StandsOnce) (text rest : List ℕ) (head : ResponseHead)
           (once had_token (first n) other standing also stands);
     }
 
-    in_front : n < length text → StandsOnly had_token (first n) in_head
-    in_front less = only_so in_head (inl (no_head_yet n less, within_limits n less))
+    in_prefix : n < length text → StandsOnly had_token (first n) in_head
+    in_prefix less = only_so in_head (inl (no_head_yet n less, within_limits n less))
 
     behind : (standing : Standing) → length text ≤ n
         → StandsBehind (verdict had_token head) (take (n - length text) rest) standing
@@ -135,10 +135,10 @@ less_so n m h = grind (arith, nat_tests)
 -- ---- answers with the feed
 
 -- frames, as far as they have come
-body_front : (framing : Framing) (texts : List (List ℕ)) (k : ℕ) → AreTexts texts
-    → IsUnfinished framing (take k (flat_map (frame framing) texts)) (front_carried framing texts k)
-body_front Close texts k are = plain_front texts k
-body_front Chunked texts k are = chunks_front texts k are
+body_prefix : (framing : Framing) (texts : List (List ℕ)) (k : ℕ) → AreTexts texts
+    → IsUnfinished framing (take k (flat_map (frame framing) texts)) (prefix_carried framing texts k)
+body_prefix Close texts k are = plain_prefix texts k
+body_prefix Chunked texts k are = chunks_prefix texts k are
 
 module _ (once : StandsOnce) (framing : Framing) (had_token : Bool)
     (texts : List (List ℕ)) (rest : List ℕ) (n : ℕ) where
@@ -158,14 +158,14 @@ module _ (once : StandsOnce) (framing : Framing) (had_token : Bool)
 
   -- so much of the texts came in the body
   abbrev payload : List ℕ
-  payload = front_carried framing texts (n - size)
+  payload = prefix_carried framing texts (n - size)
 
   -- in the head, or in the body
   feed_stands : (size ≤ n → IsUnfinished framing (take (n - size) rest) payload)
       → FollowsSo (standing_at framing texts n)
   feed_stands unfinished =
       cond_both (nat_lt n size) in_head (in_body payload) FollowsSo
-      (λ less. in_front once (feed_head framing) rest (feed_tree framing) (feed_written framing)
+      (λ less. in_prefix once (feed_head framing) rest (feed_tree framing) (feed_written framing)
       had_token n (less_so n size less))
       (λ late. let more = at_most_so n size late in
       feed_follows (in_body payload) more (feed_behind framing had_token _ _ (unfinished more)))
@@ -173,7 +173,7 @@ module _ (once : StandsOnce) (framing : Framing) (had_token : Bool)
 pub responses_are_followed : StandsOnce → ResponsesAreFollowed
 responses_are_followed once framing texts n had_token are =
     feed_stands once framing had_token texts (flat_map (frame framing) texts) n
-    (λ more. body_front framing texts (n - length (feed_head framing)) are)
+    (λ more. body_prefix framing texts (n - length (feed_head framing)) are)
 
 -- the end of a body in chunks
 module _ (once : StandsOnce) (texts : List (List ℕ)) (n : ℕ) (had_token : Bool)
@@ -197,7 +197,7 @@ module _ (once : StandsOnce) (texts : List (List ℕ)) (n : ℕ) (had_token : Bo
       → StandsOnly had_token (take n (feed_head Chunked ++ ended)) (standing_at Chunked texts n)
   open_still less =
       feed_stands once Chunked had_token texts ended n
-      (λ more. ended_front texts (n - before) are (omega (arith, more, less, many)))
+      (λ more. ended_prefix texts (n - before) are (omega (arith, more, less, many)))
 
   at_end : whole ≤ n
       → StandsOnly had_token (take n (feed_head Chunked ++ ended)) (done (joined texts))
@@ -225,10 +225,10 @@ ends_are_followed once Close texts n had_token are =
     (responses_are_followed once Close texts n had_token are)
 ends_are_followed once Chunked texts n had_token are = ends_in_chunks once texts n had_token are
 
--- ---- how much fronts carry
+-- ---- how much prefixes carry
 
-pub fronts_carry_more : FrontsCarryMore
-fronts_carry_more framing texts n m less =
+pub prefixes_carry_more : PrefixesCarryMore
+prefixes_carry_more framing texts n m less =
     let before = length (feed_head framing) in
     let fewer : n - before ≤ m - before = omega (arith, less) in
     more_carried framing texts (n - before) (m - before) fewer
@@ -258,6 +258,6 @@ refusals_are_followed once refusal n had_token =
     let standing = refusal_standing had_token refusal in
     cond_both (nat_lt n (length text)) in_head standing
     (StandsOnly had_token (take n (refusal_text refusal)))
-    (λ less. in_front once text body head w had_token n (less_so n (length text) less))
+    (λ less. in_prefix once text body head w had_token n (less_so n (length text) less))
     (λ more. behind once text body head w had_token n standing (at_most_so n (length text) more)
     (refusal_behind refusal had_token (take (n - length text) body)))

@@ -1,7 +1,7 @@
 pub mod AskedLemmas
 pub mod FollowedLemmas
 pub mod FrameLemmas
-pub mod FrontLemmas
+pub mod PrefixLemmas
 pub mod OpeningLemmas
 pub mod OurHeads
 pub mod RefusalTexts

@@ -429,7 +429,7 @@ sent_lines target host t h =
 pub record IsFeedTarget (target path : List ℕ) (query : Option (List ℕ)) : Type 0 where
   pub bytes : list_all target_byte target ≡ true
   pub first : slice_index target 0 ≡ 47
-  pub front : split_once_front 63 target ≡ path
+  pub prefix : split_once_front 63 target ≡ path
   pub back : split_once_back 63 target ≡ query
   pub path_bytes : list_all is_path_byte path ≡ true
   pub query_bytes : IfSome query (λ q. list_all is_query_byte q ≡ true)
@@ -516,7 +516,7 @@ feed_target_is contest None h few fits =
     record {
       bytes = all_joined target_byte path [] (feed_bytes target_byte is_target contest h) refl;
       first = refl;
-      front = cut.0;
+      prefix = cut.0;
       back = cut.1;
       path_bytes = feed_bytes is_path_byte is_path contest h;
       query_bytes = tt;
@@ -532,7 +532,7 @@ feed_target_is contest (Some token) h few fits =
           (feed_bytes target_byte is_target contest h)
           (asking_passes target_byte asks_target refl refl token);
       first = refl;
-      front = cut.0;
+      prefix = cut.0;
       back = cut.1;
       path_bytes = feed_bytes is_path_byte is_path contest h;
       query_bytes = asking_passes is_query_byte asks_query refl refl token;
@@ -712,7 +712,7 @@ is_path_and_query target path query f =
     let short = f.short in
     record {
       start = inr (inr (inl f.first));
-      path = subst (AllPass is_path_byte) (sym f.front) path_passes;
+      path = subst (AllPass is_path_byte) (sym f.prefix) path_passes;
       query = subst (λ o. IfSome o (AllPass is_query_byte)) (sym f.back)
           (query_passes query f.query_bytes);
       utf8 = target_utf8 target f.bytes;
@@ -738,7 +738,7 @@ path_of_target : (target path : List ℕ) (query : Option (List ℕ)) → IsFeed
     → uri_path (uri_for target) ≡ path
 path_of_target target path query f =
     ap (λ b. cond (not b || false) (path_of target) []) (not_zero (length target) f.some)
-    ∙ ap or_slash f.front
+    ∙ ap or_slash f.prefix
     ∙ ap (λ b. cond b (codes "/") path) (not_zero (length path) f.path_some)
 
 -- ---- together

@@ -1,4 +1,4 @@
--- What a server writes is followed, front by front.
+-- What a server writes is followed, prefix by prefix.
 use Rattle.std.specs.Prelude.{◌≡◌, ℕ, ◌≤◌, Bool, List, [], ◌∷◌, length, take, map, codes, decimal}
 use Rattle.httparse.specs.Grammar.{ResponseHead, status_code}
 use Rattle.httparse.specs.Spans.{name_and_value}
@@ -43,22 +43,22 @@ RefusalHeadsAreRead =
 abbrev pub HeadsAreRead : Type 0
 HeadsAreRead = FeedHeadsAreRead × RefusalHeadsAreRead
 
--- each front of an answer with the feed stands in one way: in its head, or with a front of the
+-- each prefix of an answer with the feed stands in one way: in its head, or with a prefix of the
 -- texts that it carries
 abbrev pub ResponsesAreFollowed : Type 0
 ResponsesAreFollowed =
     (framing : Framing) (texts : List (List ℕ)) (n : ℕ) (had_token : Bool) → AreTexts texts
     → StandsOnly had_token (take n (response_text framing texts)) (standing_at framing texts n)
 
--- and so does each front of one with the end of its body: the whole is done, where it has an end
+-- and so does each prefix of one with the end of its body: the whole is done, where it has an end
 abbrev pub EndsAreFollowed : Type 0
 EndsAreFollowed =
     (framing : Framing) (texts : List (List ℕ)) (n : ℕ) (had_token : Bool) → AreTexts texts
     → StandsOnly had_token (take n (ended_text framing texts)) (ended_at framing texts n)
 
--- a longer front carries no less
-abbrev pub FrontsCarryMore : Type 0
-FrontsCarryMore =
+-- a longer prefix carries no less
+abbrev pub PrefixesCarryMore : Type 0
+PrefixesCarryMore =
     (framing : Framing) (texts : List (List ℕ)) (n m : ℕ) → n ≤ m
     → carried_by framing texts n ≤ carried_by framing texts m
 
@@ -69,7 +69,7 @@ WholeCarriesAll =
     → (carried_by framing texts n ≡ length (joined texts))
     × (standing_at framing texts n ≡ in_body (joined texts))
 
--- each front of a refusal stands in one way: in its head, or as a refused token or its status
+-- each prefix of a refusal stands in one way: in its head, or as a refused token or its status
 abbrev pub RefusalsAreFollowed : Type 0
 RefusalsAreFollowed =
     (refusal : Refusal) (n : ℕ) (had_token : Bool)

@@ -1,4 +1,4 @@
--- The head of a request at the front of bytes that came over a connection (RFC 9112, sections 2 and
+-- The head of a request at the start of bytes that came over a connection (RFC 9112, sections 2 and
 -- 3), within the limits of each head.
 use Rattle.std.specs.Prelude.{ℕ, List, length}
 use Rattle.httparse.specs.Grammar.{RequestHead, print_request, ReadsRequest}

@@ -25,7 +25,7 @@ pub(crate) enum AskedFor {
     Feed(u8, Option<String>),
 }
 
-/// The whole head at the front, if there is one.
+/// The whole head at the start, if there is one.
 fn whole_request(bytes: &[u8], headers: &mut [HeaderSpan]) -> Option<RequestSpans>
     requires { length headers.old ≡ head_fields }
     ensures found { IfSome result (λ spans. (head : RequestHead)

@@ -1,4 +1,4 @@
-//! The head at the front of bytes that came over a connection.
+//! The head at the start of bytes that came over a connection.
 ghost use Rattle.std.specs.Prelude.{◌≡◌, ◌≢◌, ℕ, ◌<◌, ◌≤◌, ◌↔◌, length, drop, IsTrue, IfSome, IfNone, MatchOption, count_by, ◌==◌};
 ghost use Rattle.httparse.specs.Grammar.{RequestHead, NeverHasRequest};
 ghost use Rattle.feed_follow.specs.Heads.{head_bytes, head_lines, line_count, IsPastLimits};

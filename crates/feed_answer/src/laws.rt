@@ -1,7 +1,7 @@
 //! Laws of the definitions.
 ghost use Rattle.feed_answer.specs.FrameLaws.{FramesCarry, FramesEnd};
 ghost use Rattle.feed_answer.specs.Laws.{AskedOnce, RequestIsRead, RequestIsAnswered};
-ghost use Rattle.feed_answer.specs.FollowLaws.{HeadsAreRead, ResponsesAreFollowed, WholeCarriesAll, FrontsCarryMore, EndsAreFollowed, RefusalsAreFollowed};
+ghost use Rattle.feed_answer.specs.FollowLaws.{HeadsAreRead, ResponsesAreFollowed, WholeCarriesAll, PrefixesCarryMore, EndsAreFollowed, RefusalsAreFollowed};
 
 use feed_follow::follow_laws;
 
@@ -15,13 +15,13 @@ pub fn answer_laws()
     ensures ends { FramesEnd }
 {}
 
-/// What a server writes is followed: each front of it stands in one way, with a front of the texts
-/// that it carries, or as the refusal that it is.
+/// What a server writes is followed: each prefix of it stands in one way, with a prefix of the
+/// texts that it carries, or as the refusal that it is.
 pub fn followed_laws()
     ensures heads { HeadsAreRead }
     ensures responses { ResponsesAreFollowed }
     ensures whole { WholeCarriesAll }
-    ensures monotone { FrontsCarryMore }
+    ensures monotone { PrefixesCarryMore }
     ensures ends { EndsAreFollowed }
     ensures refusals { RefusalsAreFollowed }
 {

@@ -6,12 +6,12 @@ ghost use Rattle.feed_answer.specs.Asked.{since_token, parameter};
 
 use std::alloc::{AllocError, Global};
 
-/// What follows the front, where the text begins with it.
-fn behind<'a>(text: &'a [u8], front: &[u8]) -> Option<&'a [u8]>
-    ensures { MatchOption result ((rest : List ℕ) → text.now ≢ front.now ++ rest)
-        (λ rest. text.now ≡ front.now ++ rest.now) }
+/// What follows the prefix, where the text begins with it.
+fn behind<'a>(text: &'a [u8], prefix: &[u8]) -> Option<&'a [u8]>
+    ensures { MatchOption result ((rest : List ℕ) → text.now ≢ prefix.now ++ rest)
+        (λ rest. text.now ≡ prefix.now ++ rest.now) }
 {
-    text.strip_prefix(front)
+    text.strip_prefix(prefix)
 }
 
 /// Whether this is the path of a contest's feed.

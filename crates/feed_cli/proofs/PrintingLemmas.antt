@@ -10,7 +10,7 @@ use Rattle.feed_text.specs.Strings.{written_byte, written_string}
 use Rattle.feed_note.specs.Texts.{batch_text, snapshot_text}
 use Rattle.feed_note.specs.Written.{written_members, written_name, written_change, written_token}
 use Rattle.std.proofs.KnownBytes.{Appends-trans}
-use Rattle.feed_http.specs.Device.{AppendsFront, HasFailed}
+use Rattle.feed_http.specs.Device.{AppendsPrefix, HasFailed}
 use Rattle.feed_tables.specs.declared.change.Change.{Change}
 use Rattle.feed_tables.specs.declared.change.Change.TheVariants.{Clear}
 use Rattle.feed_tables.specs.Listers.{FailsIn}
@@ -33,30 +33,30 @@ sends_trans : (a b c : Option (List ℕ)) (p q r s t : List ℕ) → Sends a b p
 sends_trans a b c p q r s t (x, e, h) (y, f, k) =
     (x ++ y, carried p s t x q y r e f, Appends-trans a b c x y h k)
 
--- what was sent before the front of what came
-front_before : (a b c : Option (List ℕ)) (p q s t : List ℕ) → Sends a b p q s
-    → AppendsFront b c (q ++ t) → AppendsFront a c (p ++ (s ++ t))
-front_before a b c p q s t (x, e, h) (front, rest, f, k) =
-    (x ++ front, rest, carried p s t x q front rest e f, Appends-trans a b c x front h k)
+-- what was sent before the prefix of what came
+prefix_before : (a b c : Option (List ℕ)) (p q s t : List ℕ) → Sends a b p q s
+    → AppendsPrefix b c (q ++ t) → AppendsPrefix a c (p ++ (s ++ t))
+prefix_before a b c p q s t (x, e, h) (prefix, rest, f, k) =
+    (x ++ prefix, rest, carried p s t x q prefix rest e f, Appends-trans a b c x prefix h k)
 
--- a front of what comes before is one of both
-front_behind : (a b : Option (List ℕ)) (p s t : List ℕ) → AppendsFront a b (p ++ s)
-    → AppendsFront a b (p ++ (s ++ t))
-front_behind a b p s t (front, rest, e, h) = (front, rest ++ t, regrouped p s t front rest e, h)
+-- a prefix of what comes before is one of both
+prefix_behind : (a b : Option (List ℕ)) (p s t : List ℕ) → AppendsPrefix a b (p ++ s)
+    → AppendsPrefix a b (p ++ (s ++ t))
+prefix_behind a b p s t (prefix, rest, e, h) = (prefix, rest ++ t, regrouped p s t prefix rest e, h)
 
 fails_then : (a b c : Option (List ℕ)) (f g h : ℕ) (p q r : Waiting) (s t : List ℕ) (failed : Bool)
     → q.has_failed ≡ failed
     → Tells a b f g p q s → Tells b c g h q r t → p.has_failed ≡ false → r.has_failed ≡ true
-    → AppendsFront a c (p.bytes.items ++ (s ++ t)) × HasFailed f h
+    → AppendsPrefix a c (p.bytes.items ++ (s ++ t)) × HasFailed f h
 fails_then a b c f g h p q r s t true m first second begun ended =
-    let (front, risen) = first.fails begun m in
+    let (prefix, risen) = first.fails begun m in
     let (over, same, kept) = second.rests m in
-    let whole = front_behind a b p.bytes.items s t front in
-    (subst (λ d. AppendsFront a d (p.bytes.items ++ (s ++ t))) (sym same) whole, subst (HasFailed f) (sym kept) risen)
+    let whole = prefix_behind a b p.bytes.items s t prefix in
+    (subst (λ d. AppendsPrefix a d (p.bytes.items ++ (s ++ t))) (sym same) whole, subst (HasFailed f) (sym kept) risen)
 fails_then a b c f g h p q r s t false m first second begun ended =
     let (before, kept, sent) = first.sends m in
-    let (front, risen) = second.fails m ended in
-    (front_before a b c p.bytes.items q.bytes.items s t sent front, subst (λ k. HasFailed k h) kept risen)
+    let (prefix, risen) = second.fails m ended in
+    (prefix_before a b c p.bytes.items q.bytes.items s t sent prefix, subst (λ k. HasFailed k h) kept risen)
 
 -- a text and then another one
 pub tells_then : (a b c : Option (List ℕ)) (f g h : ℕ) (p q r : Waiting) (s t : List ℕ)
@@ -219,19 +219,19 @@ module _ {W : Type 0} (contents : W → Option (List ℕ)) (failures : W → ℕ
   printed_some a b (c ∷ cs) h = printed a b c cs h
 
   -- what is printed of changes of which one fails
-  pub printed_front : (a between b : Printer W) (taken : List Change) (c : Change) (left : List Change)
+  pub printed_prefix : (a between b : Printer W) (taken : List Change) (c : Change) (left : List Change)
       → FoldsTo (PrintsChange contents failures false) a taken between
       → PrintsChange contents failures true between c b
       → (text : List ℕ) × (rest : List ℕ) × (open_lines a.is_begun (taken ++ c ∷ left) ≡ text ++ rest)
       × Prints contents failures a b text × (b.waiting.has_failed ≡ true)
-  printed_front a between b [] c left same (line, begun, failed) =
+  printed_prefix a between b [] c left same (line, begun, failed) =
       subst
       (λ k. (text : List ℕ) × (rest : List ℕ) × (open_lines k.is_begun (c ∷ left) ≡ text ++ rest)
       × Prints contents failures k b text × (b.waiting.has_failed ≡ true))
       (sym same)
       (end_before between.is_begun ++ written_change c, open_lines true left, refl, line, failed)
-  printed_front a between b (t ∷ ts) c left (j, (line, begun, ok), more) last =
-      let (text, rest, is, told, failed) = printed_front j between b ts c left more last in
+  printed_prefix a between b (t ∷ ts) c left (j, (line, begun, ok), more) last =
+      let (text, rest, is, told, failed) = printed_prefix j between b ts c left more last in
       let first = end_before a.is_begun ++ written_change t in
       let whole = ap (λ f. open_lines f (ts ++ c ∷ left)) (sym begun) ∙ is in (
         first ++ text,
@@ -250,13 +250,13 @@ all_sent a b f g p q text none left ended told =
     ap (λ l. l ++ text) (sym none) ∙ is ∙ ap (λ l. sent ++ l) left ∙ append-nil sent in
     subst (Appends a b) (sym same) h
 
--- a front of it was written where nothing waited before and a write failed
-pub front_sent : (a b : Option (List ℕ)) (f g : ℕ) (p q : Waiting) (text rest : List ℕ)
+-- a prefix of it was written where nothing waited before and a write failed
+pub prefix_sent : (a b : Option (List ℕ)) (f g : ℕ) (p q : Waiting) (text rest : List ℕ)
     → p.bytes.items ≡ [] → p.has_failed ≡ false → q.has_failed ≡ true → Tells a b f g p q text
-    → AppendsFront a b (text ++ rest) × HasFailed f g
-front_sent a b f g p q text rest none begun failed told =
-    let (front, risen) = told.fails begun failed in
-    (subst (λ l. AppendsFront a b (l ++ (text ++ rest))) none (front_behind a b p.bytes.items text rest front), risen)
+    → AppendsPrefix a b (text ++ rest) × HasFailed f g
+prefix_sent a b f g p q text rest none begun failed told =
+    let (prefix, risen) = told.fails begun failed in
+    (subst (λ l. AppendsPrefix a b (l ++ (text ++ rest))) none (prefix_behind a b p.bytes.items text rest prefix), risen)
 
 -- what came of the lines of a snapshot
 module _ {W : Type 0} (contents : W → Option (List ℕ)) (failures : W → ℕ) (device : MutBor W) (waiting : Waiting)
@@ -290,35 +290,35 @@ module _ {W : Type 0} (contents : W → Option (List ℕ)) (failures : W → ℕ
         (all_sent _ _ _ _ waiting ended.waiting _ none left ok whole.told, (whole.told.sends ok).1)
 
     pub ended_err : ended.waiting.has_failed ≡ true
-        → AppendsFront (contents device.now) (contents final) (snapshot_text tables token)
+        → AppendsPrefix (contents device.now) (contents final) (snapshot_text tables token)
         × HasFailed (failures device.now) (failures final)
     ended_err failed =
         let text = snapshot_text tables token in
-        let (front, risen) = front_sent _ _ _ _ waiting ended.waiting text [] none begun failed whole.told in
+        let (prefix, risen) = prefix_sent _ _ _ _ waiting ended.waiting text [] none begun failed whole.told in
         subst
-        (λ x. AppendsFront (contents device.now) (contents x) text
+        (λ x. AppendsPrefix (contents device.now) (contents x) text
         × HasFailed (failures device.now) (failures x))
         (sym final_is)
-        (subst (AppendsFront _ _) (append-nil text) front, risen)
+        (subst (AppendsPrefix _ _) (append-nil text) prefix, risen)
 
   -- where one of them failed
   pub listed_err : (stopped : Printer W) (final : W)
       → FailsIn (PrintsChange contents failures false) (PrintsChange contents failures true)
       new_printer (listing tables) stopped
       → (device.ghost_name ≡ stopped.device.ghost_name → final ≡ stopped.device.now)
-      → AppendsFront (contents device.now) (contents final) (snapshot_text tables token)
+      → AppendsPrefix (contents device.now) (contents final) (snapshot_text tables token)
       × HasFailed (failures device.now) (failures final)
   listed_err stopped final (taken, at, behind, is, between, before, last) back =
       let (text, rest, whole, told, failed) =
-      printed_front contents failures new_printer between stopped taken at behind before last in
+      printed_prefix contents failures new_printer between stopped taken at behind before last in
       let all : text ++ (rest ++ end_with token) ≡ snapshot_text tables token =
       sym (append_assoc text rest (end_with token))
       ∙ ap (λ l. l ++ end_with token) (sym (ap (open_lines false) is ∙ whole))
       ∙ open_snapshot tables token in
-      let (front, risen) =
-      front_sent _ _ _ _ waiting stopped.waiting text (rest ++ end_with token) none begun failed told.told in
+      let (prefix, risen) =
+      prefix_sent _ _ _ _ waiting stopped.waiting text (rest ++ end_with token) none begun failed told.told in
       subst
-      (λ x. AppendsFront (contents device.now) (contents x) (snapshot_text tables token)
+      (λ x. AppendsPrefix (contents device.now) (contents x) (snapshot_text tables token)
       × HasFailed (failures device.now) (failures x))
       (sym (back (sym told.same_device)))
-      (subst (AppendsFront _ _) all front, risen)
+      (subst (AppendsPrefix _ _) all prefix, risen)

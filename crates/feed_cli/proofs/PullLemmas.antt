@@ -2,7 +2,7 @@
 use Rattle.std.proofs.Common.{◌≡◌, ◌≢◌, ◌⊎◌, inl, inr, refl, sym, ap, ◌∙◌, subst, Bool, true, false, IfErr, OnErr, [], append-nil, List, ℕ, Option, None, Some, Result, Ok, Err, is_some}
 use Rattle.std.specs.Prelude.{if◌then◌else◌, option_map, unwrap_or}
 use Rattle.std.specs.Io.KnownBytes.{Appends, Keeps}
-use Rattle.feed_http.specs.Device.{AppendsFront}
+use Rattle.feed_http.specs.Device.{AppendsPrefix}
 use Rattle.feed_note.specs.Publishing.{Published}
 use Rattle.feed_note.specs.Texts.{published_text}
 use Rattle.feed_node.specs.States.{token_of}
@@ -87,17 +87,17 @@ module _ {D R W : Type 0} (dialer : Dialer D R W) (places : List Place) (turns :
   pull_err attempts (Err why) result is_published follows e other printed told is = subst (λ r. IfErr r (λ w. PullFails dialer places turns w start end old new)) (sym is)
       (fails why (of_last (last_outcome attempts) why (sym e)) (λ m. other (cc)) (printed_pulled attempts (Err why) follows e printed))
 
-  -- only a front of the snapshot was printed
+  -- only a prefix of the snapshot was printed
   pub snapshot_fails : (attempts : List Attempt) → FollowsFirst dialer places turns start attempts end
       → (r : Result (Unit {0}) Fault) → IfErr r (λ why. why ≡ fault.Write)
-      → OnErr r (AppendsFront old new (published_text end.mirror.node.published))
+      → OnErr r (AppendsPrefix old new (published_text end.mirror.node.published))
       → IfErr r (λ why. PullFails dialer places turns why start end old new)
-  snapshot_fails attempts follows (Ok all) faults front = tt
-  snapshot_fails attempts follows (Err why) is front =
+  snapshot_fails attempts follows (Ok all) faults prefix = tt
+  snapshot_fails attempts follows (Err why) is prefix =
       subst (λ w. PullFails dialer places turns w start end old new) (sym is) (record {
         ended = outcome_of_pull attempts;
         has = record { attempts = attempts; follows = follows; came = refl };
-        printed = front;
+        printed = prefix;
       })
 
   -- the snapshot was printed, and an attempt could not be told

@@ -8,14 +8,14 @@ use Rattle.feed_note.specs.declared.line.Line.{Line}
 use Rattle.feed_note.specs.Publishing.{Published}
 use Rattle.feed_note.specs.Texts.{published_text}
 use Rattle.feed_node.specs.States.{token_of}
-use Rattle.feed_http.specs.Device.{AppendsFront}
+use Rattle.feed_http.specs.Device.{AppendsPrefix}
 use Rattle.feed_node.specs.declared.fault.FeedFault.{FeedFault}
 use Rattle.feed_node.specs.declared.fault.FeedFault.TheVariants as feed
 use Rattle.feed_node.specs.Limits.{Limits}
 use Rattle.feed_node.specs.Mirroring.{MirrorState, StandsAt, Fed, HasStopped, Faulted}
 use Rattle.feed_node.specs.Reading.{Reads, FaultsAt, reads}
 use Rattle.feed_cli.specs.Fault.{fault_of_feed}
-use Rattle.feed_cli.specs.Tables.{first_opening, input_turns, Stands, HasRead, HasReadOn, IsLeft, HasFaulted, IsFed, Printed, PrintedSome, PrintedFront, outcome_of, TablesFail}
+use Rattle.feed_cli.specs.Tables.{first_opening, input_turns, Stands, HasRead, HasReadOn, IsLeft, HasFaulted, IsFed, Printed, PrintedSome, PrintedPrefix, outcome_of, TablesFail}
 use Rattle.feed_cli.specs.Streams.{Streams}
 use Rattle.feed_cli.specs.declared.fault.Fault.{Fault}
 use Rattle.feed_cli.specs.declared.fault.Fault.TheVariants as fault
@@ -125,14 +125,14 @@ faulted_by limits a b shown why line told h e n =
 
 -- ---- what was printed
 
--- the front of the text was printed
-pub front_of : (limits given : Limits) (s : Streams) (text all : List ℕ) (ended : Result (Unit {0}) Fault) (shown : Option Published)
-    → IsFed given ended s.input_old s.input_new shown → given ≡ limits → text ≡ all → all ≡ published_text shown → AppendsFront s.out_old s.out_new text → PrintedFront limits s
-front_of limits given s text all ended shown fed e same is front = record {
+-- the prefix of the text was printed
+pub prefix_of : (limits given : Limits) (s : Streams) (text all : List ℕ) (ended : Result (Unit {0}) Fault) (shown : Option Published)
+    → IsFed given ended s.input_old s.input_new shown → given ≡ limits → text ≡ all → all ≡ published_text shown → AppendsPrefix s.out_old s.out_new text → PrintedPrefix limits s
+prefix_of limits given s text all ended shown fed e same is prefix = record {
   ended = ended;
   shown = shown;
   fed = subst (λ l. IsFed l ended s.input_old s.input_new shown) e fed;
-  printed = subst (AppendsFront s.out_old s.out_new) (same ∙ is) front;
+  printed = subst (AppendsPrefix s.out_old s.out_new) (same ∙ is) prefix;
 }
 
 -- something is published exactly where there is a token

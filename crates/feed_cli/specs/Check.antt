@@ -5,7 +5,7 @@ use Rattle.feed_text.specs.Ascii.{line_feed}
 use Rattle.feed_note.specs.Counts.{Counted, StopsAt}
 use Rattle.feed_note.specs.declared.counts.Counts.{Counts}
 use Rattle.feed_note.specs.declared.counts.SurveyFault.{SurveyFault}
-use Rattle.feed_http.specs.Device.{AppendsFront}
+use Rattle.feed_http.specs.Device.{AppendsPrefix}
 use Rattle.feed_cli.specs.Streams.{Streams}
 use Rattle.feed_cli.specs.declared.fault.Fault.{Fault}
 use Rattle.feed_cli.specs.declared.fault.Fault.TheVariants as fault
@@ -67,14 +67,14 @@ pub record CountsPrinted (s : Streams) : Type 0 where
   pub counted : InputCounted s.input_old s.input_new counts
   pub printed : Appends s.out_old s.out_new (counts_text counts)
 
--- the input was counted, and a front of the counts was printed
-pub record CountsPrintedFront (s : Streams) : Type 0 where
+-- the input was counted, and a prefix of the counts was printed
+pub record CountsPrintedPrefix (s : Streams) : Type 0 where
   pub counts : Counts
   pub counted : InputCounted s.input_old s.input_new counts
-  pub printed : AppendsFront s.out_old s.out_new (counts_text counts)
+  pub printed : AppendsPrefix s.out_old s.out_new (counts_text counts)
 
--- a front of the counts was printed where a write failed, and nothing where the input can't be
+-- a prefix of the counts was printed where a write failed, and nothing where the input can't be
 -- counted
 abbrev pub CheckFails : Fault → Streams → Type 0
-CheckFails fault.Write s = CountsPrintedFront s
+CheckFails fault.Write s = CountsPrintedPrefix s
 CheckFails why s = CountFails why s.input_old s.input_new × Keeps s.out_old s.out_new

@@ -1,7 +1,7 @@
 -- What the commands do, by what a command line asks for.
 use Rattle.std.specs.Prelude.{◌≡◌, ◌⊎◌, ℕ, List, string_bytes}
 use Rattle.std.specs.Io.KnownBytes.{Appends, Keeps}
-use Rattle.feed_http.specs.Device.{AppendsFront, HasFailed as HasDeviceFailed}
+use Rattle.feed_http.specs.Device.{AppendsPrefix, HasFailed as HasDeviceFailed}
 use Rattle.feed_cli.specs.Check.{CountsPrinted, CheckFails}
 use Rattle.feed_cli.specs.Fault.{IsToldStatus}
 use Rattle.feed_cli.specs.Play.{Played, PlayFails}
@@ -39,11 +39,11 @@ pub record EndsBy (asked : Local) (status : ℕ) (s : Streams) : Type 0 where
   pub device : IsDeviceFault why s
   pub told : IsToldStatus why status
 
--- all of the text was written, or the device failed, and a front of it was
+-- all of the text was written, or the device failed, and a prefix of it was
 abbrev pub IsWritten : List ℕ → Wrote → Type 0
 IsWritten text wrote =
     Appends wrote.old wrote.new text
-    ⊎ (HasDeviceFailed wrote.failed_old wrote.failed_new × AppendsFront wrote.old wrote.new text)
+    ⊎ (HasDeviceFailed wrote.failed_old wrote.failed_new × AppendsPrefix wrote.old wrote.new text)
 
 -- the status for words that ask for no command, and what was printed for them
 abbrev pub Replies : NoCommand → ℕ → Wrote → Type 0
@@ -52,7 +52,7 @@ Replies (reply.Refused text) status wrote = (status ≡ 1) × Keeps wrote.old wr
 Replies (reply.Shown text) status wrote =
     ((status ≡ 0) × Appends wrote.old wrote.new (string_bytes text))
     ⊎ ((status ≡ 4) × HasDeviceFailed wrote.failed_old wrote.failed_new
-    × AppendsFront wrote.old wrote.new (string_bytes text))
+    × AppendsPrefix wrote.old wrote.new (string_bytes text))
 
 -- why they are refused was told
 abbrev pub TellsRefusal : NoCommand → Wrote → Type 0

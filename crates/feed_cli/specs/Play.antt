@@ -2,7 +2,7 @@
 use Rattle.std.specs.Prelude.{◌≡◌, ◌⊎◌, ℕ, ◌+◌, true, false, List, length}
 use Rattle.std.specs.Io.KnownBytes.{Appends, Keeps}
 use Rattle.feed_note.specs.Lines.{lines}
-use Rattle.feed_http.specs.Device.{AppendsFront, HasFailed}
+use Rattle.feed_http.specs.Device.{AppendsPrefix, HasFailed}
 use Rattle.feed_play.specs.Fault.{is_memory}
 use Rattle.feed_play.specs.Lines.{IsLineFrom}
 use Rattle.feed_play.specs.Player.{Plays, Stops}
@@ -26,20 +26,20 @@ pub record StopsByFault (script told : List ℕ) : Type 0 where
   pub stops : Stops script told why
   pub no_memory : is_memory why.cause ≡ false
 
--- the same, up to the first fault if there is one, but that only a front was printed
-pub record PlayedFront (s : Streams) : Type 0 where
+-- the same, up to the first fault if there is one, but that only a prefix was printed
+pub record PlayedPrefix (s : Streams) : Type 0 where
   pub script : List ℕ
   pub told : List ℕ
   pub whole : IsWhole s.input_old s.input_new script
   pub plays : Plays script told ⊎ StopsByFault script told
-  pub printed : AppendsFront s.out_old s.out_new told
+  pub printed : AppendsPrefix s.out_old s.out_new told
 
--- a write failed, and a front of the text was printed
+-- a write failed, and a prefix of the text was printed
 pub record IsCutShort (s : Streams) (told : List ℕ) : Type 0 where
   pub failed : HasFailed s.failed_writes_old s.failed_writes_new
-  pub printed : AppendsFront s.out_old s.out_new told
+  pub printed : AppendsPrefix s.out_old s.out_new told
 
--- the text was printed; or, where memory ran out and a write failed too, a front of it
+-- the text was printed; or, where memory ran out and a write failed too, a prefix of it
 abbrev pub IsPrinted : PlayFault → Streams → List ℕ → Type 0
 IsPrinted why s told =
     Appends s.out_old s.out_new told ⊎ ((is_memory why.cause ≡ true) × IsCutShort s told)
@@ -58,7 +58,7 @@ pub record Stopped (why : PlayFault) (s : Streams) : Type 0 where
 abbrev pub PlayFails : Fault → Streams → Type 0
 PlayFails fault.Memory s = Keeps s.out_old s.out_new
 PlayFails fault.Read s = Keeps s.out_old s.out_new
-PlayFails fault.Write s = PlayedFront s
+PlayFails fault.Write s = PlayedPrefix s
 PlayFails fault.TooLong s = InputTooLong s.input_old s.input_new × Keeps s.out_old s.out_new
 PlayFails (fault.Play why) s = Stopped why s
 PlayFails fault.Turns s = ⊥

@@ -1,13 +1,13 @@
 -- What is written to a device through bytes that wait for it.
 use Rattle.std.specs.Prelude.{◌≡◌, ℕ, Bool, true, false, List, [], ◌++◌, Option, Some, codes}
 use Rattle.std.specs.Io.KnownBytes.{Appends}
-use Rattle.feed_http.specs.Device.{AppendsFront, HasFailed}
+use Rattle.feed_http.specs.Device.{AppendsPrefix, HasFailed}
 use Rattle.feed_tables.specs.declared.change.Change.{Change}
 use Rattle.feed_note.specs.Written.{written_change, written_token}
 use Rattle.feed_cli.specs.declared.printing.Printer.{Printer}
 use Rattle.feed_cli.specs.declared.printing.Waiting.{Waiting}
 
--- a front of what waited and of the text was written between these two contents of a device, and
+-- a prefix of what waited and of the text was written between these two contents of a device, and
 -- the rest waits
 abbrev pub Sends : Option (List ℕ) → Option (List ℕ) → List ℕ → List ℕ → List ℕ → Type 0
 Sends old new before after text =
@@ -19,9 +19,9 @@ pub record Tells (old new : Option (List ℕ)) (failures failures_after : ℕ) (
   -- where no write has failed up to here, none of the text is lost
   pub sends : after.has_failed ≡ false → (before.has_failed ≡ false) × (failures_after ≡ failures)
       × Sends old new before.bytes.items after.bytes.items text
-  -- where one fails here, a front was written
+  -- where one fails here, a prefix was written
   pub fails : before.has_failed ≡ false → after.has_failed ≡ true
-      → AppendsFront old new (before.bytes.items ++ text) × HasFailed failures failures_after
+      → AppendsPrefix old new (before.bytes.items ++ text) × HasFailed failures failures_after
   -- and nothing is written after it
   pub rests : before.has_failed ≡ true → (after.has_failed ≡ true) × (new ≡ old) × (failures_after ≡ failures)
 

@@ -9,7 +9,7 @@ use Rattle.feed_node.specs.Mirroring.{MirrorState, IsRestored, FailsToRestore, n
 use Rattle.feed_answer.specs.Place.{Place, RefusesPlace, place_of}
 use Rattle.feed_answer.specs.declared.place.PlaceFault.{PlaceFault}
 use Rattle.feed_follow.specs.declared.fault.FollowFault.TheVariants.{BadHead}
-use Rattle.feed_http.specs.Device.{AppendsFront}
+use Rattle.feed_http.specs.Device.{AppendsPrefix}
 use Rattle.feed_http.specs.declared.fault.EngineFault.TheVariants.{Follow}
 use Rattle.feed_http.specs.declared.fault.Followed.TheVariants as followed
 use Rattle.feed_relay.specs.Dialing.{Dialer}
@@ -131,19 +131,19 @@ module _ {D R W : Type 0} where
     pub has : HasPulled dialer places turns start ended end
     pub printed : Appends old new (published_text end.mirror.node.published)
 
-  -- the same, and a front of the snapshot was printed
-  pub record PrintedFrontPulled (dialer : Dialer D R W) (places : List Place) (turns : ℕ)
+  -- the same, and a prefix of the snapshot was printed
+  pub record PrintedPrefixPulled (dialer : Dialer D R W) (places : List Place) (turns : ℕ)
       (start end : Position D) (old new : Option (List ℕ)) : Type 0 where
     pub ended : Result (Unit {0}) Fault
     pub has : HasPulled dialer places turns start ended end
-    pub printed : AppendsFront old new (published_text end.mirror.node.published)
+    pub printed : AppendsPrefix old new (published_text end.mirror.node.published)
 
   -- what was pulled and printed where the command fails
   abbrev pub PullFails : Dialer D R W → List Place → ℕ → Fault → Position D → Position D
       → Option (List ℕ) → Option (List ℕ) → Type 0
   PullFails dialer places turns fault.Memory start end old new = Keeps old new
   PullFails dialer places turns fault.Write start end old new =
-      PrintedFrontPulled dialer places turns start end old new
+      PrintedPrefixPulled dialer places turns start end old new
   PullFails dialer places turns fault.Unpublished start end old new =
       PrintedPulled dialer places turns start (Ok tt) end old new
       × (end.mirror.node.published ≡ None)

@@ -8,7 +8,7 @@ use Rattle.feed_node.specs.Limits.{Limits}
 use Rattle.feed_node.specs.States.{nothing_published}
 use Rattle.feed_node.specs.Mirroring.{MirrorState, StandsAt}
 use Rattle.feed_node.specs.Reading.{Opening, Reads, FaultsAt, reads}
-use Rattle.feed_http.specs.Device.{AppendsFront}
+use Rattle.feed_http.specs.Device.{AppendsPrefix}
 use Rattle.feed_cli.specs.Streams.{Streams}
 use Rattle.feed_cli.specs.declared.fault.Fault.{Fault}
 use Rattle.feed_cli.specs.declared.fault.FeedStop.{FeedStop}
@@ -96,12 +96,12 @@ pub record PrintedNone (limits : Limits) (s : Streams) : Type 0 where
   pub whole : Printed limits (Ok tt) s
   pub none : whole.shown ≡ None
 
--- the input was read, and a front of the snapshot was printed
-pub record PrintedFront (limits : Limits) (s : Streams) : Type 0 where
+-- the input was read, and a prefix of the snapshot was printed
+pub record PrintedPrefix (limits : Limits) (s : Streams) : Type 0 where
   pub ended : Result (Unit {0}) Fault
   pub shown : Option Published
   pub fed : IsFed limits ended s.input_old s.input_new shown
-  pub printed : AppendsFront s.out_old s.out_new (published_text shown)
+  pub printed : AppendsPrefix s.out_old s.out_new (published_text shown)
 
 -- what the command comes to whose feeding ended like this and whose text was printed
 abbrev pub outcome_of : Result (Unit {0}) Fault → Bool → Result (Unit {0}) Fault
@@ -114,7 +114,7 @@ abbrev pub TablesFail : Limits → Fault → Streams → Type 0
 TablesFail limits fault.Memory s = Keeps s.out_old s.out_new
 TablesFail limits fault.Read s = Printed limits (Err fault.Read) s
 TablesFail limits fault.Turns s = Printed limits (Err fault.Turns) s
-TablesFail limits fault.Write s = PrintedFront limits s
+TablesFail limits fault.Write s = PrintedPrefix limits s
 TablesFail limits (fault.Feed why) s = Printed limits (Err (fault.Feed why)) s
 TablesFail limits fault.Unpublished s = PrintedNone limits s
 TablesFail limits fault.TooLong s = ⊥

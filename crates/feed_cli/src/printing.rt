@@ -3,7 +3,7 @@ ghost use Rattle.std.specs.Prelude.{◌≡◌, true, false, [], OnOk, OnErr, ◌
 ghost use Rattle.std.specs.Io.KnownBytes.{Appends};
 ghost use Rattle.std.specs.Option.{option_copied};
 ghost use Rattle.feed_text.specs.Strings.{written_string, written_byte as byte_text};
-ghost use Rattle.feed_http.specs.Device.{AppendsFront, HasFailed};
+ghost use Rattle.feed_http.specs.Device.{AppendsPrefix, HasFailed};
 ghost use Rattle.feed_note.specs.Texts.{snapshot_text};
 ghost use Rattle.feed_note.specs.Written.{written_members, written_name};
 ghost use Rattle.feed_cli.specs.Printing.{Tells, Prints, PrintsChange, end_before, end_with};
@@ -210,7 +210,7 @@ impl<'a, W: FeedWrite> Lister for Printer<'a, W> {
 }
 
 /// Prints the lines of a snapshot of tables, with the token on the last of them. It takes no
-/// memory. Where a write fails, a front of them was printed.
+/// memory. Where a write fails, a prefix of them was printed.
 pub(crate) fn print_lines<W: FeedWrite>(
     device: &mut W,
     tables: &Tables,
@@ -219,7 +219,7 @@ pub(crate) fn print_lines<W: FeedWrite>(
     ensures ok { OnOk result (Appends (W.contents device.old) (W.contents device.new)
         (snapshot_text tables.now.contents token.now)) }
     ensures quiet { OnOk result (W.failures device.new ≡ W.failures device.old) }
-    ensures front { OnErr result (AppendsFront (W.contents device.old) (W.contents device.new)
+    ensures prefix { OnErr result (AppendsPrefix (W.contents device.old) (W.contents device.new)
         (snapshot_text tables.now.contents token.now)) }
     ensures failed { OnErr result (HasFailed (W.failures device.old) (W.failures device.new)) }
 {

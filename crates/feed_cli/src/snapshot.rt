@@ -1,7 +1,7 @@
 //! What a mirror shows, printed.
 ghost use Rattle.std.specs.Prelude.{◌≡◌, IfErr, OnOk, OnErr};
 ghost use Rattle.std.specs.Io.KnownBytes.{Appends};
-ghost use Rattle.feed_http.specs.Device.{AppendsFront, HasFailed};
+ghost use Rattle.feed_http.specs.Device.{AppendsPrefix, HasFailed};
 ghost use Rattle.feed_note.specs.Texts.{published_text};
 ghost use Rattle.feed_cli.specs.Tables.{outcome_of};
 
@@ -26,7 +26,7 @@ pub(crate) fn print_snapshot<W: FeedWrite>(mirror: &Mirror, out: &mut W) -> Resu
         (published_text mirror.now.node.published)) }
     ensures faults { IfErr result (λ why. why ≡ Fault.Write) }
     ensures write { OnErr result (HasFailed (W.failures out.old) (W.failures out.new)) }
-    ensures front { OnErr result (AppendsFront (W.contents out.old) (W.contents out.new)
+    ensures prefix { OnErr result (AppendsPrefix (W.contents out.old) (W.contents out.new)
         (published_text mirror.now.node.published)) }
 {
     let node = mirror.node();

@@ -5,7 +5,7 @@ use Rattle.std.specs.List.{flat_map, AllByRecursion}
 use Rattle.httparse.specs.Ascii.{crlf_bytes, carriage_return, line_feed}
 use Rattle.httparse.specs.Grammar.{ChunkLine, chunk_size, print_chunk_line}
 use Rattle.httparse.proofs.ChunkLemmas.{chunk_line_unique}
-use Rattle.feed_follow.specs.ChunkedBody.{Chunk, IsChunk, IsSizeLine, size_line, print_chunk, carried, IsLastLine, AreTrailers, IsChunkedFront, IsBreak, IsEmptyOrCr, print_trailers}
+use Rattle.feed_follow.specs.ChunkedBody.{Chunk, IsChunk, IsSizeLine, size_line, print_chunk, carried, IsLastLine, AreTrailers, IsChunkedPrefix, IsBreak, IsEmptyOrCr, print_trailers}
 
 -- a size line is read in one way
 pub same_line : (l k : ChunkLine) (z w : List ℕ) → IsSizeLine l → IsSizeLine k
@@ -38,7 +38,7 @@ pub record GoesOn (size : ℕ) (text payload : List ℕ) : Type 0 where
   pub others : List ℕ
   pub size_is : size ≡ length bytes
   pub spelled : text ≡ bytes ++ (crlf_bytes ++ rest)
-  pub front : IsChunkedFront rest others
+  pub prefix : IsChunkedPrefix rest others
   pub payload_is : payload ≡ bytes ++ others
 
 -- the line's chunk breaks off
@@ -67,9 +67,9 @@ module _ (l : ChunkLine) (z : List ℕ) (is_l : IsSizeLine l) where
   -- the first chunk is the line's
   in_chunks : (c : Chunk) (chunks : List Chunk) (tail bytes : List ℕ) → IsChunk c
       → size_line l ++ (crlf_bytes ++ z) ≡ flat_map print_chunk (c ∷ chunks) ++ tail
-      → IsChunkedFront (flat_map print_chunk chunks ++ tail) bytes
+      → IsChunkedPrefix (flat_map print_chunk chunks ++ tail) bytes
       → Follows (chunk_size l) z (c.bytes ++ bytes)
-  in_chunks c chunks tail bytes is e front =
+  in_chunks c chunks tail bytes is e prefix =
       let after = flat_map print_chunk chunks ++ tail in
       let (line, rest) = same_line l c.line z (c.bytes ++ (crlf_bytes ++ after)) is_l is.line
       (e ∙ simp append_assoc) in
@@ -84,7 +84,7 @@ module _ (l : ChunkLine) (z : List ℕ) (is_l : IsSizeLine l) where
               size_is = size;
               spelled =
                   rest;
-              front = front;
+              prefix = prefix;
               payload_is = refl;
             }),
       )
@@ -173,12 +173,12 @@ module _ (l : ChunkLine) (z : List ℕ) (is_l : IsSizeLine l) where
         },
       )
 
-  in_front : (chunks : List Chunk) (rest bytes : List ℕ) → AllByRecursion IsChunk chunks
+  in_prefix : (chunks : List Chunk) (rest bytes : List ℕ) → AllByRecursion IsChunk chunks
       → IsBreak rest bytes
       → size_line l ++ (crlf_bytes ++ z) ≡ flat_map print_chunk chunks ++ rest
       → Follows (chunk_size l) z (carried chunks ++ bytes)
-  in_front [] rest bytes are is e = in_break rest bytes is e
-  in_front (c ∷ chunks) rest bytes are is e =
+  in_prefix [] rest bytes are is e = in_break rest bytes is e
+  in_prefix (c ∷ chunks) rest bytes are is e =
       rw append_assoc (in_chunks c chunks rest (carried chunks ++ bytes) are.0 e
       (inr (record {
         chunks = chunks;
@@ -192,13 +192,13 @@ module _ (l : ChunkLine) (z : List ℕ) (is_l : IsSizeLine l) where
       })))
 
   -- what follows a size line
-  pub after_line : (payload : List ℕ) → IsChunkedFront (size_line l ++ (crlf_bytes ++ z)) payload
+  pub after_line : (payload : List ℕ) → IsChunkedPrefix (size_line l ++ (crlf_bytes ++ z)) payload
       → Follows (chunk_size l) z payload
   after_line payload (inl body) = rw body.payload_is
       (in_body body.chunks body.last body.trailers body.are_chunks body.is_last body.are_trailers
       body.spelled)
-  after_line payload (inr front) = rw front.payload_is
-      (in_front front.chunks front.rest front.bytes front.are_chunks front.is_break front.spelled)
+  after_line payload (inr prefix) = rw prefix.payload_is
+      (in_prefix prefix.chunks prefix.rest prefix.bytes prefix.are_chunks prefix.is_break prefix.spelled)
 
 -- only CR stands behind the bytes of a chunk
 no_other : (size : ℕ) (bytes : List ℕ) (b : ℕ) (payload : List ℕ) → size ≡ length bytes
@@ -234,7 +234,7 @@ no_other size bytes b payload is some other (inr (none, ends)) = absurd (omega a
 
 pub other_byte_refused : (l : ChunkLine) (bytes : List ℕ) (b : ℕ) (payload : List ℕ) → IsSizeLine l
     → chunk_size l ≡ length bytes → 0 < length bytes → b ≢ carriage_return
-    → ¬ (IsChunkedFront (size_line l ++ (crlf_bytes ++ (bytes ++ b ∷ []))) payload)
-other_byte_refused l bytes b payload is_l size some other front =
+    → ¬ (IsChunkedPrefix (size_line l ++ (crlf_bytes ++ (bytes ++ b ∷ []))) payload)
+other_byte_refused l bytes b payload is_l size some other prefix =
     no_other (chunk_size l) bytes b payload size some other
-    (after_line l (bytes ++ b ∷ []) is_l payload front)
+    (after_line l (bytes ++ b ∷ []) is_l payload prefix)

@@ -14,7 +14,7 @@ use Rattle.feed_follow.specs.declared.fault.FollowFault.TheVariants.{BadChunk, F
 use Rattle.feed_follow.specs.declared.follower.Part.{Part}
 use Rattle.feed_follow.specs.declared.follower.Part.TheVariants.{Head, ToEnd, Sized, InChunks, Done, Closed}
 use Rattle.feed_follow.specs.ChunkReading.{Reads, stays, goes, next}
-use Rattle.feed_follow.specs.Bodies.{IsBody, IsBodyFront}
+use Rattle.feed_follow.specs.Bodies.{IsBody, IsBodyPrefix}
 use Rattle.feed_follow.specs.Following.{HasReached, IsCutAfter, IsCutAtFault}
 use Rattle.feed_follow.specs.Follower.{ReadsBody}
 use Rattle.feed_follow.specs.Feeding.{HasFed, StopsAt, StopsBehind, StopsFeeding, FeedsChunks, FeedsToEnd, StopsInChunks, BodyGoesOn, BringsBody, BodyFails, BodyStops}
@@ -62,7 +62,7 @@ pub stops_in_data : (left : ℕ) (bytes later : List ℕ) (old new : MirrorState
     → length bytes ≤ left → StopsFeeding old bytes new fault
     → StopsInChunks (InBytes left) (bytes ++ later) old new fault
 stops_in_data left bytes later old new (Feed fault) few stops = record {
-  front = [];
+  prefix = [];
   bytes = bytes;
   later = later;
   left = left;
@@ -74,37 +74,37 @@ stops_in_data left bytes later old new (Feed fault) few stops = record {
 }
 stops_in_data left bytes later old new fault few stops = absurd stops
 
--- the same behind a front that was read
-pub stops_behind : (at middle : Chunking) (front rest : List ℕ) (old between new : MirrorState)
+-- the same behind a prefix that was read
+pub stops_behind : (at middle : Chunking) (prefix rest : List ℕ) (old between new : MirrorState)
     (fault : FollowFault)
-    → FeedsChunks at front old middle between → StopsInChunks middle rest between new fault
-    → StopsInChunks at (front ++ rest) old new fault
-stops_behind at middle front rest old between new BadChunk feeds meets = record {
-  front = front ++ meets.front;
+    → FeedsChunks at prefix old middle between → StopsInChunks middle rest between new fault
+    → StopsInChunks at (prefix ++ rest) old new fault
+stops_behind at middle prefix rest old between new BadChunk feeds meets = record {
+  prefix = prefix ++ meets.prefix;
   byte = meets.byte;
   later = meets.later;
   place = meets.place;
-  split = ap (λ t. front ++ t) meets.split
-      ∙ sym (append_assoc front meets.front (meets.byte ∷ meets.later));
-  feeds = feeds_both at middle meets.place front meets.front old between new feeds meets.feeds;
+  split = ap (λ t. prefix ++ t) meets.split
+      ∙ sym (append_assoc prefix meets.prefix (meets.byte ∷ meets.later));
+  feeds = feeds_both at middle meets.place prefix meets.prefix old between new feeds meets.feeds;
   going = meets.going;
   refused = meets.refused;
 }
-stops_behind at middle front rest old between new (Feed fault) feeds stop = record {
-  front = front ++ stop.front;
+stops_behind at middle prefix rest old between new (Feed fault) feeds stop = record {
+  prefix = prefix ++ stop.prefix;
   bytes = stop.bytes;
   later = stop.later;
   left = stop.left;
   payload = feeds.payload ++ stop.payload;
-  split = ap (λ t. front ++ t) stop.split
-      ∙ sym (append_assoc front stop.front (stop.bytes ++ stop.later));
-  reads = reads_both at middle (InBytes stop.left) front feeds.payload stop.front stop.payload
+  split = ap (λ t. prefix ++ t) stop.split
+      ∙ sym (append_assoc prefix stop.prefix (stop.bytes ++ stop.later));
+  reads = reads_both at middle (InBytes stop.left) prefix feeds.payload stop.prefix stop.payload
       feeds.reads stop.reads;
   fits = stop.fits;
   stops = stops_later old between new feeds.payload stop.payload stop.bytes fault feeds.fed
       stop.stops;
 }
-stops_behind at middle front rest old between new fault feeds stop = absurd stop
+stops_behind at middle prefix rest old between new fault feeds stop = absurd stop
 
 -- a byte that is none of a chunk's
 pub feeds_byte : (at to : Chunking) (b : ℕ) (mirror : MirrorState)
@@ -160,7 +160,7 @@ stops_so start framing text payload bytes later old new (Feed FeedMemory) brings
     }
 stops_so start framing text payload bytes later old new (Feed fault) brings stops reached =
     record {
-      front = text ++ bytes;
+      prefix = text ++ bytes;
       later = later;
       whole = sym (append_assoc text bytes later);
       payload = payload ++ bytes;
@@ -210,26 +210,26 @@ open_stops bytes old new fault stops start framing text payload h reached =
 
 -- ---- a chunked body
 
-chunks_bring : (text payload front q : List ℕ) (at to : Chunking) (framing : BodyFraming)
-    → ReadsBody framing text payload (InChunks at) → to ≢ Whole → Reads at front q to
-    → IsBodyFront framing (text ++ front) (payload ++ q)
-chunks_bring text payload front q at to framing h going reads =
-    subst (λ f. IsBodyFront f (text ++ front) (payload ++ q)) (sym h.0)
-    (run_breaks_off to (text ++ front) (payload ++ q) going
-    (reads_both LineStart at to text payload front q h.2 reads))
+chunks_bring : (text payload prefix q : List ℕ) (at to : Chunking) (framing : BodyFraming)
+    → ReadsBody framing text payload (InChunks at) → to ≢ Whole → Reads at prefix q to
+    → IsBodyPrefix framing (text ++ prefix) (payload ++ q)
+chunks_bring text payload prefix q at to framing h going reads =
+    subst (λ f. IsBodyPrefix f (text ++ prefix) (payload ++ q)) (sym h.0)
+    (run_breaks_off to (text ++ prefix) (payload ++ q) going
+    (reads_both LineStart at to text payload prefix q h.2 reads))
 
 pub chunks_end : (at : Chunking) (piece : List ℕ) (old new : MirrorState)
     → FeedsToEnd at piece old Whole new → BodyGoesOn (InChunks at) piece old new Done
 chunks_end at piece old new run framing text payload h =
-    let body = run_is_whole (text ++ run.front) (payload ++ run.feeds.payload)
-    (reads_both LineStart at Whole text payload run.front run.feeds.payload h.2
+    let body = run_is_whole (text ++ run.prefix) (payload ++ run.feeds.payload)
+    (reads_both LineStart at Whole text payload run.prefix run.feeds.payload h.2
     run.feeds.reads) in (
       run.feeds.payload,
       (
-        text ++ run.front,
+        text ++ run.prefix,
         run.ignored,
-        ap (λ t. text ++ t) run.split ∙ sym (append_assoc text run.front run.ignored),
-        subst (λ f. IsBody f (text ++ run.front) (payload ++ run.feeds.payload)) (sym h.0) body,
+        ap (λ t. text ++ t) run.split ∙ sym (append_assoc text run.prefix run.ignored),
+        subst (λ f. IsBody f (text ++ run.prefix) (payload ++ run.feeds.payload)) (sym h.0) body,
       ),
       run.feeds.fed,
     )
@@ -237,11 +237,11 @@ chunks_end at piece old new run framing text payload h =
 pub chunks_go_on : (at to : Chunking) (piece : List ℕ) (old new : MirrorState) → to ≢ Whole
     → FeedsToEnd at piece old to new → BodyGoesOn (InChunks at) piece old new (InChunks to)
 chunks_go_on at to piece old new going run framing text payload h =
-    let all : run.front ≡ piece = elim run.to_end [
-      | inl none ↦ sym (run.split ∙ ap (λ t. run.front ++ t) none ∙ append-nil run.front)
+    let all : run.prefix ≡ piece = elim run.to_end [
+      | inl none ↦ sym (run.split ∙ ap (λ t. run.prefix ++ t) none ∙ append-nil run.prefix)
       | inr whole ↦ absurd (going whole)
     ] in
-    let reads = reads_both LineStart at to text payload run.front run.feeds.payload h.2
+    let reads = reads_both LineStart at to text payload run.prefix run.feeds.payload h.2
     run.feeds.reads in (
       run.feeds.payload,
       (
@@ -253,33 +253,33 @@ chunks_go_on at to piece old new going run framing text payload h =
       run.feeds.fed,
     )
 
-chunk_brings : (at : Chunking) (text payload front q counted : List ℕ) (left : ℕ)
+chunk_brings : (at : Chunking) (text payload prefix q counted : List ℕ) (left : ℕ)
     (framing : BodyFraming)
-    → ReadsBody framing text payload (InChunks at) → Reads at front q (InBytes left)
+    → ReadsBody framing text payload (InChunks at) → Reads at prefix q (InBytes left)
     → length counted ≤ left
-    → IsBodyFront framing (text ++ (front ++ counted)) (payload ++ (q ++ counted))
-chunk_brings at text payload front q counted left framing h reads few =
+    → IsBodyPrefix framing (text ++ (prefix ++ counted)) (payload ++ (q ++ counted))
+chunk_brings at text payload prefix q counted left framing h reads few =
     let (to, going, run) = data_run counted left few in
-    chunks_bring text payload (front ++ counted) (q ++ counted) at to framing h going
-    (reads_both at (InBytes left) to front q counted counted reads run)
+    chunks_bring text payload (prefix ++ counted) (q ++ counted) at to framing h going
+    (reads_both at (InBytes left) to prefix q counted counted reads run)
 
 pub chunks_stop : (at : Chunking) (piece : List ℕ) (old new : MirrorState) (fault : FollowFault)
     → StopsInChunks at piece old new fault → BodyStops (InChunks at) piece old new fault
 chunks_stop at piece old new BadChunk meets start framing text payload h reached =
     let q = meets.feeds.payload in
-    let run = reads_both LineStart at meets.place text payload meets.front q h.2
+    let run = reads_both LineStart at meets.place text payload meets.prefix q h.2
     meets.feeds.reads in
     record {
       payload = payload ++ q;
       framed = h.0;
       bad = record {
-        front = text ++ meets.front;
+        prefix = text ++ meets.prefix;
         byte = meets.byte;
         rest = meets.later;
         spelled = ap (λ t. text ++ t) meets.split
-            ∙ sym (append_assoc text meets.front (meets.byte ∷ meets.later));
-        breaks = run_breaks_off meets.place (text ++ meets.front) (payload ++ q) meets.going run;
-        never = λ other. refused_byte meets.place meets.byte (text ++ meets.front)
+            ∙ sym (append_assoc text meets.prefix (meets.byte ∷ meets.later));
+        breaks = run_breaks_off meets.place (text ++ meets.prefix) (payload ++ q) meets.going run;
+        never = λ other. refused_byte meets.place meets.byte (text ++ meets.prefix)
             (payload ++ q) other run meets.refused;
       };
       reached = meets.feeds.fed start payload reached;
@@ -287,21 +287,21 @@ chunks_stop at piece old new BadChunk meets start framing text payload h reached
 chunks_stop at piece old new (Feed FeedMemory) stop start framing text payload h reached =
     let (counted, uncounted, whole, cut) = stop.stops start payload reached in
     record {
-      counted = stop.front ++ counted;
+      counted = stop.prefix ++ counted;
       uncounted = uncounted ++ stop.later;
-      whole = stop.split ∙ ap (λ t. stop.front ++ (t ++ stop.later)) whole ∙ simp append_assoc;
+      whole = stop.split ∙ ap (λ t. stop.prefix ++ (t ++ stop.later)) whole ∙ simp append_assoc;
       payload = payload ++ (stop.payload ++ counted);
-      brings = inl (chunk_brings at text payload stop.front stop.payload counted stop.left framing h
+      brings = inl (chunk_brings at text payload stop.prefix stop.payload counted stop.left framing h
           stop.reads (omega (arith, stop.fits, ap length whole, length-append counted uncounted)));
       cut = subst (λ t. IsCutAfter start t new) (append_assoc payload stop.payload counted) cut;
     }
 chunks_stop at piece old new (Feed fault) stop start framing text payload h reached =
     record {
-      front = text ++ (stop.front ++ stop.bytes);
+      prefix = text ++ (stop.prefix ++ stop.bytes);
       later = stop.later;
       whole = ap (λ t. text ++ t) stop.split ∙ simp append_assoc;
       payload = payload ++ (stop.payload ++ stop.bytes);
-      brings = inl (chunk_brings at text payload stop.front stop.payload stop.bytes stop.left
+      brings = inl (chunk_brings at text payload stop.prefix stop.payload stop.bytes stop.left
           framing h stop.reads stop.fits);
       cut = subst (λ t. IsCutAtFault start t fault new)
           (append_assoc payload stop.payload stop.bytes) (stop.stops start payload reached);

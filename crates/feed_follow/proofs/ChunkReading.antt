@@ -294,10 +294,10 @@ module _ (text : List ℕ) (size : ℕ) (lined : IsLined text (carriage_return �
         ∙ append_assoc (size_line lined.line) (carriage_return ∷ []) (line_feed ∷ []);
   }
 
--- one byte more of what stands behind a front
-pub onto : (text front behind : List ℕ) (b : ℕ) → text ≡ front ++ behind
-    → text ++ b ∷ [] ≡ front ++ (behind ++ b ∷ [])
-onto text front behind b e = ap (λ t. t ++ b ∷ []) e ∙ append_assoc front behind (b ∷ [])
+-- one byte more of what stands behind a prefix
+pub onto : (text prefix behind : List ℕ) (b : ℕ) → text ≡ prefix ++ behind
+    → text ++ b ∷ [] ≡ prefix ++ (behind ++ b ∷ [])
+onto text prefix behind b e = ap (λ t. t ++ b ∷ []) e ∙ append_assoc prefix behind (b ∷ [])
 
 module _ (text bytes : List ℕ) (left b : ℕ) where
   brings_more : IsBringing text bytes (left + 1) []

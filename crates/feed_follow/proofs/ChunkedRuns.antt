@@ -15,11 +15,11 @@ use Rattle.httparse.specs.Ascii.{carriage_return, line_feed, semicolon, crlf_byt
 use Rattle.httparse.specs.Grammar.{is_ows, is_extension_byte, ChunkLine, chunk_size, print_extension, IsExtension}
 use Rattle.feed_follow.specs.declared.chunk.Chunking.{Chunking}
 use Rattle.feed_follow.specs.declared.chunk.Chunking.TheVariants.{LineStart, InDigits, InPad, InExtension, LineCr, InBytes, BytesEnd, BytesCr, TrailerStart, InTrailer, TrailerCr, EndCr, Whole}
-use Rattle.feed_follow.specs.ChunkedBody.{Chunk, IsChunk, IsSizeLine, size_line, print_chunk, carried, IsLastLine, IsTrailer, AreTrailers, IsChunkedBody, IsChunkedFront, BreaksOff, IsBreak, IsInChunk, IsInTrailers, print_trailers}
+use Rattle.feed_follow.specs.ChunkedBody.{Chunk, IsChunk, IsSizeLine, size_line, print_chunk, carried, IsLastLine, IsTrailer, AreTrailers, IsChunkedBody, IsChunkedPrefix, BreaksOff, IsBreak, IsInChunk, IsInTrailers, print_trailers}
 use Rattle.feed_follow.specs.ChunkReading.{next, after_size, in_trailer, after_line, brought_by, Reads, stays, goes, IsPlace}
 use Rattle.feed_follow.proofs.ChunkReading.{StandsIn, step, IsBringing, IsTrailing, if_either, none_some, some_some, brought_chunk, brought_is, brought_spelled, onto, as_lf, padded, are_push, line_of_padded, line_of_extended, below, unequal, positive, digit_small, length_push_trailer}
 
--- ---- sound: what was read is the front of a body
+-- ---- sound: what was read is the prefix of a body
 
 -- the payload of a chunk more
 carried_push : (chunks : List Chunk) (c : Chunk)
@@ -115,10 +115,10 @@ starts = record {
   payload_is = refl;
 }
 
--- ---- what has come so far is the front of a body
+-- ---- what has come so far is the prefix of a body
 
 breaks : (at : Chunking) (text payload : List ℕ) (s : StandsIn at text payload)
-    → IsBreak s.rest s.bytes → IsChunkedFront text payload
+    → IsBreak s.rest s.bytes → IsChunkedPrefix text payload
 breaks at text payload s is = inr
     (record {
       chunks = s.chunks;
@@ -178,38 +178,38 @@ is_whole text payload s =
       payload_is = s.payload_is ∙ ap (λ y. carried s.chunks ++ y) s.is_at.1 ∙ append-nil _;
     }
 
-pub is_front : (at : Chunking) (text payload : List ℕ) → StandsIn at text payload
-    → IsChunkedFront text payload
-is_front LineStart text payload s = breaks LineStart text payload s (inl (inl s.is_at.0, s.is_at.1))
-is_front (InDigits n size) text payload s =
+pub is_prefix : (at : Chunking) (text payload : List ℕ) → StandsIn at text payload
+    → IsChunkedPrefix text payload
+is_prefix LineStart text payload s = breaks LineStart text payload s (inl (inl s.is_at.0, s.is_at.1))
+is_prefix (InDigits n size) text payload s =
     let (l, is, same) = line_of_padded s.rest n size (padded s.rest n size 0 s.is_at.0) in
     breaks (InDigits n size) text payload s
     (inl (inr (l, [], is, inl refl, same ∙ sym (append-nil _)), s.is_at.1))
-is_front (InPad n size) text payload s =
+is_prefix (InPad n size) text payload s =
     let (l, is, same) = line_of_padded s.rest n size s.is_at.0 in
     breaks (InPad n size) text payload s
     (inl (inr (l, [], is, inl refl, same ∙ sym (append-nil _)), s.is_at.1))
-is_front (InExtension n size) text payload s =
+is_prefix (InExtension n size) text payload s =
     let (l, is, same) = line_of_extended s.rest n size s.is_at.0 in
     breaks (InExtension n size) text payload s
     (inl (inr (l, [], is, inl refl, same ∙ sym (append-nil _)), s.is_at.1))
-is_front (LineCr size) text payload s =
+is_prefix (LineCr size) text payload s =
     let h = s.is_at.0 in
     breaks (LineCr size) text payload s
     (inl (inr (h.line, carriage_return ∷ [], h.is_line, inr refl, h.spelled), s.is_at.1))
-is_front (InBytes left) text payload s = breaks (InBytes left) text payload s
+is_prefix (InBytes left) text payload s = breaks (InBytes left) text payload s
     (inr (inl (in_chunk s.rest s.bytes left [] s.is_at.0 (inl refl))))
-is_front BytesEnd text payload s = breaks BytesEnd text payload s
+is_prefix BytesEnd text payload s = breaks BytesEnd text payload s
     (inr (inl (in_chunk s.rest s.bytes 0 [] s.is_at.0 (inl refl))))
-is_front BytesCr text payload s = breaks BytesCr text payload s
+is_prefix BytesCr text payload s = breaks BytesCr text payload s
     (inr (inl (in_chunk s.rest s.bytes 0 (carriage_return ∷ []) s.is_at.0 (inr (refl, refl)))))
-is_front (TrailerStart n) text payload s = breaks (TrailerStart n) text payload s
+is_prefix (TrailerStart n) text payload s = breaks (TrailerStart n) text payload s
     (inr (inr (in_trailers s.rest [] [] n s.is_at.0 (inl refl) (inl refl), s.is_at.1)))
-is_front (InTrailer n) text payload s =
+is_prefix (InTrailer n) text payload s =
     let (part, h, some, small) = s.is_at.0 in
     breaks (InTrailer n) text payload s
     (inr (inr (in_trailers s.rest part [] n h (inr (some, small)) (inl refl), s.is_at.1)))
-is_front (TrailerCr n) text payload s =
+is_prefix (TrailerCr n) text payload s =
     let (part, h, some, small) = s.is_at.0 in
     breaks (TrailerCr n) text payload s
     (inr (inr (
@@ -217,7 +217,7 @@ is_front (TrailerCr n) text payload s =
           (inr refl),
       s.is_at.1,
     )))
-is_front EndCr text payload s =
+is_prefix EndCr text payload s =
     let (n, h) = s.is_at.0 in
     breaks EndCr text payload s
     (inr (inr (
@@ -225,9 +225,9 @@ is_front EndCr text payload s =
           (inr refl),
       s.is_at.1,
     )))
-is_front Whole text payload s = inl (is_whole text payload s)
+is_prefix Whole text payload s = inl (is_whole text payload s)
 
--- ---- complete: the front of a body is read
+-- ---- complete: the prefix of a body is read
 
 -- one run behind another
 pub reads_both : (at middle to : Chunking) (x p y q : List ℕ) → Reads at x p middle
@@ -529,7 +529,7 @@ trailers_run (t ∷ trailers) n m are e short =
     (trailer_run t n (n + length t) are.0 refl (omega arith))
     (trailers_run trailers (n + length t + 2) m are.1 (omega arith) short)
 
--- ---- every front of a body is read
+-- ---- every prefix of a body is read
 
 last_from : (l : ChunkLine) (text payload : List ℕ) (to : Chunking) → IsLastLine l
     → Reads (TrailerStart 0) text payload to
@@ -780,10 +780,10 @@ breaks_off_leads text payload b =
       going = leads.going;
     }
 
-pub front_reads : (text payload : List ℕ) → IsChunkedFront text payload
+pub prefix_reads : (text payload : List ℕ) → IsChunkedPrefix text payload
     → (to : Chunking) × Reads LineStart text payload to
-front_reads text payload (inl body) = (Whole, body_run text payload body)
-front_reads text payload (inr breaks) = let leads = breaks_off_leads text payload
+prefix_reads text payload (inl body) = (Whole, body_run text payload body)
+prefix_reads text payload (inr breaks) = let leads = breaks_off_leads text payload
     breaks in (leads.to, leads.reads)
 
 -- ---- bytes lead to one place, and bring one payload
@@ -823,11 +823,11 @@ last_step at to middle b bytes payload (goes _ behind _ c more later is reads) e
     last_step behind to middle b more later reads
     (sym (ap (option_and_then (λ p. after_bytes p (more ++ b ∷ []))) is) ∙ e)
 
--- a byte that can't stand there is the front of no body
+-- a byte that can't stand there is the prefix of no body
 pub refused_byte : (at : Chunking) (b : ℕ) (text payload other : List ℕ)
-    → Reads LineStart text payload at → next at b ≡ None → ¬ (IsChunkedFront (text ++ b ∷ []) other)
-refused_byte at b text payload other reads none front =
-    let (to, run) = front_reads (text ++ b ∷ []) other front in
+    → Reads LineStart text payload at → next at b ≡ None → ¬ (IsChunkedPrefix (text ++ b ∷ []) other)
+refused_byte at b text payload other reads none prefix =
+    let (to, run) = prefix_reads (text ++ b ∷ []) other prefix in
     let some = last_step LineStart to at b text payload reads
     (runs_to LineStart to (text ++ b ∷ []) other run) in
     let same : ◌≡◌ {A = Option Chunking} None (Some to) = sym none ∙ some in
@@ -938,7 +938,7 @@ run_is_whole text payload reads = is_whole text payload
 pub run_breaks_off : (at : Chunking) (text payload : List ℕ) → at ≢ Whole
     → Reads LineStart text payload at → BreaksOff text payload
 run_breaks_off at text payload going reads =
-    elim (is_front at text payload (stands_on LineStart at text payload [] [] reads starts)) [
+    elim (is_prefix at text payload (stands_on LineStart at text payload [] [] reads starts)) [
       | inl body ↦
           let ends : ◌≡◌ {A = Option Chunking} (Some at) (Some Whole) = sym
           (runs_to LineStart at text payload reads)

@@ -1,4 +1,4 @@
--- Heads at the front of bytes, and of longer ones.
+-- Heads at the start of bytes, and of longer ones.
 use Rattle.std.proofs.Common.{◌≡◌, ◌⊎◌, inl, inr, ℕ, ◌+◌, ◌-◌, ◌<◌, ◌≤◌, Bool, List, [], ◌++◌, length, take, drop, map, refl, sym, ap, ◌∙◌, subst, arith, append-nil, append_assoc, length-append, length-take, length-drop, take-append-drop}
 use Rattle.std.specs.Prelude.{Ok, ◌==◌, cond, min}
 use Rattle.std.proofs.Math.Seq.{take-append_seam}
@@ -20,12 +20,12 @@ use Rattle.feed_follow.specs.HeadRead.{IsHeadRead, IsUnfinished, IsNoHead}
 
 -- ---- lists
 
-front_of : (a b c d : List ℕ) → a ++ b ≡ c ++ d → length c ≤ length a → a ≡ c ++ drop (length c) a
-front_of a b c d e few =
+prefix_of : (a b c d : List ℕ) → a ++ b ≡ c ++ d → length c ≤ length a → a ≡ c ++ drop (length c) a
+prefix_of a b c d e few =
     let n = length c in
-    let front : take n a ≡ c = sym (take-append-le n a b few) ∙ ap (take n) e
+    let prefix : take n a ≡ c = sym (take-append-le n a b few) ∙ ap (take n) e
     ∙ take-append_seam c d in
-    sym (take-append-drop n a) ∙ ap (λ t. t ++ drop n a) front
+    sym (take-append-drop n a) ∙ ap (λ t. t ++ drop n a) prefix
 
 -- ---- longer and shorter bytes
 
@@ -39,7 +39,7 @@ pub shorter : (bytes more : List ℕ) (head : ResponseHead) (rest : List ℕ)
     → BeginsWithResponse bytes head (drop (length (print_response head)) bytes)
 shorter bytes more head rest b few =
     record {
-      reads = (b.reads.0, front_of bytes more (print_response head) rest b.reads.1 few);
+      reads = (b.reads.0, prefix_of bytes more (print_response head) rest b.reads.1 few);
       size = b.size;
     }
 
@@ -62,10 +62,10 @@ past_more bytes more (inr lines) = inr (omega (arith, line_count-append bytes mo
 bad_more : (bytes more : List ℕ) → HasBadHead bytes → HasBadHead (bytes ++ more)
 bad_more bytes more bad =
     record {
-      front = bad.front;
+      prefix = bad.prefix;
       later = bad.later ++ more;
       split = ap (λ t. t ++ more) bad.split
-          ∙ append_assoc bad.front bad.later more;
+          ∙ append_assoc bad.prefix bad.later more;
       never = bad.never;
       within = bad.within;
     }

@@ -14,19 +14,19 @@ use Rattle.feed_follow.specs.declared.fault.FollowFault.TheVariants.{LongHead, B
 use Rattle.feed_follow.specs.declared.heads.Verdict.{Verdict}
 use Rattle.feed_follow.specs.declared.heads.Verdict.TheVariants.{Body, Refusal}
 use Rattle.feed_follow.specs.ChunkReading.{Reads, stays, goes, next, brought_by}
-use Rattle.feed_follow.specs.ChunkedBody.{IsChunkedFront, HasBadChunk}
+use Rattle.feed_follow.specs.ChunkedBody.{IsChunkedPrefix, HasBadChunk}
 use Rattle.feed_follow.specs.Heads.{HasBadHead}
 use Rattle.feed_follow.specs.Standing.{Standing, in_head, token_refused, in_body, done, failed, verdict, Stands, StandsInHead, StandsInBody, StandsBehind}
-use Rattle.feed_follow.proofs.ChunkedRuns.{stands_on, starts, is_front, body_run, breaks_off_leads, reads_more}
+use Rattle.feed_follow.proofs.ChunkedRuns.{stands_on, starts, is_prefix, body_run, breaks_off_leads, reads_more}
 
 -- ---- a chunked body, by what comes of its bytes
 
 abbrev behind : List ℕ → Standing → Standing
-behind front (in_body payload) = in_body (front ++ payload)
-behind front (done payload) = done (front ++ payload)
-behind front (failed fault payload) = failed fault (front ++ payload)
-behind front in_head = in_head
-behind front token_refused = token_refused
+behind prefix (in_body payload) = in_body (prefix ++ payload)
+behind prefix (done payload) = done (prefix ++ payload)
+behind prefix (failed fault payload) = failed fault (prefix ++ payload)
+behind prefix in_head = in_head
+behind prefix token_refused = token_refused
 
 abbrev is_end : Chunking → Bool
 is_end Whole = true
@@ -117,28 +117,28 @@ chunked_open at text payload going reads =
     ∙ run_comes LineStart at text payload [] reads ∙ ap (behind payload) open_end
     ∙ ap in_body (append-nil payload))
 
--- behind a front that breaks off a byte that can't stand there leads nowhere
-leads_nowhere : (at : Chunking) (byte : ℕ) (front payload : List ℕ)
-    → Reads LineStart front payload at
-    → ((other : List ℕ) → ¬ (IsChunkedFront (front ++ byte ∷ []) other)) → (o : Option Chunking)
+-- behind a prefix that breaks off a byte that can't stand there leads nowhere
+leads_nowhere : (at : Chunking) (byte : ℕ) (prefix payload : List ℕ)
+    → Reads LineStart prefix payload at
+    → ((other : List ℕ) → ¬ (IsChunkedPrefix (prefix ++ byte ∷ []) other)) → (o : Option Chunking)
     → next at byte ≡ o → next at byte ≡ None
-leads_nowhere at byte front payload reads never None e = e
-leads_nowhere at byte front payload reads never (Some to) e =
-    let text = front ++ byte ∷ [] in
+leads_nowhere at byte prefix payload reads never None e = e
+leads_nowhere at byte prefix payload reads never (Some to) e =
+    let text = prefix ++ byte ∷ [] in
     let brought = payload ++ brought_by at byte in
     absurd (never brought
-    (is_front to text brought
+    (is_prefix to text brought
     (stands_on LineStart to text brought [] []
-    (reads_more LineStart at to byte front payload reads e) starts)))
+    (reads_more LineStart at to byte prefix payload reads e) starts)))
 
 chunked_bad : (text payload : List ℕ) → HasBadChunk text payload
     → failed BadChunk payload ≡ comes_to LineStart text
 chunked_bad text payload bad =
-    let run = breaks_off_leads bad.front payload bad.breaks in
-    let none = leads_nowhere run.to bad.byte bad.front payload run.reads bad.never
+    let run = breaks_off_leads bad.prefix payload bad.breaks in
+    let none = leads_nowhere run.to bad.byte bad.prefix payload run.reads bad.never
     (next run.to bad.byte) refl in
     sym (ap (comes_to LineStart) bad.spelled
-    ∙ run_comes LineStart run.to bad.front payload (bad.byte ∷ bad.rest) run.reads
+    ∙ run_comes LineStart run.to bad.prefix payload (bad.byte ∷ bad.rest) run.reads
     ∙ ap (behind payload) (stops run.to bad.byte bad.rest run.going none)
     ∙ ap (failed BadChunk) (append-nil payload))
 
@@ -186,7 +186,7 @@ never_more : (bytes : List ℕ) → HasBadHead bytes → NeverHasResponse bytes
 never_more bytes bad more head rest reads =
     bad.never (bad.later ++ more) head rest
     (subst (λ t. ReadsResponse t head rest) (ap (λ t. t ++ more) bad.split
-    ∙ append_assoc bad.front bad.later more) reads)
+    ∙ append_assoc bad.prefix bad.later more) reads)
 
 head_once : (bytes : List ℕ) (a b : Standing) → StandsInHead bytes a → StandsInHead bytes b
     → (a ≡ b) ⊎ NeverHasResponse bytes

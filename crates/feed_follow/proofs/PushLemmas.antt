@@ -275,50 +275,50 @@ brings_behind had_token bytes head text framing payload begins says (inl h) = in
 brings_behind had_token bytes head text framing payload begins says (inr h) = inr
     (stands_behind had_token bytes head text framing (done payload) begins says h)
 
--- of which text came with the bytes before and a front of the piece
-pub body_fails : (start : MirrorState) (had_token : Bool) (before front rest : List ℕ)
+-- of which text came with the bytes before and a prefix of the piece
+pub body_fails : (start : MirrorState) (had_token : Bool) (before prefix rest : List ℕ)
     (head : ResponseHead) (text : List ℕ) (framing : BodyFraming) (new : MirrorState)
     (fault : FollowFault)
-    → BeginsWithResponse (before ++ front) head text → verdict had_token head ≡ Ok (Body framing)
+    → BeginsWithResponse (before ++ prefix) head text → verdict had_token head ≡ Ok (Body framing)
     → BodyFails start framing text rest new fault
-    → Fails start had_token before (front ++ rest) (cut_off new) fault
-body_fails start had_token before front rest head text framing new BadChunk begins says h = (
+    → Fails start had_token before (prefix ++ rest) (cut_off new) fault
+body_fails start had_token before prefix rest head text framing new BadChunk begins says h = (
   h.payload,
-  stands_behind had_token (before ++ (front ++ rest)) head (text ++ rest) framing
+  stands_behind had_token (before ++ (prefix ++ rest)) head (text ++ rest) framing
       (failed BadChunk h.payload)
-      (subst (λ t. BeginsWithResponse t head (text ++ rest)) (append_assoc before front rest)
-      (longer (before ++ front) rest head text begins)) says (h.framed, h.bad),
+      (subst (λ t. BeginsWithResponse t head (text ++ rest)) (append_assoc before prefix rest)
+      (longer (before ++ prefix) rest head text begins)) says (h.framed, h.bad),
   cut_after start h.payload new h.reached,
 )
-body_fails start had_token before front rest head text framing new (Feed FeedMemory) begins says h =
+body_fails start had_token before prefix rest head text framing new (Feed FeedMemory) begins says h =
     record {
-      counted = front ++ h.counted;
+      counted = prefix ++ h.counted;
       uncounted = h.uncounted;
-      whole = ap (λ t. front ++ t) h.whole ∙ sym (append_assoc front h.counted h.uncounted);
+      whole = ap (λ t. prefix ++ t) h.whole ∙ sym (append_assoc prefix h.counted h.uncounted);
       left = inr (
         h.payload,
-        brings_behind had_token (before ++ (front ++ h.counted)) head
+        brings_behind had_token (before ++ (prefix ++ h.counted)) head
             (text ++ h.counted) framing h.payload
             (subst (λ t. BeginsWithResponse t head (text ++ h.counted))
-            (append_assoc before front h.counted)
-            (longer (before ++ front) h.counted head text begins)) says h.brings,
+            (append_assoc before prefix h.counted)
+            (longer (before ++ prefix) h.counted head text begins)) says h.brings,
         cut_again start h.payload new h.cut,
       );
     }
-body_fails start had_token before front rest head text framing new (Feed fault) begins says h =
+body_fails start had_token before prefix rest head text framing new (Feed fault) begins says h =
     record {
-      front = print_response head ++ h.front;
+      prefix = print_response head ++ h.prefix;
       later = h.later;
-      whole = sym (append_assoc before front rest) ∙ ap (λ t. t ++ rest) begins.reads.1
+      whole = sym (append_assoc before prefix rest) ∙ ap (λ t. t ++ rest) begins.reads.1
           ∙ append_assoc (print_response head) text rest
           ∙ ap (λ t. print_response head ++ t) h.whole
-          ∙ sym (append_assoc (print_response head) h.front h.later);
+          ∙ sym (append_assoc (print_response head) h.prefix h.later);
       payload = h.payload;
-      brings = brings_behind had_token (print_response head ++ h.front) head h.front framing h.payload
+      brings = brings_behind had_token (print_response head ++ h.prefix) head h.prefix framing h.payload
           (record { reads = (begins.reads.0, refl); size = begins.size }) says h.brings;
       cut = fault_again start h.payload fault new h.cut;
     }
-body_fails start had_token before front rest head text framing new fault begins says h = absurd h
+body_fails start had_token before prefix rest head text framing new fault begins says h = absurd h
 
 pub body_stops : (start : MirrorState) (before piece : List ℕ) (standing : Standing)
     (had_token : Bool) (kept : List ℕ) (part : Part) (old new : MirrorState) (fault : FollowFault)
@@ -358,11 +358,11 @@ head_stops start before piece had_token new Memory unfinished h = record {
 }
 head_stops start before piece had_token new BadChunk unfinished h =
     subst (λ t. Fails start had_token before t (cut_off new) BadChunk) (sym h.split)
-    (body_fails start had_token before h.front h.text h.head [] h.framing new BadChunk h.begins
+    (body_fails start had_token before h.prefix h.text h.head [] h.framing new BadChunk h.begins
     h.says h.fails)
 head_stops start before piece had_token new (Feed fault) unfinished h =
     subst (λ t. Fails start had_token before t (cut_off new) (Feed fault)) (sym h.split)
-    (body_fails start had_token before h.front h.text h.head [] h.framing new
+    (body_fails start had_token before h.prefix h.text h.head [] h.framing new
     (Feed fault) h.begins h.says h.fails)
 head_stops start before piece had_token new WasClosed unfinished h = absurd h
 head_stops start before piece had_token new LongHead unfinished h =
@@ -390,13 +390,13 @@ stops_in_head had_token before piece mirror fault h = absurd h.of_head
 
 -- a body behind a head that can't
 pub stops_in_body : (had_token : Bool) (before piece : List ℕ) (old new : MirrorState)
-    (fault : FollowFault) (front text : List ℕ) (head : ResponseHead) (framing : BodyFraming)
-    → piece ≡ front ++ text → BeginsWithResponse (before ++ front) head []
+    (fault : FollowFault) (prefix text : List ℕ) (head : ResponseHead) (framing : BodyFraming)
+    → piece ≡ prefix ++ text → BeginsWithResponse (before ++ prefix) head []
     → verdict had_token head ≡ Ok (Body framing) → BodyFails old framing [] text new fault
     → HeadStops had_token before piece old new fault
-stops_in_body had_token before piece old new BadChunk front text head framing split begins says h =
+stops_in_body had_token before piece old new BadChunk prefix text head framing split begins says h =
     record {
-      front = front;
+      prefix = prefix;
       text = text;
       split = split;
       head = head;
@@ -406,9 +406,9 @@ stops_in_body had_token before piece old new BadChunk front text head framing sp
       says = says;
       fails = h;
     }
-stops_in_body had_token before piece old new (Feed fault) front text head framing split begins says
+stops_in_body had_token before piece old new (Feed fault) prefix text head framing split begins says
     h = record {
-      front = front;
+      prefix = prefix;
       text = text;
       split = split;
       head = head;
@@ -418,7 +418,7 @@ stops_in_body had_token before piece old new (Feed fault) front text head framin
       says = says;
       fails = h;
     }
-stops_in_body had_token before piece old new fault front text head framing split begins says h =
+stops_in_body had_token before piece old new fault prefix text head framing split begins says h =
     absurd h
 
 -- ---- the first part of a body, and an empty response

@@ -11,12 +11,12 @@ IsBody ToEnd text payload = ⊥
 IsBody (Sized n) text payload = (length text ≡ n) × (payload ≡ text)
 IsBody InChunks text payload = IsChunkedBody text payload
 
--- the bytes are the front of a body so framed that isn't whole yet, with this payload
-abbrev pub IsBodyFront : BodyFraming → List ℕ → List ℕ → Type 0
-IsBodyFront ToEnd text payload = payload ≡ text
-IsBodyFront (Sized n) text payload = (length text < n) × (payload ≡ text)
-IsBodyFront InChunks text payload = BreaksOff text payload
+-- the bytes are the prefix of a body so framed that isn't whole yet, with this payload
+abbrev pub IsBodyPrefix : BodyFraming → List ℕ → List ℕ → Type 0
+IsBodyPrefix ToEnd text payload = payload ≡ text
+IsBodyPrefix (Sized n) text payload = (length text < n) × (payload ≡ text)
+IsBodyPrefix InChunks text payload = BreaksOff text payload
 
 -- the bytes are a body so framed, whole or not, and this is its payload
 abbrev pub Carries : BodyFraming → List ℕ → List ℕ → Type 0
-Carries framing text payload = IsBodyFront framing text payload ⊎ IsBody framing text payload
+Carries framing text payload = IsBodyPrefix framing text payload ⊎ IsBody framing text payload

@@ -2,30 +2,30 @@
 use Rattle.std.specs.Prelude.{◌≡◌, List, ◌++◌, ◌∷◌, [], ℕ, None}
 use Rattle.feed_follow.specs.declared.chunk.Chunking.{Chunking}
 use Rattle.feed_follow.specs.declared.chunk.Chunking.TheVariants.{LineStart, Whole}
-use Rattle.feed_follow.specs.ChunkedBody.{IsChunkedFront, IsChunkedBody}
+use Rattle.feed_follow.specs.ChunkedBody.{IsChunkedPrefix, IsChunkedBody}
 use Rattle.feed_follow.specs.ChunkReading.{Reads, next}
 
--- bytes that can stand one after the other are the front of a body
-abbrev pub ReadsAreFronts : Type 0
-ReadsAreFronts =
+-- bytes that can stand one after the other are the prefix of a body
+abbrev pub ReadsArePrefixes : Type 0
+ReadsArePrefixes =
     (text payload : List ℕ) (to : Chunking) → Reads LineStart text payload to
-    → IsChunkedFront text payload
+    → IsChunkedPrefix text payload
 
--- the front of a body is read, and a whole body to its end
-abbrev pub FrontsAreRead : Type 0
-FrontsAreRead =
-    (text payload : List ℕ) → IsChunkedFront text payload → (to : Chunking)
+-- the prefix of a body is read, and a whole body to its end
+abbrev pub PrefixesAreRead : Type 0
+PrefixesAreRead =
+    (text payload : List ℕ) → IsChunkedPrefix text payload → (to : Chunking)
     × Reads LineStart text payload to
 
 abbrev pub BodiesAreRead : Type 0
 BodiesAreRead =
     (text payload : List ℕ) → IsChunkedBody text payload → Reads LineStart text payload Whole
 
--- a byte that can't stand behind bytes is the front of no body with them
+-- a byte that can't stand behind bytes is the prefix of no body with them
 abbrev pub OthersAreRefused : Type 0
 OthersAreRefused =
     (at : Chunking) (b : ℕ) (text payload other : List ℕ) → Reads LineStart text payload at
-    → next at b ≡ None → ¬ (IsChunkedFront (text ++ b ∷ []) other)
+    → next at b ≡ None → ¬ (IsChunkedPrefix (text ++ b ∷ []) other)
 
 -- bytes bring one payload
 abbrev pub ReadsOnce : Type 0

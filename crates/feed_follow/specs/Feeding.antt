@@ -49,33 +49,33 @@ pub record FeedsChunks (at : Chunking) (piece : List ℕ) (old : MirrorState) (t
 -- the piece was, up to the end of the body
 pub record FeedsToEnd (at : Chunking) (piece : List ℕ) (old : MirrorState) (to : Chunking)
     (new : MirrorState) : Type 0 where
-  pub front : List ℕ
+  pub prefix : List ℕ
   pub ignored : List ℕ
-  pub split : piece ≡ front ++ ignored
-  pub feeds : FeedsChunks at front old to new
+  pub split : piece ≡ prefix ++ ignored
+  pub feeds : FeedsChunks at prefix old to new
   pub to_end : (ignored ≡ []) ⊎ (to ≡ Whole)
 
 -- the first bytes were, and the next one can't stand there
 pub record MeetsBadByte (at : Chunking) (piece : List ℕ) (old new : MirrorState) : Type 0 where
-  pub front : List ℕ
+  pub prefix : List ℕ
   pub byte : ℕ
   pub later : List ℕ
   pub place : Chunking
-  pub split : piece ≡ front ++ byte ∷ later
-  pub feeds : FeedsChunks at front old place new
+  pub split : piece ≡ prefix ++ byte ∷ later
+  pub feeds : FeedsChunks at prefix old place new
   pub going : place ≢ Whole
   pub refused : next place byte ≡ None
 
 -- the first bytes were, and the mirror stopped within further ones of one chunk
 pub record StopsInChunk (at : Chunking) (piece : List ℕ) (old new : MirrorState)
     (fault : FeedFault) : Type 0 where
-  pub front : List ℕ
+  pub prefix : List ℕ
   pub bytes : List ℕ
   pub later : List ℕ
   pub left : ℕ
   pub payload : List ℕ
-  pub split : piece ≡ front ++ (bytes ++ later)
-  pub reads : Reads at front payload (InBytes left)
+  pub split : piece ≡ prefix ++ (bytes ++ later)
+  pub reads : Reads at prefix payload (InBytes left)
   pub fits : length bytes ≤ left
   pub stops : StopsBehind old payload bytes new fault
 
@@ -108,11 +108,11 @@ pub record BodyLoses (start : MirrorState) (framing : BodyFraming) (text piece :
 -- a line of the payload is bad
 pub record BodyIsBad (start : MirrorState) (framing : BodyFraming) (text : List ℕ)
     (fault : FeedFault) (mirror : MirrorState) : Type 0 where
-  pub front : List ℕ
+  pub prefix : List ℕ
   pub later : List ℕ
-  pub whole : text ≡ front ++ later
+  pub whole : text ≡ prefix ++ later
   pub payload : List ℕ
-  pub brings : BringsBody framing front payload
+  pub brings : BringsBody framing prefix payload
   pub cut : IsCutAtFault start payload fault mirror
 
 -- a byte of the body can't stand there

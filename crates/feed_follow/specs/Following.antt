@@ -52,14 +52,14 @@ abbrev pub Brings : Bool → List ℕ → List ℕ → Type 0
 Brings had_token bytes payload =
     Stands had_token bytes (in_body payload) ⊎ Stands had_token bytes (done payload)
 
--- some front of the bytes brought a payload in which a line is bad
+-- some prefix of the bytes brought a payload in which a line is bad
 pub record HasBadLine (start : MirrorState) (had_token : Bool) (bytes : List ℕ)
     (fault : FeedFault) (mirror : MirrorState) : Type 0 where
-  pub front : List ℕ
+  pub prefix : List ℕ
   pub later : List ℕ
-  pub whole : bytes ≡ front ++ later
+  pub whole : bytes ≡ prefix ++ later
   pub payload : List ℕ
-  pub brings : Brings had_token front payload
+  pub brings : Brings had_token prefix payload
   pub cut : IsCutAtFault start payload fault mirror
 
 -- a want of memory: the mirror is cut, with what some of the bytes brought, not fewer than came

@@ -7,7 +7,7 @@ use Rattle.feed_follow.specs.declared.heads.WholeHead.{WholeHead}
 use Rattle.feed_follow.specs.Heads.{IsPastLimits, BeginsWithResponse, HasNoWholeResponse}
 use Rattle.feed_follow.specs.Standing.{failed, verdict, StandsInHead}
 
--- a head of this length stands at the front, and says this
+-- a head of this length stands at the start, and says this
 pub record IsHeadRead (had_token : Bool) (bytes : List ℕ) (found : WholeHead) : Type 0 where
   pub head : ResponseHead
   pub fits : found.len ≤ length bytes

@@ -1,10 +1,10 @@
--- The head at the front of bytes that came over a connection (RFC 9112, section 2), within this
+-- The head at the start of bytes that came over a connection (RFC 9112, section 2), within this
 -- profile's limits.
 use Rattle.std.specs.Prelude.{◌≡◌, ℕ, ◌<◌, ◌≤◌, ◌⊎◌, ◌==◌, List, ◌++◌, length, count_by}
 use Rattle.httparse.specs.Ascii.{line_feed}
 use Rattle.httparse.specs.Grammar.{ResponseHead, print_response, ReadsResponse, NeverHasResponse}
 
--- the most bytes of a head, with the empty lines in front, the most lines, and the most fields
+-- the most bytes of a head, with the empty lines before, the most lines, and the most fields
 -- (this profile's limits)
 abbrev pub head_bytes : ℕ
 head_bytes = 8192
@@ -41,8 +41,8 @@ HasNoWholeResponse bytes =
 
 -- within the limits a byte came behind which no bytes can make a response head
 pub record HasBadHead (bytes : List ℕ) : Type 0 where
-  pub front : List ℕ
+  pub prefix : List ℕ
   pub later : List ℕ
-  pub split : bytes ≡ front ++ later
-  pub never : NeverHasResponse front
-  pub within : ¬ (IsPastLimits front)
+  pub split : bytes ≡ prefix ++ later
+  pub never : NeverHasResponse prefix
+  pub within : ¬ (IsPastLimits prefix)

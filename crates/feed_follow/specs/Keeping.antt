@@ -57,11 +57,11 @@ HeadGoesOn had_token bytes old kept new part = HeadBrings had_token bytes old ne
 -- a head is whole within the piece, and the body behind it has a fault
 pub record StopsBehindHead (had_token : Bool) (before piece : List ℕ) (old new : MirrorState)
     (fault : FollowFault) : Type 0 where
-  pub front : List ℕ
+  pub prefix : List ℕ
   pub text : List ℕ
-  pub split : piece ≡ front ++ text
+  pub split : piece ≡ prefix ++ text
   pub head : ResponseHead
-  pub begins : BeginsWithResponse (before ++ front) head []
+  pub begins : BeginsWithResponse (before ++ prefix) head []
   pub framing : BodyFraming
   pub says : verdict had_token head ≡ Ok (Body framing)
   pub fails : BodyFails old framing [] text new fault

@@ -10,7 +10,7 @@ use Rattle.feed_follow.specs.declared.heads.Verdict.{Verdict}
 use Rattle.feed_follow.specs.declared.heads.Verdict.TheVariants.{Body, Refusal}
 use Rattle.feed_follow.specs.Heads.{IsPastLimits, BeginsWithResponse, HasNoWholeResponse, HasBadHead}
 use Rattle.feed_follow.specs.Coding.{body_framing}
-use Rattle.feed_follow.specs.Bodies.{IsBody, IsBodyFront}
+use Rattle.feed_follow.specs.Bodies.{IsBody, IsBodyPrefix}
 use Rattle.feed_follow.specs.ChunkedBody.{HasBadChunk}
 
 -- how the body is framed, as what a head says
@@ -46,7 +46,7 @@ StandsInHead bytes standing = ⊥
 
 -- bytes of a body so framed stand so; what comes behind a whole body is ignored
 abbrev pub StandsInBody : BodyFraming → List ℕ → Standing → Type 0
-StandsInBody framing text (in_body payload) = IsBodyFront framing text payload
+StandsInBody framing text (in_body payload) = IsBodyPrefix framing text payload
 StandsInBody framing text (done payload) =
     (body : List ℕ) × (ignored : List ℕ) × (text ≡ body ++ ignored) × IsBody framing body payload
 StandsInBody framing text (failed BadChunk payload) =

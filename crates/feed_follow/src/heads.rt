@@ -10,7 +10,7 @@ use crate::FollowFault;
 use crate::coding::{BodyFraming, body_framing};
 use httparse::{EMPTY_HEADER, Error, Header, Response, Status};
 
-/// The most bytes of a head, with the empty lines in front.
+/// The most bytes of a head, with the empty lines before.
 pub const HEAD_BYTES: usize = 8192;
 
 /// The most lines of a head: a start line, the fields, and the empty line.

@@ -1,11 +1,11 @@
 //! Laws of the definitions.
 ghost use Rattle.feed_follow.specs.Laws.{StandsOnce};
-ghost use Rattle.feed_follow.specs.ChunkLaws.{ReadsAreFronts, FrontsAreRead, BodiesAreRead, OthersAreRefused, ReadsOnce};
+ghost use Rattle.feed_follow.specs.ChunkLaws.{ReadsArePrefixes, PrefixesAreRead, BodiesAreRead, OthersAreRefused, ReadsOnce};
 
 /// Chunked bodies are read byte by byte exactly.
 pub fn chunk_laws()
-    ensures fronts { ReadsAreFronts }
-    ensures read { FrontsAreRead }
+    ensures prefixes { ReadsArePrefixes }
+    ensures read { PrefixesAreRead }
     ensures whole { BodiesAreRead }
     ensures refused { OthersAreRefused }
     ensures once { ReadsOnce }

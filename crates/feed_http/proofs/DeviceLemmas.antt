@@ -8,18 +8,18 @@ use Rattle.std.specs.Io.KnownBytes.{Consumes, Keeps}
 use Rattle.std.proofs.KnownBytes.{Consumes-trans}
 use Rattle.feed_http.specs.Device.{counted, RoseBy, Moved, MovedSome}
 
--- what was copied is the front of what was left
-pub given_front : (left copied tail : List ℕ) (n : ℕ) → copied ≡ take n left → n ≤ length left
+-- what was copied is the prefix of what was left
+pub given_prefix : (left copied tail : List ℕ) (n : ℕ) → copied ≡ take n left → n ≤ length left
     → left ≡ take n (copied ++ tail) ++ drop n left
-given_front left copied tail n e fits =
+given_prefix left copied tail n e fits =
     let len : length copied ≡ n = ap length e ∙ length-take-le n left fits in
     let whole : take n (copied ++ tail) ≡ copied = ap (λ k. take k (copied ++ tail)) (sym len) ∙ take-append_seam copied tail in
     sym (take-append-drop n left) ∙ ap (λ l. l ++ drop n left) (sym e ∙ sym whole)
 
--- the front of the rest joins what is done
-pub moves_front : (all done rest : List ℕ) (n : ℕ) → all ≡ done ++ rest
+-- the prefix of the rest joins what is done
+pub moves_prefix : (all done rest : List ℕ) (n : ℕ) → all ≡ done ++ rest
     → all ≡ (done ++ take n rest) ++ take (length rest - n) (drop n rest)
-moves_front all done rest n e =
+moves_prefix all done rest n e =
     e ∙ ap (λ l. done ++ l) (sym (take-append-drop n rest)) ∙ sym (append_assoc done (take n rest) (drop n rest))
     ∙ ap (λ l. (done ++ take n rest) ++ l) (sym (take_rest rest n))
 

@@ -210,15 +210,15 @@ cut_short turn start opened earlier now token framing old middle new run wrote w
 )
 
 -- the end was cut short
-pub end_cut_short : (turn : ℕ) (start : Intake) (opened : List ℕ) (sent : List Commit) (now : Intake) (token : List ℕ) (framing : Framing) (gone : Bool) (front rest : List ℕ)
+pub end_cut_short : (turn : ℕ) (start : Intake) (opened : List ℕ) (sent : List Commit) (now : Intake) (token : List ℕ) (framing : Framing) (gone : Bool) (prefix rest : List ℕ)
     → HasSent turn start opened sent now token → IsOver now token gone
-    → farewell framing gone ++ frame_end framing ≡ front ++ rest
-    → IsCutShort turn start opened framing now (commit_frames framing sent ++ front)
-end_cut_short turn start opened sent now token framing gone front rest run over split = record {
+    → farewell framing gone ++ frame_end framing ≡ prefix ++ rest
+    → IsCutShort turn start opened framing now (commit_frames framing sent ++ prefix)
+end_cut_short turn start opened sent now token framing gone prefix rest run over split = record {
   sent = sent;
   token = token;
   has_sent = run;
-  begun = front;
+  begun = prefix;
   begins = inr (gone, rest, over, split);
   text_is = refl;
 }

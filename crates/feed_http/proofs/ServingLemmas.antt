@@ -19,7 +19,7 @@ use Rattle.feed_http.specs.Sessions.{Next, Nothing_new, Lost, Commit_after, next
 use Rattle.feed_node.specs.declared.session.Pulled.{Pulled}
 use Rattle.feed_node.specs.declared.session.Pulled.TheVariants.{More, UpToDate, Gone}
 use Rattle.feed_answer.specs.declared.framing.Framing.{Framing}
-use Rattle.feed_http.specs.Device.{AppendsFront, counted}
+use Rattle.feed_http.specs.Device.{AppendsPrefix, counted}
 use Rattle.feed_answer.specs.Framed.{frame, frame_end}
 use Rattle.feed_answer.specs.Served.{behind_opening, farewell}
 use Rattle.feed_answer.specs.Answered.{parts_of}
@@ -162,7 +162,7 @@ pub frames-append : (framing : Framing) (xs ys : List Commit)
     → commit_frames framing (xs ++ ys) ≡ commit_frames framing xs ++ commit_frames framing ys
 frames-append framing xs ys = ap (flat_map (frame framing)) (map-append commit_text xs ys) ∙ flat_map-append (frame framing) (map commit_text xs) (map commit_text ys)
 
--- what a run wrote is a front of all that is written, if what came last is a front of what comes next
+-- what a run wrote is a prefix of all that is written, if what came last is a prefix of what comes next
 pub wrote_some : (node : NodeState) (start to : List ℕ) (sent : List Commit) (framing : Framing) (old new : Option (List ℕ)) (begun behind : List ℕ) (rest : Runs node to)
     → Sent node start sent to → Appends old new (commit_frames framing sent ++ begun)
     → behind_opening framing (map commit_text rest.sent) rest.gone ≡ begun ++ behind
@@ -171,7 +171,7 @@ wrote_some node start to sent framing old new begun behind rest run wrote goes =
   sent = sent ++ rest.sent;
   gone = rest.gone;
   sends = sends_behind node start to sent rest.sent rest.gone run rest.sends_them;
-  front = (
+  prefix = (
     commit_frames framing sent ++ begun,
     behind,
     ap (λ t. t ++ (farewell framing rest.gone ++ frame_end framing)) (frames-append framing sent rest.sent)
@@ -222,22 +222,22 @@ wrote_these node start to sent framing old new run wrote = record {
   wrote = subst (Appends old new) (sym (append-nil (commit_frames framing sent))) wrote;
 }
 
--- a front of the next commit was written
+-- a prefix of the next commit was written
 pub wrote_into : (node : NodeState) (start to : List ℕ) (sent : List Commit) (commit : Commit) (framing : Framing) (old middle new : Option (List ℕ))
     → Sent node start sent to → next node to ≡ Commit_after commit
     → Appends old middle (commit_frames framing sent)
-    → AppendsFront middle new (frame framing (commit_text commit))
+    → AppendsPrefix middle new (frame framing (commit_text commit))
     → WroteCommits node start framing old new
-wrote_into node start to sent commit framing old middle new run e wrote (front, more, split, front_wrote) = record {
+wrote_into node start to sent commit framing old middle new run e wrote (prefix, more, split, prefix_wrote) = record {
   sent = sent;
   token = to;
   run = run;
-  begun = front;
+  begun = prefix;
   begins = inr (commit, more, e, split);
-  wrote = Appends-trans old middle new (commit_frames framing sent) front wrote front_wrote;
+  wrote = Appends-trans old middle new (commit_frames framing sent) prefix wrote prefix_wrote;
 }
 
--- what was written is a front of all that is written
+-- what was written is a prefix of all that is written
 pub wrote_part : (node : NodeState) (start : List ℕ) (framing : Framing) (old new : Option (List ℕ))
     → IsConsistent node → WroteCommits node start framing old new → WroteSome node start framing old new
 wrote_part node start framing old new consistent w = by w.begins
@@ -266,20 +266,20 @@ wrote_one sent commit framing old middle new wrote more =
 
 -- ---- what a session ends with, and what stands before it
 
--- all commits were sent, and a front of the end was written
+-- all commits were sent, and a prefix of the end was written
 pub wrote_to_end : (node : NodeState) (start : List ℕ) (sent : List Commit) (gone : Bool) (framing : Framing) (old middle new : Option (List ℕ))
     → Sends node start sent gone → Appends old middle (commit_frames framing sent)
-    → AppendsFront middle new (farewell framing gone ++ frame_end framing)
+    → AppendsPrefix middle new (farewell framing gone ++ frame_end framing)
     → WroteSome node start framing old new
-wrote_to_end node start sent gone framing old middle new s wrote (front, more, split, front_wrote) = record {
+wrote_to_end node start sent gone framing old middle new s wrote (prefix, more, split, prefix_wrote) = record {
   sent = sent;
   gone = gone;
   sends = s;
-  front = (
-    commit_frames framing sent ++ front,
+  prefix = (
+    commit_frames framing sent ++ prefix,
     more,
-    ap (λ t. commit_frames framing sent ++ t) split ∙ sym (append_assoc (commit_frames framing sent) front more),
-    Appends-trans old middle new (commit_frames framing sent) front wrote front_wrote,
+    ap (λ t. commit_frames framing sent ++ t) split ∙ sym (append_assoc (commit_frames framing sent) prefix more),
+    Appends-trans old middle new (commit_frames framing sent) prefix wrote prefix_wrote,
   );
 }
 
@@ -291,32 +291,32 @@ pub sends_none : (node : NodeState) (status : ℕ) (framing : Framing) (text : L
     → SendsAnswer node (parts_of status framing text None) text (record { status = status; commits = 0; gone = false })
 sends_none node status framing text = record { sent = []; gone = false; sends = (refl, refl); text_is = sym (append-nil text); tells = record { status = refl; commits = refl; gone_is = refl } }
 
--- a front of the answer was written
+-- a prefix of the answer was written
 pub wrote_answer : (node : NodeState) (status : ℕ) (framing : Framing) (text : List ℕ) (session : Option (List ℕ)) (old new : Option (List ℕ))
     → IfSome session (λ _. IsConsistent node)
-    → AppendsFront old new text → WroteAnswer node (parts_of status framing text session) old new
-wrote_answer node status framing text None old new consistent front =
-    (text, served_of status [] false, sends_none node status framing text, front)
-wrote_answer node status framing text (Some token) old new consistent (front, more, split, wrote) =
+    → AppendsPrefix old new text → WroteAnswer node (parts_of status framing text session) old new
+wrote_answer node status framing text None old new consistent prefix =
+    (text, served_of status [] false, sends_none node status framing text, prefix)
+wrote_answer node status framing text (Some token) old new consistent (prefix, more, split, wrote) =
     let rest = runs node token consistent in
     let behind = behind_opening framing (map commit_text rest.sent) rest.gone in (
       text ++ behind,
       served_of status rest.sent rest.gone,
       record { sent = rest.sent; gone = rest.gone; sends = rest.sends_them; text_is = refl; tells = record { status = refl; commits = refl; gone_is = refl } },
-      (front, more ++ behind, ap (λ t. t ++ behind) split ∙ append_assoc front more behind, wrote),
+      (prefix, more ++ behind, ap (λ t. t ++ behind) split ∙ append_assoc prefix more behind, wrote),
     )
 
--- the answer and a front of what the session is sent
+-- the answer and a prefix of what the session is sent
 pub wrote_session : (node : NodeState) (status : ℕ) (framing : Framing) (text token : List ℕ) (old middle new : Option (List ℕ))
     → Appends old middle text → WroteSome node token framing middle new
     → WroteAnswer node (parts_of status framing text (Some token)) old new
 wrote_session node status framing text token old middle new wrote w =
-    let (front, more, split, front_wrote) = w.front in
+    let (prefix, more, split, prefix_wrote) = w.prefix in
     let behind = behind_opening framing (map commit_text w.sent) w.gone in (
       text ++ behind,
       served_of status w.sent w.gone,
       record { sent = w.sent; gone = w.gone; sends = w.sends; text_is = refl; tells = record { status = refl; commits = refl; gone_is = refl } },
-      (text ++ front, more, ap (λ t. text ++ t) split ∙ sym (append_assoc text front more), Appends-trans old middle new text front wrote front_wrote),
+      (text ++ prefix, more, ap (λ t. text ++ t) split ∙ sym (append_assoc text prefix more), Appends-trans old middle new text prefix wrote prefix_wrote),
     )
 
 -- the answer and all that the session is sent

@@ -23,10 +23,10 @@ RoseBy old new calls = (new ≡ old + calls) ⊎ (new ≡ 2 ^ 64 - 1)
 abbrev pub RoseAtMost : ℕ → ℕ → ℕ → Type 0
 RoseAtMost old new most = (calls : ℕ) × (calls ≤ most) × RoseBy old new calls
 
--- some front of the text was appended to the known bytes
-abbrev pub AppendsFront : Option (List ℕ) → Option (List ℕ) → List ℕ → Type 0
-AppendsFront old new text =
-    (front : List ℕ) × (rest : List ℕ) × (text ≡ front ++ rest) × Appends old new front
+-- some prefix of the text was appended to the known bytes
+abbrev pub AppendsPrefix : Option (List ℕ) → Option (List ℕ) → List ℕ → Type 0
+AppendsPrefix old new text =
+    (prefix : List ℕ) × (rest : List ℕ) × (text ≡ prefix ++ rest) × Appends old new prefix
 
 -- the bytes that a device lost were appended to these bytes
 abbrev pub Moved : Option (List ℕ) → Option (List ℕ) → List ℕ → List ℕ → Type 0

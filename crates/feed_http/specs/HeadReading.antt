@@ -25,5 +25,5 @@ IsEnough bytes =
 -- the bytes are what reads gave, each of which was still needed and asked for no more than it may
 pub data IsReadAsNeeded : List ℕ → Type 0 where
   none_read : IsReadAsNeeded []
-  more_read : (front last : List ℕ) → IsReadAsNeeded front → IsStillNeeded front
-      → length last ≤ most_after (length front) → IsReadAsNeeded (front ++ last)
+  more_read : (prefix last : List ℕ) → IsReadAsNeeded prefix → IsStillNeeded prefix
+      → length last ≤ most_after (length prefix) → IsReadAsNeeded (prefix ++ last)

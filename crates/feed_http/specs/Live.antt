@@ -13,7 +13,7 @@ use Rattle.feed_answer.specs.Served.{farewell}
 use Rattle.feed_http.specs.declared.fault.EngineFault.{EngineFault}
 use Rattle.feed_http.specs.declared.fault.EngineFault.TheVariants as fault
 use Rattle.feed_http.specs.declared.fault.Served.{Served}
-use Rattle.feed_http.specs.Device.{AppendsFront, HasFailed, RoseBy, RoseAtMost}
+use Rattle.feed_http.specs.Device.{AppendsPrefix, HasFailed, RoseBy, RoseAtMost}
 use Rattle.feed_http.specs.Exchange.{Exchange}
 use Rattle.feed_http.specs.HeadReading.{IsReadAsNeeded, IsEnough}
 use Rattle.feed_http.specs.Sessions.{Nothing_new, Commit_after, next}
@@ -91,14 +91,14 @@ pub record SendsLive (turn : ℕ) (start : Intake) (answer : AnswerParts) (text 
 
 -- ---- where it broke off
 
--- nothing, or a front of what comes next: the frame of a commit, or the end
+-- nothing, or a prefix of what comes next: the frame of a commit, or the end
 abbrev pub BeginsNext : Framing → Intake → List ℕ → List ℕ → Type 0
 BeginsNext framing now token begun =
     BeginsCommit framing now.primary.node token begun
     ⊎ ((gone : Bool) × (rest : List ℕ) × IsOver now token gone
     × (farewell framing gone ++ frame_end framing ≡ begun ++ rest))
 
--- the text is the frames of the commits that a session was sent, and a front of what comes next
+-- the text is the frames of the commits that a session was sent, and a prefix of what comes next
 pub record IsCutShort (turn : ℕ) (start : Intake) (opened : List ℕ) (framing : Framing) (now : Intake) (text : List ℕ) : Type 0 where
   pub sent : List Commit
   pub token : List ℕ
@@ -118,11 +118,11 @@ pub record IsRefused (turn : ℕ) (start : Intake) (opened : List ℕ) (framing 
   pub refuses : RefusesInTurn turn before fault now
   pub text_is : text ≡ commit_frames framing sent
 
--- a front of the answer was written, and no batch taken; or the whole answer, and a part of what
+-- a prefix of the answer was written, and no batch taken; or the whole answer, and a part of what
 -- its session is sent
 abbrev pub WroteLive : ℕ → Intake → AnswerParts → Intake → Option (List ℕ) → Option (List ℕ) → Type 0
 WroteLive turn start answer now old new =
-    (AppendsFront old new answer.text × (now ≡ start))
+    (AppendsPrefix old new answer.text × (now ≡ start))
     ⊎ ((opened : List ℕ) × (text : List ℕ) × (answer.session ≡ Some opened)
     × IsCutShort turn start opened answer.framing now text × Appends old new (answer.text ++ text))
 

@@ -7,7 +7,7 @@ use Rattle.feed_http.specs.Sessions.{Commit_after, next}
 use Rattle.feed_http.specs.declared.fault.Served.{Served}
 use Rattle.feed_answer.specs.declared.framing.Framing.{Framing}
 use Rattle.feed_answer.specs.Answered.{AnswerParts}
-use Rattle.feed_http.specs.Device.{AppendsFront}
+use Rattle.feed_http.specs.Device.{AppendsPrefix}
 use Rattle.feed_answer.specs.Served.{behind_opening}
 use Rattle.feed_http.specs.Serving.{Sends, commit_text, commit_frames, BeginsCommit, SendsAnswer}
 
@@ -18,7 +18,7 @@ pub data Sent (node : NodeState) : List ℕ → List Commit → List ℕ → Typ
       → Sent node start earlier token → next node token ≡ Commit_after commit
       → Sent node start (earlier ++ commit ∷ []) commit.token
 
--- the frames of the commits that a session was sent were written, and a front of the next one's
+-- the frames of the commits that a session was sent were written, and a prefix of the next one's
 pub record WroteCommits (node : NodeState) (start : List ℕ) (framing : Framing) (old new : Option (List ℕ)) : Type 0 where
   pub sent : List Commit
   pub token : List ℕ
@@ -27,15 +27,15 @@ pub record WroteCommits (node : NodeState) (start : List ℕ) (framing : Framing
   pub begins : BeginsCommit framing node token begun
   pub wrote : Appends old new (commit_frames framing sent ++ begun)
 
--- a front was written of what a session at this token is sent
+-- a prefix was written of what a session at this token is sent
 pub record WroteSome (node : NodeState) (token : List ℕ) (framing : Framing) (old new : Option (List ℕ)) : Type 0 where
   pub sent : List Commit
   pub gone : Bool
   pub sends : Sends node token sent gone
-  pub front : AppendsFront old new (behind_opening framing (map commit_text sent) gone)
+  pub prefix : AppendsPrefix old new (behind_opening framing (map commit_text sent) gone)
 
--- a front was written of all that a node writes with this answer
+-- a prefix was written of all that a node writes with this answer
 abbrev pub WroteAnswer : NodeState → AnswerParts → Option (List ℕ) → Option (List ℕ) → Type 0
 WroteAnswer node answer old new =
     (text : List ℕ) × (served : Served) × SendsAnswer node answer text served
-    × AppendsFront old new text
+    × AppendsPrefix old new text

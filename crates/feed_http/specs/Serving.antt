@@ -11,7 +11,7 @@ use Rattle.feed_http.specs.declared.fault.EngineFault.TheVariants as fault
 use Rattle.feed_http.specs.declared.fault.Served.{Served}
 use Rattle.feed_answer.specs.declared.framing.Framing.{Framing}
 use Rattle.feed_answer.specs.Answered.{AnswerParts, AnswersTo}
-use Rattle.feed_http.specs.Device.{counted, AppendsFront, HasFailed, RoseBy, RoseAtMost}
+use Rattle.feed_http.specs.Device.{counted, AppendsPrefix, HasFailed, RoseBy, RoseAtMost}
 use Rattle.feed_http.specs.Exchange.{Exchange}
 use Rattle.feed_http.specs.HeadReading.{IsReadAsNeeded, IsStillNeeded, IsEnough}
 use Rattle.feed_answer.specs.Framed.{frame}
@@ -40,7 +40,7 @@ HasAll node token true = next node token ≡ Lost
 abbrev pub commit_frames : Framing → List Commit → List ℕ
 commit_frames framing sent = flat_map (frame framing) (map commit_text sent)
 
--- nothing, or a front of the frame of the commit that comes next
+-- nothing, or a prefix of the frame of the commit that comes next
 abbrev pub BeginsCommit : Framing → NodeState → List ℕ → List ℕ → Type 0
 BeginsCommit framing node token begun =
     (begun ≡ [])
@@ -88,13 +88,13 @@ abbrev pub BrokeInHead : Option (List ℕ) → Option (List ℕ) → Option (Lis
 BrokeInHead source left old new =
     (head : List ℕ) × Consumes source left head × IsReadAsNeeded head × IsStillNeeded head × Appends old new []
 
--- these bytes were read, as far as the head took, and a front of what a node writes to a client
+-- these bytes were read, as far as the head took, and a prefix of what a node writes to a client
 -- that sent them was written
 abbrev pub BrokeBehindHead : List ℕ → NodeState → Framing → ℕ → Option (List ℕ)
     → Option (List ℕ) → Option (List ℕ) → Option (List ℕ) → Type 0
 BrokeBehindHead contest node framing back source left old new =
     (head : List ℕ) × (text : List ℕ) × (served : Served) × Consumes source left head × IsReadAsNeeded head × (IsEnough head ⊎ IsAtEnd left)
-    × Serves head contest node framing back text served × AppendsFront old new text
+    × Serves head contest node framing back text served × AppendsPrefix old new text
 
 -- ---- on a connection
 

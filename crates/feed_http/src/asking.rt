@@ -2,7 +2,7 @@
 ghost use Rattle.std.specs.Prelude.{◌≡◌, ◌⊎◌, OnOk, OnErr, IfOk, IfErr, IsErrOf};
 ghost use Rattle.std.specs.Io.KnownBytes.{Appends};
 ghost use Rattle.feed_http.specs.declared.fault.EngineFault.{EngineFault as Fault};
-ghost use Rattle.feed_http.specs.Device.{HasFailed, AppendsFront};
+ghost use Rattle.feed_http.specs.Device.{HasFailed, AppendsPrefix};
 ghost use Rattle.feed_answer.specs.RequestText as texts;
 
 use crate::device::FeedWrite;
@@ -13,7 +13,7 @@ use feed_node::Mirror;
 use std::alloc::{AllocError, Global};
 
 /// Writes the request to a place for what a mirror lacks: what came after its token, or all. Where
-/// it fails, a front of the request was written.
+/// it fails, a prefix of the request was written.
 pub fn ask<W: FeedWrite>(
     alloc: Global,
     writer: &mut W,
@@ -22,7 +22,7 @@ pub fn ask<W: FeedWrite>(
 ) -> Result<(), EngineFault>
     ensures ok { OnOk result (Appends (W.contents writer.old) (W.contents writer.new)
         (texts.request_text place.now mirror.now.since)) }
-    ensures front { OnErr result (AppendsFront (W.contents writer.old) (W.contents writer.new)
+    ensures prefix { OnErr result (AppendsPrefix (W.contents writer.old) (W.contents writer.new)
         (texts.request_text place.now mirror.now.since)) }
     ensures faults { IfErr result (λ fault. (fault ≡ Fault.Write) ⊎ (fault ≡ Fault.Memory)) }
     ensures write { IsErrOf result Fault.Write → HasFailed (W.failures writer.old)

@@ -21,7 +21,7 @@ use feed_tables::Change;
 use std::alloc::Global;
 use std::collections::VecDeque;
 
-/// Commits so many batches from the front of the input, or all that remain. A refused batch is
+/// Commits so many batches from the start of the input, or all that remain. A refused batch is
 /// taken, too, and ends the turn.
 fn take_turn(
     alloc: Global,
@@ -154,7 +154,7 @@ fn send_live_answer<W: FeedWrite>(
 
 /// Serves a connection as [`serve_node`](crate::serve_node) does, from a primary that takes
 /// batches meanwhile: each time that the session is up to date and `input` isn't empty, `turn`
-/// batches from its front, or all that remain, are committed, one after another, and sending goes
+/// batches from its start, or all that remain, are committed, one after another, and sending goes
 /// on. Without a 200 none is taken. Where a turn has more batches than the primary keeps commits,
 /// the session's token is lost: its frames aren't sent, and the body ends without a line feed. A
 /// refused batch is taken from `input` and ends the call. What was written, what is published and

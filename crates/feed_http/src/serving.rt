@@ -4,7 +4,7 @@ ghost use Rattle.std.specs.Io.KnownBytes.{Appends};
 ghost use Rattle.feed_node.specs.declared.commit.Commit.{Commit};
 ghost use Rattle.feed_node.specs.States.{IsConsistent};
 ghost use Rattle.feed_http.specs.declared.fault.EngineFault.{EngineFault as Fault};
-ghost use Rattle.feed_http.specs.Device.{HasFailed, AppendsFront, counted};
+ghost use Rattle.feed_http.specs.Device.{HasFailed, AppendsPrefix, counted};
 ghost use Rattle.feed_answer.specs.Framed as framed;
 ghost use Rattle.feed_answer.specs.Served.{behind_opening, farewell};
 ghost use Rattle.feed_answer.specs.Answered.{parts_of};
@@ -23,7 +23,7 @@ use std::alloc::{AllocError, Global};
 /// Writes bytes.
 pub(crate) fn write_bytes<W: FeedWrite>(writer: &mut W, bytes: &[u8]) -> Result<(), EngineFault>
     ensures ok { OnOk result (Appends (W.contents writer.old) (W.contents writer.new) bytes.now) }
-    ensures front { OnErr result (AppendsFront (W.contents writer.old)
+    ensures prefix { OnErr result (AppendsPrefix (W.contents writer.old)
         (W.contents writer.new) bytes.now) }
     ensures faults { IfErr result (λ fault. fault ≡ Fault.Write) }
     ensures write { IsErrOf result Fault.Write → HasFailed (W.failures writer.old)
@@ -45,7 +45,7 @@ fn write_framed<W: FeedWrite>(
 ) -> Result<(), EngineFault>
     ensures ok { OnOk result (Appends (W.contents writer.old) (W.contents writer.new)
         (framed.frame framing text.now)) }
-    ensures front { OnErr result (AppendsFront (W.contents writer.old) (W.contents writer.new)
+    ensures prefix { OnErr result (AppendsPrefix (W.contents writer.old) (W.contents writer.new)
         (framed.frame framing text.now)) }
     ensures faults { IfErr result (λ fault. (fault ≡ Fault.Write) ⊎ (fault ≡ Fault.Memory)) }
     ensures write { IsErrOf result Fault.Write → HasFailed (W.failures writer.old)
@@ -107,7 +107,7 @@ pub(crate) fn send_farewell<W: FeedWrite>(
 ) -> Result<(), EngineFault>
     ensures ok { OnOk result (Appends (W.contents writer.old) (W.contents writer.new)
         (farewell framing gone ++ framed.frame_end framing)) }
-    ensures front { OnErr result (AppendsFront (W.contents writer.old) (W.contents writer.new)
+    ensures prefix { OnErr result (AppendsPrefix (W.contents writer.old) (W.contents writer.new)
         (farewell framing gone ++ framed.frame_end framing)) }
     ensures faults { IfErr result (λ fault. (fault ≡ Fault.Write) ⊎ (fault ≡ Fault.Memory)) }
     ensures write { IsErrOf result Fault.Write → HasFailed (W.failures writer.old)
@@ -149,7 +149,7 @@ fn send_session<W: FeedWrite>(
         × Sends node.now.shown session sent told.1 × (told.0 ≡ counted 0 (length sent))
         × Appends (W.contents writer.old) (W.contents writer.new)
         (behind_opening framing (map commit_text sent) told.1)) }
-    ensures front { OnErr result (WroteSome node.now.shown session framing (W.contents writer.old)
+    ensures prefix { OnErr result (WroteSome node.now.shown session framing (W.contents writer.old)
         (W.contents writer.new)) }
     ensures faults { IfErr result (λ fault. (fault ≡ Fault.Write) ⊎ (fault ≡ Fault.Memory)) }
     ensures write { IsErrOf result Fault.Write → HasFailed (W.failures writer.old)
@@ -173,7 +173,7 @@ fn send_answer<W: FeedWrite>(
         × SendsAnswer node.now.shown (parts_of answered.status answered.framing
         answered.bytes.items answered.session) text served
         × Appends (W.contents writer.old) (W.contents writer.new) text) }
-    ensures front { OnErr result (WroteAnswer node.now.shown
+    ensures prefix { OnErr result (WroteAnswer node.now.shown
         (parts_of answered.status answered.framing answered.bytes.items answered.session)
         (W.contents writer.old) (W.contents writer.new)) }
     ensures faults { IfErr result (λ fault. (fault ≡ Fault.Write) ⊎ (fault ≡ Fault.Memory)) }
@@ -207,7 +207,7 @@ fn send_answer<W: FeedWrite>(
 /// frame unless the node lost the token, and the end of the body. It reads no further than the
 /// head takes. With a token the session begins so many tokens (`back`) before it, or at the oldest
 /// one that is held. Where a read fails or is one too many, the head was still needed and nothing
-/// was written; where a write fails, a front of the text was.
+/// was written; where a write fails, a prefix of the text was.
 pub fn serve_node<R: FeedRead, W: FeedWrite>(
     alloc: Global,
     reader: &mut R,

@@ -24,13 +24,13 @@ use Rattle.feed_hub.specs.Files.{RestoresInLog, FilesRestore, FilesReach}
 -- ---- bytes of which each prefix shows a state of the log
 
 module _ (one : ReadingIsOne) (limits : Limits) (log : Log) (bytes : List ℕ)
-    (shown : (front behind : List ℕ) → front ++ behind ≡ bytes → ShowsState limits log None true front) where
-  reads_in_log : (front behind : List ℕ) (notes : List Line) → front ++ behind ≡ bytes
-      → Reads limits first_opening front notes
+    (shown : (prefix behind : List ℕ) → prefix ++ behind ≡ bytes → ShowsState limits log None true prefix) where
+  reads_in_log : (prefix behind : List ℕ) (notes : List Line) → prefix ++ behind ≡ bytes
+      → Reads limits first_opening prefix notes
       → IsInLog limits log (keep_latest limits.history (reads limits.history first_opening notes))
-  reads_in_log front behind notes whole good =
-      let s = shown front behind whole in
-      let same : s.notes ≡ notes = one.notes limits first_opening front s.notes notes s.nothing_bad good in
+  reads_in_log prefix behind notes whole good =
+      let s = shown prefix behind whole in
+      let same : s.notes ≡ notes = one.notes limits first_opening prefix s.notes notes s.nothing_bad good in
       (s.at, s.is_place, ap (λ ns. keep_latest limits.history (reads limits.history first_opening ns)) (sym same) ∙ s.shows)
 
   fed_in_log : (notes : List Line) (mirror : MirrorState) → mirror.limits ≡ limits
@@ -111,12 +111,12 @@ module _ (limits : Limits) (log : Log) (nodes : List NodeState) (written : List 
   its_bytes : written ++ r.own ≡ opened_text log true begun.0 ++ joined recorded.texts
   its_bytes = recorded.all ∙ ap (λ p. snapshot_text p.tables p.token ++ joined recorded.texts) begun.2
 
-  pub record_shows : ScreensShowStates → (front behind : List ℕ) → front ++ behind ≡ written
-      → ShowsState limits log None true front
-  record_shows shows front behind whole =
-      shows limits log nodes begun.0 recorded.texts r.token None true front (behind ++ r.own) is_log in_log begun.1 its_told tt
+  pub record_shows : ScreensShowStates → (prefix behind : List ℕ) → prefix ++ behind ≡ written
+      → ShowsState limits log None true prefix
+  record_shows shows prefix behind whole =
+      shows limits log nodes begun.0 recorded.texts r.token None true prefix (behind ++ r.own) is_log in_log begun.1 its_told tt
       (λ e. let no : true ≡ false = e in absurd (cc))
-      (sym (append_assoc front behind r.own) ∙ ap (λ w. w ++ r.own) whole ∙ its_bytes)
+      (sym (append_assoc prefix behind r.own) ∙ ap (λ w. w ++ r.own) whole ∙ its_bytes)
 
   pub record_reaches : ScreensReach → r.own ≡ [] → ReachesState limits log None true r.token written
   record_reaches reach none =
@@ -126,8 +126,8 @@ module _ (limits : Limits) (log : Log) (nodes : List NodeState) (written : List 
       (reach limits log nodes begun.0 recorded.texts r.token None true is_log in_log begun.1 its_told tt (λ e. let no : true ≡ false = e in absurd (cc)))
 
 pub files_restore : ReadingIsOne → ScreensShowStates → FilesRestore
-files_restore one shows limits log nodes written front behind r is_log in_log recorded whole =
-    restores_in_log one limits log front
+files_restore one shows limits log nodes written prefix behind r is_log in_log recorded whole =
+    restores_in_log one limits log prefix
     (λ first rest e. record_shows limits log nodes written r is_log in_log recorded shows first (rest ++ behind)
     (sym (append_assoc first rest behind) ∙ ap (λ f. f ++ behind) e ∙ whole))
 

@@ -44,8 +44,8 @@ use Rattle.feed_hub.proofs.LawLemmas.{connection, its_text, is_opened}
 use Rattle.feed_hub.proofs.OpeningLemmas.{due_is_response}
 
 -- a prefix of bytes is one of them and more
-front_of : (bytes rest : List ℕ) (n : ℕ) → take n bytes ≡ take (min n (length bytes)) (bytes ++ rest)
-front_of bytes rest n =
+prefix_of : (bytes rest : List ℕ) (n : ℕ) → take n bytes ≡ take (min n (length bytes)) (bytes ++ rest)
+prefix_of bytes rest n =
     let few : min n (length bytes) ≤ length bytes = omega arith in
     sym (take_min n bytes) ∙ sym (take-append-le (min n (length bytes)) bytes rest few)
 
@@ -121,7 +121,7 @@ module _ (refusals : RefusalsAreFollowed) (keep : RefusalsKeepNodes) (limits : L
     (answer : AnswerParts) (refusal : Refusal) (is : answer ≡ refusing refusal) (handed rest : List ℕ)
     (whole : handed ++ rest ≡ refusal_text refusal) (in_log : IsInLog limits log begun.node) where
   cut_of : (n : ℕ) → take n handed ≡ take (min n (length handed)) (refusal_text refusal)
-  cut_of n = front_of handed rest n ∙ ap (take (min n (length handed))) whole
+  cut_of n = prefix_of handed rest n ∙ ap (take (min n (length handed))) whole
 
   refusal_stands : (n : ℕ) → (s : Standing) × StandsOnly (is_some begun.since) (take n handed) s
   refusal_stands n = (
@@ -193,7 +193,7 @@ module _ (places : PlacesStay) (follow : MirrorsFollow) (keep : FailsKeepStates)
     (carry : (had : Bool) → CarryFeed had (sent_text log c) due)
     (in_log : IsInLog limits log begun.node) where
   due_of : (n : ℕ) → take n handed ≡ take (min n (length handed)) due
-  due_of n = front_of handed rest n ∙ ap (take (min n (length handed))) whole
+  due_of n = prefix_of handed rest n ∙ ap (take (min n (length handed))) whole
 
   brought_in : (n : ℕ) (mirror : MirrorState) → IsBroughtBy limits log place c n mirror → IsInLog limits log mirror.node
   brought_in n mirror b = (brought_by limits log place c n, (places limits log place c n opened).0, b.node)

@@ -15,7 +15,7 @@ use Rattle.feed_world.specs.States.{HasReached}
 use Rattle.feed_node.specs.Limits.{Limits}
 use Rattle.feed_world.specs.Log.{Log, state_text, changes_of_commit}
 use Rattle.feed_world.specs.Position.{Position, IsPlace, node_where}
-use Rattle.feed_world.specs.Reading.{FrontsAreRead, IsOpened}
+use Rattle.feed_world.specs.Reading.{PrefixesAreRead, IsOpened}
 use Rattle.feed_hub.specs.Told.{Told, told_none, told_commit, told_line_feed}
 use Rattle.feed_hub.specs.Laws.{StandInOrder, ScreensAreConnections, ShowsState, ScreensShowStates, ScreensReach, StandsWell, ScreensAreFollowed}
 use Rattle.feed_answer.specs.declared.framing.Framing.{Framing}
@@ -95,40 +95,40 @@ module _ (limits : Limits) (log : Log) (k : ℕ) (texts : List (List ℕ)) (toke
   pub is_opened : IsOpened limits log place (connection log k texts token fresh s)
   is_opened = record { mirror = is_place; start = start; order = record { more = s.parts; parts = refl; go_on = s.go_on }; sent = s.in_log }
 
-pub screens_show : NodesSendTheNext → PartsGoOn → FrontsAreRead → PlacesStay → ScreensShowStates
-screens_show sends order read stays limits log nodes k texts token place fresh front behind is_log in_log small told is_place start whole =
+pub screens_show : NodesSendTheNext → PartsGoOn → PrefixesAreRead → PlacesStay → ScreensShowStates
+screens_show sends order read stays limits log nodes k texts token place fresh prefix behind is_log in_log small told is_place start whole =
     let s = screens_connect sends order limits log nodes k texts token is_log in_log small told in
     let c = connection log k texts token fresh s in
     let opened = is_opened limits log k texts token place fresh s is_place start in
-    let r = read limits log place c front behind is_log opened (whole ∙ sym (its_text limits log k texts token place fresh s is_place start)) in
+    let r = read limits log place c prefix behind is_log opened (whole ∙ sym (its_text limits log k texts token place fresh s is_place start)) in
     record {
       notes = r.notes;
       nothing_bad = r.nothing_bad;
-      at = moved_by limits.history place (blocks_within log c.parts (length front));
-      is_place = (stays limits log place c (length front) opened).0;
+      at = moved_by limits.history place (blocks_within log c.parts (length prefix));
+      is_place = (stays limits log place c (length prefix) opened).0;
       shows = r.shows;
     }
 
-pub screens_reach : NodesSendTheNext → PartsGoOn → FrontsAreRead → PlacesStay → AllIsReached → ScreensReach
+pub screens_reach : NodesSendTheNext → PartsGoOn → PrefixesAreRead → PlacesStay → AllIsReached → ScreensReach
 screens_reach sends order read stays all limits log nodes k texts token place fresh is_log in_log small told is_place start =
     let s = screens_connect sends order limits log nodes k texts token is_log in_log small told in
     let c = connection log k texts token fresh s in
     let opened = is_opened limits log k texts token place fresh s is_place start in
     let text = its_text limits log k texts token place fresh s is_place start in
-    let front = opened_text log fresh k ++ joined texts in
-    let r = read limits log place c front [] is_log opened (append-nil front ∙ sym text) in
+    let prefix = opened_text log fresh k ++ joined texts in
+    let r = read limits log place c prefix [] is_log opened (append-nil prefix ∙ sym text) in
     record {
       notes = r.notes;
       nothing_bad = r.nothing_bad;
-      at = moved_by limits.history place (blocks_within log c.parts (length front));
-      is_place = (stays limits log place c (length front) opened).0;
+      at = moved_by limits.history place (blocks_within log c.parts (length prefix));
+      is_place = (stays limits log place c (length prefix) opened).0;
       shows = r.shows;
       last = s.last;
       token_is = s.token_is;
       reaches = subst (λ n. HasReached (moved_by limits.history place (blocks_within log c.parts n)) s.last) (ap length text) (all limits log place c opened);
     }
 
-pub screens_follow : NodesSendTheNext → PartsGoOn → FrontsAreRead → PlacesStay → ResponsesAreFollowed → EndsAreFollowed → ScreensAreFollowed
+pub screens_follow : NodesSendTheNext → PartsGoOn → PrefixesAreRead → PlacesStay → ResponsesAreFollowed → EndsAreFollowed → ScreensAreFollowed
 screens_follow sends order read stays followed ends limits log nodes k texts token place fresh framing n had_token is_log in_log small told is_place start are = (
   (standing_at framing (opened_text log fresh k ∷ texts) n, followed framing (opened_text log fresh k ∷ texts) n had_token are, well_of framing (nat_lt n (length (feed_head framing)))),
   (ended_at framing (opened_text log fresh k ∷ texts) n, ends framing (opened_text log fresh k ∷ texts) n had_token are, ended framing),

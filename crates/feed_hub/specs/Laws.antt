@@ -52,9 +52,9 @@ ScreensAreConnections =
 -- A mirror that is sent this, fresh or after a token that it holds, and has read any prefix of it:
 -- nothing was bad, and it shows what a node at a place of this log shows.
 pub record ShowsState (limits : Limits) (log : Log) (place : Option Position) (fresh : Bool)
-    (front : List ℕ) : Type 0 where
+    (prefix : List ℕ) : Type 0 where
   pub notes : List Line
-  pub nothing_bad : Reads limits (opening_at log place fresh) front notes
+  pub nothing_bad : Reads limits (opening_at log place fresh) prefix notes
   pub at : Option Position
   pub is_place : IsPlace limits log at
   pub shows : keep_latest limits.history (reads limits.history (opening_at log place fresh) notes)
@@ -63,12 +63,12 @@ pub record ShowsState (limits : Limits) (log : Log) (place : Option Position) (f
 abbrev pub ScreensShowStates : Type 0
 ScreensShowStates =
     (limits : Limits) (log : Log) (nodes : List NodeState) (k : ℕ) (texts : List (List ℕ))
-    (token : List ℕ) (place : Option Position) (fresh : Bool) (front behind : List ℕ)
+    (token : List ℕ) (place : Option Position) (fresh : Bool) (prefix behind : List ℕ)
     → IsLog limits log → AreInLog limits log nodes → k ≤ length log
     → Told nodes (token_after k) texts token → IsPlace limits log place
     → (fresh ≡ false → (own : Position) × (place ≡ Some own) × (own.low ≤ k) × (k ≤ own.at))
-    → front ++ behind ≡ opened_text log fresh k ++ joined texts
-    → ShowsState limits log place fresh front
+    → prefix ++ behind ≡ opened_text log fresh k ++ joined texts
+    → ShowsState limits log place fresh prefix
 
 -- With all of it, the mirror shows the state of the token at which the session is, or a later one.
 pub record ReachesState (limits : Limits) (log : Log) (place : Option Position) (fresh : Bool)

@@ -1,4 +1,4 @@
--- What is restored of a saved text, and of a front of it.
+-- What is restored of a saved text, and of a prefix of it.
 use Rattle.std.proofs.Common.{◌≡◌, refl, sym, ap, ◌∙◌, subst, ℕ, ◌+◌, Bool, true, arith, List, [], ◌∷◌, ◌++◌, append-nil, Some, None}
 use Rattle.std.specs.Prelude.{◌≢◌, if◌then◌else◌}
 use Rattle.feed_note.specs.declared.line.Line.{Line}
@@ -96,21 +96,21 @@ module _ (read : StepsRead) (good : TakenAreGood) (one : ReadingIsOne) (limits :
   unfolding lines rest
   takes_nothing = record { taken = tt; short = omega arith }
 
-  nothing_before : (front behind : List ℕ) → front ++ behind ≡ [] → front ≡ []
+  nothing_before : (prefix behind : List ℕ) → prefix ++ behind ≡ [] → prefix ≡ []
   nothing_before [] behind e = refl
-  nothing_before (b ∷ front) behind e = absurd (cc)
+  nothing_before (b ∷ prefix) behind e = absurd (cc)
 
   nothing_restores : Restores limits [] None
   nothing_restores =
       record {
         whole = λ mirror r. leads_there [] [] begun mirror takes_nothing refl refl r;
-        part = λ front behind mirror e some r.
+        part = λ prefix behind mirror e some r.
             let none : behind ≡ [] =
-            sym (ap (λ f. f ++ behind) (nothing_before front behind e)) ∙ e in
+            sym (ap (λ f. f ++ behind) (nothing_before prefix behind e)) ∙ e in
             absurd (some none);
-        faultless = λ front behind fault e f.
+        faultless = λ prefix behind fault e f.
             no_fault [] [] fault takes_nothing
-            (subst (λ t. FailsToRestore limits t fault) (nothing_before front behind e) f);
+            (subst (λ t. FailsToRestore limits t fault) (nothing_before prefix behind e) f);
       }
 
   -- ---- or this was
@@ -120,25 +120,25 @@ module _ (read : StepsRead) (good : TakenAreGood) (one : ReadingIsOne) (limits :
     abbrev text : List ℕ
     text = snapshot_text p.tables p.token
 
-    front_is_right : (front behind : List ℕ) (fault : FeedFault) → front ++ behind ≡ text
-        → FailsToRestore limits front fault → fault ≡ Memory
-    front_is_right front [] fault e f =
+    prefix_is_right : (prefix behind : List ℕ) (fault : FeedFault) → prefix ++ behind ≡ text
+        → FailsToRestore limits prefix fault → fault ≡ Memory
+    prefix_is_right prefix [] fault e f =
         no_fault text s.notes fault s.takes
-        (subst (λ t. FailsToRestore limits t fault) (sym (append-nil front) ∙ e) f)
-    front_is_right front (b ∷ behind) fault e f =
+        (subst (λ t. FailsToRestore limits t fault) (sym (append-nil prefix) ∙ e) f)
+    prefix_is_right prefix (b ∷ behind) fault e f =
         let some : (b ∷ behind) ≢ [] = λ n. cc in
-        let g = s.before front (b ∷ behind) e some in
-        no_fault front g.0 fault g.1 f
+        let g = s.before prefix (b ∷ behind) e some in
+        no_fault prefix g.0 fault g.1 f
 
     snapshot_restores : Restores limits text (Some p)
     snapshot_restores =
         record {
           whole = λ mirror r. leads_there text s.notes (renewed_on begun.node p) mirror s.takes
               (ap (λ t. t.node.shown) s.leads_to) (ap (λ t. t.afresh) s.leads_to) r;
-          part = λ front behind mirror e some r.
-              let g = s.before front behind e some in
-              leads_there front g.0 begun mirror g.1 (ap (λ n. n.shown) g.2.node) g.2.afresh r;
-          faultless = front_is_right;
+          part = λ prefix behind mirror e some r.
+              let g = s.before prefix behind e some in
+              leads_there prefix g.0 begun mirror g.1 (ap (λ n. n.shown) g.2.node) g.2.afresh r;
+          faultless = prefix_is_right;
         }
 
 pub saved_texts_restore : StepsRead → TakenAreGood → ReadingIsOne → SnapshotsPublishAtEnd

@@ -15,7 +15,7 @@ use Rattle.feed_node.specs.Sent.{TakesText, TextsGoOn, PublishesNothing, Publish
 use Rattle.feed_node.specs.Staging.{Standing, step, times_published, AllTaken}
 use Rattle.feed_node.specs.States.{reset_to}
 use Rattle.feed_node.proofs.Batches.{batch_lines, batch_notes, ended-batch, length-batch_lines, batch_is_short, taken_batch, steps_batch, count_batch, part_of_batch, taken-append, taken-take}
-use Rattle.feed_node.proofs.TextLines.{AreShort, unbroken, lines_of, lines_behind, front_lines}
+use Rattle.feed_node.proofs.TextLines.{AreShort, unbroken, lines_of, lines_behind, prefix_lines}
 
 not_empty : (behind : List ℕ) → behind ≢ [] → 1 ≤ length behind
 not_empty [] some = absurd (some refl)
@@ -50,14 +50,14 @@ module _ (cut : LinesCut) (only_cut : LinesAreTheOnlyCut) (means : WrittenLineMe
       let o = lines_of cut only_cut ls [] (unbroken line_bytes ls short_lines) refl in
       (ap lines (sym text_is) ∙ o.0, ap rest (sym text_is) ∙ o.1)
 
-  front_of_batch : (front behind : List ℕ) → front ++ behind ≡ batch_text cs token → behind ≢ []
-      → (part : List Line) × TakesText limits s front part × PublishesNothing s part
-  front_of_batch front behind e some =
-      let text : front ++ behind ≡ ended ls = e ∙ sym (ended-batch cs token) in
-      let size : length (ended ls) ≡ length front + length behind =
-      ap length (sym text) ∙ length-append front behind in
+  prefix_of_batch : (prefix behind : List ℕ) → prefix ++ behind ≡ batch_text cs token → behind ≢ []
+      → (part : List Line) × TakesText limits s prefix part × PublishesNothing s part
+  prefix_of_batch prefix behind e some =
+      let text : prefix ++ behind ≡ ended ls = e ∙ sym (ended-batch cs token) in
+      let size : length (ended ls) ≡ length prefix + length behind =
+      ap length (sym text) ∙ length-append prefix behind in
       let more = not_empty behind some in
-      let g = front_lines cut only_cut line_bytes ls short_lines front behind text (omega arith) in
+      let g = prefix_lines cut only_cut line_bytes ls short_lines prefix behind text (omega arith) in
       let many = length-batch_lines cs token in
       let fewer : g.j < length cs = let l = g.fewer in omega arith in (
         take g.j (batch_notes cs token),
@@ -83,7 +83,7 @@ module _ (cut : LinesCut) (only_cut : LinesAreTheOnlyCut) (means : WrittenLineMe
         ended = whole_lines.1;
         leads_to = steps_batch s cs token f.some;
         counted = count_batch s cs token f.some;
-        before = front_of_batch;
+        before = prefix_of_batch;
       }
 
 pub batches_publish : LinesCut → LinesAreTheOnlyCut → WrittenLineMeans → BatchesPublishAtEnd

@@ -21,7 +21,7 @@ pub fn node_laws()
 /// Where nothing is bad, a text has one reading, and no fault stands. A text behind whole lines is
 /// taken from where these lead. The lines of a batch publish once, at their end, and nothing
 /// before; so do those of a snapshot on a fresh connection. A text that was saved restores what was
-/// published, and a proper front of it nothing; neither fails but for want of memory. The batches
+/// published, and a proper prefix of it nothing; neither fails but for want of memory. The batches
 /// of a connection are those of a feed.
 pub fn reading_laws()
     ensures one { ReadingIsOne }

@@ -19,9 +19,9 @@ use Rattle.feed_note.specs.Meaning.{IsKeepAlive, NestsTooDeep, IsScanned, Means,
 reaches : (p : List ℕ) (n : ℕ) → LevelReaches p n ⊎ ¬ (LevelReaches p n)
 reaches p n = elim (cases_lt (openings p) (closings p + n)) [ inl lt ↦ inr (λ le. omega arith) | inr le ↦ inl le ]
 
--- some prefix of what stands behind the front has the level, together with the front
+-- some prefix of what stands behind the prefix has the level, together with the prefix
 abbrev NestsBehind : List ℕ → List ℕ → ℕ → Type 0
-NestsBehind front x n = (p : List ℕ) × (rest : List ℕ) × (x ≡ p ++ rest) × LevelReaches (front ++ p) n
+NestsBehind prefix x n = (p : List ℕ) × (rest : List ℕ) × (x ≡ p ++ rest) × LevelReaches (prefix ++ p) n
 
 head_of : ℕ → List ℕ → ℕ
 head_of d [] = d
@@ -33,27 +33,27 @@ tail_of (b ∷ bs) = bs
 
 module _ (n : ℕ) where
   -- a prefix is empty, or goes on behind one byte more
-  later : (front : List ℕ) (b : ℕ) (bs : List ℕ) → ¬ (LevelReaches (front ++ []) n) → ¬ (NestsBehind (front ++ b ∷ []) bs n) → (p rest : List ℕ) → b ∷ bs ≡ p ++ rest → ¬ (LevelReaches (front ++ p) n)
+  later : (prefix : List ℕ) (b : ℕ) (bs : List ℕ) → ¬ (LevelReaches (prefix ++ []) n) → ¬ (NestsBehind (prefix ++ b ∷ []) bs n) → (p rest : List ℕ) → b ∷ bs ≡ p ++ rest → ¬ (LevelReaches (prefix ++ p) n)
   unfolding head_of tail_of
-  later front b bs low none [] rest e reach = low reach
-  later front b bs low none (c ∷ p) rest e reach =
+  later prefix b bs low none [] rest e reach = low reach
+  later prefix b bs low none (c ∷ p) rest e reach =
       let same : b ≡ c = ap (head_of b) e in
-      none (p, rest, ap tail_of e, subst (λ t. LevelReaches t n) (ap (λ d. front ++ d ∷ p) (sym same) ∙ sym (append_assoc front (b ∷ []) p)) reach)
+      none (p, rest, ap tail_of e, subst (λ t. LevelReaches t n) (ap (λ d. prefix ++ d ∷ p) (sym same) ∙ sym (append_assoc prefix (b ∷ []) p)) reach)
 
-  nests_behind : (front x : List ℕ) → NestsBehind front x n ⊎ ¬ (NestsBehind front x n)
-  nests_behind front [] = elim (reaches (front ++ []) n) [
+  nests_behind : (prefix x : List ℕ) → NestsBehind prefix x n ⊎ ¬ (NestsBehind prefix x n)
+  nests_behind prefix [] = elim (reaches (prefix ++ []) n) [
     | inl reach ↦ inl ([], [], refl, reach)
     | inr low ↦ inr (λ h. only h.0 h.1 h.2 h.3 low)
   ]
     where
-      only : (p rest : List ℕ) → [] ≡ p ++ rest → LevelReaches (front ++ p) n → ¬ (LevelReaches (front ++ []) n) → ⊥
+      only : (p rest : List ℕ) → [] ≡ p ++ rest → LevelReaches (prefix ++ p) n → ¬ (LevelReaches (prefix ++ []) n) → ⊥
       only [] rest e reach low = low reach
       only (c ∷ p) rest e reach low = absurd cc
-  nests_behind front (b ∷ bs) = elim (reaches (front ++ []) n) [
+  nests_behind prefix (b ∷ bs) = elim (reaches (prefix ++ []) n) [
     | inl reach ↦ inl ([], b ∷ bs, refl, reach)
-    | inr low ↦ elim (nests_behind (front ++ b ∷ []) bs) [
-      | inl found ↦ inl (b ∷ found.0, found.1, ap (λ t. b ∷ t) found.2, subst (λ t. LevelReaches t n) (append_assoc front (b ∷ []) found.0) found.3)
-      | inr none ↦ inr (λ h. later front b bs low none h.0 h.1 h.2 h.3)
+    | inr low ↦ elim (nests_behind (prefix ++ b ∷ []) bs) [
+      | inl found ↦ inl (b ∷ found.0, found.1, ap (λ t. b ∷ t) found.2, subst (λ t. LevelReaches t n) (append_assoc prefix (b ∷ []) found.0) found.3)
+      | inr none ↦ inr (λ h. later prefix b bs low none h.0 h.1 h.2 h.3)
     ]
   ]
 

@@ -19,9 +19,9 @@ stays b = not (is_line_feed b)
 take_one : (n x : ℕ) (xs : List ℕ) → take (1 + n) (x ∷ xs) ≡ x ∷ take n xs
 take_one n x xs = grind arith
 
-unbroken_front : (xs : List ℕ) → HasNoLineFeed (take (position_or_len is_line_feed xs) xs)
-unbroken_front [] = refl
-unbroken_front (x ∷ xs) = by (stays x) refl (unbroken_front xs)
+unbroken_prefix : (xs : List ℕ) → HasNoLineFeed (take (position_or_len is_line_feed xs) xs)
+unbroken_prefix [] = refl
+unbroken_prefix (x ∷ xs) = by (stays x) refl (unbroken_prefix xs)
   where
     by : (t : Bool) → stays x ≡ t → HasNoLineFeed (take (prefix_len stays xs) xs) → list_all stays (take (cond t (1 + prefix_len stays xs) 0) (x ∷ xs)) ≡ true
     by true e h = ap (list_all stays) (take_one (prefix_len stays xs) x xs) ∙ both (stays x) _ e h
@@ -34,13 +34,13 @@ unbroken_all xs e = by (nat_lt (position_or_len is_line_feed xs) (length xs)) re
     by : (t : Bool) → nat_lt (position_or_len is_line_feed xs) (length xs) ≡ t → cond t (Some (position_or_len is_line_feed xs)) None ≡ None → HasNoLineFeed xs
     by true is e = cc
     by false is e =
-        subst HasNoLineFeed (take_all (position_or_len is_line_feed xs) xs (omega (arith, ltb-false _ _ is))) (unbroken_front xs)
+        subst HasNoLineFeed (take_all (position_or_len is_line_feed xs) xs (omega (arith, ltb-false _ _ is))) (unbroken_prefix xs)
 
 ends_here : (xs : List ℕ) → position_or_len is_line_feed xs < length xs → EndsAt xs (position_or_len is_line_feed xs)
 ends_here xs h =
     let here : ℕ = position_or_len is_line_feed xs in
     let feed : get_or xs here 0 ≡ 10 = eqb-true (get_or xs here 0) 10 (passes (get_or xs here 0) (prefix_len_stops stays xs 0 h)) in
-    record { within = h; line = unbroken_front xs; whole = split_at_first is_line_feed xs 0 h ∙ ap (λ b. take here xs ++ b ∷ drop (here + 1) xs) feed }
+    record { within = h; line = unbroken_prefix xs; whole = split_at_first is_line_feed xs 0 h ∙ ap (λ b. take here xs ++ b ∷ drop (here + 1) xs) feed }
   where
     passes : (b : ℕ) → stays b ≡ false → is_line_feed b ≡ true
     passes b e = by (is_line_feed b) refl e

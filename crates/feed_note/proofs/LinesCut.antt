@@ -19,9 +19,9 @@ pub negated : (a : Bool) → not a ≡ true → a ≡ false
 negated true e = absurd (true≢false (sym e))
 negated false e = refl
 
-drop_front : (a b : List ℕ) → drop (length a) (a ++ b) ≡ b
-drop_front [] b = refl
-drop_front (x ∷ a) b = drop_front a b
+drop_prefix : (a b : List ℕ) → drop (length a) (a ++ b) ≡ b
+drop_prefix [] b = refl
+drop_prefix (x ∷ a) b = drop_prefix a b
 
 -- ---- the lines are a cut
 
@@ -47,7 +47,7 @@ cut (b ∷ bs) = by (is_line_feed b) refl (cut bs)
 
 pub rest_of_cut : (x : List ℕ) (r : List ℕ) → x ≡ ended (lines x) ++ r → rest x ≡ r
 unfolding rest
-rest_of_cut x r e = ap (drop (length (ended (lines x)))) e ∙ drop_front (ended (lines x)) r
+rest_of_cut x r e = ap (drop (length (ended (lines x)))) e ∙ drop_prefix (ended (lines x)) r
 
 pub lines_cut : LinesCut
 lines_cut x =

@@ -10,7 +10,7 @@ lines-cons : (b : ℕ) (t : List ℕ) → is_line_feed b ≡ false → lines (b 
 unfolding lines
 lines-cons b t e = ap (λ f. cond f ([] ∷ lines t) (onto_first b (lines t))) e
 
--- a byte in front stands in the next line
+-- a byte before stands in the next line
 next-cons : (b : ℕ) (t : List ℕ) → is_line_feed b ≡ false → next_of (b ∷ t) ≡ b ∷ next_of t
 unfolding rest
 next-cons b t e = ap (λ ls. first_or (drop (length (ended ls)) (b ∷ t)) ls) (lines-cons b t e) ∙ by (lines t)

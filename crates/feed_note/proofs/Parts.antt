@@ -18,9 +18,9 @@ both_right : (a b : Bool) → (a && b) ≡ true → b ≡ true
 both_right true b e = e
 both_right false b e = absurd (true≢false (sym e))
 
--- a text without line feeds has none in its front and none in its rest
-pub front : (x y : List ℕ) → HasNoLineFeed (x ++ y) → HasNoLineFeed x
-front x y h = both_left _ _ (sym (list_all-append _ x y) ∙ h)
+-- a text without line feeds has none in its prefix and none in its rest
+pub prefix : (x y : List ℕ) → HasNoLineFeed (x ++ y) → HasNoLineFeed x
+prefix x y h = both_left _ _ (sym (list_all-append _ x y) ∙ h)
 
 pub behind : (x y : List ℕ) → HasNoLineFeed (x ++ y) → HasNoLineFeed y
 behind x y h = both_right _ _ (sym (list_all-append _ x y) ∙ h)
@@ -34,11 +34,11 @@ part_of n v h = record { valid = h.valid; unbroken = h.unbroken; nesting = h.nes
 elements_parts : (n : ℕ) (es : Elements) → AreElements es → HasNoLineFeed (print_elements es) → depth_of_elements es ≤ n → AllByRecursion (IsPart n) (elements_list es)
 elements_parts n (last_element w v x) ok h d =
     let rest : List ℕ = x ++ 93 ∷ [] in
-    (record { valid = ok.1; unbroken = front (print v) rest (behind w (print v ++ rest) h); nesting = d }, tt)
+    (record { valid = ok.1; unbroken = prefix (print v) rest (behind w (print v ++ rest) h); nesting = d }, tt)
 elements_parts n (element w v x es) ok h d =
     let more : List ℕ = 44 ∷ print_elements es in
     let from_value : HasNoLineFeed (print v ++ (x ++ more)) = behind w (print v ++ (x ++ more)) h in (
-      record { valid = ok.1; unbroken = front (print v) (x ++ more) from_value; nesting = omega arith },
+      record { valid = ok.1; unbroken = prefix (print v) (x ++ more) from_value; nesting = omega arith },
       elements_parts n es ok.3 (behind_byte 44 (print_elements es) (behind x more (behind (print v) (x ++ more) from_value))) (omega arith),
     )
 
@@ -60,11 +60,11 @@ behind_key w k x y t h = behind y t (behind_byte 58 (y ++ t) (behind x (58 ∷ (
 members_parts : (n : ℕ) (ms : Members) → AreMembers ms → HasNoLineFeed (print_members ms) → depth_of_members ms ≤ n → AllByRecursion (λ m. IsPart n m.value) (members_list ms)
 members_parts n (last_member w k x y v z) ok h d =
     let rest : List ℕ = z ++ 125 ∷ [] in
-    (record { valid = ok.4; unbroken = front (print v) rest (behind_key w k x y (print v ++ rest) h); nesting = d }, tt)
+    (record { valid = ok.4; unbroken = prefix (print v) rest (behind_key w k x y (print v ++ rest) h); nesting = d }, tt)
 members_parts n (member w k x y v z ms) ok h d =
     let more : List ℕ = 44 ∷ print_members ms in
     let from_value : HasNoLineFeed (print v ++ (z ++ more)) = behind_key w k x y (print v ++ (z ++ more)) h in (
-      record { valid = ok.4; unbroken = front (print v) (z ++ more) from_value; nesting = omega arith },
+      record { valid = ok.4; unbroken = prefix (print v) (z ++ more) from_value; nesting = omega arith },
       members_parts n ms ok.6 (behind_byte 44 (print_members ms) (behind z more (behind (print v) (z ++ more) from_value))) (omega arith),
     )
 

@@ -17,11 +17,11 @@ pub starts : (text : List ℕ) → IsCutOff text [] text
 starts text = record { whole = tt; short = tt; is = refl }
 
 -- lines that are cut off what is left are cut off the text
-pub cut_on : (text left behind : List ℕ) (front taken : List (List ℕ)) → IsCutOff text front left → IsCutOff left taken behind → IsCutOff text (front ++ taken) behind
-cut_on text left behind front taken h k = record {
-  whole = all-append HasNoLineFeed front taken h.whole k.whole;
-  short = all-append IsShort front taken h.short k.short;
-  is = h.is ∙ ap (λ t. ended front ++ t) k.is ∙ sym (append_assoc (ended front) (ended taken) behind) ∙ ap (λ t. t ++ behind) (sym (ended-append front taken));
+pub cut_on : (text left behind : List ℕ) (prefix taken : List (List ℕ)) → IsCutOff text prefix left → IsCutOff left taken behind → IsCutOff text (prefix ++ taken) behind
+cut_on text left behind prefix taken h k = record {
+  whole = all-append HasNoLineFeed prefix taken h.whole k.whole;
+  short = all-append IsShort prefix taken h.short k.short;
+  is = h.is ∙ ap (λ t. ended prefix ++ t) k.is ∙ sym (append_assoc (ended prefix) (ended taken) behind) ∙ ap (λ t. t ++ behind) (sym (ended-append prefix taken));
 }
 
 -- a line that a splitter gives is cut off
@@ -33,22 +33,22 @@ given old line new g = record {
 }
 
 -- more bytes behind the text stand behind what is left
-pub pushed : (text left piece : List ℕ) (front : List (List ℕ)) → IsCutOff text front left → IsCutOff (text ++ piece) front (left ++ piece)
-pushed text left piece front h = record { whole = h.whole; short = h.short; is = ap (λ t. t ++ piece) h.is ∙ append_assoc (ended front) left piece }
+pub pushed : (text left piece : List ℕ) (prefix : List (List ℕ)) → IsCutOff text prefix left → IsCutOff (text ++ piece) prefix (left ++ piece)
+pushed text left piece prefix h = record { whole = h.whole; short = h.short; is = ap (λ t. t ++ piece) h.is ∙ append_assoc (ended prefix) left piece }
 
 -- a line too long behind those that were cut off is one of the text, whatever follows
-pub long_behind : (text left more : List ℕ) (front : List (List ℕ)) → IsCutOff text front left → HasLongLine left → HasLongLine (text ++ more)
-long_behind text left more front h long = record {
-  front = front ++ long.front;
+pub long_behind : (text left more : List ℕ) (prefix : List (List ℕ)) → IsCutOff text prefix left → HasLongLine left → HasLongLine (text ++ more)
+long_behind text left more prefix h long = record {
+  prefix = prefix ++ long.prefix;
   behind = long.behind ++ more;
-  whole = all-append HasNoLineFeed front long.front h.whole long.whole;
-  is = ap (λ t. t ++ more) (h.is ∙ ap (λ t. ended front ++ t) long.is ∙ sym (append_assoc (ended front) (ended long.front) long.behind) ∙ ap (λ t. t ++ long.behind) (sym (ended-append front long.front)))
-      ∙ append_assoc (ended (front ++ long.front)) long.behind more;
+  whole = all-append HasNoLineFeed prefix long.prefix h.whole long.whole;
+  is = ap (λ t. t ++ more) (h.is ∙ ap (λ t. ended prefix ++ t) long.is ∙ sym (append_assoc (ended prefix) (ended long.prefix) long.behind) ∙ ap (λ t. t ++ long.behind) (sym (ended-append prefix long.prefix)))
+      ∙ append_assoc (ended (prefix ++ long.prefix)) long.behind more;
   long = long_next_stays long.behind more long.long;
 }
 
-pub long_next : (old left : List ℕ) (front : List (List ℕ)) → IsCutOff old front left → IsLongNext left → HasLongLine old
-long_next old left front h long = record { front = front; behind = left; whole = h.whole; is = h.is; long = long }
+pub long_next : (old left : List ℕ) (prefix : List (List ℕ)) → IsCutOff old prefix left → IsLongNext left → HasLongLine old
+long_next old left prefix h long = record { prefix = prefix; behind = left; whole = h.whole; is = h.is; long = long }
 
 -- where no line is left, those that were cut off are the lines
 unbroken : (left : List ℕ) → lines left ≡ [] → HasNoLineFeed left
@@ -56,15 +56,15 @@ unbroken left none =
     let cut = lines_cut left in
     subst HasNoLineFeed (sym (cut.text ∙ ap (λ ls. ended ls ++ rest left) none)) cut.part
 
-pub cut_into : (text left : List ℕ) (front : List (List ℕ)) → IsCutOff text front left → lines left ≡ [] → IsCutInto text front left
-cut_into text left front h none = record { whole = h.whole; part = unbroken left none; text = h.is }
+pub cut_into : (text left : List ℕ) (prefix : List (List ℕ)) → IsCutOff text prefix left → lines left ≡ [] → IsCutInto text prefix left
+cut_into text left prefix h none = record { whole = h.whole; part = unbroken left none; text = h.is }
 
-pub all_lines : (text left : List ℕ) (front : List (List ℕ)) → IsCutOff text front left → lines left ≡ [] → front ≡ lines text
-all_lines text left front h none = (lines_are_the_only_cut text front left (cut_into text left front h none)).0
+pub all_lines : (text left : List ℕ) (prefix : List (List ℕ)) → IsCutOff text prefix left → lines left ≡ [] → prefix ≡ lines text
+all_lines text left prefix h none = (lines_are_the_only_cut text prefix left (cut_into text left prefix h none)).0
 
-pub short_lines : (text left : List ℕ) (front : List (List ℕ)) → IsCutOff text front left → lines left ≡ [] → IsShort (rest left) → HasShortLines text
-short_lines text left front h none short =
-    let same = lines_are_the_only_cut text front left (cut_into text left front h none) in
+pub short_lines : (text left : List ℕ) (prefix : List (List ℕ)) → IsCutOff text prefix left → lines left ≡ [] → IsShort (rest left) → HasShortLines text
+short_lines text left prefix h none short =
+    let same = lines_are_the_only_cut text prefix left (cut_into text left prefix h none) in
     record {
       each = subst (AllByRecursion IsShort) same.0 h.short;
       unfinished = subst IsShort same.1 (subst IsShort (sym (rest_is left none)) short);
@@ -78,8 +78,8 @@ short_lines text left front h none short =
 pub texts_push : (all : List (Vec ℕ Global)) (line : Vec ℕ Global) → texts_of (all ++ line ∷ []) ≡ texts_of all ++ line.items ∷ []
 texts_push all line = map-append (λ l. l.items) all (line ∷ [])
 
-pub taken_more : (old left new : List ℕ) (front : List (List ℕ)) (line : List ℕ) → IsCutOff old front left → Gives left line new → IsCutOff old (front ++ line ∷ []) new
-taken_more old left new front line h g = cut_on old left new front (line ∷ []) h (given left line new g)
+pub taken_more : (old left new : List ℕ) (prefix : List (List ℕ)) (line : List ℕ) → IsCutOff old prefix left → Gives left line new → IsCutOff old (prefix ++ line ∷ []) new
+taken_more old left new prefix line h g = cut_on old left new prefix (line ∷ []) h (given left line new g)
 
 -- ---- the pieces so far
 
@@ -100,10 +100,10 @@ pub pieces_split : (pieces : List (Vec ℕ Global)) (i : ℕ) (piece : Vec ℕ G
 pieces_split pieces i piece h e =
     ap joined (sym (take-append-drop (i + 1) pieces))
     ∙ flat_map-append (λ p. p.items) (take (i + 1) pieces) (drop (i + 1) pieces)
-    ∙ ap (λ t. t ++ joined (drop (i + 1) pieces)) front
+    ∙ ap (λ t. t ++ joined (drop (i + 1) pieces)) prefix
   where
-    front : joined (take (i + 1) pieces) ≡ joined (take i pieces) ++ piece.items
-    front =
+    prefix : joined (take (i + 1) pieces) ≡ joined (take i pieces) ++ piece.items
+    prefix =
         ap joined (take_more pieces i piece h ∙ ap (λ p. take i pieces ++ p ∷ []) (sym e))
         ∙ flat_map-append (λ p. p.items) (take i pieces) (piece ∷ [])
         ∙ ap (λ t. joined (take i pieces) ++ t) (append-nil piece.items)

@@ -11,7 +11,7 @@ HasNoLineFeed x = IsUnbroken x
 abbrev pub is_line_feed : ℕ → Bool
 is_line_feed b = b == line_feed
 
--- the byte stands at the front of the first text; where there is none, no line feed follows
+-- the byte stands at the start of the first text; where there is none, no line feed follows
 abbrev pub onto_first : ℕ → List (List ℕ) → List (List ℕ)
 onto_first b [] = []
 onto_first b (l ∷ ls) = (b ∷ l) ∷ ls

@@ -25,13 +25,13 @@ pub record HasShortLines (text : List ℕ) : Type 0 where
 
 -- behind some lines of the text the next one, ended or not, is too long
 pub record HasLongLine (text : List ℕ) : Type 0 where
-  pub front : List (List ℕ)
+  pub prefix : List (List ℕ)
   pub behind : List ℕ
-  pub whole : AllByRecursion HasNoLineFeed front
-  pub is : text ≡ ended front ++ behind
+  pub whole : AllByRecursion HasNoLineFeed prefix
+  pub is : text ≡ ended prefix ++ behind
   pub long : IsLongNext behind
 
--- these lines, each within the limit, were cut off in front of what is left of the text
+-- these lines, each within the limit, were cut off before what is left of the text
 pub record IsCutOff (text : List ℕ) (given : List (List ℕ)) (left : List ℕ) : Type 0 where
   pub whole : AllByRecursion HasNoLineFeed given
   pub short : AllByRecursion IsShort given

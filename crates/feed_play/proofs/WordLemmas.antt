@@ -42,9 +42,9 @@ word_more (b ∷ w) behind e =
 take_one : (n x : ℕ) (xs : List ℕ) → take (1 + n) (x ∷ xs) ≡ x ∷ take n xs
 take_one n x xs = grind arith
 
-front_stays : (xs : List ℕ) → list_all stays (take (position_or_len is_space xs) xs) ≡ true
-front_stays [] = refl
-front_stays (x ∷ xs) = by (stays x) refl (front_stays xs)
+prefix_stays : (xs : List ℕ) → list_all stays (take (position_or_len is_space xs) xs) ≡ true
+prefix_stays [] = refl
+prefix_stays (x ∷ xs) = by (stays x) refl (prefix_stays xs)
   where
     by : (t : Bool) → stays x ≡ t → list_all stays (take (prefix_len stays xs) xs) ≡ true → list_all stays (take (cond t (1 + prefix_len stays xs) 0) (x ∷ xs)) ≡ true
     by true e h = ap (list_all stays) (take_one (prefix_len stays xs) x xs) ∙ both (stays x) _ e h
@@ -57,7 +57,7 @@ none_found xs e = one_word xs (by (nat_lt (position_or_len is_space xs) (length 
     by : (t : Bool) → nat_lt (position_or_len is_space xs) (length xs) ≡ t → cond t (Some (position_or_len is_space xs)) None ≡ None → list_all stays xs ≡ true
     by true is e = cc
     by false is e =
-        subst (λ l. list_all stays l ≡ true) (take_all (position_or_len is_space xs) xs (omega (arith, ltb-false _ _ is))) (front_stays xs)
+        subst (λ l. list_all stays l ≡ true) (take_all (position_or_len is_space xs) xs (omega (arith, ltb-false _ _ is))) (prefix_stays xs)
 
 passes : (b : ℕ) → stays b ≡ false → is_space b ≡ true
 passes b e = by (is_space b) refl e
@@ -71,7 +71,7 @@ found_here xs h =
     let here : ℕ = position_or_len is_space xs in
     let stop : get_or xs here 0 ≡ 32 = eqb-true (get_or xs here 0) 32 (passes (get_or xs here 0) (prefix_len_stops stays xs 0 h)) in
     let whole : xs ≡ take here xs ++ 32 ∷ drop (here + 1) xs = split_at_first is_space xs 0 h ∙ ap (λ b. take here xs ++ b ∷ drop (here + 1) xs) stop in
-    ap words whole ∙ word_more (take here xs) (drop (here + 1) xs) (front_stays xs)
+    ap words whole ∙ word_more (take here xs) (drop (here + 1) xs) (prefix_stays xs)
 
 -- where one is found, the first word ends
 pub found_at : (xs : List ℕ) (k : ℕ) → position is_space xs ≡ Some k → (k < length xs) × (words xs ≡ take k xs ∷ words (drop (k + 1) xs))

@@ -6,7 +6,7 @@ use Rattle.feed_node.specs.Log.{PrimaryState, commits, commit_fault}
 use Rattle.feed_http.specs.Live.{intake_of, Accepts, accepts_one}
 
 module _ {A : Type 0} where
-  -- so far, what was taken from the front was accepted
+  -- so far, what was taken from the start was accepted
   abbrev pub HasTaken : PrimaryState → List (Vec Change A) → PrimaryState → List (Vec Change A)
       → Type 0
   HasTaken first all primary left =

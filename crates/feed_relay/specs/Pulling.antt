@@ -9,14 +9,14 @@ use Rattle.feed_answer.specs.RequestText.{request_text}
 use Rattle.feed_http.specs.declared.fault.EngineFault.{EngineFault}
 use Rattle.feed_http.specs.declared.fault.EngineFault.TheVariants.{Read, Write, Turns, Commit, Follow, Memory}
 use Rattle.feed_http.specs.declared.fault.Followed.{Followed}
-use Rattle.feed_http.specs.Device.{HasFailed, AppendsFront, RoseBy, RoseAtMost}
+use Rattle.feed_http.specs.Device.{HasFailed, AppendsPrefix, RoseBy, RoseAtMost}
 use Rattle.feed_http.specs.Following.{EndsAs, WasFollowed, BrokeOff, MetFault}
 use Rattle.feed_http.specs.Exchange.{Exchange}
 
--- the request was written; where asking failed, a front of it
+-- the request was written; where asking failed, a prefix of it
 abbrev pub HasAsked : List ℕ → Exchange → Result Followed EngineFault → Type 0
-HasAsked request spoken (Err Write) = AppendsFront spoken.written_old spoken.written_new request
-HasAsked request spoken (Err Memory) = AppendsFront spoken.written_old spoken.written_new request
+HasAsked request spoken (Err Write) = AppendsPrefix spoken.written_old spoken.written_new request
+HasAsked request spoken (Err Memory) = AppendsPrefix spoken.written_old spoken.written_new request
 HasAsked request spoken pulled = Appends spoken.written_old spoken.written_new request
 
 -- nothing was read, and the mirror is what it was

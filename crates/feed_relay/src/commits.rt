@@ -11,7 +11,7 @@ use feed_tables::{Change, Changes};
 use std::alloc::{AllocError, Global};
 use std::collections::VecDeque;
 
-/// The batches of a feed, each as its changes, the first one in front. The lines behind the last
+/// The batches of a feed, each as its changes, the first one before. The lines behind the last
 /// token belong to no batch. The fault is that of the first line that can't be read.
 pub fn feed_batches(alloc: Global, bytes: &[u8]) -> Result<VecDeque<Vec<Change>>, LineStop>
     ensures ok { IfOk result (λ all. (notes : List Note) × AreRead bytes.now notes
@@ -24,7 +24,7 @@ pub fn feed_batches(alloc: Global, bytes: &[u8]) -> Result<VecDeque<Vec<Change>>
     Ok(queue)
 }
 
-/// These batches, the first one in front.
+/// These batches, the first one before.
 fn queue_of(alloc: Global, all: Vec<Changes>) -> Result<VecDeque<Vec<Change>>, AllocError>
     ensures { IfOk result (λ queue. map (λ batch. batch.items) queue.items ≡ all.items) }
 {
@@ -36,7 +36,7 @@ fn queue_of(alloc: Global, all: Vec<Changes>) -> Result<VecDeque<Vec<Change>>, A
     Ok(queue)
 }
 
-/// Commits all that waits, from the front on. The first refused batch is taken, too, and ends it:
+/// Commits all that waits, from the start on. The first refused batch is taken, too, and ends it:
 /// the primary has then accepted those before, and those behind still wait.
 pub fn commit_all(
     alloc: Global,

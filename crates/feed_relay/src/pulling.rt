@@ -8,7 +8,7 @@ use feed_node::Mirror;
 use std::alloc::Global;
 
 /// Asks a place for what a mirror lacks, and follows the response, in at most so many reads
-/// (`turns`). Where asking fails, a front of the request was written, nothing was read, and the
+/// (`turns`). Where asking fails, a prefix of the request was written, nothing was read, and the
 /// mirror is what it was.
 pub fn pull_once<R: FeedRead, W: FeedWrite>(
     alloc: Global,

@@ -8,13 +8,13 @@ use Rattle.feed_text.specs.Json as json
 use Rattle.feed_text.specs.Json.{Members, null_literal, true_literal, false_literal, number, string, empty_array, array, empty_object, object, last_member, member, print, print_members, IsValue, IsString, AreMembers, is_white_space, IsWhiteSpace, depth, depth_of_members, members_of, members_list, kind_of}
 use Rattle.feed_text.specs.Members.{MemberSpelling, spelling_of, member_spellings, IsMemberSpelling, AreMemberSpellings, last_spelt}
 use Rattle.feed_text.specs.Objects.{SpellsObject}
-use Rattle.feed_text.specs.Reading.{Front, print_pair, first, rest_while, pair_at, value_at, pair_and_rest, parts_left}
+use Rattle.feed_text.specs.Reading.{Prefix, print_pair, first, rest_while, pair_at, value_at, pair_and_rest, parts_left}
 use Rattle.feed_text.specs.Scan.{HoldsMembers}
 use Rattle.feed_text.specs.Strings.{says}
 use Rattle.feed_text.proofs.Bounds.{drop_shorter}
 use Rattle.feed_text.proofs.Depths.{pair_reads, reads_value, starts_at}
 use Rattle.feed_text.proofs.Found.{object_holds, held_spelt}
-use Rattle.feed_text.proofs.Fronts.{while_rest}
+use Rattle.feed_text.proofs.PrefixReaders.{while_rest}
 use Rattle.feed_text.proofs.Grammar.{IsJson}
 use Rattle.feed_text.proofs.Loops.{members_shorter, member_no_string}
 use Rattle.feed_text.proofs.Remaining.{nothing_remains, nothing_of_nothing, one_and_others}
@@ -25,10 +25,10 @@ use Rattle.feed_text.proofs.TreeScalars.{white_text, string_text}
 use Rattle.feed_text.proofs.Values.{EndsItem}
 
 -- a member as the code shows it
-abbrev shown : ℕ → List ℕ → Front MemberSpelling
+abbrev shown : ℕ → List ℕ → Prefix MemberSpelling
 shown levels text = pair_and_rest (pair_at (value_at levels) text)
 
--- the members at the front of a text, their values nested at most so deep
+-- the members at the start of a text, their values nested at most so deep
 unfoldable pub members_left : ℕ → List ℕ → List MemberSpelling
 members_left levels text = parts_left (shown levels) text
 

@@ -2,7 +2,7 @@
 use Rattle.std.specs.Prelude.{ℕ, zero, suc, ◌+◌, ◌≤◌, Bool, false, ◌&&◌, ◌==◌, not, List, [], ◌∷◌, ◌++◌, length, reverse, take, if◌then◌else◌}
 use Rattle.feed_text.specs.Ascii.{quotation_mark, backslash}
 use Rattle.feed_text.specs.Nesting.{is_opening, is_closing}
-use Rattle.feed_text.specs.Reading.{front_while}
+use Rattle.feed_text.specs.Reading.{prefix_while}
 
 abbrev pub is_odd : ℕ → Bool
 is_odd zero = false
@@ -18,7 +18,7 @@ places test text = places_behind test [] text
 
 -- an odd number of backslashes stands at the end
 unfoldable pub is_escaped : List ℕ → Bool
-is_escaped before = is_odd (length (front_while (λ b. b == backslash) (reverse before)))
+is_escaped before = is_odd (length (prefix_while (λ b. b == backslash) (reverse before)))
 
 -- a quotation mark that no backslash escapes
 abbrev pub is_delimiter : List ℕ → ℕ → Bool

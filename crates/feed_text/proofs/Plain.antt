@@ -8,10 +8,10 @@ use Rattle.std.specs.Option.{option_eq}
 use Rattle.std.proofs.lemmas.Bool.{false≢true, leb-true, leb-false, lt-ltb, ne_eqb, le-ltb, and_cases, not-false, cond_both}
 use Rattle.std.proofs.lemmas.Option.{cond_some, none-some}
 use Rattle.feed_text.specs.Ascii.{quotation_mark, backslash}
-use Rattle.feed_text.specs.Reading.{is_unescaped, first, front_while, rest_while, plain_content}
+use Rattle.feed_text.specs.Reading.{is_unescaped, first, prefix_while, rest_while, plain_content}
 use Rattle.feed_text.specs.declared.Kind.TheVariants as kind
 use Rattle.feed_text.specs.Json.{Character, unescaped, escaped, unicode, is_character, print_character, IsString, Value, null_literal, true_literal, false_literal, number, string, empty_array, array, empty_object, object, print, kind_of, IsValue, TextOfStringIsString}
-use Rattle.feed_text.proofs.Fronts.{while_parts, while_passes, while_front, while_rest}
+use Rattle.feed_text.proofs.PrefixReaders.{while_parts, while_passes, while_prefix, while_rest}
 use Rattle.feed_text.proofs.Lines.{no_length}
 use Rattle.feed_text.proofs.Parts.{with_first}
 use Rattle.feed_text.proofs.Scalars.{same_bytes}
@@ -47,19 +47,19 @@ pub content_quotes : (s content : List ℕ) → plain_content s ≡ Some content
 unfolding plain_content
 content_quotes s content e =
     let inside = drop 1 s in
-    let here = cond_some (first s == quotation_mark && pointwise nat_eq (rest_while is_unescaped inside) (quotation_mark ∷ [])) (front_while is_unescaped inside) content e in
+    let here = cond_some (first s == quotation_mark && pointwise nat_eq (rest_while is_unescaped inside) (quotation_mark ∷ [])) (prefix_while is_unescaped inside) content e in
     let i = both_true (first s == quotation_mark) _ here.0 in
     let opened : s ≡ quotation_mark ∷ inside = with_first quotation_mark s (omega arith) (eqb-true _ _ i.0) in
     let close : rest_while is_unescaped inside ≡ quotation_mark ∷ [] = same_bytes (rest_while is_unescaped inside) (quotation_mark ∷ []) i.1 in
-    let whole : inside ≡ front_while is_unescaped inside ++ quotation_mark ∷ [] = while_parts is_unescaped inside ∙ ap (λ (t : List ℕ). front_while is_unescaped inside ++ t) close in
-    let found : Quotes s (front_while is_unescaped inside) = record { text = opened ∙ ap (λ (t : List ℕ). quotation_mark ∷ t) whole; unescaped_bytes = bytes_all is_unescaped (front_while is_unescaped inside) (while_passes is_unescaped inside) } in
+    let whole : inside ≡ prefix_while is_unescaped inside ++ quotation_mark ∷ [] = while_parts is_unescaped inside ∙ ap (λ (t : List ℕ). prefix_while is_unescaped inside ++ t) close in
+    let found : Quotes s (prefix_while is_unescaped inside) = record { text = opened ∙ ap (λ (t : List ℕ). quotation_mark ∷ t) whole; unescaped_bytes = bytes_all is_unescaped (prefix_while is_unescaped inside) (while_passes is_unescaped inside) } in
     subst (Quotes s) here.1 found
 
 quotes_content : (s content : List ℕ) → Quotes s content → plain_content s ≡ Some content
 unfolding plain_content
 quotes_content s content h =
     let passes = all_bytes is_unescaped content h.unescaped_bytes in
-    ap plain_content h.text ∙ rw (while_rest is_unescaped content (quotation_mark ∷ []) passes refl, while_front is_unescaped content (quotation_mark ∷ []) passes refl) refl
+    ap plain_content h.text ∙ rw (while_rest is_unescaped content (quotation_mark ∷ []) passes refl, while_prefix is_unescaped content (quotation_mark ∷ []) passes refl) refl
 
 -- such a string is the written string of its content
 quotes_says : (s content : List ℕ) → Quotes s content → Says s content
@@ -115,8 +115,8 @@ same_unescaped (b ∷ text) e = by (is_unescaped b) refl (same_unescaped text)
 
 rest_unescaped : (text : List ℕ) → length (rest_while is_unescaped text) ≡ 0 → list_all is_unescaped text ≡ true
 rest_unescaped text e =
-    let whole : front_while is_unescaped text ≡ text = sym (while_parts is_unescaped text ∙ ap (λ (t : List ℕ). front_while is_unescaped text ++ t) (no_length (rest_while is_unescaped text) e) ∙ append-nil (front_while is_unescaped text)) in
-    subst (λ (t : List ℕ). list_all is_unescaped t ≡ true) whole (bytes_all is_unescaped (front_while is_unescaped text) (while_passes is_unescaped text))
+    let whole : prefix_while is_unescaped text ≡ text = sym (while_parts is_unescaped text ∙ ap (λ (t : List ℕ). prefix_while is_unescaped text ++ t) (no_length (rest_while is_unescaped text) e) ∙ append-nil (prefix_while is_unescaped text)) in
+    subst (λ (t : List ℕ). list_all is_unescaped t ≡ true) whole (bytes_all is_unescaped (prefix_while is_unescaped text) (while_passes is_unescaped text))
 
 pub unescaped_same : (text : List ℕ) → length (rest_while is_unescaped text) ≡ 0 → flat_map written_byte text ≡ text
 unescaped_same text e = written_bytes text (rest_unescaped text e)
@@ -163,23 +163,23 @@ not_plain s (cs, h, e) none plain =
     let quotes : Quotes s (flat_map print_character cs) = record { text = e; unescaped_bytes = characters_plain cs h tail } in
     absurd (none-some (flat_map print_character cs) (sym none ∙ quotes_content s (flat_map print_character cs) quotes))
 
-pub content_is_front : (text rest : List ℕ) → rest ≡ rest_while is_unescaped text → take (length text - length rest) text ≡ front_while is_unescaped text
-content_is_front text rest e =
-    let front = front_while is_unescaped text in
-    let parts : text ≡ front ++ rest = while_parts is_unescaped text ∙ ap (λ (t : List ℕ). front ++ t) (sym e) in
-    let size : length text - length rest ≡ length front = omega (arith, ap length parts, length-append front rest) in
-    ap (λ (n : ℕ). take n text) size ∙ ap (take (length front)) parts ∙ take-append_seam front rest
+pub content_is_prefix : (text rest : List ℕ) → rest ≡ rest_while is_unescaped text → take (length text - length rest) text ≡ prefix_while is_unescaped text
+content_is_prefix text rest e =
+    let prefix = prefix_while is_unescaped text in
+    let parts : text ≡ prefix ++ rest = while_parts is_unescaped text ∙ ap (λ (t : List ℕ). prefix ++ t) (sym e) in
+    let size : length text - length rest ≡ length prefix = omega (arith, ap length parts, length-append prefix rest) in
+    ap (λ (n : ℕ). take n text) size ∙ ap (take (length prefix)) parts ∙ take-append_seam prefix rest
 
 -- what the code takes for the content
 pub content_utf8 : (s inside end content : List ℕ) → IsUtf8 s → first s ≡ quotation_mark → inside ≡ drop 1 s → end ≡ rest_while is_unescaped inside → pointwise nat_eq end (quotation_mark ∷ []) ≡ true → content ≡ take (length inside - length end) inside → IsUtf8 content
 content_utf8 s inside end content utf8 here behind rest closed cut =
     let close : end ≡ quotation_mark ∷ [] = same_bytes end (quotation_mark ∷ []) closed in
-    let front = front_while is_unescaped inside in
+    let prefix = prefix_while is_unescaped inside in
     let opened : s ≡ quotation_mark ∷ inside = with_first quotation_mark s (omega arith) here ∙ ap (λ (t : List ℕ). quotation_mark ∷ t) (sym behind) in
-    let parts : inside ≡ front ++ quotation_mark ∷ [] = while_parts is_unescaped inside ∙ ap (λ (t : List ℕ). front ++ t) (sym rest ∙ close) in
+    let parts : inside ≡ prefix ++ quotation_mark ∷ [] = while_parts is_unescaped inside ∙ ap (λ (t : List ℕ). prefix ++ t) (sym rest ∙ close) in
     let behind_mark : IsUtf8 inside = utf8_behind quotation_mark inside (omega arith) (subst IsUtf8 opened utf8) in
-    let before_mark : IsUtf8 front = utf8_before front [] quotation_mark (omega arith) (subst IsUtf8 parts behind_mark) in
-    subst IsUtf8 (sym (cut ∙ content_is_front inside end rest)) before_mark
+    let before_mark : IsUtf8 prefix = utf8_before prefix [] quotation_mark (omega arith) (subst IsUtf8 parts behind_mark) in
+    subst IsUtf8 (sym (cut ∙ content_is_prefix inside end rest)) before_mark
 
 -- ---- the text of a value that is a string
 
@@ -199,7 +199,7 @@ string_text_is_string x v s e = subst IsString (sym s.text) (string_value v s.va
 
 pub ruleset plain_texts = (content_text, content_says, content_plain, not_plain)
 
-pub ruleset texts = (content_utf8, content_is_front)
+pub ruleset texts = (content_utf8, content_is_prefix)
 
 pub ruleset unescaped_texts = (unescaped_same, same_unescaped, written_unescaped)
 

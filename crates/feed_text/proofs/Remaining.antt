@@ -1,7 +1,7 @@
--- The parts at the front of a text, one after the other.
+-- The parts at the start of a text, one after the other.
 use Rattle.std.proofs.Common.{◌≡◌, ◌≤◌, ℕ, zero, suc, ◌<◌, Bool, true, false, cond, eqb, List, [], ◌∷◌, length, drop, Some, None, refl, sym, ap, ◌∙◌, arith}
 use Rattle.feed_text.specs.Ascii.{comma}
-use Rattle.feed_text.specs.Reading.{Front, first, parts_with, left_up_to, parts_left}
+use Rattle.feed_text.specs.Reading.{Prefix, first, parts_with, left_up_to, parts_left}
 use Rattle.feed_text.proofs.Parts.{Shortens}
 use Rattle.feed_text.proofs.Bounds.{drop_shorter}
 
@@ -12,7 +12,7 @@ few : {A : Type 0} (y : A) (n : ℕ) (b : Bool) (ys : List A) → suc (length ys
 few y n true ys le = le
 few y n false ys le = omega arith
 
-module _ {A : Type 0} (part : List ℕ → Front A) (shortens : Shortens part) where
+module _ {A : Type 0} (part : List ℕ → Prefix A) (shortens : Shortens part) where
   -- the bound does not matter
   up_to_same : (n m : ℕ) (text : List ℕ) → length text < n → length text < m → left_up_to part n text ≡ left_up_to part m text
   unfolding left_up_to
@@ -20,7 +20,7 @@ module _ {A : Type 0} (part : List ℕ → Front A) (shortens : Shortens part) w
   up_to_same (suc n) zero text lt lt' = absurd (omega arith)
   up_to_same (suc n) (suc m) text lt lt' = by (part text) refl (up_to_same n m)
     where
-      by : (f : Front A) → part text ≡ f → ((t : List ℕ) → length t < n → length t < m → left_up_to part n t ≡ left_up_to part m t) → parts_with (others_by (left_up_to part n)) f ≡ parts_with (others_by (left_up_to part m)) f
+      by : (f : Prefix A) → part text ≡ f → ((t : List ℕ) → length t < n → length t < m → left_up_to part n t ≡ left_up_to part m t) → parts_with (others_by (left_up_to part n)) f ≡ parts_with (others_by (left_up_to part m)) f
       by None e same = refl
       by (Some x) e same =
           let shorter = shortens text x.0 x.1 e in
@@ -31,7 +31,7 @@ module _ {A : Type 0} (part : List ℕ → Front A) (shortens : Shortens part) w
   unfolding left_up_to parts_left
   left_step text = by (part text) refl
     where
-      by : (f : Front A) → part text ≡ f → parts_with (others_by (left_up_to part (length text))) f ≡ parts_with (others_by (parts_left part)) f
+      by : (f : Prefix A) → part text ≡ f → parts_with (others_by (left_up_to part (length text))) f ≡ parts_with (others_by (parts_left part)) f
       by None e = refl
       by (Some x) e =
           let shorter = shortens text x.0 x.1 e in
@@ -46,7 +46,7 @@ module _ {A : Type 0} (part : List ℕ → Front A) (shortens : Shortens part) w
   pub nothing_of_nothing : parts_left part [] ≡ []
   nothing_of_nothing = by (part []) refl
     where
-      by : (f : Front A) → part [] ≡ f → parts_left part [] ≡ []
+      by : (f : Prefix A) → part [] ≡ f → parts_left part [] ≡ []
       by None e = nothing_remains [] e
       by (Some x) e = absurd (omega (arith, shortens [] x.0 x.1 e))
 
@@ -63,7 +63,7 @@ module _ {A : Type 0} (part : List ℕ → Front A) (shortens : Shortens part) w
   up_to_length zero text lt = absurd (omega arith)
   up_to_length (suc n) text lt = by (part text) refl (up_to_length n)
     where
-      by : (f : Front A) → part text ≡ f → ((t : List ℕ) → length t < n → length (left_up_to part n t) ≤ length t) → length (parts_with (others_by (left_up_to part n)) f) ≤ length text
+      by : (f : Prefix A) → part text ≡ f → ((t : List ℕ) → length t < n → length (left_up_to part n t) ≤ length t) → length (parts_with (others_by (left_up_to part n)) f) ≤ length text
       by None e same = omega arith
       by (Some x) e same =
           let shorter = shortens text x.0 x.1 e in

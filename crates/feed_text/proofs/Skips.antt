@@ -4,7 +4,7 @@ use Rattle.std.specs.Prelude.{option_map}
 use Rattle.std.proofs.lemmas.Bool.{ne_eqb, eqb-false, eqb-true}
 use Rattle.feed_text.specs.Ascii.{quotation_mark, space, comma, colon, right_brace, right_bracket}
 use Rattle.feed_text.specs.Json.{is_white_space}
-use Rattle.feed_text.specs.Reading.{Front, rest_of, or_nothing, first, rest_while, behind_first, string_at, characters_at, parts_until, behind, item_at, pair_at, contents_at, value_at}
+use Rattle.feed_text.specs.Reading.{Prefix, rest_of, or_nothing, first, rest_while, behind_first, string_at, characters_at, parts_until, behind, item_at, pair_at, contents_at, value_at}
 use Rattle.feed_text.proofs.Parts.{Shortens, rest_at_close, rest_at_none, rest_at_part}
 use Rattle.feed_text.proofs.Bounds.{behind_shortens, item_shortens, pair_shortens, drop_shorter}
 use Rattle.feed_text.proofs.Rests.{string_rest, rest_string, contents_empty, contents_none, contents_some}
@@ -17,11 +17,11 @@ no_white (b ∷ text) byte more here =
 
 -- ---- one item, one member
 
-white_item : {B : Type 0} (f : Front B) → or_nothing (option_map (λ (x : B × List ℕ). rest_while is_white_space x.1) f) ≡ rest_while is_white_space (or_nothing (rest_of f))
+white_item : {B : Type 0} (f : Prefix B) → or_nothing (option_map (λ (x : B × List ℕ). rest_while is_white_space x.1) f) ≡ rest_while is_white_space (or_nothing (rest_of f))
 white_item None = refl
 white_item (Some x) = refl
 
-item_some_rest : {B C : Type 0} (view : B × List ℕ → C) (f : Front B) → rest_of (option_map (λ (x : B × List ℕ). (view x, rest_while is_white_space x.1)) f) ≡ option_map (λ (x : B × List ℕ). rest_while is_white_space x.1) f
+item_some_rest : {B C : Type 0} (view : B × List ℕ → C) (f : Prefix B) → rest_of (option_map (λ (x : B × List ℕ). (view x, rest_while is_white_space x.1)) f) ≡ option_map (λ (x : B × List ℕ). rest_while is_white_space x.1) f
 item_some_rest view None = refl
 item_some_rest view (Some x) = refl
 
@@ -31,11 +31,11 @@ item_rest levels text =
     let f = value_at levels (rest_while is_white_space text) in
     ap or_nothing (item_some_rest _ f) ∙ white_item f
 
-same_rest : {B C : Type 0} (view : B × List ℕ → C) (f : Front B) → rest_of (option_map (λ (x : B × List ℕ). (view x, x.1)) f) ≡ rest_of f
+same_rest : {B C : Type 0} (view : B × List ℕ → C) (f : Prefix B) → rest_of (option_map (λ (x : B × List ℕ). (view x, x.1)) f) ≡ rest_of f
 same_rest view None = refl
 same_rest view (Some x) = refl
 
-member_by : (levels : ℕ) (text : List ℕ) (f : Front (List ℕ)) → string_at (rest_while is_white_space text) ≡ f → (v : Bool) → eqb (first (rest_while is_white_space (or_nothing (rest_of f)))) colon ≡ v
+member_by : (levels : ℕ) (text : List ℕ) (f : Prefix (List ℕ)) → string_at (rest_while is_white_space text) ≡ f → (v : Bool) → eqb (first (rest_while is_white_space (or_nothing (rest_of f)))) colon ≡ v
     → or_nothing (rest_of (pair_at (value_at levels) text)) ≡ cond v (or_nothing (rest_of (item_at (value_at levels) (drop 1 (rest_while is_white_space (or_nothing (rest_of f))))))) []
 unfolding pair_at
 member_by levels text None e true here = absurd (omega (arith, eqb-true 0 colon here))
@@ -63,7 +63,7 @@ pub ruleset one_member = (member_rest, member_no_rest)
 
 -- ---- up to the closing bracket
 
-module _ {A : Type 0} (close : ℕ) (other : comma ≢ close) (positive : 0 < close) (part : List ℕ → Front A) (shortens : Shortens part) where
+module _ {A : Type 0} (close : ℕ) (other : comma ≢ close) (positive : 0 < close) (part : List ℕ → Prefix A) (shortens : Shortens part) where
   nothing_left : rest_of (parts_until close (behind comma part) []) ≡ None
   nothing_left = rest_at_none close (behind comma part) (behind_shortens comma part shortens) [] (omega arith) refl
 
@@ -91,7 +91,7 @@ module _ {A : Type 0} (close : ℕ) (other : comma ≢ close) (positive : 0 < cl
   first_part : (text : List ℕ) → first (rest_while is_white_space text) ≢ close → rest_of (contents_at close part text) ≡ rest_of (parts_until close (behind comma part) (or_nothing (rest_of (part text))))
   first_part text not_so = start_by text not_so (rest_of (part text)) refl
 
-  shorter_by : (text : List ℕ) (f : Front A) → part text ≡ f → first (or_nothing (rest_of f)) ≡ comma → length (drop 1 (or_nothing (rest_of f))) < length text
+  shorter_by : (text : List ℕ) (f : Prefix A) → part text ≡ f → first (or_nothing (rest_of f)) ≡ comma → length (drop 1 (or_nothing (rest_of f))) < length text
   shorter_by text None e here = absurd (omega arith)
   shorter_by text (Some x) e here = omega (arith, shortens text x.0 x.1 e, drop_shorter x.1)
 

@@ -1,4 +1,4 @@
--- A mirror that has followed a front of the response on its connection is where the whole blocks of that front bring it.
+-- A mirror that has followed a prefix of the response on its connection is where the whole blocks of that prefix bring it.
 use Rattle.std.proofs.Common.{◌≡◌, refl, sym, ap, ◌∙◌, subst, ℕ, zero, suc, ◌+◌, ◌-◌, ◌<◌, ◌≤◌, ◌^◌, min, Bool, true, false, ◌&&◌, arith, List, [], ◌∷◌, ◌++◌, length, take, drop, append_assoc, length-append, length-take-le, take-take, take-append-drop, Option, Some, None, Ok, Err, inl, inr, nat_le, nat_lt, eqb-true, ltb-true, ltb-false}
 use Rattle.std.specs.Prelude.{if◌then◌else◌, ◌==◌, ◌≢◌, Result}
 use Rattle.feed_note.specs.Lines.{rest}
@@ -20,18 +20,18 @@ use Rattle.feed_follow.specs.Following.{HasReached, IsCutAfter, Leaves, HasBadLi
 use Rattle.feed_follow.specs.Standing.{Standing, in_head, token_refused, in_body, done, failed, Stands}
 use Rattle.feed_answer.specs.Answer.{feed_head}
 use Rattle.feed_answer.specs.FrameLaws.{joined as joined_texts}
-use Rattle.feed_answer.specs.FollowLaws.{ResponsesAreFollowed, FrontsCarryMore}
+use Rattle.feed_answer.specs.FollowLaws.{ResponsesAreFollowed, PrefixesCarryMore}
 use Rattle.feed_answer.specs.Carried.{standing_at}
 use Rattle.feed_world.specs.declared.event.Reply.TheVariants.{Delivered, Broke}
 use Rattle.feed_world.specs.Connection.{Part, Snapshot, Commit, Line_feed, Connection, part_text, part_texts, sent_text, sent_bytes, bytes_sent, come_by, blocks_within, blocks_come, blocks_between, moved, moved_by, is_new, count_new, GoOn, first_parts}
 use Rattle.feed_world.specs.Log.{Log, IsLog}
 use Rattle.feed_world.specs.Position.{Position, node_where, renewed, IsPosition, IsPlace}
-use Rattle.feed_world.specs.Reading.{opening_at, IsOpened, FrontsAreRead}
+use Rattle.feed_world.specs.Reading.{opening_at, IsOpened, PrefixesAreRead}
 use Rattle.feed_world.specs.States.{ConnectionState, FollowerState, IsConnection, HasAsked, IsReading, AreLinked, IsMirror, asks_with, Moves, BreaksMirror, IsBrought, Brings, next_bytes, delivered_after, published_between}
 use Rattle.feed_world.specs.Step.{reached, delivers, with_connection, mirror_delivers, brought_to, IsMemory}
 use Rattle.feed_world.specs.World.{Mirror}
 use Rattle.feed_world.proofs.Commits.{renewed_is_position}
-use Rattle.feed_world.proofs.Fronts.{not_zero}
+use Rattle.feed_world.proofs.Prefixes.{not_zero}
 use Rattle.feed_world.proofs.Growth.{goes_up, fewer_blocks, deliveries_compose, news_compose}
 use Rattle.feed_world.proofs.Linked.{parts_have_text, none_at_first}
 use Rattle.feed_world.proofs.Responses.{joined_parts, are_texts, come_none, come_within, come_few}
@@ -173,15 +173,15 @@ is_body token_refused = false
 is_body (done p) = false
 is_body (failed fault p) = false
 
--- a front of a list is its first items
-pub front_is : (front behind text : List ℕ) → front ++ behind ≡ text → take (length front) text ≡ front
-front_is front behind text e = ap (take (length front)) (sym e) ∙ take_front front behind
+-- a prefix of a list is its first items
+pub prefix_is : (prefix behind text : List ℕ) → prefix ++ behind ≡ text → take (length prefix) text ≡ prefix
+prefix_is prefix behind text e = ap (take (length prefix)) (sym e) ∙ take_prefix prefix behind
   where
-    take_front : (xs ys : List ℕ) → take (length xs) (xs ++ ys) ≡ xs
-    take_front [] ys = refl
-    take_front (x ∷ xs) ys = ap (λ zs. x ∷ zs) (take_front xs ys)
+    take_prefix : (xs ys : List ℕ) → take (length xs) (xs ++ ys) ≡ xs
+    take_prefix [] ys = refl
+    take_prefix (x ∷ xs) ys = ap (λ zs. x ∷ zs) (take_prefix xs ys)
 
-module _ (fronts : FrontsAreRead) (one : ReadingIsOne) (responses : ResponsesAreFollowed) (carry : FrontsCarryMore) (limits : Limits) (log : Log) (is_log : IsLog limits log) where
+module _ (prefixes : PrefixesAreRead) (one : ReadingIsOne) (responses : ResponsesAreFollowed) (carry : PrefixesCarryMore) (limits : Limits) (log : Log) (is_log : IsLog limits log) where
   -- the token of a mirror that was here, after these blocks
   abbrev token_at : Option Position → List Part → Option (List ℕ)
   token_at place blocks = published_token (node_where log (moved_by limits.history place blocks))
@@ -191,13 +191,13 @@ module _ (fronts : FrontsAreRead) (one : ReadingIsOne) (responses : ResponsesAre
       → s ≡ standing_at c.framing (part_texts log c.parts) n
   only_at c n had s fits stands = (responses c.framing (part_texts log c.parts) n had (are_texts log c fits)).only s stands
 
-  reads_to : (place : Option Position) (c : Connection) (front behind : List ℕ) (notes : List Line) (n : ℕ) → IsOpened limits log place c
-      → front ++ behind ≡ sent_text log c → length front ≡ n → Reads limits (opening_at log place c.fresh) front notes → ReadsTo limits log place c notes n
-  reads_to place c front behind notes n o whole size r =
-      let read = fronts limits log place c front behind is_log o whole in
-      let same : read.notes ≡ notes = one.notes limits (opening_at log place c.fresh) front read.notes notes read.nothing_bad r in
+  reads_to : (place : Option Position) (c : Connection) (prefix behind : List ℕ) (notes : List Line) (n : ℕ) → IsOpened limits log place c
+      → prefix ++ behind ≡ sent_text log c → length prefix ≡ n → Reads limits (opening_at log place c.fresh) prefix notes → ReadsTo limits log place c notes n
+  reads_to place c prefix behind notes n o whole size r =
+      let read = prefixes limits log place c prefix behind is_log o whole in
+      let same : read.notes ≡ notes = one.notes limits (opening_at log place c.fresh) prefix read.notes notes read.nothing_bad r in
       subst (ReadsTo limits log place c notes) size
-      (subst (λ ns. ReadsTo limits log place c ns (length front)) same (record { shows = read.shows; awaits = read.awaits }))
+      (subst (λ ns. ReadsTo limits log place c ns (length prefix)) same (record { shows = read.shows; awaits = read.awaits }))
 
   -- within the head nothing has come
   none_come : (place : Option Position) (c : Connection) (n : ℕ) → IsOpened limits log place c → n < length (feed_head c.framing) → blocks_come log c n ≡ []
@@ -235,7 +235,7 @@ module _ (fronts : FrontsAreRead) (one : ReadingIsOne) (responses : ResponsesAre
             ∙ (λ i. if read.awaits i then None else published_token (read.shows i));
       }
 
-  -- whatever front of the response was followed
+  -- whatever prefix of the response was followed
   pub follows_to : (place : Option Position) (c : Connection) (n : ℕ) (begun mirror : MirrorState) → IsOpened limits log place c → HasAsked limits log place c.fresh begun
       → Leaves begun (standing_at c.framing (part_texts log c.parts) n) mirror → FollowsTo limits log place c n mirror
   follows_to place c n begun mirror o asked = by (nat_lt n (length (feed_head c.framing))) refl
@@ -426,17 +426,17 @@ joined d e text piece h p =
     ap (λ ys. take d text ++ ys) p ∙ ap (λ xs. xs ++ drop d (take e text)) (sym (take-take d e text h)) ∙ take-append-drop d (take e text)
 
 -- what was delivered and a part of the piece
-shorter : (before counted uncounted piece front behind text : List ℕ) → counted ++ uncounted ≡ piece → before ++ piece ≡ front → front ++ behind ≡ text
+shorter : (before counted uncounted piece prefix behind text : List ℕ) → counted ++ uncounted ≡ piece → before ++ piece ≡ prefix → prefix ++ behind ≡ text
     → (before ++ counted) ++ (uncounted ++ behind) ≡ text
-shorter before counted uncounted piece front behind text p q r =
+shorter before counted uncounted piece prefix behind text p q r =
     append_assoc before counted (uncounted ++ behind)
     ∙ ap (λ xs. before ++ xs) (sym (append_assoc counted uncounted behind) ∙ ap (λ xs. xs ++ behind) p)
     ∙ sym (append_assoc before piece behind)
     ∙ ap (λ xs. xs ++ behind) q
     ∙ r
 
-no_longer : (before counted uncounted piece front : List ℕ) → counted ++ uncounted ≡ piece → before ++ piece ≡ front → length before + length counted ≤ length front
-no_longer before counted uncounted piece front p q =
+no_longer : (before counted uncounted piece prefix : List ℕ) → counted ++ uncounted ≡ piece → before ++ piece ≡ prefix → length before + length counted ≤ length prefix
+no_longer before counted uncounted piece prefix p q =
     let a = length-append before piece in
     let b = length-append counted uncounted in
     let c = ap length p in
@@ -500,7 +500,7 @@ brings_more s bytes end piece reader old new answer at is limits goes =
 
 -- ---- a delivery
 
-module _ (fronts : FrontsAreRead) (one : ReadingIsOne) (responses : ResponsesAreFollowed) (carry : FrontsCarryMore) (limits : Limits) (log : Log) (is_log : IsLog limits log)
+module _ (prefixes : PrefixesAreRead) (one : ReadingIsOne) (responses : ResponsesAreFollowed) (carry : PrefixesCarryMore) (limits : Limits) (log : Log) (is_log : IsLog limits log)
     (m : Mirror) (f : FollowerState) (h : IsMirror limits log m f) (s : ConnectionState) (bytes : ℕ) where
   module _ (c : Connection) (k : IsConnection log c s) (r : IsReading limits log m c s.reader f.mirror) (small : length s.bytes < 2 ^ 64) where
     fits : length (sent_bytes log c) < 2 ^ 64
@@ -512,8 +512,8 @@ module _ (fronts : FrontsAreRead) (one : ReadingIsOne) (responses : ResponsesAre
     after_is : delivered_after s bytes ≡ reached log c bytes
     after_is = λ i. min (k.delivered i + bytes) (length (k.bytes i))
 
-    makes_front : take c.delivered (sent_bytes log c) ++ next_bytes s bytes ≡ take (reached log c bytes) (sent_bytes log c)
-    makes_front =
+    makes_prefix : take c.delivered (sent_bytes log c) ++ next_bytes s bytes ≡ take (reached log c bytes) (sent_bytes log c)
+    makes_prefix =
         joined c.delivered (reached log c bytes) (sent_bytes log c) (next_bytes s bytes) (reaches.0)
         (λ i. drop (k.delivered i) (take (after_is i) (k.bytes i)))
 
@@ -528,12 +528,12 @@ module _ (fronts : FrontsAreRead) (one : ReadingIsOne) (responses : ResponsesAre
         let d = c.delivered in
         let e = reached log c bytes in
         let goes = b.follows r.begun (take d (sent_bytes log c)) r.standing r.follows in
-        let follows : FollowsAt r.begun (take e (sent_bytes log c)) goes.0 b.reader new = subst (λ bs. FollowsAt r.begun bs goes.0 b.reader new) makes_front goes.1 in
-        let to = follows_to fronts one responses carry limits log is_log r.before c e r.begun new r.opened r.asked
-        (subst (λ q. Leaves r.begun q new) (only_at fronts one responses carry limits log is_log c e b.reader.had_token goes.0 fits follows.stands) follows.leaves) in
-        let old = followed_before fronts one responses carry limits log is_log m c f s.reader h r fits in
-        let br = brings fronts one responses carry limits log is_log m c f s.reader h r fits e new (reaches.0) to in
-        let less = come_more fronts one responses carry limits log is_log m c f s.reader h r fits e (reaches.0) in
+        let follows : FollowsAt r.begun (take e (sent_bytes log c)) goes.0 b.reader new = subst (λ bs. FollowsAt r.begun bs goes.0 b.reader new) makes_prefix goes.1 in
+        let to = follows_to prefixes one responses carry limits log is_log r.before c e r.begun new r.opened r.asked
+        (subst (λ q. Leaves r.begun q new) (only_at prefixes one responses carry limits log is_log c e b.reader.had_token goes.0 fits follows.stands) follows.leaves) in
+        let old = followed_before prefixes one responses carry limits log is_log m c f s.reader h r fits in
+        let br = brings prefixes one responses carry limits log is_log m c f s.reader h r fits e new (reaches.0) to in
+        let less = come_more prefixes one responses carry limits log is_log m c f s.reader h r fits e (reaches.0) in
         let xs = blocks_come log c d in
         let ys = blocks_come log c e in
         let between = blocks_between log c d e in
@@ -584,8 +584,8 @@ module _ (fronts : FrontsAreRead) (one : ReadingIsOne) (responses : ResponsesAre
     broken_at : (n : ℕ) (x new : MirrorState) → m.connection ≡ Some c → c.delivered < reached log c bytes → c.delivered ≤ n → n ≤ reached log c bytes
         → Leaves r.begun (standing_at c.framing (part_texts log c.parts) n) x → new ≡ cut_off x → BreaksMirror limits log m bytes (record f { mirror = new; connection = None })
     broken_at n x new there some from to leaves cut =
-        let at = follows_to fronts one responses carry limits log is_log r.before c n r.begun x r.opened r.asked leaves in
-        let br = brings fronts one responses carry limits log is_log m c f s.reader h r fits n x from at in
+        let at = follows_to prefixes one responses carry limits log is_log r.before c n r.begun x r.opened r.asked leaves in
+        let br = brings prefixes one responses carry limits log is_log m c f s.reader h r fits n x from at in
         record {
           connection = c;
           is_linked = there;
@@ -621,15 +621,15 @@ module _ (fronts : FrontsAreRead) (one : ReadingIsOne) (responses : ResponsesAre
         let so_far = length-take-le d sent k.within in
         let ends = length-take-le e sent reaches.1 in
         let size = length-append (take d sent) l.counted in
-        let most = no_longer (take d sent) l.counted l.uncounted (next_bytes s bytes) (take e sent) (sym l.whole) makes_front in
-        let front : take (length (take d sent ++ l.counted)) sent ≡ take d sent ++ l.counted =
-        front_is (take d sent ++ l.counted) (l.uncounted ++ drop e sent) sent (shorter (take d sent) l.counted l.uncounted (next_bytes s bytes) (take e sent) (drop e sent) sent (sym l.whole) makes_front (take-append-drop e sent)) in
+        let most = no_longer (take d sent) l.counted l.uncounted (next_bytes s bytes) (take e sent) (sym l.whole) makes_prefix in
+        let prefix : take (length (take d sent ++ l.counted)) sent ≡ take d sent ++ l.counted =
+        prefix_is (take d sent ++ l.counted) (l.uncounted ++ drop e sent) sent (shorter (take d sent) l.counted l.uncounted (next_bytes s bytes) (take e sent) (drop e sent) sent (sym l.whole) makes_prefix (take-append-drop e sent)) in
         let many : length (take d sent ++ l.counted) ≡ n = omega (arith, so_far, size) in
-        let is_front : take d sent ++ l.counted ≡ take n sent = sym front ∙ ap (λ q. take q sent) many in
+        let is_prefix : take d sent ++ l.counted ≡ take n sent = sym prefix ∙ ap (λ q. take q sent) many in
         let from : d ≤ n = omega arith in
         let to : n ≤ e = omega (arith, most, so_far, ends) in
         let only : (q : Standing) → Stands s.reader.had_token (take d sent ++ l.counted) q → q ≡ standing_at c.framing (part_texts log c.parts) n =
-        λ q st. only_at fronts one responses carry limits log is_log c n s.reader.had_token q fits (subst (λ bs. Stands s.reader.had_token bs q) is_front st) in
+        λ q st. only_at prefixes one responses carry limits log is_log c n s.reader.had_token q fits (subst (λ bs. Stands s.reader.had_token bs q) is_prefix st) in
         elim l.left [
           | inl head ↦ broken_at n r.begun new there some from to (subst (λ q. Leaves r.begun q r.begun) (only in_head head.0) refl) head.1
           | inr body ↦
@@ -648,11 +648,11 @@ module _ (fronts : FrontsAreRead) (one : ReadingIsOne) (responses : ResponsesAre
     -- what a response with the feed can't be
     never_so : (n : ℕ) (q : Standing) → (IsPlain q → ⊥) → Stands s.reader.had_token (take n (sent_bytes log c)) q → ⊥
     never_so n q never st =
-        never (subst IsPlain (sym (only_at fronts one responses carry limits log is_log c n s.reader.had_token q fits st)) (plain_at log c n))
+        never (subst IsPlain (sym (only_at prefixes one responses carry limits log is_log c n s.reader.had_token q fits st)) (plain_at log c n))
 
     -- the piece and what was delivered before it
     never_behind : (q : Standing) → (IsPlain q → ⊥) → Stands s.reader.had_token (take c.delivered (sent_bytes log c) ++ next_bytes s bytes) q → ⊥
-    never_behind q never st = never_so (reached log c bytes) q never (subst (λ bs. Stands s.reader.had_token bs q) makes_front st)
+    never_behind q never st = never_so (reached log c bytes) q never (subst (λ bs. Stands s.reader.had_token bs q) makes_prefix st)
 
     body_is : (n : ℕ) (payload : List ℕ) → in_body payload ≡ standing_at c.framing (part_texts log c.parts) n → payload ≡ take (come_by log c n) (sent_text log c)
     body_is n payload e = by (nat_lt n (length (feed_head c.framing))) e ∙ ap (take (come_by log c n)) (joined_parts log c.parts)
@@ -667,23 +667,23 @@ module _ (fronts : FrontsAreRead) (one : ReadingIsOne) (responses : ResponsesAre
     good_line fault new l =
         let e = reached log c bytes in
         let sent = sent_bytes log c in
-        let n = length l.front in
-        let whole : l.front ++ (l.later ++ drop e sent) ≡ sent =
-        sym (append_assoc l.front l.later (drop e sent)) ∙ ap (λ bs. bs ++ drop e sent) (sym l.whole ∙ makes_front) ∙ take-append-drop e sent in
-        let is_front : l.front ≡ take n sent = sym (front_is l.front (l.later ++ drop e sent) sent whole) in
+        let n = length l.prefix in
+        let whole : l.prefix ++ (l.later ++ drop e sent) ≡ sent =
+        sym (append_assoc l.prefix l.later (drop e sent)) ∙ ap (λ bs. bs ++ drop e sent) (sym l.whole ∙ makes_prefix) ∙ take-append-drop e sent in
+        let is_prefix : l.prefix ≡ take n sent = sym (prefix_is l.prefix (l.later ++ drop e sent) sent whole) in
         let text = sent_text log c in
         let k = come_by log c n in
         let opening = opening_at log r.before c.fresh in
-        let read = fronts limits log r.before c (take k text) (drop k text) is_log r.opened (take-append-drop k text) in
+        let read = prefixes limits log r.before c (take k text) (drop k text) is_log r.opened (take-append-drop k text) in
         elim l.brings [
           | inl going ↦
-              let only = only_at fronts one responses carry limits log is_log c n s.reader.had_token (in_body l.payload) fits (subst (λ bs. Stands s.reader.had_token bs (in_body l.payload)) is_front going) in
+              let only = only_at prefixes one responses carry limits log is_log c n s.reader.had_token (in_body l.payload) fits (subst (λ bs. Stands s.reader.had_token bs (in_body l.payload)) is_prefix going) in
               let payload = body_is n l.payload only in
               one.faultless limits opening (take k text) read.notes l.cut.notes fault read.nothing_bad
               (subst (λ t. FaultsAt limits opening t l.cut.notes fault) payload
               (subst (λ o. FaultsAt limits o l.payload l.cut.notes fault) r.asked.opening
               (subst (λ b. FaultsAt b (present_opening r.begun) l.payload l.cut.notes fault) r.asked.limits_are l.cut.first)))
-          | inr ended ↦ never_so n (done l.payload) (λ p. p) (subst (λ bs. Stands s.reader.had_token bs (done l.payload)) is_front ended)
+          | inr ended ↦ never_so n (done l.payload) (λ p. p) (subst (λ bs. Stands s.reader.had_token bs (done l.payload)) is_prefix ended)
         ]
 
     -- a delivery meets no fault but a want of memory

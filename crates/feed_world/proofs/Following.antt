@@ -34,10 +34,10 @@ use Rattle.feed_world.specs.Following.{OpensAsked, SessionsOpenAsAsked, number_a
 use Rattle.feed_world.specs.Laws.{SessionsStartBefore}
 use Rattle.feed_world.specs.Log.{Log, IsLog, state_text}
 use Rattle.feed_world.specs.Position.{Position, IsPosition, IsPlace, node_at, node_where, renewed}
-use Rattle.feed_world.specs.Reading.{opening_at, IsOpened, FrontsAreRead}
+use Rattle.feed_world.specs.Reading.{opening_at, IsOpened, PrefixesAreRead}
 use Rattle.feed_world.specs.States.{HasAsked, HasReached}
 use Rattle.feed_world.specs.Step.{IsMemory}
-use Rattle.feed_world.proofs.Brought.{place_after, front_is}
+use Rattle.feed_world.proofs.Brought.{place_after, prefix_is}
 use Rattle.feed_world.proofs.Growth.{goes_up}
 use Rattle.feed_world.proofs.Reached.{blocks_of, all_blocks, comes_to}
 use Rattle.feed_world.proofs.Refused.{IsOfRefusal, at_of}
@@ -246,9 +246,9 @@ open_as_asked once starts limits log node place head contest minor since framing
 
 -- ---- a mirror that follows
 
-front_within : (text front behind : List ℕ) → front ++ behind ≡ text → length front ≤ length text
-front_within text front behind e =
-    let l = length-append front behind in
+prefix_within : (text prefix behind : List ℕ) → prefix ++ behind ≡ text → length prefix ≤ length text
+prefix_within text prefix behind e =
+    let l = length-append prefix behind in
     let s = ap length e in
     omega (arith, l, s)
 
@@ -269,46 +269,46 @@ responses_carry responses ends log c framing had are = (
     text : joined (part_texts log c.parts) ≡ sent_text log c
     text = joined_parts log c.parts
 
-    prefix : (f : Framing) (n : ℕ) (b : Bool) → CarriesPrefix (sent_text log c)
+    cut_prefix : (f : Framing) (n : ℕ) (b : Bool) → CarriesPrefix (sent_text log c)
         (if b then in_head
         else in_body (take (carried_by f (part_texts log c.parts) n)
         (joined (part_texts log c.parts))))
-    prefix f n true = tt
-    prefix f n false = (
+    cut_prefix f n true = tt
+    cut_prefix f n false = (
       drop (carried_by f (part_texts log c.parts) n) (joined (part_texts log c.parts)),
       take-append-drop (carried_by f (part_texts log c.parts) n)
           (joined (part_texts log c.parts)) ∙ text,
     )
 
     at : (n : ℕ) → CarriesPrefix (sent_text log c) (standing_at framing (part_texts log c.parts) n)
-    at n = prefix framing n (nat_lt n (length (feed_head framing)))
+    at n = cut_prefix framing n (nat_lt n (length (feed_head framing)))
 
     whole : (n : ℕ) (b : Bool) → CarriesPrefix (sent_text log c)
         (if b then standing_at Chunked (part_texts log c.parts) n
         else done (joined (part_texts log c.parts)))
-    whole n true = prefix Chunked n (nat_lt n (length (feed_head Chunked)))
+    whole n true = cut_prefix Chunked n (nat_lt n (length (feed_head Chunked)))
     whole n false = ([], append-nil (joined (part_texts log c.parts)) ∙ text)
 
     ended : (f : Framing) (n : ℕ)
         → CarriesPrefix (sent_text log c) (ended_at f (part_texts log c.parts) n)
-    ended Close n = prefix Close n (nat_lt n (length (feed_head Close)))
+    ended Close n = cut_prefix Close n (nat_lt n (length (feed_head Close)))
     ended Chunked n = whole n (nat_lt n (length (ended_text Chunked (part_texts log c.parts))))
 
-module _ (fronts : FrontsAreRead) (one : ReadingIsOne) (limits : Limits) (log : Log)
+module _ (prefixes : PrefixesAreRead) (one : ReadingIsOne) (limits : Limits) (log : Log)
     (place : Option Position) (c : Connection) (begun : MirrorState) (is_log : IsLog limits log)
     (o : IsOpened limits log place c) (asked : HasAsked limits log place c.fresh begun) where
   -- a mirror that was fed a prefix of the text
-  reached_so : (front behind : List ℕ) (mirror : MirrorState) → front ++ behind ≡ sent_text log c
-      → Reached begun front mirror → IsBroughtBy limits log place c (length front) mirror
-  reached_so front behind mirror whole h =
+  reached_so : (prefix behind : List ℕ) (mirror : MirrorState) → prefix ++ behind ≡ sent_text log c
+      → Reached begun prefix mirror → IsBroughtBy limits log place c (length prefix) mirror
+  reached_so prefix behind mirror whole h =
       let opening = opening_at log place c.fresh in
       let bounds : mirror.limits ≡ limits = h.limits ∙ asked.limits_are in
-      let stands : StandsAt opening front h.notes mirror =
-      subst (λ q. StandsAt q front h.notes mirror) asked.opening h.stands in
-      let read = fronts limits log place c front behind is_log o whole in
+      let stands : StandsAt opening prefix h.notes mirror =
+      subst (λ q. StandsAt q prefix h.notes mirror) asked.opening h.stands in
+      let read = prefixes limits log place c prefix behind is_log o whole in
       let same : read.notes ≡ h.notes =
-      one.notes limits opening front read.notes h.notes read.nothing_bad
-      (subst (λ l. Reads l opening front h.notes) bounds stands.nothing_bad) in
+      one.notes limits opening prefix read.notes h.notes read.nothing_bad
+      (subst (λ l. Reads l opening prefix h.notes) bounds stands.nothing_bad) in
       record {
         bounds = bounds;
         node = ap (λ s. s.node) stands.state
@@ -324,13 +324,13 @@ module _ (fronts : FrontsAreRead) (one : ReadingIsOne) (limits : Limits) (log : 
       }
 
   -- and cut then
-  cut_so : (front behind : List ℕ) (mirror : MirrorState) → front ++ behind ≡ sent_text log c
-      → IsCutAfter begun front mirror
-      → (mirror.connection ≡ None) × IsBroughtBy limits log place c (length front) mirror
-  cut_so front behind mirror whole h =
+  cut_so : (prefix behind : List ℕ) (mirror : MirrorState) → prefix ++ behind ≡ sent_text log c
+      → IsCutAfter begun prefix mirror
+      → (mirror.connection ≡ None) × IsBroughtBy limits log place c (length prefix) mirror
+  cut_so prefix behind mirror whole h =
       let stood : MirrorState =
-      mirror_after begun.limits (present_opening begun) h.notes (rest front) in
-      let b = reached_so front behind stood whole (record {
+      mirror_after begun.limits (present_opening begun) h.notes (rest prefix) in
+      let b = reached_so prefix behind stood whole (record {
         limits = refl;
         notes = h.notes;
         stands = record { nothing_bad = h.nothing_bad; state = refl };
@@ -344,24 +344,24 @@ module _ (fronts : FrontsAreRead) (one : ReadingIsOne) (limits : Limits) (log : 
       )
 
   -- no line of the text is bad
-  none_bad : (front behind : List ℕ) (notes : List Line) (fault : FeedFault)
-      → front ++ behind ≡ sent_text log c
-      → FaultsAt begun.limits (present_opening begun) front notes fault → ⊥
-  none_bad front behind notes fault whole first =
+  none_bad : (prefix behind : List ℕ) (notes : List Line) (fault : FeedFault)
+      → prefix ++ behind ≡ sent_text log c
+      → FaultsAt begun.limits (present_opening begun) prefix notes fault → ⊥
+  none_bad prefix behind notes fault whole first =
       let opening = opening_at log place c.fresh in
-      let read = fronts limits log place c front behind is_log o whole in
-      one.faultless limits opening front read.notes notes fault read.nothing_bad
-      (subst (λ q. FaultsAt limits q front notes fault) asked.opening
-      (subst (λ l. FaultsAt l (present_opening begun) front notes fault) asked.limits_are first))
+      let read = prefixes limits log place c prefix behind is_log o whole in
+      one.faultless limits opening prefix read.notes notes fault read.nothing_bad
+      (subst (λ q. FaultsAt limits q prefix notes fault) asked.opening
+      (subst (λ l. FaultsAt l (present_opening begun) prefix notes fault) asked.limits_are first))
 
   module _ (had : Bool) (bytes : List ℕ) (carry : CarryFeed had (sent_text log c) bytes) where
     -- however a prefix of the bytes stands, it carries a prefix of the text
-    prefix_carries : (front behind : List ℕ) (s : Standing) → front ++ behind ≡ bytes
-        → Stands had front s → CarriesPrefix (sent_text log c) s
-    prefix_carries front behind s whole stands =
-        let n = length front in
+    prefix_carries : (prefix behind : List ℕ) (s : Standing) → prefix ++ behind ≡ bytes
+        → Stands had prefix s → CarriesPrefix (sent_text log c) s
+    prefix_carries prefix behind s whole stands =
+        let n = length prefix in
         let w = carry n in
-        let there = subst (λ bs. Stands had bs s) (sym (front_is front behind bytes whole)) stands in
+        let there = subst (λ bs. Stands had bs s) (sym (prefix_is prefix behind bytes whole)) stands in
         subst (CarriesPrefix (sent_text log c)) (sym (w.1.only s there)) w.2
 
     module _ (before piece later : List ℕ) (whole : (before ++ piece) ++ later ≡ bytes)
@@ -388,7 +388,7 @@ module _ (fronts : FrontsAreRead) (one : ReadingIsOne) (limits : Limits) (log : 
                 let cut = cut_so payload behind.0 mirror behind.1 body.2 in
                 inr (
                   length payload,
-                  front_within (sent_text log c) payload behind.0 behind.1,
+                  prefix_within (sent_text log c) payload behind.0 behind.1,
                   cut.0,
                   cut.1,
                 )
@@ -396,13 +396,13 @@ module _ (fronts : FrontsAreRead) (one : ReadingIsOne) (limits : Limits) (log : 
 
       bad_line : (fault : FeedFault) → HasBadLine begun had (before ++ piece) fault mirror → ⊥
       bad_line fault l =
-          let ends : l.front ++ (l.later ++ later) ≡ bytes =
-          sym (append_assoc l.front l.later later) ∙ ap (λ bs. bs ++ later) (sym l.whole)
+          let ends : l.prefix ++ (l.later ++ later) ≡ bytes =
+          sym (append_assoc l.prefix l.later later) ∙ ap (λ bs. bs ++ later) (sym l.whole)
           ∙ whole in
           let behind : (behind : List ℕ) × (l.payload ++ behind ≡ sent_text log c) =
           elim l.brings [
-            | inl going ↦ prefix_carries l.front (l.later ++ later) (in_body l.payload) ends going
-            | inr all ↦ prefix_carries l.front (l.later ++ later) (done l.payload) ends all
+            | inl going ↦ prefix_carries l.prefix (l.later ++ later) (in_body l.payload) ends going
+            | inr all ↦ prefix_carries l.prefix (l.later ++ later) (done l.payload) ends all
           ] in
           none_bad l.payload behind.0 l.cut.notes fault behind.1 l.cut.first
 
@@ -429,9 +429,9 @@ module _ (fronts : FrontsAreRead) (one : ReadingIsOne) (limits : Limits) (log : 
       fails_so BadLength l = absurd (never BadLength l.0 l.1)
       fails_so BadChunk l = absurd (never BadChunk l.0 l.1)
 
-pub mirrors_follow : FrontsAreRead → ReadingIsOne → MirrorsFollow
-mirrors_follow fronts one limits log place c begun mirror reader bytes n s is_log o asked carry f =
-    by s (prefix_carries fronts one limits log place c begun is_log o asked reader.had_token bytes
+pub mirrors_follow : PrefixesAreRead → ReadingIsOne → MirrorsFollow
+mirrors_follow prefixes one limits log place c begun mirror reader bytes n s is_log o asked carry f =
+    by s (prefix_carries prefixes one limits log place c begun is_log o asked reader.had_token bytes
     carry (take n bytes) (drop n bytes) s (take-append-drop n bytes) f.stands) f.leaves
   where
     by : (s : Standing) → CarriesPrefix (sent_text log c) s → Leaves begun s mirror
@@ -439,15 +439,15 @@ mirrors_follow fronts one limits log place c begun mirror reader bytes n s is_lo
     by in_head w l = l
     by token_refused w l = absurd w
     by (in_body payload) w l =
-        reached_so fronts one limits log place c begun is_log o asked payload w.0 mirror w.1 l
+        reached_so prefixes one limits log place c begun is_log o asked payload w.0 mirror w.1 l
     by (done payload) w l =
-        reached_so fronts one limits log place c begun is_log o asked payload w.0 mirror w.1 l
+        reached_so prefixes one limits log place c begun is_log o asked payload w.0 mirror w.1 l
     by (failed fault payload) w l = absurd w
 
-pub fails_keep : FrontsAreRead → ReadingIsOne → FailsKeepStates
-fails_keep fronts one limits log place c begun mirror had bytes before piece later fault is_log o
+pub fails_keep : PrefixesAreRead → ReadingIsOne → FailsKeepStates
+fails_keep prefixes one limits log place c begun mirror had bytes before piece later fault is_log o
     asked carry whole fails =
-    fails_so fronts one limits log place c begun is_log o asked had bytes carry before piece later
+    fails_so prefixes one limits log place c begun is_log o asked had bytes carry before piece later
     whole mirror fault fails
 
 -- ---- a refusal
@@ -455,17 +455,17 @@ fails_keep fronts one limits log place c begun mirror had bytes before piece lat
 module _ (refusals : RefusalsAreFollowed) (refusal : Refusal) (begun mirror : MirrorState)
     (had : Bool) (before piece later : List ℕ)
     (whole : (before ++ piece) ++ later ≡ refusal_text refusal) where
-  of_refusal : (front behind : List ℕ) (s : Standing) → front ++ behind ≡ refusal_text refusal
-      → Stands had front s → s ≡ refusal_at had refusal (length front)
-  of_refusal front behind s e stands =
-      (refusals refusal (length front) had).only s
-      (subst (λ bs. Stands had bs s) (sym (front_is front behind (refusal_text refusal) e)) stands)
+  of_refusal : (prefix behind : List ℕ) (s : Standing) → prefix ++ behind ≡ refusal_text refusal
+      → Stands had prefix s → s ≡ refusal_at had refusal (length prefix)
+  of_refusal prefix behind s e stands =
+      (refusals refusal (length prefix) had).only s
+      (subst (λ bs. Stands had bs s) (sym (prefix_is prefix behind (refusal_text refusal) e)) stands)
 
-  is_of : (front behind : List ℕ) (s : Standing) → front ++ behind ≡ refusal_text refusal
-      → Stands had front s → IsOfRefusal s
-  is_of front behind s e stands =
-      subst IsOfRefusal (sym (of_refusal front behind s e stands))
-      (at_of refusal had (length front))
+  is_of : (prefix behind : List ℕ) (s : Standing) → prefix ++ behind ≡ refusal_text refusal
+      → Stands had prefix s → IsOfRefusal s
+  is_of prefix behind s e stands =
+      subst IsOfRefusal (sym (of_refusal prefix behind s e stands))
+      (at_of refusal had (length prefix))
 
   status_is : (n : ℕ) (payload : List ℕ) (k : ℕ) → failed (Status n) payload ≡ refusal_at had refusal k
       → n ≡ refusal_code refusal
@@ -498,11 +498,11 @@ module _ (refusals : RefusalsAreFollowed) (refusal : Refusal) (begun mirror : Mi
 
   no_line : (fault : FeedFault) → HasBadLine begun had (before ++ piece) fault mirror → ⊥
   no_line fault l =
-      let ends : l.front ++ (l.later ++ later) ≡ refusal_text refusal =
-      sym (append_assoc l.front l.later later) ∙ ap (λ bs. bs ++ later) (sym l.whole) ∙ whole in
+      let ends : l.prefix ++ (l.later ++ later) ≡ refusal_text refusal =
+      sym (append_assoc l.prefix l.later later) ∙ ap (λ bs. bs ++ later) (sym l.whole) ∙ whole in
       elim l.brings [
-        | inl going ↦ is_of l.front (l.later ++ later) (in_body l.payload) ends going
-        | inr all ↦ is_of l.front (l.later ++ later) (done l.payload) ends all
+        | inl going ↦ is_of l.prefix (l.later ++ later) (in_body l.payload) ends going
+        | inr all ↦ is_of l.prefix (l.later ++ later) (done l.payload) ends all
       ]
 
   not_so : (fault : FollowFault) (payload : List ℕ)

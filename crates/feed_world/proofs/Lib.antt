@@ -5,7 +5,7 @@ pub mod Commits
 pub mod Committed
 pub mod Connecting
 pub mod Following
-pub mod Fronts
+pub mod Prefixes
 pub mod Grown
 pub mod Growth
 pub mod Linked

@@ -41,12 +41,12 @@ at_of refusal had n = by (nat_lt n (length (refusal_head refusal)))
     by true = tt
     by false = standing_of refusal had
 
-front_is : (front behind text : List ℕ) → front ++ behind ≡ text → take (length front) text ≡ front
-front_is front behind text e = ap (take (length front)) (sym e) ∙ take_front front behind
+prefix_is : (prefix behind text : List ℕ) → prefix ++ behind ≡ text → take (length prefix) text ≡ prefix
+prefix_is prefix behind text e = ap (take (length prefix)) (sym e) ∙ take_prefix prefix behind
   where
-    take_front : (xs ys : List ℕ) → take (length xs) (xs ++ ys) ≡ xs
-    take_front [] ys = refl
-    take_front (x ∷ xs) ys = ap (λ zs. x ∷ zs) (take_front xs ys)
+    take_prefix : (xs ys : List ℕ) → take (length xs) (xs ++ ys) ≡ xs
+    take_prefix [] ys = refl
+    take_prefix (x ∷ xs) ys = ap (λ zs. x ∷ zs) (take_prefix xs ys)
 
 module _ (refusals : RefusalsAreFollowed) (refusal : Refusal) (old : MirrorState) (reader : ReaderState) (bytes : List ℕ) (is : bytes ≡ refusal_text refusal) where
   -- the whole of it stands in one way
@@ -62,11 +62,11 @@ module _ (refusals : RefusalsAreFollowed) (refusal : Refusal) (old : MirrorState
       by true e a = let less = ltb-true _ _ e in absurd (omega (arith, less, a))
       by false e a = refl
 
-  -- a front of it stands so
-  of_front : (had : Bool) (front behind : List ℕ) (q : Standing) → front ++ behind ≡ bytes → Stands had front q → IsOfRefusal q
-  of_front had front behind q e st =
-      let n = length front in
-      let same : front ≡ take n (refusal_text refusal) = sym (front_is front behind (refusal_text refusal) (e ∙ is)) in
+  -- a prefix of it stands so
+  of_prefix : (had : Bool) (prefix behind : List ℕ) (q : Standing) → prefix ++ behind ≡ bytes → Stands had prefix q → IsOfRefusal q
+  of_prefix had prefix behind q e st =
+      let n = length prefix in
+      let same : prefix ≡ take n (refusal_text refusal) = sym (prefix_is prefix behind (refusal_text refusal) (e ∙ is)) in
       subst IsOfRefusal (sym ((refusals refusal n had).only q (subst (λ t. Stands had t q) same st))) (at_of refusal had n)
 
   of_whole : (had : Bool) (q : Standing) → Stands had bytes q → IsOfRefusal q
@@ -90,16 +90,16 @@ module _ (refusals : RefusalsAreFollowed) (refusal : Refusal) (old : MirrorState
       elim l.left [
         | inl head ↦ head.1
         | inr body ↦ elim body.1 [
-          | inl going ↦ absurd (of_front reader.had_token l.counted l.uncounted (in_body body.0) (sym l.whole) going)
-          | inr ended ↦ absurd (of_front reader.had_token l.counted l.uncounted (done body.0) (sym l.whole) ended)
+          | inl going ↦ absurd (of_prefix reader.had_token l.counted l.uncounted (in_body body.0) (sym l.whole) going)
+          | inr ended ↦ absurd (of_prefix reader.had_token l.counted l.uncounted (done body.0) (sym l.whole) ended)
         ]
       ]
 
   no_bad_line : (fault : FeedFault) (new : MirrorState) → HasBadLine old reader.had_token ([] ++ bytes) fault new → ⊥
   no_bad_line fault new l =
       elim l.brings [
-        | inl going ↦ of_front reader.had_token l.front l.later (in_body l.payload) (sym l.whole) going
-        | inr ended ↦ of_front reader.had_token l.front l.later (done l.payload) (sym l.whole) ended
+        | inl going ↦ of_prefix reader.had_token l.prefix l.later (in_body l.payload) (sym l.whole) going
+        | inr ended ↦ of_prefix reader.had_token l.prefix l.later (done l.payload) (sym l.whole) ended
       ]
 
   -- before the first byte it stands in its head

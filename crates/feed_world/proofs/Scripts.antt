@@ -205,11 +205,11 @@ e_cut = record { limits = record { history = 4; staged = 100 }; framing = Close;
 abbrev sent_again : List Event
 sent_again = Connect 1 0 9 ∷ DoCommit (Single (codes "s") (codes "{}") ∷ []) ∷ Serve 1 ∷ Deliver 1 9999 ∷ []
 
-e_front : run_all (world 4 100 2) (Connect 1 0 0 ∷ Deliver 1 9999 ∷ DoCommit (Set (codes "t") (codes "1") (codes "{}") ∷ []) ∷ DoCommit (Remove (codes "t") (codes "1") ∷ [])
+e_prefix : run_all (world 4 100 2) (Connect 1 0 0 ∷ Deliver 1 9999 ∷ DoCommit (Set (codes "t") (codes "1") (codes "{}") ∷ []) ∷ DoCommit (Remove (codes "t") (codes "1") ∷ [])
     ∷ Serve 1 ∷ Serve 1 ∷ Deliver 1 9999 ∷ DoCut 1 ∷ [])
     ≡ (Ok Opened ∷ Ok (Delivered 1) ∷ Ok (Committed (codes "1")) ∷ Ok (Committed (codes "2")) ∷ Ok (Sent More) ∷ Ok (Sent More) ∷ Ok (Delivered 2) ∷ Ok Cut ∷ [], e_cut)
 unfolding digits after written_string
-e_front = simp (entries-inserted, entries-removed, get-entries, len-entries, entries-empty)
+e_prefix = simp (entries-inserted, entries-removed, get-entries, len-entries, entries-empty)
 
 e_again : (run_all e_cut sent_again).0 ≡ Ok Opened ∷ Ok (Committed (codes "3")) ∷ Ok (Sent More) ∷ Ok (Delivered 0) ∷ []
 unfolding digits after written_string
@@ -223,7 +223,7 @@ e_last : (run_all (run_all e_cut sent_again).1 (Serve 1 ∷ Serve 1 ∷ Deliver 
 unfolding digits after written_string
 e_last = simp (entries-inserted, entries-removed, get-entries, len-entries, entries-empty)
 
--- a mirror that is restarted from a front of what was saved, and then from all of it
+-- a mirror that is restarted from a prefix of what was saved, and then from all of it
 abbrev c_log : Log
 c_log = (set_team (codes "1") ∷ set_team (codes "2") ∷ []) ∷ []
 
@@ -237,10 +237,10 @@ c_at place =
       mirrors = record { place = place; upstream = 0; afresh = false; connection = None; saved = Some 1 } ∷ [];
     }
 
-c_front : run_all (world 1 100 2) (DoCommit (set_team (codes "1") ∷ set_team (codes "2") ∷ []) ∷ Connect 1 0 0 ∷ Deliver 1 9999 ∷ Save 1 ∷ Restart 1 136 ∷ [])
+c_prefix : run_all (world 1 100 2) (DoCommit (set_team (codes "1") ∷ set_team (codes "2") ∷ []) ∷ Connect 1 0 0 ∷ Deliver 1 9999 ∷ Save 1 ∷ Restart 1 136 ∷ [])
     ≡ (Ok (Committed (codes "1")) ∷ Ok Opened ∷ Ok (Delivered 1) ∷ Ok (Saved 137) ∷ Ok (Restarted false) ∷ [], c_at None)
 unfolding digits after written_string
-c_front = simp (entries-inserted, entries-removed, get-entries, len-entries, entries-empty)
+c_prefix = simp (entries-inserted, entries-removed, get-entries, len-entries, entries-empty)
 
 c_all : run_all (c_at None) (Connect 1 0 0 ∷ Deliver 1 9999 ∷ Restart 1 137 ∷ Serve 1 ∷ [])
     ≡ (Ok Opened ∷ Ok (Delivered 1) ∷ Ok (Restarted true) ∷ Err NoConnection ∷ [], c_at (position 1 1))

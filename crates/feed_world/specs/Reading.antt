@@ -1,4 +1,4 @@
--- What a mirror makes of what was sent to it, whatever front of it came.
+-- What a mirror makes of what was sent to it, whatever prefix of it came.
 use Rattle.std.specs.Prelude.{◌≡◌, ℕ, ◌≤◌, ◌<◌, ◌^◌, Bool, false, ◌&&◌, List, ◌++◌, length, Option, Some, ◌==◌}
 use Rattle.feed_note.specs.declared.line.Line.{Line}
 use Rattle.feed_node.specs.Limits.{Limits}
@@ -23,25 +23,25 @@ pub record IsOpened (limits : Limits) (log : Log) (place : Option Position)
   pub order : IsInOrder c
   pub sent : c.last ≤ length log
 
--- A front of what was sent has nothing bad, and the mirror that reads it is where its whole blocks
+-- A prefix of what was sent has nothing bad, and the mirror that reads it is where its whole blocks
 -- bring it: it publishes at each of them that is new, and nothing else.
 pub record IsRead (limits : Limits) (log : Log) (place : Option Position) (c : Connection)
-    (front : List ℕ) : Type 0 where
+    (prefix : List ℕ) : Type 0 where
   pub notes : List Line
-  pub nothing_bad : Reads limits (opening_at log place c.fresh) front notes
+  pub nothing_bad : Reads limits (opening_at log place c.fresh) prefix notes
   pub shows : keep_latest limits.history (reads limits.history (opening_at log place c.fresh) notes)
-      ≡ node_where log (moved_by limits.history place (blocks_within log c.parts (length front)))
+      ≡ node_where log (moved_by limits.history place (blocks_within log c.parts (length prefix)))
   pub awaits : awaits_reset (opening_at log place c.fresh) notes ≡ (c.fresh
-      && (length (blocks_within log c.parts (length front)) == 0))
+      && (length (blocks_within log c.parts (length prefix)) == 0))
   pub published : publications limits.history (opening_at log place c.fresh) notes
-      ≡ count_new limits.history place (blocks_within log c.parts (length front))
+      ≡ count_new limits.history place (blocks_within log c.parts (length prefix))
 
--- whatever front of what was sent came
-abbrev pub FrontsAreRead : Type 0
-FrontsAreRead =
-    (limits : Limits) (log : Log) (place : Option Position) (c : Connection) (front behind : List ℕ)
-    → IsLog limits log → IsOpened limits log place c → front ++ behind ≡ sent_text log c
-    → IsRead limits log place c front
+-- whatever prefix of what was sent came
+abbrev pub PrefixesAreRead : Type 0
+PrefixesAreRead =
+    (limits : Limits) (log : Log) (place : Option Position) (c : Connection) (prefix behind : List ℕ)
+    → IsLog limits log → IsOpened limits log place c → prefix ++ behind ≡ sent_text log c
+    → IsRead limits log place c prefix
 
 -- numbers of a log have one token each, so nodes at one token have equal tables
 abbrev pub TokensTellStates : Type 0

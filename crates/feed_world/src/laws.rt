@@ -2,17 +2,17 @@
 
 ghost use Rattle.feed_world.specs.Laws.{GrowthKeeps, SendingKeepsOrder, DeliveriesCompose, NodesOpenInLog, SessionsStartBefore, NodesSendTheNext, PartsGoOn};
 ghost use Rattle.feed_world.specs.Following.{SessionsOpenAsAsked, PlacesStay, AllIsReached, ResponsesCarryFeed, MirrorsFollow, FailsKeepStates, RefusalsKeepNodes};
-ghost use Rattle.feed_world.specs.Reading.{FrontsAreRead, TokensTellStates};
+ghost use Rattle.feed_world.specs.Reading.{PrefixesAreRead, TokensTellStates};
 
 use feed_answer::{answer_laws, followed_laws};
 use feed_node::{node_laws, reading_laws};
 use feed_tables::table_laws;
 
-/// Whatever front of what was sent on a connection came, it has nothing bad, and the mirror that
-/// reads it is where its whole blocks bring it, however the front was cut. A token names one state
+/// Whatever prefix of what was sent on a connection came, it has nothing bad, and the mirror that
+/// reads it is where its whole blocks bring it, however the prefix was cut. A token names one state
 /// of a log. A further commit changes nothing of what a node shows and of what was sent.
 pub fn world_laws()
-    ensures fronts { FrontsAreRead }
+    ensures prefixes { PrefixesAreRead }
     ensures tokens { TokensTellStates }
     ensures growth { GrowthKeeps }
     ensures order { SendingKeepsOrder }

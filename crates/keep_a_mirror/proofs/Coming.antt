@@ -23,12 +23,12 @@ pub none_yet : (limits : Limits) (opening : Opening) (all : List ℕ) (mirror : 
 none_yet limits opening all mirror stands same = record { bytes = []; notes = []; whole = refl; stands = stands; limits_are = same }
 
 -- one piece more
-pub one_more : (limits : Limits) (opening : Opening) (all behind front back : List ℕ) (old new : MirrorState) (count : ℕ) (come : HasCome limits opening all behind old)
-    → front ++ back ≡ behind → Fed opening come.bytes front come.notes old new count → HasCome limits opening all back new
-one_more limits opening all behind front back old new count come cut fed = record {
-  bytes = come.bytes ++ front;
+pub one_more : (limits : Limits) (opening : Opening) (all behind prefix back : List ℕ) (old new : MirrorState) (count : ℕ) (come : HasCome limits opening all behind old)
+    → prefix ++ back ≡ behind → Fed opening come.bytes prefix come.notes old new count → HasCome limits opening all back new
+one_more limits opening all behind prefix back old new count come cut fed = record {
+  bytes = come.bytes ++ prefix;
   notes = come.notes ++ fed.more;
-  whole = append_assoc come.bytes front back ∙ ap (λ t. come.bytes ++ t) cut ∙ come.whole;
+  whole = append_assoc come.bytes prefix back ∙ ap (λ t. come.bytes ++ t) cut ∙ come.whole;
   stands = fed.stands;
   limits_are = fed.limits ∙ come.limits_are;
 }
@@ -52,10 +52,10 @@ pub all_come : (old : MirrorState) (all behind : List ℕ) (mirror new : MirrorS
 all_come old all behind mirror new come none cut =
     followed_at old all come.bytes come.notes mirror new (sym (append-nil come.bytes) ∙ ap (λ t. come.bytes ++ t) (sym none) ∙ come.whole) come.limits_are come.stands cut
 
-pub cut_in_two : (n : ℕ) (all front back : List ℕ) → front ≡ take n all → back ≡ drop n all → front ++ back ≡ all
-cut_in_two n all front back f b = ap (λ t. t ++ back) f ∙ ap (λ t. take n all ++ t) b ∙ take-append-drop n all
+pub cut_in_two : (n : ℕ) (all prefix back : List ℕ) → prefix ≡ take n all → back ≡ drop n all → prefix ++ back ≡ all
+cut_in_two n all prefix back f b = ap (λ t. t ++ back) f ∙ ap (λ t. take n all ++ t) b ∙ take-append-drop n all
 
--- what came, a front of the next piece, and all behind that
+-- what came, a prefix of the next piece, and all behind that
 in_all : (bytes counted uncounted piece back rest all : List ℕ) → counted ++ uncounted ≡ piece → piece ++ back ≡ rest → bytes ++ rest ≡ all
     → (bytes ++ counted) ++ (uncounted ++ back) ≡ all
 in_all bytes counted uncounted piece back rest all c p w =
@@ -66,7 +66,7 @@ stopped_at : (old mirror : MirrorState) (bytes piece back rest all : List ℕ) (
     → piece ++ back ≡ rest → bytes ++ rest ≡ all → ((notes : List Line) → FaultsAt old.limits (present_opening old) (bytes ++ piece) notes why → EndsBy old.limits (present_opening old) (bytes ++ piece) notes why)
     → (notes : List Line) × HasStopped (present_opening old) (bytes ++ piece) notes why mirror new → HasGivenUp old all why new
 stopped_at old mirror bytes piece back rest all why new same cut whole ends (notes, stopped) = record {
-  front = bytes ++ piece;
+  prefix = bytes ++ piece;
   behind = back;
   whole = append_assoc bytes piece back ∙ ap (λ t. bytes ++ t) cut ∙ whole;
   notes = notes;
@@ -77,7 +77,7 @@ stopped_at old mirror bytes piece back rest all why new same cut whole ends (not
 lost_at : (old mirror : MirrorState) (bytes piece back rest all : List ℕ) (new : MirrorState) → mirror.limits ≡ old.limits → piece ++ back ≡ rest → bytes ++ rest ≡ all
     → HasLost (present_opening old) bytes piece mirror new → HasGivenUp old all fault.Memory new
 lost_at old mirror bytes piece back rest all new same cut whole lost = record {
-  front = bytes ++ lost.counted;
+  prefix = bytes ++ lost.counted;
   behind = lost.uncounted ++ back;
   whole = in_all bytes lost.counted lost.uncounted piece back rest all lost.whole cut whole;
   notes = lost.notes;

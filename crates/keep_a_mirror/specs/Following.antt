@@ -24,11 +24,11 @@ abbrev pub EndsBy : Limits → Opening → List ℕ → List Line → FeedFault 
 EndsBy limits opening bytes notes Memory = Reads limits opening bytes notes
 EndsBy limits opening bytes notes fault = FaultsAt limits opening bytes notes fault
 
--- a front of what the connection brought ended by this fault, and the mirror shows what the good lines before it publish
+-- a prefix of what the connection brought ended by this fault, and the mirror shows what the good lines before it publish
 pub record HasGivenUp (old : MirrorState) (bytes : List ℕ) (fault : FeedFault) (new : MirrorState) : Type 0 where
-  pub front : List ℕ
+  pub prefix : List ℕ
   pub behind : List ℕ
-  pub whole : front ++ behind ≡ bytes
+  pub whole : prefix ++ behind ≡ bytes
   pub notes : List Line
-  pub ends : EndsBy old.limits (present_opening old) front notes fault
+  pub ends : EndsBy old.limits (present_opening old) prefix notes fault
   pub state : new ≡ shows_after old notes

@@ -19,7 +19,7 @@ const HISTORY: usize = 100;
 const STAGED: usize = 10_000;
 
 /// What the server sends to one who asks for everything: a snapshot, whose last line has its token; a commit with the
-/// next token; and the front of a line, within which the connection breaks.
+/// next token; and the prefix of a line, within which the connection breaks.
 const FIRST: &[u8] = b"{\"type\":\"teams\",\"id\":null,\"data\":[]}\n\
 {\"type\":\"teams\",\"id\":\"7\",\"data\":{\"id\":\"7\",\"name\":\"Gulls\"},\"token\":\"1\"}\n\
 {\"type\":\"teams\",\"id\":\"8\",\"data\":{\"id\":\"8\",\"name\":\"Herons\"},\"token\":\"2\"}\n\

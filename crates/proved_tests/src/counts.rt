@@ -88,22 +88,22 @@ const LONG: [(&str, usize, &str, &str); 5] = [
 ];
 
 /// A text of spaces between these.
-fn spaces(alloc: Global, front: &str, count: usize, end: &str) -> Option<Vec<u8>> {
-    let mut text = front.as_bytes().to_vec(alloc).ok()?;
+fn spaces(alloc: Global, prefix: &str, count: usize, end: &str) -> Option<Vec<u8>> {
+    let mut text = prefix.as_bytes().to_vec(alloc).ok()?;
     text.extend_from_slice(&vec![in alloc; b' '; count].ok()?)
         .ok()?;
     text.extend_from_slice(end.as_bytes()).ok()?;
     Some(text)
 }
 
-fn are_surveyed(alloc: Global, front: &str, count: usize, end: &str, want: &str) -> Option<bool> {
-    is_surveyed(alloc, &spaces(alloc, front, count, end)?, want)
+fn are_surveyed(alloc: Global, prefix: &str, count: usize, end: &str, want: &str) -> Option<bool> {
+    is_surveyed(alloc, &spaces(alloc, prefix, count, end)?, want)
 }
 
 #[test]
 fn limits_the_lines(rt: HostRuntime) {
-    for (front, count, end, want) in LONG {
-        let surveyed = are_surveyed(rt.alloc(), front, count, end, want);
+    for (prefix, count, end, want) in LONG {
+        let surveyed = are_surveyed(rt.alloc(), prefix, count, end, want);
         assert_eq!(rt; surveyed, Some(true), "{count} spaces");
     }
 }

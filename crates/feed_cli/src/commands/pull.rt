@@ -25,7 +25,7 @@ use std::alloc::{AllocError, Global};
 pub struct Servers {
     /// The addresses behind the first one: of each the host and the port.
     pub further: Vec<(String, u16)>,
-    /// What each server is asked for, that of the first one in front.
+    /// What each server is asked for, that of the first one at the start.
     pub places: Vec<Place>,
 }
 

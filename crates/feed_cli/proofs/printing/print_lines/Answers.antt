@@ -4,8 +4,8 @@ use Rattle.feed_cli.proofs.PrintingLemmas.{ended_ok, ended_err, listed_err, on_a
 use Rattle.feed_cli.specs.declared.printing.Waiting.{Waiting}
 use Rattle.feed_cli.proofs.printing.print_lines.Goals as goal
 
-pub returns-in_err-list-clause-front : goal.returns-in_err-list-clause-front
-returns-in_err-list-clause-front g c =
+pub returns-in_err-list-clause-prefix : goal.returns-in_err-list-clause-prefix
+returns-in_err-list-clause-prefix g c =
     let contents = g.W.FeedWrite.contents in
     let failures = g.W.FeedWrite.failures in
     let device : MutBor g.row.W.Denot =
@@ -50,8 +50,8 @@ returns-clause-quiet g c =
     c.in_ok-list.ensures.list c.end.ensures.prints c.end.ensures.none (search rules) ok).1)
     c.end.ensures.ok
 
-pub returns-clause-front : goal.returns-clause-front
-returns-clause-front g c =
+pub returns-clause-prefix : goal.returns-clause-prefix
+returns-clause-prefix g c =
     let contents = g.W.FeedWrite.contents in
     let failures = g.W.FeedWrite.failures in
     let device : MutBor g.row.W.Denot =

@@ -12,7 +12,7 @@ use Rattle.feed_follow.proofs.body.feed_chunk.Goals as goal
 
 pub returns-in_default-after_byte-clause-err : goal.returns-in_default-after_byte-clause-err
 returns-in_default-after_byte-clause-err c = record {
-  front = [];
+  prefix = [];
   byte = get_or c.args.bytes.now 0 0;
   later = drop 1 c.args.bytes.now;
   place = c.args.at;

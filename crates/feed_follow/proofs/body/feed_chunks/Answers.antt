@@ -35,7 +35,7 @@ chunks-preserved c =
 
 pub returns-then-eq-clause-ok : goal.returns-then-eq-clause-ok
 returns-then-eq-clause-ok c = record {
-  front = take c.chunks.read c.args.piece.now;
+  prefix = take c.chunks.read c.args.piece.now;
   ignored = drop c.chunks.read c.args.piece.now;
   split = sym (take-append-drop c.chunks.read c.args.piece.now);
   feeds = c.chunks.invariant.feeds;
@@ -44,7 +44,7 @@ returns-then-eq-clause-ok c = record {
 
 pub returns-clause-ok : goal.returns-clause-ok
 returns-clause-ok c = record {
-  front = c.args.piece.now;
+  prefix = c.args.piece.now;
   ignored = [];
   split = sym (append-nil c.args.piece.now);
   feeds = subst (λ t. FeedsChunks c.args.from t c.args.mirror.now c.chunks.at c.chunks.mirror)

@@ -31,13 +31,13 @@ returns-in_err-send_farewell-clause-part g c =
     let a = c.args.answered in
     let wrote = subst (Appends (g.W.FeedWrite.contents c.args.writer.now) (g.W.FeedWrite.contents c.write_bytes.new.writer)) c.as_slice.ensures.value c.in_ok-write_bytes.ensures.ok in
     let (sent, run, over, count, frames) = c.in_ok-commits.ensures.ok in
-    let (front, rest, split, more) = c.in_err-send_farewell.ensures.front in
+    let (prefix, rest, split, more) = c.in_err-send_farewell.ensures.prefix in
     stopped c.from_residual-in_err-send_farewell.result _ (inr (
       c.in-Some.session,
-      commit_frames a.framing sent ++ front,
+      commit_frames a.framing sent ++ prefix,
       c.in-Some.is,
-      end_cut_short c.args.turn (intake_of c.args.primary.now c.args.input.now.items) c.in-Some.session sent (intake_of c.send_live.new.primary c.send_live.new.input.items) c.send_live.new.session a.framing c.in_ok-commits.gone front rest run over split,
-      Appends-trans _ _ _ a.bytes.items (commit_frames a.framing sent ++ front) wrote (Appends-trans _ _ _ (commit_frames a.framing sent) front frames more),
+      end_cut_short c.args.turn (intake_of c.args.primary.now c.args.input.now.items) c.in-Some.session sent (intake_of c.send_live.new.primary c.send_live.new.input.items) c.send_live.new.session a.framing c.in_ok-commits.gone prefix rest run over split,
+      Appends-trans _ _ _ a.bytes.items (commit_frames a.framing sent ++ prefix) wrote (Appends-trans _ _ _ (commit_frames a.framing sent) prefix frames more),
     ))
 
 pub returns-clause-ok : goal.returns-clause-ok

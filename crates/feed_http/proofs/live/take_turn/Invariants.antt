@@ -1,4 +1,4 @@
--- So many batches were taken from the front and accepted.
+-- So many batches were taken from the start and accepted.
 use Rattle.std.proofs.Common.{◌-◌, ◌≡◌, ◌≤◌, List, ◌++◌, length}
 use Rattle.feed_tables.specs.declared.change.Change.{Change}
 use Rattle.feed_http.specs.Live.{intake_of, Accepts}

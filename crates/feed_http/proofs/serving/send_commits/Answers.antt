@@ -2,7 +2,7 @@ use Rattle.std.proofs.Common.{◌≡◌, refl, sym, ap, ◌∙◌, [], ◌∷◌
 use Rattle.std.specs.Io.KnownBytes.{Appends}
 use Rattle.std.proofs.KnownBytes.{Appends-nil}
 use Rattle.feed_answer.specs.Framed.{frame}
-use Rattle.feed_http.specs.Device.{AppendsFront}
+use Rattle.feed_http.specs.Device.{AppendsPrefix}
 use Rattle.feed_http.specs.Serving.{commit_text}
 use Rattle.feed_http.specs.Sessions.{next}
 use Rattle.feed_http.specs.Sending.{Sent, sent_none, sent_one}
@@ -24,7 +24,7 @@ returns-in_err-write_framed-in-More-clause-part g c =
     let text : c.as_slice.result.now ≡ commit_text commit = c.as_slice.ensures.value ∙ text_is ∙ ap (λ t. t ++ commit_text commit) c.new-text.ensures.items in
     on_err c.from_residual-in_err-write_framed-in-More.result _
     (wrote_into c.args.node.now.shown c.args.session.now c.commits.session sent commit c.args.framing _ _ _ run is_next wrote
-    (subst (λ t. AppendsFront (g.W.FeedWrite.contents c.commits.writer) (g.W.FeedWrite.contents c.write_framed.new.writer) (frame c.args.framing t)) text c.in_err-write_framed-in-More.ensures.front))
+    (subst (λ t. AppendsPrefix (g.W.FeedWrite.contents c.commits.writer) (g.W.FeedWrite.contents c.write_framed.new.writer) (frame c.args.framing t)) text c.in_err-write_framed-in-More.ensures.prefix))
 
 pub returns-in-UpToDate-clause-ok : goal.returns-in-UpToDate-clause-ok
 returns-in-UpToDate-clause-ok g c =

@@ -8,10 +8,10 @@ pub returns-clause-connections : goal.returns-clause-connections
 returns-clause-connections c = screens_connect c.sending_laws.ensures.commits c.sending_laws.ensures.order
 
 pub returns-clause-states : goal.returns-clause-states
-returns-clause-states c = screens_show c.sending_laws.ensures.commits c.sending_laws.ensures.order c.world_laws.ensures.fronts c.following_laws.ensures.places
+returns-clause-states c = screens_show c.sending_laws.ensures.commits c.sending_laws.ensures.order c.world_laws.ensures.prefixes c.following_laws.ensures.places
 
 pub returns-clause-followed : goal.returns-clause-followed
-returns-clause-followed c = screens_follow c.sending_laws.ensures.commits c.sending_laws.ensures.order c.world_laws.ensures.fronts c.following_laws.ensures.places c.followed_laws.ensures.responses c.followed_laws.ensures.ends
+returns-clause-followed c = screens_follow c.sending_laws.ensures.commits c.sending_laws.ensures.order c.world_laws.ensures.prefixes c.following_laws.ensures.places c.followed_laws.ensures.responses c.followed_laws.ensures.ends
 
 pub returns-clause-due : goal.returns-clause-due
 returns-clause-due c = due_is_response
@@ -20,13 +20,13 @@ pub returns-clause-grows : goal.returns-clause-grows
 returns-clause-grows c = served_grows
 
 pub returns-clause-reach : goal.returns-clause-reach
-returns-clause-reach c = screens_reach c.sending_laws.ensures.commits c.sending_laws.ensures.order c.world_laws.ensures.fronts c.following_laws.ensures.places c.following_laws.ensures.reached
+returns-clause-reach c = screens_reach c.sending_laws.ensures.commits c.sending_laws.ensures.order c.world_laws.ensures.prefixes c.following_laws.ensures.places c.following_laws.ensures.reached
 
 pub returns-clause-files : goal.returns-clause-files
-returns-clause-files c = files_restore c.reading_laws.ensures.one (screens_show c.sending_laws.ensures.commits c.sending_laws.ensures.order c.world_laws.ensures.fronts c.following_laws.ensures.places)
+returns-clause-files c = files_restore c.reading_laws.ensures.one (screens_show c.sending_laws.ensures.commits c.sending_laws.ensures.order c.world_laws.ensures.prefixes c.following_laws.ensures.places)
 
 pub returns-clause-files_reach : goal.returns-clause-files_reach
-returns-clause-files_reach c = files_reach (screens_reach c.sending_laws.ensures.commits c.sending_laws.ensures.order c.world_laws.ensures.fronts c.following_laws.ensures.places c.following_laws.ensures.reached)
+returns-clause-files_reach c = files_reach (screens_reach c.sending_laws.ensures.commits c.sending_laws.ensures.order c.world_laws.ensures.prefixes c.following_laws.ensures.places c.following_laws.ensures.reached)
 
 pub returns-clause-live_follows : goal.returns-clause-live_follows
 returns-clause-live_follows c =

@@ -1,4 +1,4 @@
--- What was taken from the front was accepted.
+-- What was taken from the start was accepted.
 use Rattle.std.proofs.Common.{length}
 use Rattle.feed_relay.proofs.CommitLemmas.{HasTaken}
 use Rattle.feed_relay.proofs.commits.commit_all.Given as goal

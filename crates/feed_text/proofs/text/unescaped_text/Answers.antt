@@ -11,4 +11,4 @@ from_utf8_unchecked-requires c =
     let end = c.skip_unescaped-end.result.now in
     let here : first s ≡ quotation_mark = grind arith in
     let behind : inside ≡ drop 1 s = grind arith in
-    content_utf8 s inside end c.front.result.now c.requires here behind c.skip_unescaped-end.ensures (search rules) c.front.ensures
+    content_utf8 s inside end c.prefix.result.now c.requires here behind c.skip_unescaped-end.ensures (search rules) c.prefix.ensures

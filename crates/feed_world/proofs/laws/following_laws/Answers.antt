@@ -16,10 +16,10 @@ returns-clause-carried c =
     responses_carry c.followed_laws.ensures.responses c.followed_laws.ensures.ends
 
 pub returns-clause-follow : goal.returns-clause-follow
-returns-clause-follow c = mirrors_follow c.world_laws.ensures.fronts c.reading_laws.ensures.one
+returns-clause-follow c = mirrors_follow c.world_laws.ensures.prefixes c.reading_laws.ensures.one
 
 pub returns-clause-fails : goal.returns-clause-fails
-returns-clause-fails c = fails_keep c.world_laws.ensures.fronts c.reading_laws.ensures.one
+returns-clause-fails c = fails_keep c.world_laws.ensures.prefixes c.reading_laws.ensures.one
 
 pub returns-clause-refusals : goal.returns-clause-refusals
 returns-clause-refusals c = refusals_keep c.followed_laws.ensures.refusals

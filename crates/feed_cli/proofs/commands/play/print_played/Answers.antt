@@ -12,7 +12,7 @@ returns-in-Ok-played-2-clause-err g c =
       told = told;
       whole = search rules;
       plays = inl (told_by (Plays script) _ _ told c.new-told.ensures.items c.as_slice-2.ensures.value c.in-Ok-played-2.ensures.ok);
-      printed = c.in-Err-write_all.ensures.front;
+      printed = c.in-Err-write_all.ensures.prefix;
     }
 
 pub returns-clause-err : goal.returns-clause-err
@@ -29,7 +29,7 @@ returns-clause-err g c =
         stops = told_by (λ text. Stops script text why) _ _ told c.new-told.ensures.items c.as_slice-2.ensures.value c.in-Err-played-2.ensures.err;
         no_memory = sym c.is_want_of_memory.ensures ∙ c.if-is_want_of_memory.false;
       });
-      printed = c.in-Err-write_all.ensures.front;
+      printed = c.in-Err-write_all.ensures.prefix;
     }
 
 pub returns-then-is_want_of_memory-clause-err : goal.returns-then-is_want_of_memory-clause-err
@@ -43,5 +43,5 @@ returns-then-is_want_of_memory-clause-err g c =
       whole = search rules;
       stops = told_by (λ text. Stops script text why) _ _ told c.new-told.ensures.items c.as_slice-2.ensures.value c.in-Err-played-2.ensures.err;
       line = search rules;
-      printed = inr (sym c.is_want_of_memory.ensures ∙ c.if-is_want_of_memory.true, record { failed = c.in-Err-write_all.ensures.failed; printed = c.in-Err-write_all.ensures.front });
+      printed = inr (sym c.is_want_of_memory.ensures ∙ c.if-is_want_of_memory.true, record { failed = c.in-Err-write_all.ensures.failed; printed = c.in-Err-write_all.ensures.prefix });
     }

@@ -7,7 +7,7 @@ pub returns-in_err-print_snapshot-clause-err : goal.returns-in_err-print_snapsho
 returns-in_err-print_snapshot-clause-err g c =
     let p = err_from_is_err_and c.from_residual-in_err-print_snapshot.result c.from_residual-in_err-print_snapshot.ensures.1 in
     rw (p.1, p.2) (snapshot_fails _ _ _ _ _ _ _ c.in_ok-attempts.attempts.items c.in_ok-attempts.ensures.followed
-    (Err c.in_err-print_snapshot.field-0.0) c.in_err-print_snapshot.ensures.faults c.in_err-print_snapshot.ensures.front)
+    (Err c.in_err-print_snapshot.field-0.0) c.in_err-print_snapshot.ensures.faults c.in_err-print_snapshot.ensures.prefix)
 
 pub returns-clause-err : goal.returns-clause-err
 returns-clause-err g c =

@@ -1,4 +1,4 @@
--- Fronts of what is framed, and how much they carry.
+-- Prefixes of what is framed, and how much they carry.
 use Rattle.std.proofs.Common.{◌≡◌, ◌⊎◌, inl, inr, ℕ, zero, suc, ◌+◌, ◌-◌, ◌<◌, ◌≤◌, true, false, List, [], ◌∷◌, ◌++◌, length, take, None, refl, sym, ap, ap₂, ◌∙◌, subst, arith, append-nil, append_assoc, length-append, length-take, lit≤}
 use Rattle.std.specs.Prelude.{min}
 use Rattle.std.specs.Fmt.{digits}
@@ -26,7 +26,7 @@ take_past n xs ys more =
     let same : n ≡ length xs + (n - length xs) = omega (arith, more) in
     ap (λ k. take k (xs ++ ys)) same ∙ take-append-add xs ys (n - length xs)
 
--- ---- a front of one chunk
+-- ---- a prefix of one chunk
 
 -- a size line of digits alone
 abbrev line_with : List ℕ → ChunkLine
@@ -38,9 +38,9 @@ line_text ds = append-nil _ ∙ append-nil _
 abbrev IsHex : ℕ → Type 0
 IsHex b = is_ascii_hexdigit b ≡ true
 
-front_line : (n : ℕ) (ds : List ℕ) → 0 < n → n ≤ length ds → length ds ≤ 16
+prefix_line : (n : ℕ) (ds : List ℕ) → 0 < n → n ≤ length ds → length ds ≤ 16
     → AllPass is_ascii_hexdigit ds → IsSizeLine (line_with (take n ds))
-front_line n ds some few short hex =
+prefix_line n ds some few short hex =
     let many : length (take n ds) ≡ n = omega (arith, length-take n ds) in
     record {
       is_line = record {
@@ -94,13 +94,13 @@ module _ (ds bytes : List ℕ) where
   module _ (is_line : IsSizeLine (line_with ds)) (size : chunk_size (line_with ds) ≡ length bytes)
       (some : 0 < length bytes) where
     in_digits : (n : ℕ) → 0 < n → n ≤ length ds → BreaksAt n
-    in_digits n front few =
+    in_digits n prefix few =
         let text = ap (take n) at_digits ∙ take-append-le n ds (crlf_bytes ++ body) few in
         let short = is_line.is_line.digits in
-        let is_front = front_line n ds front few short.1 short.2 in
+        let is_prefix = prefix_line n ds prefix few short.1 short.2 in
         let spells = text ∙ sym (append-nil _ ∙ line_text (take n ds)) in
         inl (
-          inr (line_with (take n ds), [], is_front, inl refl, spells),
+          inr (line_with (take n ds), [], is_prefix, inl refl, spells),
           nothing_held n (omega (arith, few)),
         )
 
@@ -171,7 +171,7 @@ module _ (ds bytes : List ℕ) where
       ]
     ]
 
--- ---- fronts of chunks
+-- ---- prefixes of chunks
 
 behind_chunk : (c : Chunk) (text payload : List ℕ) → IsChunk c → BreaksOff text payload
     → BreaksOff (print_chunk c ++ text) (c.bytes ++ payload)
@@ -236,13 +236,13 @@ abbrev chunks : List (List ℕ) → List ℕ
 chunks texts = flat_map (frame Chunked) texts
 
 -- what the first n bytes of frames carry
-abbrev pub front_carried : Framing → List (List ℕ) → ℕ → List ℕ
-front_carried framing texts n = take (carried_in framing texts n) (joined texts)
+abbrev pub prefix_carried : Framing → List (List ℕ) → ℕ → List ℕ
+prefix_carried framing texts n = take (carried_in framing texts n) (joined texts)
 
 -- the bytes of one text, and those of the texts behind it
 module _ (text : List ℕ) (texts : List (List ℕ)) (n : ℕ) where
   within_first : (framing : Framing) → n ≤ length (frame framing text)
-      → front_carried framing (text ∷ texts) n
+      → prefix_carried framing (text ∷ texts) n
       ≡ take (min (n - bytes_before framing text) (length text)) text
   within_first framing few =
       let some = min (n - bytes_before framing text) (length text) in
@@ -250,8 +250,8 @@ module _ (text : List ℕ) (texts : List (List ℕ)) (n : ℕ) where
       ∙ take-append-le some text (joined texts) (omega arith)
 
   behind_first : (framing : Framing) → length (frame framing text) ≤ n
-      → front_carried framing (text ∷ texts) n
-      ≡ text ++ front_carried framing texts (n - length (frame framing text))
+      → prefix_carried framing (text ∷ texts) n
+      ≡ text ++ prefix_carried framing texts (n - length (frame framing text))
   behind_first framing more =
       let k = carried_in framing texts (n - length (frame framing text)) in
       ap (λ m. take (m + k) (text ++ joined texts)) (all_of_frame framing text n more)
@@ -259,7 +259,7 @@ module _ (text : List ℕ) (texts : List (List ℕ)) (n : ℕ) where
 
 -- the first n bytes of frames in chunks break off
 abbrev ChunksBreak : List (List ℕ) → ℕ → Type 0
-ChunksBreak texts n = BreaksOff (take n (chunks texts)) (front_carried Chunked texts n)
+ChunksBreak texts n = BreaksOff (take n (chunks texts)) (prefix_carried Chunked texts n)
 
 -- within the first frame, or behind it
 in_first_chunk : (b : ℕ) (bytes : List ℕ) (texts : List (List ℕ)) (n : ℕ)
@@ -270,8 +270,8 @@ in_first_chunk b bytes texts n is less =
     let one = frame Chunked text in
     let few : n ≤ length one = omega (arith, less) in
     let ds = (chunk_of text).line.digits in
-    let front = broken (take n one) _ (breaks_within ds text is.line is.size is.some n less) in
-    rw (take-append-le n one (chunks texts) few, within_first text texts n Chunked few) front
+    let prefix = broken (take n one) _ (breaks_within ds text is.line is.size is.some n less) in
+    rw (take-append-le n one (chunks texts) few, within_first text texts n Chunked few) prefix
 
 behind_first_chunk : (b : ℕ) (bytes : List ℕ) (texts : List (List ℕ)) (n : ℕ)
     → IsChunk (chunk_of (b ∷ bytes)) → length (frame Chunked (b ∷ bytes)) ≤ n
@@ -281,35 +281,35 @@ behind_first_chunk b bytes texts n is more rest =
     let text = b ∷ bytes in
     let one = frame Chunked text in
     let later = take (n - length one) (chunks texts) in
-    let front : take n (one ++ chunks texts) ≡ print_chunk (chunk_of text) ++ later =
+    let prefix : take n (one ++ chunks texts) ≡ print_chunk (chunk_of text) ++ later =
     take_past n one (chunks texts) more ∙ ap (λ t. t ++ later) (frame_chunk b bytes) in
-    rw (front, behind_first text texts n Chunked more) (behind_chunk (chunk_of text) _ _ is rest)
+    rw (prefix, behind_first text texts n Chunked more) (behind_chunk (chunk_of text) _ _ is rest)
 
-pub chunks_front : (texts : List (List ℕ)) (n : ℕ) → AreTexts texts → ChunksBreak texts n
-chunks_front [] n are =
+pub chunks_prefix : (texts : List (List ℕ)) (n : ℕ) → AreTexts texts → ChunksBreak texts n
+chunks_prefix [] n are =
     subst (λ t. BreaksOff t []) (sym (take-nil n)) (broken [] [] (inl (inl refl, refl)))
-chunks_front ([] ∷ texts) n are =
+chunks_prefix ([] ∷ texts) n are =
     let all : n - 0 ≡ n = omega arith in
     let rest = ap (carried_in Chunked texts) all in
     let same : carried_in Chunked ([] ∷ texts) n ≡ carried_in Chunked texts n =
     omega (arith, rest) in
     subst (λ k. BreaksOff (take n (chunks texts)) (take k (joined texts))) (sym same)
-    (chunks_front texts n are.1)
-chunks_front ((b ∷ bytes) ∷ texts) n are =
+    (chunks_prefix texts n are.1)
+chunks_prefix ((b ∷ bytes) ∷ texts) n are =
     let is = chunk_is (b ∷ bytes) (omega arith) are.0 in
     let size = length (frame Chunked (b ∷ bytes)) in
     elim (cases_lt n size) [
       | inl less ↦ in_first_chunk b bytes texts n is less
       | inr more ↦
-          behind_first_chunk b bytes texts n is more (chunks_front texts (n - size) are.1)
+          behind_first_chunk b bytes texts n is more (chunks_prefix texts (n - size) are.1)
     ]
 
--- ---- fronts of what isn't framed
+-- ---- prefixes of what isn't framed
 
-pub plain_front : (texts : List (List ℕ)) (n : ℕ)
-    → front_carried Close texts n ≡ take n (flat_map (frame Close) texts)
-plain_front [] n = sym (take-nil n)
-plain_front (text ∷ texts) n = elim (cases_lt n (length text)) [
+pub plain_prefix : (texts : List (List ℕ)) (n : ℕ)
+    → prefix_carried Close texts n ≡ take n (flat_map (frame Close) texts)
+plain_prefix [] n = sym (take-nil n)
+plain_prefix (text ∷ texts) n = elim (cases_lt n (length text)) [
   | inl less ↦
       let few : n ≤ length text = omega (arith, less) in
       let all : min (n - 0) (length text) ≡ n = omega (arith, less) in
@@ -317,14 +317,14 @@ plain_front (text ∷ texts) n = elim (cases_lt n (length text)) [
       ∙ sym (take-append-le n text later few)
   | inr more ↦
       behind_first text texts n Close more
-      ∙ ap (λ t. text ++ t) (plain_front texts (n - length text))
+      ∙ ap (λ t. text ++ t) (plain_prefix texts (n - length text))
       ∙ sym (take_past n text later more)
 ]
   where
     later : List ℕ
     later = flat_map (frame Close) texts
 
--- ---- how much fronts carry
+-- ---- how much prefixes carry
 
 pub all_carried : (framing : Framing) (texts : List (List ℕ)) (n : ℕ)
     → length (flat_map (frame framing) texts) ≤ n
@@ -350,14 +350,14 @@ more_carried framing (text ∷ texts) n m less =
     one_more n m (bytes_before framing text) (length text) _ _ less
     (more_carried framing texts (n - size) (m - size) fewer)
 
--- ---- fronts of the end of a body in chunks
+-- ---- prefixes of the end of a body in chunks
 
-end_front : (n : ℕ) → n < 5 → IsBreak (take n (frame_end Chunked)) []
-end_front zero less = inl (inl refl, refl)
-end_front (suc zero) less = inl (inr (zero_line, [], zero_is_last.line, inl refl, refl), refl)
-end_front (suc (suc zero)) less =
+end_prefix : (n : ℕ) → n < 5 → IsBreak (take n (frame_end Chunked)) []
+end_prefix zero less = inl (inl refl, refl)
+end_prefix (suc zero) less = inl (inr (zero_line, [], zero_is_last.line, inl refl, refl), refl)
+end_prefix (suc (suc zero)) less =
     inl (inr (zero_line, carriage_return ∷ [], zero_is_last.line, inr refl, refl), refl)
-end_front (suc (suc (suc zero))) less = inr (inr (
+end_prefix (suc (suc (suc zero))) less = inr (inr (
   record {
     last = zero_line;
     trailers = [];
@@ -371,7 +371,7 @@ end_front (suc (suc (suc zero))) less = inr (inr (
   },
   refl,
 ))
-end_front (suc (suc (suc (suc zero)))) less = inr (inr (
+end_prefix (suc (suc (suc (suc zero)))) less = inr (inr (
   record {
     last = zero_line;
     trailers = [];
@@ -385,16 +385,16 @@ end_front (suc (suc (suc (suc zero)))) less = inr (inr (
   },
   refl,
 ))
-end_front (suc (suc (suc (suc (suc n))))) less = absurd (omega (arith, less))
+end_prefix (suc (suc (suc (suc (suc n))))) less = absurd (omega (arith, less))
 
 -- the first n bytes of frames in chunks with their end, but not all of them, break off
-pub ended_front : (texts : List (List ℕ)) (n : ℕ) → AreTexts texts
+pub ended_prefix : (texts : List (List ℕ)) (n : ℕ) → AreTexts texts
     → n < length (chunks texts ++ frame_end Chunked)
-    → BreaksOff (take n (chunks texts ++ frame_end Chunked)) (front_carried Chunked texts n)
-ended_front texts n are less = elim (cases_lt n (length (chunks texts))) [
+    → BreaksOff (take n (chunks texts ++ frame_end Chunked)) (prefix_carried Chunked texts n)
+ended_prefix texts n are less = elim (cases_lt n (length (chunks texts))) [
   | inl within ↦
       let few : n ≤ length (chunks texts) = omega (arith, within) in
-      rw (take-append-le n (chunks texts) end few) (chunks_front texts n are)
+      rw (take-append-le n (chunks texts) end few) (chunks_prefix texts n are)
   | inr behind ↦
       let framed = frames_are texts are in
       let all = all_carried Chunked texts n behind in
@@ -404,7 +404,7 @@ ended_front texts n are less = elim (cases_lt n (length (chunks texts))) [
         rest = take k end;
         bytes = [];
         are_chunks = framed.are_chunks;
-        is_break = end_front k (omega (arith, less, behind, length-append (chunks texts) end));
+        is_break = end_prefix k (omega (arith, less, behind, length-append (chunks texts) end));
         spelled = take_past n (chunks texts) end behind ∙ ap (λ t. t ++ take k end) framed.spelled;
         payload_is = take_all _ (joined texts) (omega (arith, all)) ∙ framed.payload_is
             ∙ sym (append-nil _);

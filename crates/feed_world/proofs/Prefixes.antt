@@ -1,4 +1,4 @@
--- Whatever front of what was sent came, its lines are taken one after another, and each whole block moves the mirror on.
+-- Whatever prefix of what was sent came, its lines are taken one after another, and each whole block moves the mirror on.
 use Rattle.std.proofs.Common.{◌≡◌, refl, sym, ap, ◌∙◌, subst, ℕ, suc, ◌+◌, ◌-◌, ◌<◌, ◌≤◌, ◌^◌, Bool, true, false, not, ◌&&◌, arith, List, [], ◌∷◌, ◌++◌, length, Option, Some, None, nat_le, nat_lt, ltb-true, ltb-false, ◌||◌, leb-true, leb-false, eqb-true, length-append}
 use Rattle.std.specs.Prelude.{if◌then◌else◌, ◌==◌, ◌≢◌}
 use Rattle.std.proofs.lemmas.Bool.{le-leb}
@@ -19,7 +19,7 @@ use Rattle.feed_node.specs.Steps.{StepsRead, StepsCount, TakenAreGood, standing_
 use Rattle.feed_world.specs.Connection.{Part, Snapshot, Commit, Line_feed, part_text, parts_text, block_onto, blocks_within, moved, moved_by, count_new, GoOn, first_parts}
 use Rattle.feed_world.specs.Log.{Log, changes_of_commit, IsLog}
 use Rattle.feed_world.specs.Position.{Position, commits_after, node_where, renewed, node_at, IsPosition, IsPlace}
-use Rattle.feed_world.specs.Reading.{opening_at, FrontsAreRead}
+use Rattle.feed_world.specs.Reading.{opening_at, PrefixesAreRead}
 use Rattle.feed_world.proofs.Commits.{state_one_more, token_is_name, next_not_held, next_position, renewed_is_position, latest_at, state_at, state_is_small, state_is_sendable}
 use Rattle.feed_world.proofs.Growth.{goes_up}
 use Rattle.feed_world.proofs.Lists.{cuts_of_one}
@@ -53,15 +53,15 @@ record IsTakenPart (limits : Limits) (log : Log) (s : Standing) (part : Part) (t
   ended : rest (part_text log part) ≡ []
   leads_to : steps s notes ≡ t
   count : times_published s notes ≡ many
-  before : (front behind : List ℕ) → front ++ behind ≡ part_text log part → behind ≢ [] → (some : List Line) × TakesText limits s front some × PublishesNothing s some
+  before : (prefix behind : List ℕ) → prefix ++ behind ≡ part_text log part → behind ≢ [] → (some : List Line) × TakesText limits s prefix some × PublishesNothing s some
 
--- a front of these parts was taken
-record IsTakenFront (limits : Limits) (log : Log) (place : Option Position) (afresh : Bool) (parts : List Part) (front : List ℕ) : Type 0 where
+-- a prefix of these parts was taken
+record IsTakenPrefix (limits : Limits) (log : Log) (place : Option Position) (afresh : Bool) (parts : List Part) (prefix : List ℕ) : Type 0 where
   notes : List Line
-  takes : TakesText limits (standing limits.history log place afresh) front notes
-  shown : (steps (standing limits.history log place afresh) notes).node.shown ≡ node_where log (moved_by limits.history place (blocks_within log parts (length front)))
-  anew : (steps (standing limits.history log place afresh) notes).afresh ≡ (afresh && (length (blocks_within log parts (length front)) == 0))
-  count : times_published (standing limits.history log place afresh) notes ≡ count_new limits.history place (blocks_within log parts (length front))
+  takes : TakesText limits (standing limits.history log place afresh) prefix notes
+  shown : (steps (standing limits.history log place afresh) notes).node.shown ≡ node_where log (moved_by limits.history place (blocks_within log parts (length prefix)))
+  anew : (steps (standing limits.history log place afresh) notes).afresh ≡ (afresh && (length (blocks_within log parts (length prefix)) == 0))
+  count : times_published (standing limits.history log place afresh) notes ≡ count_new limits.history place (blocks_within log parts (length prefix))
 
 -- what a part and those after it have in common with those after it
 record Moves (history : ℕ) (from : Option Position) (afresh : Bool) (part : Part) (next : Option Position) (next_afresh : Bool) (many : ℕ) : Type 0 where
@@ -75,23 +75,23 @@ unfolding lines rest
 no_lines limits s = record { taken = tt; short = omega arith }
 
 module _ (goes_on : TextsGoOn) (limits : Limits) (log : Log) where
-  whole_part : (place next : Option Position) (afresh next_afresh : Bool) (many : ℕ) (part : Part) (parts : List Part) (front : List ℕ)
+  whole_part : (place next : Option Position) (afresh next_afresh : Bool) (many : ℕ) (part : Part) (parts : List Part) (prefix : List ℕ)
       → IsTakenPart limits log (standing limits.history log place afresh) part (standing limits.history log next next_afresh) many
       → Moves limits.history place afresh part next next_afresh many
-      → nat_le (length (part_text log part)) (length front) ≡ true
-      → (m : List ℕ) → front ≡ part_text log part ++ m → IsTakenFront limits log next next_afresh parts m → IsTakenFront limits log place afresh (part ∷ parts) front
-  whole_part place next afresh next_afresh many part parts front t moves is m front_is g =
+      → nat_le (length (part_text log part)) (length prefix) ≡ true
+      → (m : List ℕ) → prefix ≡ part_text log part ++ m → IsTakenPrefix limits log next next_afresh parts m → IsTakenPrefix limits log place afresh (part ∷ parts) prefix
+  whole_part place next afresh next_afresh many part parts prefix t moves is m prefix_is g =
       let s = standing limits.history log place afresh in
-      let l : length front ≡ length (part_text log part) + length m = ap length front_is ∙ length-append (part_text log part) m in
-      let left : length front - length (part_text log part) ≡ length m = omega arith in
+      let l : length prefix ≡ length (part_text log part) + length m = ap length prefix_is ∙ length-append (part_text log part) m in
+      let left : length prefix - length (part_text log part) ≡ length m = omega arith in
       let bs = blocks_within log parts (length m) in
-      let blocks : blocks_within log (part ∷ parts) (length front) ≡ block_onto part bs =
-      ap (λ b. if b then block_onto part (blocks_within log parts (length front - length (part_text log part))) else []) is
+      let blocks : blocks_within log (part ∷ parts) (length prefix) ≡ block_onto part bs =
+      ap (λ b. if b then block_onto part (blocks_within log parts (length prefix - length (part_text log part))) else []) is
       ∙ ap (λ n. block_onto part (blocks_within log parts n)) left in
       let stepped : steps s (t.notes ++ g.notes) ≡ steps (standing limits.history log next next_afresh) g.notes = fold-append step s t.notes g.notes ∙ ap (λ z. steps z g.notes) t.leads_to in
       record {
         notes = t.notes ++ g.notes;
-        takes = subst (λ text. TakesText limits s text (t.notes ++ g.notes)) (sym front_is)
+        takes = subst (λ text. TakesText limits s text (t.notes ++ g.notes)) (sym prefix_is)
             (goes_on limits s (part_text log part) m t.notes g.notes t.ended t.takes (subst (λ z. TakesText limits z m g.notes) (sym t.leads_to) g.takes));
         shown = ap (λ z. z.node.shown) stepped ∙ g.shown ∙ ap (node_where log) (moves.place bs ∙ ap (moved_by limits.history place) (sym blocks));
         anew = ap (λ z. z.afresh) stepped ∙ g.anew ∙ moves.anew bs ∙ ap (λ ps. afresh && (length ps == 0)) (sym blocks);
@@ -99,17 +99,17 @@ module _ (goes_on : TextsGoOn) (limits : Limits) (log : Log) where
             ∙ (λ i. t.count i + g.count i) ∙ moves.count bs ∙ ap (count_new limits.history place) (sym blocks);
       }
 
-  part_of_part : (place next : Option Position) (afresh next_afresh : Bool) (many : ℕ) (part : Part) (parts : List Part) (front : List ℕ)
+  part_of_part : (place next : Option Position) (afresh next_afresh : Bool) (many : ℕ) (part : Part) (parts : List Part) (prefix : List ℕ)
       → IsTakenPart limits log (standing limits.history log place afresh) part (standing limits.history log next next_afresh) many
-      → nat_le (length (part_text log part)) (length front) ≡ false
-      → (m : List ℕ) → part_text log part ≡ front ++ m → IsTakenFront limits log place afresh (part ∷ parts) front
-  part_of_part place next afresh next_afresh many part parts front t is m text_is =
+      → nat_le (length (part_text log part)) (length prefix) ≡ false
+      → (m : List ℕ) → part_text log part ≡ prefix ++ m → IsTakenPrefix limits log place afresh (part ∷ parts) prefix
+  part_of_part place next afresh next_afresh many part parts prefix t is m text_is =
       let less = leb-false _ _ is in
-      let same = ap length text_is ∙ length-append front m in
-      let f = t.before front m (sym text_is) (λ e. let none = ap length e in absurd (omega (arith, less, same, none))) in
+      let same = ap length text_is ∙ length-append prefix m in
+      let f = t.before prefix m (sym text_is) (λ e. let none = ap length e in absurd (omega (arith, less, same, none))) in
       let none = f.2 in
-      let blocks : blocks_within log (part ∷ parts) (length front) ≡ [] =
-      ap (λ b. if b then block_onto part (blocks_within log parts (length front - length (part_text log part))) else []) is in
+      let blocks : blocks_within log (part ∷ parts) (length prefix) ≡ [] =
+      ap (λ b. if b then block_onto part (blocks_within log parts (length prefix - length (part_text log part))) else []) is in
       record {
         notes = f.0;
         takes = f.1;
@@ -122,29 +122,29 @@ module _ (goes_on : TextsGoOn) (limits : Limits) (log : Log) where
   one_part : (place next : Option Position) (afresh next_afresh : Bool) (many : ℕ) (part : Part) (parts : List Part)
       → IsTakenPart limits log (standing limits.history log place afresh) part (standing limits.history log next next_afresh) many
       → Moves limits.history place afresh part next next_afresh many
-      → ((front behind : List ℕ) → front ++ behind ≡ parts_text log parts → IsTakenFront limits log next next_afresh parts front)
-      → (front behind : List ℕ) → front ++ behind ≡ parts_text log (part ∷ parts) → IsTakenFront limits log place afresh (part ∷ parts) front
-  one_part place next afresh next_afresh many part parts t moves go front behind e = by (nat_le (length (part_text log part)) (length front)) refl
+      → ((prefix behind : List ℕ) → prefix ++ behind ≡ parts_text log parts → IsTakenPrefix limits log next next_afresh parts prefix)
+      → (prefix behind : List ℕ) → prefix ++ behind ≡ parts_text log (part ∷ parts) → IsTakenPrefix limits log place afresh (part ∷ parts) prefix
+  one_part place next afresh next_afresh many part parts t moves go prefix behind e = by (nat_le (length (part_text log part)) (length prefix)) refl
     where
-      by : (b : Bool) → nat_le (length (part_text log part)) (length front) ≡ b → IsTakenFront limits log place afresh (part ∷ parts) front
+      by : (b : Bool) → nat_le (length (part_text log part)) (length prefix) ≡ b → IsTakenPrefix limits log place afresh (part ∷ parts) prefix
       by true is =
-          let c = cuts_of_one (part_text log part) (parts_text log parts) front behind (sym e) (leb-true _ _ is) in
-          whole_part place next afresh next_afresh many part parts front t moves is c.0 c.1 (go c.0 behind (sym c.2))
+          let c = cuts_of_one (part_text log part) (parts_text log parts) prefix behind (sym e) (leb-true _ _ is) in
+          whole_part place next afresh next_afresh many part parts prefix t moves is c.0 c.1 (go c.0 behind (sym c.2))
       by false is =
           let less = leb-false _ _ is in
-          let c = cuts_of_one front behind (part_text log part) (parts_text log parts) e (omega arith) in
-          part_of_part place next afresh next_afresh many part parts front t is c.0 c.1
+          let c = cuts_of_one prefix behind (part_text log part) (parts_text log parts) e (omega arith) in
+          part_of_part place next afresh next_afresh many part parts prefix t is c.0 c.1
 
-  no_part : (place : Option Position) (afresh : Bool) (front behind : List ℕ) → front ++ behind ≡ [] → IsTakenFront limits log place afresh [] front
-  no_part place afresh (x ∷ front) behind e = absurd (cc)
+  no_part : (place : Option Position) (afresh : Bool) (prefix behind : List ℕ) → prefix ++ behind ≡ [] → IsTakenPrefix limits log place afresh [] prefix
+  no_part place afresh (x ∷ prefix) behind e = absurd (cc)
   no_part place afresh [] behind e =
       record { notes = []; takes = no_lines limits (standing limits.history log place afresh); shown = refl; anew = sym (and_true afresh); count = refl }
 
 module _ (goes_on : TextsGoOn) (batches : BatchesPublishAtEnd) (snapshots : SnapshotsPublishAtEnd) (listed_within : ListingIsWithin) (limits : Limits) (log : Log) (is_log : IsLog limits log) where
-  front_of_line_feed : (s : Standing) (front behind : List ℕ) → front ++ behind ≡ 10 ∷ [] → behind ≢ [] → (some : List Line) × TakesText limits s front some × PublishesNothing s some
-  front_of_line_feed s [] behind e some = ([], no_lines limits s, record { node = refl; afresh = refl; count = refl })
-  front_of_line_feed s (x ∷ front) [] e some = absurd (some refl)
-  front_of_line_feed s (x ∷ front) (y ∷ behind) e some = let l = ap length e in let m = length-append front (y ∷ behind) in absurd (omega (arith, l, m))
+  prefix_of_line_feed : (s : Standing) (prefix behind : List ℕ) → prefix ++ behind ≡ 10 ∷ [] → behind ≢ [] → (some : List Line) × TakesText limits s prefix some × PublishesNothing s some
+  prefix_of_line_feed s [] behind e some = ([], no_lines limits s, record { node = refl; afresh = refl; count = refl })
+  prefix_of_line_feed s (x ∷ prefix) [] e some = absurd (some refl)
+  prefix_of_line_feed s (x ∷ prefix) (y ∷ behind) e some = let l = ap length e in let m = length-append prefix (y ∷ behind) in absurd (omega (arith, l, m))
 
   taken_line_feed : (place : Option Position) (afresh : Bool) → IsTakenPart limits log (standing limits.history log place afresh) Line_feed (standing limits.history log place afresh) 0
   unfolding lines rest
@@ -155,7 +155,7 @@ module _ (goes_on : TextsGoOn) (batches : BatchesPublishAtEnd) (snapshots : Snap
         ended = refl;
         leads_to = refl;
         count = refl;
-        before = front_of_line_feed (standing limits.history log place afresh);
+        before = prefix_of_line_feed (standing limits.history log place afresh);
       }
     where
       fits : (b : Bool) → nat_lt limits.staged 0 ≡ b → ◌≡◌ {A = Option FeedFault} (if nat_lt limits.staged 0 || false then Some StageFull else None) None
@@ -244,19 +244,19 @@ module _ (goes_on : TextsGoOn) (batches : BatchesPublishAtEnd) (snapshots : Snap
 
   -- from a number on of which the mirror holds the token
   since : (more : List Part) (p : Position) (k last : ℕ) → IsPosition limits log p → p.low ≤ k → k ≤ p.at → GoOn k more last → last ≤ length log
-      → (front behind : List ℕ) → front ++ behind ≡ parts_text log more → IsTakenFront limits log (Some p) false more front
-  since [] p k last h from to g within front behind e = no_part goes_on limits log (Some p) false front behind e
-  since (Snapshot n ∷ more) p k last h from to g within front behind e = absurd g
-  since (Line_feed ∷ more) p k last h from to g within front behind e =
+      → (prefix behind : List ℕ) → prefix ++ behind ≡ parts_text log more → IsTakenPrefix limits log (Some p) false more prefix
+  since [] p k last h from to g within prefix behind e = no_part goes_on limits log (Some p) false prefix behind e
+  since (Snapshot n ∷ more) p k last h from to g within prefix behind e = absurd g
+  since (Line_feed ∷ more) p k last h from to g within prefix behind e =
       one_part goes_on limits log (Some p) (Some p) false false 0 Line_feed more (taken_line_feed (Some p) false)
-      (record { place = λ bs. refl; anew = λ bs. refl; count = λ bs. omega arith }) (since more p k last h from to g within) front behind e
-  since (Commit n ∷ more) p k last h from to g within front behind e =
-      by (λ q. since more q (k + 1) last) (nat_lt p.at n) refl front behind e
+      (record { place = λ bs. refl; anew = λ bs. refl; count = λ bs. omega arith }) (since more p k last h from to g within) prefix behind e
+  since (Commit n ∷ more) p k last h from to g within prefix behind e =
+      by (λ q. since more q (k + 1) last) (nat_lt p.at n) refl prefix behind e
     where
       by : ((q : Position) → IsPosition limits log q → q.low ≤ k + 1 → k + 1 ≤ q.at → GoOn (k + 1) more last → last ≤ length log
-          → (front behind : List ℕ) → front ++ behind ≡ parts_text log more → IsTakenFront limits log (Some q) false more front)
+          → (prefix behind : List ℕ) → prefix ++ behind ≡ parts_text log more → IsTakenPrefix limits log (Some q) false more prefix)
           → (b : Bool) → nat_lt p.at n ≡ b
-          → (front behind : List ℕ) → front ++ behind ≡ parts_text log (Commit n ∷ more) → IsTakenFront limits log (Some p) false (Commit n ∷ more) front
+          → (prefix behind : List ℕ) → prefix ++ behind ≡ parts_text log (Commit n ∷ more) → IsTakenPrefix limits log (Some p) false (Commit n ∷ more) prefix
       by go true is =
           let less = ltb-true p.at n is in
           let up = goes_up (k + 1) more last g.1 in
@@ -265,7 +265,7 @@ module _ (goes_on : TextsGoOn) (batches : BatchesPublishAtEnd) (snapshots : Snap
           let q = renewed limits.history (suc p.at) p.low in
           let there = renewed_is_position limits log p h next in
           let order = there.order in
-          subst (λ m. (front behind : List ℕ) → front ++ behind ≡ parts_text log (Commit m ∷ more) → IsTakenFront limits log (Some p) false (Commit m ∷ more) front) same
+          subst (λ m. (prefix behind : List ℕ) → prefix ++ behind ≡ parts_text log (Commit m ∷ more) → IsTakenPrefix limits log (Some p) false (Commit m ∷ more) prefix) same
           (one_part goes_on limits log (Some p) (Some q) false false 1 (Commit (suc p.at)) more (taken_commit p h next)
           (moves_on p q (suc p.at) 1 true (ap (nat_lt p.at) same ∙ is) refl refl)
           (go q there (omega (arith, g.0)) (omega (arith, g.0)) g.1 within))
@@ -277,30 +277,30 @@ module _ (goes_on : TextsGoOn) (batches : BatchesPublishAtEnd) (snapshots : Snap
 
   -- a fresh connection
   fresh : (place : Option Position) (start : ℕ) (more : List Part) (last : ℕ) → GoOn start more last → last ≤ length log
-      → (front behind : List ℕ) → front ++ behind ≡ parts_text log (Snapshot start ∷ more) → IsTakenFront limits log place true (Snapshot start ∷ more) front
-  fresh place start more last g within front behind e =
+      → (prefix behind : List ℕ) → prefix ++ behind ≡ parts_text log (Snapshot start ∷ more) → IsTakenPrefix limits log place true (Snapshot start ∷ more) prefix
+  fresh place start more last g within prefix behind e =
       let up = goes_up start more last g in
       let here : start ≤ length log = omega arith in
       let h : IsPosition limits log (record { at = start; low = start }) = record { order = omega arith; kept = omega arith; in_log = here } in
       one_part goes_on limits log place (Some (record { at = start; low = start })) true false 1 (Snapshot start) more (taken_snapshot place start here)
       (record { place = λ bs. refl; anew = λ bs. sym (not_zero (length bs)); count = λ bs. omega arith })
-      (since more (record { at = start; low = start }) start last h (omega arith) (omega arith) g within) front behind e
+      (since more (record { at = start; low = start }) start last h (omega arith) (omega arith) g within) prefix behind e
 
   either : (is_fresh : Bool) (place : Option Position) (start : ℕ) (parts : List Part) (last : ℕ) → IsPlace limits log place
       → (is_fresh ≡ false → (own : Position) × (place ≡ Some own) × (own.low ≤ start) × (start ≤ own.at))
       → (more : List Part) → parts ≡ first_parts is_fresh start ++ more → GoOn start more last → last ≤ length log
-      → (front behind : List ℕ) → front ++ behind ≡ parts_text log parts → IsTakenFront limits log place is_fresh parts front
-  either true place start parts last p at more e g within front behind f =
-      subst (λ ps. IsTakenFront limits log place true ps front) (sym e) (fresh place start more last g within front behind (f ∙ ap (parts_text log) e))
-  either false place start parts last p at more e g within front behind f =
+      → (prefix behind : List ℕ) → prefix ++ behind ≡ parts_text log parts → IsTakenPrefix limits log place is_fresh parts prefix
+  either true place start parts last p at more e g within prefix behind f =
+      subst (λ ps. IsTakenPrefix limits log place true ps prefix) (sym e) (fresh place start more last g within prefix behind (f ∙ ap (parts_text log) e))
+  either false place start parts last p at more e g within prefix behind f =
       let own = at refl in
-      subst (λ q. IsTakenFront limits log q false parts front) (sym own.1)
-      (subst (λ ps. IsTakenFront limits log (Some own.0) false ps front) (sym e)
-      (since more own.0 start last (subst (IsPlace limits log) own.1 p) own.2 own.3 g within front behind (f ∙ ap (parts_text log) e)))
+      subst (λ q. IsTakenPrefix limits log q false parts prefix) (sym own.1)
+      (subst (λ ps. IsTakenPrefix limits log (Some own.0) false ps prefix) (sym e)
+      (since more own.0 start last (subst (IsPlace limits log) own.1 p) own.2 own.3 g within prefix behind (f ∙ ap (parts_text log) e)))
 
-pub fronts_are_read : TextsGoOn → BatchesPublishAtEnd → SnapshotsPublishAtEnd → ListingIsWithin → StepsRead → StepsCount → TakenAreGood → FrontsAreRead
-fronts_are_read goes_on batches snapshots listed_within read counted good limits log place c front behind is_log opened e =
-    let g = either goes_on batches snapshots listed_within limits log is_log c.fresh place c.start c.parts c.last opened.mirror opened.start opened.order.more opened.order.parts opened.order.go_on opened.sent front behind e in
+pub prefixes_are_read : TextsGoOn → BatchesPublishAtEnd → SnapshotsPublishAtEnd → ListingIsWithin → StepsRead → StepsCount → TakenAreGood → PrefixesAreRead
+prefixes_are_read goes_on batches snapshots listed_within read counted good limits log place c prefix behind is_log opened e =
+    let g = either goes_on batches snapshots listed_within limits log is_log c.fresh place c.start c.parts c.last opened.mirror opened.start opened.order.more opened.order.parts opened.order.go_on opened.sent prefix behind e in
     let opening = opening_at log place c.fresh in
     let latest = latest_at limits log place opened.mirror in
     let begins : standing_after limits.history opening [] ≡ standing limits.history log place c.fresh =
@@ -309,7 +309,7 @@ fronts_are_read goes_on batches snapshots listed_within read counted good limits
     ap (λ s. steps s g.notes) (sym begins) ∙ read limits.history opening g.notes in
     record {
       notes = g.notes;
-      nothing_bad = record { good = good limits opening (lines front) g.notes (subst (λ s. AllTaken limits s (lines front) g.notes) (sym begins) g.takes.taken); short = g.takes.short };
+      nothing_bad = record { good = good limits opening (lines prefix) g.notes (subst (λ s. AllTaken limits s (lines prefix) g.notes) (sym begins) g.takes.taken); short = g.takes.short };
       shows = sym (ap (λ s. s.node.shown) ends) ∙ g.shown;
       awaits = sym (ap (λ s. s.afresh) ends) ∙ g.anew;
       published = sym (counted limits.history opening g.notes) ∙ ap (λ s. times_published s g.notes) begins ∙ g.count;
