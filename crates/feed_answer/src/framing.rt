@@ -14,7 +14,7 @@ pub enum Framing {
 }
 
 /// Appends the bytes as they stand in a body. Of no bytes nothing is appended: an empty chunk would
-/// end the body. For want of memory nothing is appended, either.
+/// end the body. Out of memory, nothing is appended, either.
 pub fn frame(
     alloc: Global,
     framing: Framing,
@@ -33,7 +33,7 @@ pub fn frame(
     }
 }
 
-/// Appends the end of a body. For want of memory nothing is appended.
+/// Appends the end of a body. Out of memory, nothing is appended.
 pub fn frame_end(framing: Framing, out: &mut Vec<u8>) -> Result<(), AllocError>
     ensures ok { OnOk result (out.new.items ≡ out.old.items ++ framed.frame_end framing) }
     ensures err { OnErr result (out.new.items ≡ out.old.items) }

@@ -10,7 +10,7 @@ use crate::place::Place;
 use form_urlencoded::byte_serialize;
 use std::alloc::AllocError;
 
-/// Appends the request to a place for what came after a token, or for all. For want of memory
+/// Appends the request to a place for what came after a token, or for all. Out of memory,
 /// nothing is appended.
 pub fn request_text(place: &Place, since: Option<&str>, out: &mut Vec<u8>) -> Result<(), AllocError>
     ensures ok { OnOk result (out.new.items ≡ out.old.items ++ texts.request_text place.now

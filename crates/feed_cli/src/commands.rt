@@ -44,7 +44,8 @@ pub fn answer_words<W: FeedWrite, E: FeedWrite>(reply: &NoCommand, out: &mut W, 
     }
 }
 
-/// Does what a command is asked for that opens no connection. Where a device failed, its count of failures tells so.
+/// Does what a command is asked for that opens no connection. Where a device failed, its count of
+/// failures tells so.
 pub fn perform<R: FeedRead, W: FeedWrite>(
     alloc: Global,
     request: Local,
@@ -69,9 +70,9 @@ pub fn perform<R: FeedRead, W: FeedWrite>(
     }
 }
 
-/// Runs a command that opens no connection, tells its fault, and answers the status that the program
-/// ends with: 0, or the first of these that applies: 5 for want of memory, 4 for a device that failed
-/// or an input that did not end, 2 for a faulty input, 3 where nothing was published.
+/// Runs a command that opens no connection, tells its fault, and answers the status that the
+/// program ends with: 0, or the first of these that applies: 5 when out of memory, 4 for a device
+/// that failed or an input that did not end, 2 for a faulty input, 3 where nothing was published.
 pub fn run<R: FeedRead, W: FeedWrite, E: FeedWrite>(
     alloc: Global,
     request: Local,

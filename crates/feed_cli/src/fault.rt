@@ -11,8 +11,8 @@ use feed_words::AddressFault;
 use std::alloc::AllocError;
 use thiserror::Error;
 
-/// Why a feed can't be fed on to a mirror, and at which of its lines, where that was asked for. Lines
-/// are counted from 1.
+/// Why a feed can't be fed on to a mirror, and at which of its lines, where that was asked for.
+/// Lines are counted from 1.
 #[derive(Clone, Copy, Debug, PartialEq, Eq, Error)]
 #[error("{fault}")]
 pub struct FeedStop {
@@ -38,10 +38,10 @@ pub enum Fault {
     /// The input has more bytes than may be read whole.
     #[error("input too long")]
     TooLong,
-    /// A line of the input can't be fed to a mirror. It is no want of memory.
+    /// A line of the input can't be fed to a mirror. Running out of memory is a fault of its own.
     #[error("{0}")]
     Feed(FeedStop),
-    /// A line of the input can't be read. It is no want of memory.
+    /// A line of the input can't be read. Running out of memory is a fault of its own.
     #[error("line {}: {}", .0.line, .0.stop)]
     Survey(SurveyFault),
     /// The input, a script, was not played to its end.
@@ -50,7 +50,7 @@ pub enum Fault {
     /// The input, or what was followed, has ended, and nothing was published.
     #[error("nothing published")]
     Unpublished,
-    /// A command failed that opens connections. It is no want of memory.
+    /// A command failed that opens connections. Running out of memory is a fault of its own.
     #[error("{0}")]
     Remote(RemoteFault),
 }

@@ -22,8 +22,8 @@ pub const INPUT_BYTES: usize = 67_108_864;
 /// The most bytes that are read at once.
 pub const PIECE: usize = 4096;
 
-/// Makes one read of at most 4,096 bytes, adds what it gave, and answers how much that was: none at the
-/// end alone.
+/// Makes one read of at most 4,096 bytes, adds what it gave, and answers how much that was: none at
+/// the end alone.
 fn read_piece<R: FeedRead>(reader: &mut R, bytes: &mut Vec<u8>) -> Result<usize, InputFault>
     ensures given { OnOk result (Moved (R.remaining reader.old) (R.remaining reader.new)
         bytes.old.items bytes.new.items) }
@@ -47,8 +47,8 @@ fn read_piece<R: FeedRead>(reader: &mut R, bytes: &mut Vec<u8>) -> Result<usize,
     }
 }
 
-/// Reads to the end, and appends what was read, until that makes more than `most` bytes. After a failed
-/// read, or for want of memory, some of what was read was appended.
+/// Reads to the end, and appends what was read, until that makes more than `most` bytes. After a
+/// failed read, or when out of memory, some of what was read was appended.
 pub fn read_all<R: FeedRead>(
     reader: &mut R,
     bytes: &mut Vec<u8>,

@@ -69,7 +69,7 @@ fn feed_chunk(
     Ok((to, len))
 }
 
-/// Reads the next bytes of a chunked body; what stands behind the body is ignored.
+/// Reads the next bytes of a chunked body; what comes after the body is ignored.
 fn feed_chunks(
     alloc: Global,
     mirror: &mut Mirror,

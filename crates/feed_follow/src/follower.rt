@@ -71,7 +71,7 @@ impl Follower {
     /// Reads the next bytes of the response, in any pieces. At a head with status 200 the mirror
     /// begins, and is then fed what the body carries; at status 400 after a request with a token,
     /// its token is refused, and the follower is closed. After a fault the mirror is cut, and the
-    /// follower closed. Bytes behind a whole body are ignored.
+    /// follower closed. Bytes after a whole body are ignored.
     pub fn push(
         &mut self,
         alloc: Global,
@@ -213,7 +213,7 @@ fn progress(part: Part) -> Progress
     }
 }
 
-/// The part of a response behind a head that frames its body so.
+/// The part of a response after a head that frames its body so.
 fn first_part(framing: BodyFraming) -> Part
     ensures { result ≡ part_for framing }
 {
@@ -234,7 +234,7 @@ fn kept_len(kept: &Option<Vec<u8>>) -> usize
     }
 }
 
-/// The bytes of the head so far, with these behind them.
+/// The bytes of the head so far, with these after them.
 fn with_more(alloc: Global, kept: Option<Vec<u8>>, bytes: &[u8]) -> Result<Vec<u8>, AllocError>
     ensures { IfOk result (λ head. head.items ≡ kept_bytes kept ++ bytes.now) }
 {
@@ -246,7 +246,7 @@ fn with_more(alloc: Global, kept: Option<Vec<u8>>, bytes: &[u8]) -> Result<Vec<u
     Ok(head)
 }
 
-/// Reads the next bytes of a head, and what stands of the body behind it.
+/// Reads the next bytes of a head, and what stands of the body after it.
 fn read_head(
     alloc: Global,
     mirror: &mut Mirror,

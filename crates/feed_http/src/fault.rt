@@ -54,7 +54,7 @@ impl From<CommitFault> for EngineFault {
     }
 }
 
-/// What an engine served: the status of its answer, how many commits it sent behind what the
+/// What an engine served: the status of its answer, how many commits it sent after what the
 /// session opened with, and whether the node lost the session's token.
 #[derive(Clone, Copy, Debug, PartialEq, Eq)]
 pub struct Served {

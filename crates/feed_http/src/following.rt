@@ -65,7 +65,7 @@ fn push_response<R: FeedRead>(
 /// 4,096 bytes, and feeds what it carries to the mirror, which is then cut: until the reader ends,
 /// the body is whole, or the token is refused. Where a read fails or is one too many, the response
 /// still went on, and what it published stands. A fault of the response is that of the last piece;
-/// want of memory is one of these, and leaves what the earlier pieces published, or more.
+/// running out of memory is one of these, and leaves what the earlier pieces published, or more.
 pub fn follow<R: FeedRead>(
     alloc: Global,
     reader: &mut R,

@@ -8,8 +8,8 @@ use feed_note::LineFault;
 use std::alloc::{AllocError, AllocFailed};
 use thiserror::Error;
 
-/// Why a mirror stopped feeding: the first of these that holds of a line. A want of memory can come
-/// before any of them but the first.
+/// Why a mirror stopped feeding: the first of these that holds of a line. Running out of memory can
+/// come before any of them but the first.
 #[derive(Clone, Copy, Debug, PartialEq, Eq, Error)]
 pub enum FeedFault {
     /// No connection has begun.

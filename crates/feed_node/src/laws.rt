@@ -18,10 +18,10 @@ pub fn node_laws()
     ensures held { HeldTokensStand }
 {}
 
-/// Where nothing is bad, a text has one reading, and no fault stands. A text behind whole lines is
+/// Where nothing is bad, a text has one reading, and no fault stands. A text after whole lines is
 /// taken from where these lead. The lines of a batch publish once, at their end, and nothing
 /// before; so do those of a snapshot on a fresh connection. A text that was saved restores what was
-/// published, and a proper prefix of it nothing; neither fails but for want of memory. The batches
+/// published, and a proper prefix of it nothing; neither fails but when out of memory. The batches
 /// of a connection are those of a feed.
 pub fn reading_laws()
     ensures one { ReadingIsOne }

@@ -23,7 +23,7 @@ pub struct Counts {
     pub changes: u64,
     /// The notifications with a token.
     pub tokens: u64,
-    /// The bytes behind the last line feed.
+    /// The bytes after the last line feed.
     pub rest: u64,
 }
 

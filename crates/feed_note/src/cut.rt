@@ -27,7 +27,7 @@ pub fn line_end(text: &[u8], searched: usize) -> Option<usize>
     Some(searched + end)
 }
 
-/// The first line and the text behind its line feed; none where there is no line feed.
+/// The first line and the text after its line feed; none where there is no line feed.
 pub fn split_line(text: &[u8]) -> Option<(&[u8], &[u8])>
     ensures some { IfSome result (λ parts. HasNoLineFeed parts.0.now
         × (text.now ≡ parts.0.now ++ line_feed ∷ parts.1.now)) }

@@ -44,7 +44,7 @@ impl LineStop {
     }
 }
 
-/// What the first line of a text means, and the text behind its line feed; none where no line is
+/// What the first line of a text means, and the text after its line feed; none where no line is
 /// left.
 pub fn read_first<'a>(alloc: Global, text: &'a [u8]) -> Result<Option<(Line, &'a [u8])>, LineStop>
     ensures some { IfOk result (λ first.

@@ -38,14 +38,14 @@ pub enum PlayCause {
     /// The first line's limits are out of range.
     #[error("bad limits")]
     Limits,
-    /// There is no node, or there are more than a world has at most; or a mirror is listed behind
+    /// There is no node, or there are more than a world has at most; or a mirror is listed after
     /// itself or a later one.
     #[error("bad shape")]
     Shape,
-    /// The feed line means nothing. It is no want of memory.
+    /// The feed line means nothing. Running out of memory is a fault of its own.
     #[error(transparent)]
     Line(LineFault),
-    /// The world refused what was to happen. It is no want of memory.
+    /// The world refused what was to happen. Running out of memory is a fault of its own.
     #[error(transparent)]
     World(WorldFault),
     /// Memory ran out.

@@ -34,7 +34,7 @@ fn space_in(text: &[u8]) -> Option<usize>
     text.iter().position(|byte| *byte == b' ')
 }
 
-/// The first word of a text, and what is behind the space after it.
+/// The first word of a text, and what comes after the space that ends it.
 pub fn split_word(text: &[u8]) -> (&[u8], Option<&[u8]>)
     ensures last { IfNone result.1 (words text.now ≡ result.0.now ∷ []) }
     ensures more { IfSome result.1 (λ behind. words text.now ≡ result.0.now ∷ words behind.now) }

@@ -11,7 +11,7 @@ use feed_tables::{Change, Changes};
 use std::alloc::{AllocError, Global};
 use std::collections::VecDeque;
 
-/// The batches of a feed, each as its changes, the first one before. The lines behind the last
+/// The batches of a feed, each as its changes, the first one first. The lines after the last
 /// token belong to no batch. The fault is that of the first line that can't be read.
 pub fn feed_batches(alloc: Global, bytes: &[u8]) -> Result<VecDeque<Vec<Change>>, LineStop>
     ensures ok { IfOk result (λ all. (notes : List Note) × AreRead bytes.now notes
@@ -37,7 +37,7 @@ fn queue_of(alloc: Global, all: Vec<Changes>) -> Result<VecDeque<Vec<Change>>, A
 }
 
 /// Commits all that waits, from the start on. The first refused batch is taken, too, and ends it:
-/// the primary has then accepted those before, and those behind still wait.
+/// the primary has then accepted those before, and those after still wait.
 pub fn commit_all(
     alloc: Global,
     primary: &mut Primary,

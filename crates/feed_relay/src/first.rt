@@ -67,8 +67,8 @@ pub(crate) fn has_run_out(attempts: &[Attempt]) -> bool
     }
 }
 
-/// One attempt at the place of this number: a connection to it is opened, asked and followed on, and
-/// given back.
+/// One attempt at the place of this number: a connection to it is opened, asked and followed on,
+/// and given back.
 fn try_place<D: Dial>(
     alloc: Global,
     dial: &mut D,
@@ -94,7 +94,7 @@ fn try_place<D: Dial>(
     }
 }
 
-/// All attempts at the place of this number, which are told behind the earlier ones: one, or, where
+/// All attempts at the place of this number, which are told after the earlier ones: one, or, where
 /// the token was refused, another one. Answers what the last one came to.
 fn ask_place<D: Dial>(
     alloc: Global,
@@ -133,8 +133,8 @@ fn ask_place<D: Dial>(
 }
 
 /// Asks these places, in their order, for what a mirror lacks, and follows the response, each on a
-/// connection that is dialed by the place's number and in at most so many reads (`turns`): up to the
-/// first whose feed was followed to its end, or at which memory ran out, or all. Where a place
+/// connection that is dialed by the place's number and in at most so many reads (`turns`): up to
+/// the first whose feed was followed to its end, or at which memory ran out, or all. Where a place
 /// refuses the mirror's token, it is asked once more, for everything. Tells each attempt, in order.
 /// The room for two attempts at each place is taken first; where there is none, nobody is asked.
 pub fn follow_first<D: Dial>(

@@ -61,10 +61,10 @@ fn serve_next<A: Accept>(
 }
 
 /// Follows the first of these places that serves, as [`follow_first`] does, and then, whatever that
-/// came to but want of memory, serves the mirror's node on the next connection, as
-/// [`serve_node`](feed_http::serve_node) does, in at most 1,000,000 reads. After an attempt that ran
-/// out of memory nobody is accepted. Where there is no room for the attempts, nobody is asked or
-/// accepted.
+/// came to but running out of memory, serves the mirror's node on the next connection, as
+/// [`serve_node`](feed_http::serve_node) does, in at most 1,000,000 reads. After an attempt that
+/// ran out of memory nobody is accepted. Where there is no room for the attempts, nobody is asked
+/// or accepted.
 pub fn relay_round<D: Dial, A: Accept>(
     alloc: Global,
     upstream: &mut D,

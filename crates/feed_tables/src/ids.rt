@@ -48,7 +48,7 @@ impl Ids {
         self.sets.insert(node);
     }
 
-    /// Takes the object of an id away. For want of memory nothing changes.
+    /// Takes the object of an id away. Out of memory, nothing changes.
     pub fn take(
         &mut self,
         alloc: Global,

@@ -50,7 +50,7 @@ impl Patch {
         }
     }
 
-    /// Makes a change of what the tables hold after the patch. For want of memory nothing changes.
+    /// Makes a change of what the tables hold after the patch. Out of memory, nothing changes.
     #[tactic(auto, unfolding(crate::specs::Tables::after))]
     pub fn apply(&mut self, alloc: Global, base: &Tables, change: &Change) -> Result<(), AllocError>
         ensures ok { OnOk result (over base.now.contents self.new

@@ -19,7 +19,7 @@ fn stops(block: u8x16) -> u64
         | block.simd_lt(u8x16::splat(b' '))).to_bitmask()
 }
 
-/// The text behind so many bytes.
+/// The text after so many bytes.
 #[inline(always)]
 pub fn behind(text: &[u8], count: usize) -> &[u8]
     requires { count ≤ length text.now }
@@ -28,7 +28,7 @@ pub fn behind(text: &[u8], count: usize) -> &[u8]
     &text[count..]
 }
 
-/// What is behind the bytes that stand for themselves in a string.
+/// What comes after the bytes that stand for themselves in a string.
 #[inline(always)]
 #[tactic(auto, using(crate::proofs::Runs::runs))]
 pub fn skip_unescaped(text: &[u8]) -> &[u8]

@@ -42,7 +42,7 @@ pub(crate) fn node_among<'a>(
 }
 
 /// The node of this number, among the primary, these mirrors, one that isn't looked at, and those
-/// behind it.
+/// after it.
 fn other_node<'a>(
     primary: &'a Primary,
     earlier: &'a [Follower],

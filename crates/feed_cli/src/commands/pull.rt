@@ -23,7 +23,7 @@ use std::alloc::{AllocError, Global};
 /// The servers that a command follows.
 #[derive(Drop)]
 pub struct Servers {
-    /// The addresses behind the first one: of each the host and the port.
+    /// The addresses after the first one: of each the host and the port.
     pub further: Vec<(String, u16)>,
     /// What each server is asked for, that of the first one at the start.
     pub places: Vec<Place>,
@@ -83,7 +83,7 @@ fn push_place(
     }
 }
 
-/// The addresses behind the first one.
+/// The addresses after the first one.
 fn further_addresses(alloc: Global, options: &PullOptions<'_>) -> Result<Vec<(String, u16)>, Fault>
     ensures ok { IfOk result (λ further. AreFurther options.now.from
         (map (λ a. (string_bytes a.0, a.1)) further.items)) }
@@ -184,7 +184,7 @@ pub fn pull_outcome(attempts: &[Attempt]) -> Result<(), Fault>
 }
 
 /// Follows the first of these places that serves, tells why those before it failed, and prints the
-/// snapshot of what the mirror shows then, also where the last one failed. For want of memory
+/// snapshot of what the mirror shows then, also where the last one failed. Out of memory,
 /// nothing is printed.
 pub fn print_pulled<D: Dial, W: FeedWrite, E: FeedWrite>(
     alloc: Global,
