@@ -8,6 +8,7 @@ pub mod FrameLaws
 pub mod Framed
 pub mod HeadRead
 pub mod Heads
+pub mod Identity
 pub mod Laws
 pub mod Opening
 pub mod Place

@@ -125,7 +125,7 @@ fn is_rooted(text: &[u8]) -> bool
     }
 }
 
-fn is_host(text: &str) -> bool
+pub(crate) fn is_host(text: &str) -> bool
     ensures { result ≡ host_of text.now }
 {
     !text.is_empty() && is_text_of(255, b".-:[]", text)
