@@ -14,7 +14,7 @@ use Rattle.feed_hub.specs.declared.broadcast.Broadcast.{Broadcast}
 use Rattle.feed_hub.specs.declared.hub.Heard.{Heard}
 use Rattle.feed_hub.specs.declared.screen.Screen.{Screen}
 use Rattle.feed_hub.specs.declared.screen.Way.{Way}
-use Rattle.feed_hub.specs.declared.screen.Way.TheVariants.{CatchesUp, OnLog, Over}
+use Rattle.feed_hub.specs.declared.screen.Way.TheVariants.{CatchesUp, OnLog, Stops, Over}
 use Rattle.feed_hub.specs.declared.seats.Key.{Key}
 use Rattle.feed_hub.specs.declared.seats.Seat.{Seat}
 use Rattle.feed_hub.specs.declared.seats.Seat.TheVariants.{Asks, Watches}
@@ -24,7 +24,7 @@ use Rattle.feed_hub.specs.Hub.{Takes, HearsOf, HearsAt}
 use Rattle.feed_hub.specs.Log.{Log, Has, behind, end_of, oldest_in}
 use Rattle.feed_hub.specs.Screen.{IsOnLog, IsFollowed, IsNotBehind, IsServed}
 use Rattle.feed_hub.specs.Seats.{seat_at, AreOnLog, HasAll, ChangesSeat, KeepsThose, IsSeatNotBehind, IsLeastPlace, Watched, Ends, IsCutAt}
-use Rattle.feed_hub.specs.Steps.{opened, way_after, with_next, refilled, refilled_at, idled, idled_at, taken, way_from, IsGoingOn, ended}
+use Rattle.feed_hub.specs.Steps.{opened, way_after, with_next, refilled, refilled_at, idled, idled_at, taken, way_from, FollowsLog, ended}
 use Rattle.feed_hub.proofs.LoopLemmas.{left_off}
 use Rattle.feed_hub.proofs.SeatLemmas.{seat_found, removed_at}
 use Rattle.feed_hub.proofs.ServedLemmas.{served_opens, served_refused, ended_served}
@@ -74,6 +74,7 @@ fine_at common told log seats key s on sits at way = on key s at sits way
 on_of_way : (log : Log) (way : Way) → ((at : ℕ) → way ≡ OnLog at → Has log at) → IsOnLog log way
 on_of_way log (CatchesUp token) has = tt
 on_of_way log (OnLog at) has = has at refl
+on_of_way log (Stops token) has = tt
 on_of_way log Over has = tt
 
 pub on_log : (common : Framing) (told : Option (List ℕ)) (log : Log) (seats : Slab Seated) (key : Key) (s : Screen)
@@ -113,9 +114,11 @@ refilled_way_at : (own : List ℕ) (way : Way) (node : NodeState) (now : ℕ) (s
     → (refilled_at own way node now s).way ≡ OnLog at → refilled_at own way node now s ≡ s
 refilled_way_at [] (CatchesUp token) node now s at e = next_way (next node token) now s at e
 refilled_way_at [] (OnLog place) node now s at e = refl
+refilled_way_at [] (Stops token) node now s at e = cc
 refilled_way_at [] Over node now s at e = refl
 refilled_way_at (b ∷ bs) (CatchesUp token) node now s at e = refl
 refilled_way_at (b ∷ bs) (OnLog place) node now s at e = refl
+refilled_way_at (b ∷ bs) (Stops token) node now s at e = refl
 refilled_way_at (b ∷ bs) Over node now s at e = refl
 
 pub refilled_way : (node : NodeState) (now : ℕ) (s : Screen) (at : ℕ) → (refilled node now s).way ≡ OnLog at → refilled node now s ≡ s
@@ -124,9 +127,11 @@ refilled_way node now s at e = refilled_way_at s.own s.way node now s at e
 idled_way_at : (own : List ℕ) (way : Way) (now : ℕ) (s : Screen) (at : ℕ) → (idled_at own way now s).way ≡ OnLog at → idled_at own way now s ≡ s
 idled_way_at [] (CatchesUp token) now s at e = cc
 idled_way_at [] (OnLog place) now s at e = refl
+idled_way_at [] (Stops token) now s at e = refl
 idled_way_at [] Over now s at e = refl
 idled_way_at (b ∷ bs) (CatchesUp token) now s at e = refl
 idled_way_at (b ∷ bs) (OnLog place) now s at e = refl
+idled_way_at (b ∷ bs) (Stops token) now s at e = refl
 idled_way_at (b ∷ bs) Over now s at e = refl
 
 pub idled_way : (now : ℕ) (s : Screen) (at : ℕ) → (idled now s).way ≡ OnLog at → idled now s ≡ s
@@ -137,6 +142,8 @@ was_on count [] (OnLog place) at e = (place, refl)
 was_on count (b ∷ bs) (OnLog place) at e = (place, refl)
 was_on count [] (CatchesUp token) at e = let no : CatchesUp token ≡ OnLog at = e in absurd (cc)
 was_on count (b ∷ bs) (CatchesUp token) at e = let no : CatchesUp token ≡ OnLog at = e in absurd (cc)
+was_on count [] (Stops token) at e = let no : Stops token ≡ OnLog at = e in absurd (cc)
+was_on count (b ∷ bs) (Stops token) at e = let no : Stops token ≡ OnLog at = e in absurd (cc)
 was_on count [] Over at e = let no : Over ≡ OnLog at = e in absurd (cc)
 was_on count (b ∷ bs) Over at e = let no : Over ≡ OnLog at = e in absurd (cc)
 
@@ -284,6 +291,7 @@ trims_on common told log place old new on has keeps key s at sits way =
 pub still_on : (log : Log) (place : ℕ) (way : Way) → IsOnLog log way → IsNotBehind place way → Has log place
     → IsOnLog (record { base = place; bytes = behind log place }) way
 still_on log place (CatchesUp token) on holds has = tt
+still_on log place (Stops token) on holds has = tt
 still_on log place Over on holds has = tt
 still_on log place (OnLog at) on holds has =
     let above : place ≤ at = holds in
@@ -313,7 +321,7 @@ on_at_index log seats index generation s all at =
     on_of_way log s.way (λ place way. all key s place (seat_found seats key (record { generation = generation; seat = Watches s }) at refl) way)
 
 pub cut_at_index : (old new : Slab Seated) (index generation : ℕ) (s : Screen)
-    → get old index ≡ Some (record { generation = generation; seat = Watches s }) → IsGoingOn s → Updates old new index None → IsCutAt old new index
+    → get old index ≡ Some (record { generation = generation; seat = Watches s }) → FollowsLog s → Updates old new index None → IsCutAt old new index
 cut_at_index old new index generation s at goes_on u =
     let key : Key = record { index = index; generation = generation } in
     record {
@@ -324,7 +332,7 @@ cut_at_index old new index generation s at goes_on u =
           record {
             screen = s;
             sat = seat_found old key (record { generation = generation; seat = Watches s }) at refl;
-            going_on = goes_on;
+            follows_log = goes_on;
             cut = removed_at old new index u key refl;
           },
         ),
@@ -346,15 +354,16 @@ pub heard_fine : (b : Broadcast) (contest : List ℕ) (node : NodeState) (now : 
     → HearsOf b contest node now before head status seat → IsFine b.framing b.told b.log seat
 heard_fine b contest node now before head status (Asks asking) h = λ s at is way. asks_fine b asking s at is
 heard_fine b contest node now before head status (Watches t) h =
-    subst (λ x. IsFine b.framing b.told b.log (Watches x)) (sym h.opens) (opened_fine b.framing b.told b.log h.answer now)
+    subst (λ x. IsFine b.framing b.told b.log (Watches x)) (sym h.answered.opens) (opened_fine b.framing b.told b.log h.answered.answer now)
 
 pub heard_served : (b : Broadcast) (contest : List ℕ) (node : NodeState) (now : ℕ) (before : Asking) (head : List ℕ) (status : Option ℕ) (seat : Seat) (s : Screen)
     → HearsOf b contest node now before head status seat → seat ≡ Watches s
     → (answer : AnswerParts) × AnswersTo head contest node b.framing 0 answer × ((nodes : List NodeState) → IsServedBy nodes b answer [] s)
 heard_served b contest node now before head status (Asks asking) s h is = let no : Asks asking ≡ Watches s = is in absurd (cc)
 heard_served b contest node now before head status (Watches t) s h is =
-    let same : opened h.answer now ≡ s = (let one : t ≡ s = cc in sym h.opens ∙ one) in
-    (h.answer, h.answers, λ nodes. subst (λ x. IsServedBy nodes b h.answer [] x) same (opened_served nodes b.framing b.log b.told h.answer now h.fits))
+    let a = h.answered in
+    let same : opened a.answer now ≡ s = (let one : t ≡ s = cc in sym a.opens ∙ one) in
+    (a.answer, a.answers, λ nodes. subst (λ x. IsServedBy nodes b a.answer [] x) same (opened_served nodes b.framing b.log b.told a.answer now a.fits))
 
 pub heard_at : (b : Broadcast) (contest : List ℕ) (node : NodeState) (now : ℕ) (piece : List ℕ) (heard : Heard) (asking : Asking) (old new : Option Seat) (seat : Seat)
     → old ≡ Some (Asks asking) → new ≡ Some seat → Takes asking.head.items piece heard.taken

@@ -6,7 +6,7 @@ use Rattle.std.proofs.lemmas.Bool.Decides.{eqb_tells}
 use Rattle.std.proofs.lemmas.List.{get_or_past}
 use Rattle.slab.specs.Slab.{Slab, get, slab_len, Updates}
 use Rattle.feed_hub.specs.declared.screen.Screen.{Screen}
-use Rattle.feed_hub.specs.declared.screen.Way.TheVariants.{CatchesUp, OnLog, Over}
+use Rattle.feed_hub.specs.declared.screen.Way.TheVariants.{CatchesUp, OnLog, Stops, Over}
 use Rattle.feed_hub.specs.declared.screen.Way.{Way}
 use Rattle.feed_hub.specs.declared.seats.Key.{Key}
 use Rattle.feed_hub.specs.declared.seats.Seat.{Seat}
@@ -109,6 +109,7 @@ none_needs seats end = record { below = λ key seat less sits. absurd (omega (ar
 
 way_before : (less least : ℕ) (way : Way) → less ≤ least → IsNotBehind least way → IsNotBehind less way
 way_before less least (CatchesUp token) few holds = tt
+way_before less least (Stops token) few holds = tt
 way_before less least (OnLog at) few holds = let h : least ≤ at = holds in omega (arith, few, h)
 way_before less least Over few holds = tt
 
@@ -220,11 +221,11 @@ module _ (log : Log) (now index : ℕ) (old seats new : Slab Seated) (failed : B
   ended_here here key same = subst (λ o. Ends log now o (seat_at new key)) (so_far.later key (omega (arith, same))) (here key same)
 
   still_cut : (key : Key) → IsCut old seats key → key.index ≢ index → IsCut old new key
-  still_cut key c differ = record { screen = c.screen; sat = c.sat; going_on = c.going_on; cut = others key differ ∙ c.cut }
+  still_cut key c differ = record { screen = c.screen; sat = c.sat; follows_log = c.follows_log; cut = others key differ ∙ c.cut }
 
   cut_apart : (key : Key) → IsCut old seats key → ((k : Key) → k.index ≡ index → seat_at new k ≡ None) ⊎ (key.index ≢ index) → IsCut old new key
   cut_apart key c (inr differ) = still_cut key c differ
-  cut_apart key c (inl gone) = record { screen = c.screen; sat = c.sat; going_on = c.going_on; cut = by (eqb_tells key.index index) }
+  cut_apart key c (inl gone) = record { screen = c.screen; sat = c.sat; follows_log = c.follows_log; cut = by (eqb_tells key.index index) }
     where
       by : (((key.index == index) ≡ true) × (key.index ≡ index)) ⊎ (((key.index == index) ≡ false) × (key.index ≢ index)) → seat_at new key ≡ None
       by (inl (_, same)) = gone key same
@@ -262,7 +263,7 @@ module _ (log : Log) (now index : ℕ) (old seats new : Slab Seated) (failed : B
         left = λ key less. left_by key less (eqb_tells key.index index);
         later = later_on;
         err = λ _. (let k = c.some.0 in let is = c.some.1.0 in let one = c.some.1.1 in
-            (k, record { screen = one.screen; sat = sym (so_far.later k (omega (arith, is))) ∙ one.sat; going_on = one.going_on; cut = one.cut }));
+            (k, record { screen = one.screen; sat = sym (so_far.later k (omega (arith, is))) ∙ one.sat; follows_log = one.follows_log; cut = one.cut }));
         len = shorter;
       }
     where

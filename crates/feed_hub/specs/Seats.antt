@@ -10,7 +10,7 @@ use Rattle.feed_hub.specs.declared.seats.Seat.TheVariants.{Asks, Watches}
 use Rattle.feed_hub.specs.declared.seats.Seated.{Seated}
 use Rattle.feed_hub.specs.Log.{Log, Has}
 use Rattle.feed_hub.specs.Screen.{IsFollowed, IsNotBehind, IsMoving}
-use Rattle.feed_hub.specs.Steps.{ended, IsGoingOn}
+use Rattle.feed_hub.specs.Steps.{ended, FollowsLog}
 
 -- what sits there, if it is of this generation
 abbrev pub of_generation : ℕ → Option Seated → Option Seat
@@ -108,7 +108,7 @@ Ends log now old new = Watched (λ s t. t ≡ ended log now s) old new
 pub record IsCut (old new : Slab Seated) (key : Key) : Type 0 where
   pub screen : Screen
   pub sat : seat_at old key ≡ Some (Watches screen)
-  pub going_on : IsGoingOn screen
+  pub follows_log : FollowsLog screen
   pub cut : seat_at new key ≡ None
 
 abbrev pub IsSomeCut : Slab Seated → Slab Seated → Type 0

@@ -31,8 +31,10 @@ pub(crate) struct Conn {
     /// There may be more to read, and more to write, of which no event will tell.
     pub(crate) has_input: bool,
     pub(crate) has_more: bool,
-    /// How many bytes of its answer are kept for it alone, until it took them all.
+    /// How many bytes of its answer are kept, until it took them all; and the number of the text
+    /// that they are of, where others share it.
     pub(crate) owes: usize,
+    pub(crate) text: Option<u64>,
     pub(crate) peer: SocketAddr,
     pub(crate) since: u64,
     pub(crate) status: u16,
@@ -49,6 +51,7 @@ impl Conn {
             has_input: false,
             has_more: false,
             owes: 0,
+            text: None,
             peer,
             since: now,
             status: 0,

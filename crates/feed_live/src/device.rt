@@ -1,8 +1,9 @@
 //! What a turn reads from and writes to, by what a contract can say of it.
 
-ghost use Rattle.std.specs.Prelude.{◌≡◌, ◌≢◌, ◌<◌, ◌≤◌, ℕ, List, Option, None, length, IfOk};
+ghost use Rattle.std.specs.Prelude.{◌≡◌, ◌≢◌, ◌<◌, ◌≤◌, ℕ, List, [], Option, None, Some, length, take, IfOk, OnOk};
 ghost use Rattle.std.specs.Io.KnownBytes.{Keeps, WriteAppends};
 
+use std::alloc::AllocError;
 use std::net::SocketAddr;
 
 /// Why a device did nothing.
@@ -15,6 +16,12 @@ pub enum Stop {
     Gone,
     /// It failed.
     Failed,
+}
+
+impl From<AllocError> for Stop {
+    fn from(_error: AllocError) -> Stop {
+        Stop::Failed
+    }
 }
 
 /// The sockets of screens, each at a number that is given to it.
@@ -83,22 +90,39 @@ pub enum Before {
 
 /// The file of the state, the one that takes its place once it is whole, and the one before.
 pub trait Store {
+    // What the file has, and what the one has that takes its place, where that is known.
+    ghost written: { Self → Option (List ℕ) } = { λ _. None };
+
+    ghost written_next: { Self → Option (List ℕ) } = { λ _. None };
+
     /// Goes on with the file, of which only so many bytes count.
-    fn resume(&mut self, length: u64) -> Result<(), Stop>;
+    fn resume(&mut self, length: u64) -> Result<(), Stop>
+        ensures { (text : List ℕ) → written self.old ≡ Some text
+            → OnOk result (written self.new ≡ Some (take length text)) };
 
     /// Appends some of the bytes to the file, from the first on, and answers how many.
     fn append(&mut self, bytes: &[u8]) -> Result<usize, Stop>
-        ensures bound { IfOk result (λ n. n ≤ length bytes.now) };
+        ensures bound { IfOk result (λ n. n ≤ length bytes.now) }
+        ensures bytes { WriteAppends (written self.old) (written self.new) result bytes.now }
+        ensures next { Keeps (written_next self.old) (written_next self.new) };
 
     /// Begins the file that is to take its place.
-    fn begin(&mut self) -> Result<(), Stop>;
+    fn begin(&mut self) -> Result<(), Stop>
+        ensures begun { (text : List ℕ) → written_next self.old ≡ Some text
+            → OnOk result (written_next self.new ≡ Some []) }
+        ensures file { Keeps (written self.old) (written self.new) };
 
     /// Appends some of the bytes to that one, from the first on, and answers how many.
     fn append_next(&mut self, bytes: &[u8]) -> Result<usize, Stop>
-        ensures bound { IfOk result (λ n. n ≤ length bytes.now) };
+        ensures bound { IfOk result (λ n. n ≤ length bytes.now) }
+        ensures bytes { WriteAppends (written_next self.old) (written_next self.new) result
+            bytes.now }
+        ensures file { Keeps (written self.old) (written self.new) };
 
     /// It takes the place of the file. What becomes of the one before is said, too.
-    fn replace(&mut self, before: Before) -> Result<(), Stop>;
+    fn replace(&mut self, before: Before) -> Result<(), Stop>
+        ensures { (text : List ℕ) → written_next self.old ≡ Some text
+            → OnOk result (written self.new ≡ Some text) };
 }
 
 /// All that a turn reads from and writes to.

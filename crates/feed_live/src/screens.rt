@@ -8,10 +8,10 @@ use crate::figures::ScreenTotals;
 use crate::options::LiveLimits;
 use crate::relay::Saying;
 use crate::told::{How, Telling, Told};
-use feed_hub::{Hub, Key};
-use feed_node::Node;
+use feed_hub::{Answering, Hub, Key};
 use slab::Slab;
 use std::alloc::Global;
+use std::mem;
 
 /// How long a request's head may take, in milliseconds.
 const HEAD_TIME: u64 = 30_000;
@@ -33,8 +33,8 @@ const FURTHER: usize = 8;
 const PIECE: usize = 4096;
 
 /// While so many bytes are kept for screens that have yet to take their answers, no further request
-/// is read: a snapshot of many megabytes is not made for a thousand at once. Those that wait are late
-/// as others are.
+/// is read. A text that many share counts once: that of a large snapshot is made again only once it
+/// has changed. Those that wait are late as others are.
 const MOST_OWED: usize = 67_108_864;
 
 /// What is sent where there are as many screens as there may be.
@@ -65,26 +65,29 @@ impl Counts {
 }
 
 /// What requests are answered with, and what those who were answered are sent.
-#[derive(Clone, Copy)]
+#[derive(Drop)]
 pub(crate) struct Shown<'a> {
-    pub(crate) node: &'a Node,
-    /// A node that has published nothing.
-    pub(crate) blank: &'a Node,
+    pub(crate) answering: &'a mut Answering,
+    /// One that has published nothing.
+    pub(crate) blank: &'a mut Answering,
     /// Requests wait until a server was heard.
     pub(crate) is_held: bool,
     pub(crate) contest: &'a str,
 }
 
-impl<'a> Shown<'a> {
-    /// What a request is answered with that came at a time; none while it waits.
-    fn answers(&self, since: u64, now: u64) -> Option<&'a Node> {
-        if !self.is_held {
-            return Some(self.node);
+impl Shown<'_> {
+    /// Whether a request is answered that came at a time.
+    fn is_answering(&self, since: u64, now: u64) -> bool {
+        !self.is_held || since.saturating_add(HOLD_TIME) <= now
+    }
+
+    /// What it is answered with then.
+    fn answers(&mut self) -> &mut Answering {
+        if self.is_held {
+            self.blank
+        } else {
+            self.answering
         }
-        if since.saturating_add(HOLD_TIME) <= now {
-            return Some(self.blank);
-        }
-        None
     }
 }
 
@@ -291,21 +294,21 @@ impl Screens {
         alloc: Global,
         sockets: &mut S,
         told: &mut Telling,
-        shown: &Shown<'_>,
+        shown: &mut Shown<'_>,
         at: usize,
         now: u64,
     ) {
         if self.may_read(shown, at, now) {
             self.read(alloc, sockets, told, shown, at, now);
         }
-        self.drain(alloc, sockets, told, shown.node, at, now);
+        self.drain(alloc, sockets, told, shown.answering.node(), at, now);
         if self.has_more_at(shown, at, now) {
             self.has_more = true;
         }
     }
 
     /// Whether there may be something to read at a place that is to be read now.
-    fn may_read(&self, shown: &Shown<'_>, at: usize, now: u64) -> bool {
+    fn may_read(&self, shown: &mut Shown<'_>, at: usize, now: u64) -> bool {
         let Some(conn) = self.conns.get(at) else {
             return false;
         };
@@ -316,16 +319,34 @@ impl Screens {
     }
 
     /// Whether a request that came at a time can be answered now.
-    fn may_answer(&self, shown: &Shown<'_>, since: u64, now: u64) -> bool {
-        self.owed < MOST_OWED && shown.answers(since, now).is_some()
+    fn may_answer(&self, shown: &mut Shown<'_>, since: u64, now: u64) -> bool {
+        self.owed < MOST_OWED && shown.is_answering(since, now)
     }
 
-    /// So many bytes are kept for the connection at a place.
-    fn owe(&mut self, at: usize, bytes: usize) {
+    /// So many bytes are kept for the connection at a place, of a text with a number where others
+    /// share it: that counts once.
+    fn owe(&mut self, at: usize, bytes: usize, text: Option<u64>) {
+        let is_counted = self.is_kept(text);
         if let Some(conn) = self.conns.get_mut(at) {
             conn.owes = bytes;
-            self.owed = self.owed.saturating_add(bytes);
+            conn.text = text;
+            if !is_counted {
+                self.owed = self.owed.saturating_add(bytes);
+            }
         }
+    }
+
+    /// Whether a shared text is kept for some connection.
+    fn is_kept(&self, text: Option<u64>) -> bool {
+        if text.is_none() {
+            return false;
+        }
+        for at in 0..self.conns.capacity() {
+            if self.conns.get(at).is_some_and(|conn| conn.text == text) {
+                return true;
+            }
+        }
+        false
     }
 
     /// Nothing is kept for it any more. Requests that waited for that are looked at.
@@ -336,12 +357,15 @@ impl Screens {
         if self.owed >= MOST_OWED {
             self.has_more = true;
         }
-        self.owed = self.owed.saturating_sub(conn.owes);
-        conn.owes = 0;
+        let bytes = mem::replace(&mut conn.owes, 0);
+        let text = conn.text.take();
+        if !self.is_kept(text) {
+            self.owed = self.owed.saturating_sub(bytes);
+        }
     }
 
     /// Whether the connection at a place has more to read or to write.
-    fn has_more_at(&self, shown: &Shown<'_>, at: usize, now: u64) -> bool {
+    fn has_more_at(&self, shown: &mut Shown<'_>, at: usize, now: u64) -> bool {
         self.may_read(shown, at, now) || self.conns.get(at).is_some_and(|conn| conn.has_more)
     }
 
@@ -350,7 +374,7 @@ impl Screens {
         alloc: Global,
         sockets: &mut S,
         told: &mut Telling,
-        shown: &Shown<'_>,
+        shown: &mut Shown<'_>,
         at: usize,
         now: u64,
     ) {
@@ -392,7 +416,7 @@ impl Screens {
         alloc: Global,
         sockets: &mut S,
         told: &mut Telling,
-        shown: &Shown<'_>,
+        shown: &mut Shown<'_>,
         at: usize,
         piece: &[u8],
         now: u64,
@@ -402,10 +426,8 @@ impl Screens {
         };
         match (conn.stage, conn.key) {
             (Stage::Asks, Some(key)) => {
-                let Some(node) = shown.answers(conn.since, now) else {
-                    return;
-                };
-                if !self.hear(alloc, node, shown.contest, key, at, piece, now) {
+                let contest = shown.contest;
+                if !self.hear(alloc, shown.answers(), contest, key, at, piece, now) {
                     self.end(sockets, told, at, How::Memory, now);
                 }
             }
@@ -421,7 +443,7 @@ impl Screens {
     fn hear(
         &mut self,
         alloc: Global,
-        node: &Node,
+        answering: &mut Answering,
         contest: &str,
         key: Key,
         at: usize,
@@ -430,13 +452,18 @@ impl Screens {
     ) -> bool {
         let mut rest = piece;
         for _ in 0..piece.len() {
-            let Ok(heard) = self.hub.hear(alloc, node, contest, key, rest, now) else {
+            let Ok(heard) = self.hub.hear(alloc, answering, contest, key, rest, now) else {
                 return false;
             };
             if let Some(status) = heard.status {
                 self.is_answered(at, status);
                 let kept = self.hub.prefix(key).len();
-                self.owe(at, kept);
+                let text = if heard.is_shared {
+                    Some(answering.made())
+                } else {
+                    None
+                };
+                self.owe(at, kept, text);
                 break;
             }
             if heard.taken == 0 {
@@ -461,7 +488,7 @@ impl Screens {
         alloc: Global,
         sockets: &mut S,
         told: &mut Telling,
-        shown: &Shown<'_>,
+        shown: &mut Shown<'_>,
         now: u64,
     ) {
         for at in 0..self.conns.capacity() {

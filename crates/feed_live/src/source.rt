@@ -4,11 +4,11 @@ mod input;
 
 use crate::device::{Link, Stop};
 use crate::figures::{FeedFigures, Following};
-use crate::screens::Screens;
+use crate::screens::{Screens, Shown};
 use crate::told::{Telling, Told, Why};
-use feed_answer::{Place, request_text};
+use feed_answer::{Framing, Place, request_text};
 use feed_follow::{FollowFault, Progress};
-use feed_hub::Upstream;
+use feed_hub::{Answering, Upstream};
 use feed_node::{Mirror, Node};
 use memchr::memchr;
 use std::alloc::{AllocError, Global};
@@ -42,8 +42,9 @@ enum Reach {
 pub(crate) struct Source {
     places: Vec<Place>,
     upstream: Upstream,
-    mirror: Mirror,
-    blank: Mirror,
+    answering: Answering,
+    /// A mirror that has published nothing.
+    blank: Answering,
     reach: Reach,
     request: Vec<u8>,
     /// Since when a response has a good head; and whether that was told.
@@ -68,6 +69,7 @@ impl Source {
         places: Vec<Place>,
         mirror: Mirror,
         blank: Mirror,
+        framing: Framing,
         now: u64,
     ) -> Source {
         // A relay without a state has nothing old to show, nor has one whose feed is the input.
@@ -75,8 +77,8 @@ impl Source {
         Source {
             upstream: Upstream::new(places.len().max(1), now),
             places,
-            mirror,
-            blank,
+            answering: Answering::new(mirror, framing),
+            blank: Answering::new(blank, framing),
             reach: Reach::Away,
             request: Vec::new(alloc),
             body_since: None,
@@ -91,11 +93,22 @@ impl Source {
     }
 
     pub(crate) fn node(&self) -> &Node {
-        self.mirror.node()
+        self.answering.node()
     }
 
-    pub(crate) fn blank(&self) -> &Node {
-        self.blank.node()
+    /// What requests are answered with.
+    pub(crate) fn shown<'a>(&'a mut self, contest: &'a str) -> Shown<'a> {
+        Shown {
+            answering: &mut self.answering,
+            blank: &mut self.blank,
+            is_held: !self.is_heard,
+            contest,
+        }
+    }
+
+    /// Forgets the text of the snapshot, where no screen has any of it.
+    pub(crate) fn tidy(&mut self) {
+        self.answering.tidy();
     }
 
     pub(crate) fn is_heard(&self) -> bool {
@@ -185,8 +198,8 @@ impl Source {
             self.lost(link, told, Why::Refuses, now);
             return;
         }
-        self.is_fresh = self.mirror.since().is_none();
-        self.upstream.opened(&self.mirror, now);
+        self.is_fresh = self.answering.mirror().since().is_none();
+        self.upstream.opened(self.answering.mirror(), now);
         self.figures.ask(self.upstream.place(), now);
         self.reach = Reach::Connects(now);
     }
@@ -194,7 +207,7 @@ impl Source {
     fn write_request(&mut self, alloc: Global) -> Result<(), AllocError> {
         let mut text = Vec::new(alloc);
         if let Some(place) = self.places.get(self.upstream.place()) {
-            request_text(place, self.mirror.since(), &mut text)?;
+            request_text(place, self.answering.mirror().since(), &mut text)?;
         }
         self.request = text;
         Ok(())
@@ -209,7 +222,7 @@ impl Source {
         }
         self.leave(link, now);
         self.figures.lose(now);
-        self.upstream.lost(&mut self.mirror, now);
+        self.upstream.lost(self.answering.change(), now);
         let pause = self.upstream.due(0).saturating_sub(now);
         told.tell(Told::Lost { server, why, pause });
     }
@@ -370,7 +383,8 @@ impl Source {
         line: &[u8],
         now: u64,
     ) -> bool {
-        match self.upstream.take(alloc, &mut self.mirror, line, now) {
+        let mirror = self.answering.change();
+        match self.upstream.take(alloc, mirror, line, now) {
             Ok(Progress::Head) => true,
             Ok(Progress::Body) => {
                 self.found(told, now);
@@ -402,7 +416,7 @@ impl Source {
         });
         self.leave(link, now);
         self.figures.change(Following::Away, now);
-        self.upstream.refused(&mut self.mirror, now);
+        self.upstream.refused(self.answering.change(), now);
     }
 
     /// The server answers with the feed.
@@ -421,12 +435,12 @@ impl Source {
     /// Says what was published. Where a connection published afresh, no screen goes on from what
     /// it has.
     fn say(&mut self, alloc: Global, screens: &mut Screens, now: u64) {
-        if self.is_fresh && self.mirror.since().is_some() {
+        if self.is_fresh && self.answering.mirror().since().is_some() {
             self.is_fresh = false;
             self.epoch = self.epoch.saturating_add(1);
             screens.end_feeds(alloc, now);
         }
-        if screens.relay(alloc, self.mirror.node(), now) {
+        if screens.relay(alloc, self.answering.node(), now) {
             self.is_heard = true;
             self.figures.publish();
             self.upstream.published();
@@ -435,7 +449,7 @@ impl Source {
 
     /// Says what had to wait.
     pub(crate) fn say_more(&mut self, alloc: Global, screens: &mut Screens, now: u64) {
-        screens.relay(alloc, self.mirror.node(), now);
+        screens.relay(alloc, self.answering.node(), now);
     }
 }
 

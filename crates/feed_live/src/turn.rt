@@ -3,7 +3,7 @@
 use crate::device::{Devices, Link, Ready, Sockets, Store};
 use crate::options::{LiveLimits, Start};
 use crate::saved::{Restored, Saved};
-use crate::screens::{HOLD_TIME, Screens, Shown};
+use crate::screens::{HOLD_TIME, Screens};
 use crate::source::Source;
 use crate::told::{Telling, Told};
 use feed_node::Node;
@@ -74,12 +74,12 @@ impl Live {
         } = start;
         let Restored { mirror, file } = restored;
         let saved = if limits.has_store {
-            Some(Saved::new(alloc, store, mirror.node(), file))
+            Some(Saved::new(store, mirror.node(), file))
         } else {
             None
         };
         let feeds = places.is_empty();
-        let mut source = Source::new(alloc, places, mirror, blank, now);
+        let mut source = Source::new(alloc, places, mirror, blank, limits.framing, now);
         if feeds {
             source.begin_input(now);
         }
@@ -233,6 +233,7 @@ impl Live {
     /// Once a second, looks for who is late; and says a line feed after silence.
     fn tick<S: Sockets>(&mut self, alloc: Global, sockets: &mut S, now: u64) {
         if self.screens.conns.is_empty() {
+            self.source.tidy();
             return;
         }
         self.screens.idle(alloc, now);
@@ -240,6 +241,7 @@ impl Live {
             return;
         }
         self.ticked = now;
+        self.source.tidy();
         self.screens.cut_late(now);
         self.screens.sweep(sockets, &mut self.telling, now);
         self.screens.close_past(sockets, &mut self.telling, now);
@@ -266,20 +268,15 @@ impl Live {
         had_more: bool,
         now: u64,
     ) {
-        let shown = Shown {
-            node: self.source.node(),
-            blank: self.source.blank(),
-            is_held: !self.source.is_heard(),
-            contest: self.contest.as_str(),
-        };
+        let mut shown = self.source.shown(self.contest.as_str());
         if had_more {
             self.screens
-                .serve_more(alloc, sockets, &mut self.telling, &shown, now);
+                .serve_more(alloc, sockets, &mut self.telling, &mut shown, now);
         }
         for event in events {
             if let Ready::Screen { at, .. } = *event {
                 self.screens
-                    .serve(alloc, sockets, &mut self.telling, &shown, at, now);
+                    .serve(alloc, sockets, &mut self.telling, &mut shown, at, now);
             }
         }
     }

@@ -6,24 +6,75 @@ ghost use Rattle.feed_node.specs.States.{NodeState};
 ghost use Rattle.feed_answer.specs.Answered.{AnswerParts};
 ghost use Rattle.feed_hub.specs.Steps.{idled, taken, HasNext, IsWaiting};
 ghost use Rattle.feed_hub.specs.Seats.{seat_at, Others, SameSeats, KeepsThose, IsOnTime, Watched, IsWatcher, IsAskingSeat, IsOverSeat};
-ghost use Rattle.feed_hub.specs.Hub.{IsSeated, IsStillSeated, IsAnsweredBy, prefix_at, SameLimits, ChangesOnly, IsNew, Takes, HearsOf, HearsAt, Refills};
+ghost use Rattle.feed_hub.specs.Hub.{IsSeated, IsStillSeated, IsAnsweredBy, prefix_at, SameLimits, ChangesOnly, IsNew, Takes, IsAnswered, IsKept, HearsOf, HearsAt, Refills};
 
+use crate::answering::Answering;
 use crate::asking::Asking;
 use crate::broadcast::Broadcast;
 use crate::hub::{Heard, Hub};
 use crate::log::Full;
-use crate::screen::Screen;
+use crate::screen::{Screen, bytes_of};
 use crate::seats::{Key, Seat};
-use feed_answer::{Framing, answer};
+use feed_answer::{Framing, Reply, reply_to};
 use feed_node::Node;
 use std::alloc::{AllocError, Global};
+
+/// The status of an answer that opens with a snapshot.
+const OK: u16 = 200;
+
+/// Answers a head of which so many bytes were taken now. A fresh request shares the text that the
+/// mirror has for those.
+fn answer(
+    alloc: Global,
+    framing: Framing,
+    head: &[u8],
+    answering: &mut Answering,
+    contest: &str,
+    taken: usize,
+    now: u64,
+) -> Result<(Screen, Heard), AllocError>
+    ensures answers { IfOk result (λ heard. IsAnswered head.now contest.now
+        answering.old.mirror.node framing now heard.0 heard.1.status) }
+    ensures taken { IfOk result (λ heard. heard.1.taken ≡ taken) }
+    ensures shared { IfOk result (λ heard.
+        IsKept answering.new.opening heard.1.is_shared (Some (Seat.Watches heard.0))) }
+    ensures mirror { answering.new.mirror ≡ answering.old.mirror }
+    ensures framing { answering.new.framing ≡ answering.old.framing }
+{
+    match reply_to(alloc, head, answering.node(), contest, framing, 0)? {
+        Reply::Whole(answered) => {
+            let screen = Screen::open(
+                answered.framing,
+                bytes_of(answered.bytes)?,
+                answered.session,
+                now,
+            )?;
+            let heard = Heard {
+                taken,
+                status: Some(answered.status),
+                is_shared: false,
+            };
+            Ok((screen, heard))
+        }
+        Reply::Snapshot(framing, session) => {
+            let (text, is_shared) = answering.open(alloc, framing)?;
+            let screen = Screen::open(framing, text, Some(session), now)?;
+            let heard = Heard {
+                taken,
+                status: Some(OK),
+                is_shared,
+            };
+            Ok((screen, heard))
+        }
+    }
+}
 
 /// Takes more of a request's head, and answers it where that is enough.
 fn hear_more(
     alloc: Global,
     framing: Framing,
     asking: Asking,
-    node: &Node,
+    answering: &mut Answering,
     contest: &str,
     piece: &[u8],
     now: u64,
@@ -31,8 +82,12 @@ fn hear_more(
     ensures takes { IfOk result (λ heard.
         Takes asking.head.items piece.now heard.1.taken) }
     ensures heard { (b : Broadcast) → b.framing ≡ framing → IfOk result (λ heard. HearsOf b
-        contest.now node.now.shown now asking (asking.head.items ++ take heard.1.taken piece.now)
-        heard.1.status heard.0) }
+        contest.now answering.old.mirror.node now asking
+        (asking.head.items ++ take heard.1.taken piece.now) heard.1.status heard.0) }
+    ensures shared { IfOk result (λ heard.
+        IsKept answering.new.opening heard.1.is_shared (Some heard.0)) }
+    ensures mirror { answering.new.mirror ≡ answering.old.mirror }
+    ensures framing { answering.new.framing ≡ answering.old.framing }
 {
     let mut asking = asking;
     let taken = asking.hear(piece)?;
@@ -40,15 +95,19 @@ fn hear_more(
         let heard = Heard {
             taken,
             status: None,
+            is_shared: false,
         };
         return Ok((Seat::Asks(asking), heard));
     }
-    let answered = answer(alloc, asking.head(), node, contest, framing, 0)?;
-    let heard = Heard {
+    let (screen, heard) = answer(
+        alloc,
+        framing,
+        asking.head(),
+        answering,
+        contest,
         taken,
-        status: Some(answered.status),
-    };
-    let screen = Screen::open(answered, now)?;
+        now,
+    )?;
     Ok((Seat::Watches(screen), heard))
 }
 
@@ -76,26 +135,31 @@ impl Hub {
     }
 
     /// Bytes came on a connection: those of its request count, up to its head's end, and those
-    /// after it are ignored. A request takes no more than it needs at once. Where memory runs out
-    /// the connection is cut.
+    /// after it are ignored. A request takes no more than it needs at once. One that asks for
+    /// everything shares the text of the snapshot with others, which is made at once where there
+    /// is none. Where memory runs out the connection is cut.
     pub fn hear(
         &mut self,
         alloc: Global,
-        node: &Node,
+        answering: &mut Answering,
         contest: &str,
         key: Key,
         piece: &[u8],
         now: u64,
     ) -> Result<Heard, AllocError>
-        ensures heard { IfOk result (λ heard. HearsAt self.old.broadcast contest.now node.now.shown
-            now piece.now heard (seat_at self.old.seats.slab key)
+        ensures heard { IfOk result (λ heard. HearsAt self.old.broadcast contest.now
+            answering.old.mirror.node now piece.now heard (seat_at self.old.seats.slab key)
             (seat_at self.new.seats.slab key)) }
         ensures served { (nodes : List NodeState) (asking : Asking) (s : Screen)
             → seat_at self.old.seats.slab key ≡ Some (Seat.Asks asking)
             → seat_at self.new.seats.slab key ≡ Some (Seat.Watches s)
-            → IfOk result (λ heard. IsAnsweredBy node.now.shown contest.now
+            → IfOk result (λ heard. IsAnsweredBy answering.old.mirror.node contest.now
             self.old.broadcast.framing (asking.head.items ++ take heard.taken piece.now)
             (λ answer. IsSeated nodes self.new key answer [])) }
+        ensures shared { IfOk result (λ heard. IsKept answering.new.opening heard.is_shared
+            (seat_at self.new.seats.slab key)) }
+        ensures mirror { answering.new.mirror ≡ answering.old.mirror }
+        ensures framing { answering.new.framing ≡ answering.old.framing }
         ensures err { OnErr result (IsAskingSeat (seat_at self.old.seats.slab key)
             × (seat_at self.new.seats.slab key ≡ None)) }
         ensures rest { ChangesOnly self.old self.new key }
@@ -104,10 +168,11 @@ impl Hub {
             return Ok(Heard {
                 taken: 0,
                 status: None,
+                is_shared: false,
             });
         };
         let framing = self.broadcast.framing();
-        let (seat, heard) = hear_more(alloc, framing, asking, node, contest, piece, now)?;
+        let (seat, heard) = hear_more(alloc, framing, asking, answering, contest, piece, now)?;
         self.seats.put_back(key, seat);
         Ok(heard)
     }

@@ -10,7 +10,7 @@ use std::alloc::Global;
 impl Source {
     /// The input is a feed from here on.
     pub(crate) fn begin_input(&mut self, now: u64) {
-        self.mirror.begin();
+        self.answering.change().begin();
         self.figures.change(Following::Input, now);
     }
 
@@ -60,8 +60,8 @@ impl Source {
             }
             let (line, next) = split_line(rest);
             rest = next;
-            self.mirror.feed(alloc, line)?;
-            if screens.relay(alloc, self.mirror.node(), now) {
+            self.answering.change().feed(alloc, line)?;
+            if screens.relay(alloc, self.answering.node(), now) {
                 self.figures.publish();
             }
         }
