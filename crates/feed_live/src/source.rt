@@ -6,7 +6,7 @@ use crate::device::{Link, Stop};
 use crate::figures::{FeedFigures, Following};
 use crate::screens::Screens;
 use crate::told::{Telling, Told, Why};
-use feed_answer::{Place, request_text};
+use feed_answer::{Identity, Place, request_text_as};
 use feed_follow::{FollowFault, Progress};
 use feed_hub::Upstream;
 use feed_node::{Mirror, Node};
@@ -41,6 +41,7 @@ enum Reach {
 #[derive(Drop)]
 pub(crate) struct Source {
     places: Vec<Place>,
+    identity: Identity,
     upstream: Upstream,
     mirror: Mirror,
     blank: Mirror,
@@ -66,6 +67,7 @@ impl Source {
     pub(crate) fn new(
         alloc: Global,
         places: Vec<Place>,
+        identity: Identity,
         mirror: Mirror,
         blank: Mirror,
         now: u64,
@@ -75,6 +77,7 @@ impl Source {
         Source {
             upstream: Upstream::new(places.len().max(1), now),
             places,
+            identity,
             mirror,
             blank,
             reach: Reach::Away,
@@ -194,7 +197,7 @@ impl Source {
     fn write_request(&mut self, alloc: Global) -> Result<(), AllocError> {
         let mut text = Vec::new(alloc);
         if let Some(place) = self.places.get(self.upstream.place()) {
-            request_text(place, self.mirror.since(), &mut text)?;
+            request_text_as(place, self.mirror.since(), &self.identity, &mut text)?;
         }
         self.request = text;
         Ok(())
