@@ -23,7 +23,7 @@ _tunygarop() {
             mapfile -t COMPREPLY < <(compgen -A hostname -- "$word")
             return
             ;;
-        --state)
+        --state | --user-file)
             compopt -o filenames 2> /dev/null
             mapfile -t COMPREPLY < <(compgen -f -- "$word")
             return
@@ -32,6 +32,9 @@ _tunygarop() {
             return
             ;;
         --contest | --from | --base | --address | --screens | --idle | --window | --silence)
+            return
+            ;;
+        --host-header | --allow | --per-address | --status-address)
             return
             ;;
     esac
@@ -46,12 +49,12 @@ _tunygarop() {
         check) names="" ;;
         play) names="" ;;
         serve) names="port contest count turn chunked back verbose history staged" ;;
-        pull) names="host port from contest base turns silence resume verbose history staged" ;;
+        pull) names="host port from contest base host-header user-file turns silence resume verbose history staged" ;;
         relay)
-            names="host port from contest base turns silence resume verbose history staged listen count chunked"
+            names="host port from contest base host-header user-file turns silence resume verbose history staged listen count chunked"
             ;;
         live)
-            names="contest host port base from listen address screens idle window chunked state until-eof status verbose quiet history staged"
+            names="contest host port base from host-header user-file until-eof listen address screens allow per-address idle window chunked state history staged status status-address verbose quiet"
             ;;
         help)
             [ "$COMP_CWORD" -eq 2 ] && mapfile -t COMPREPLY < <(compgen -W "$commands" -- "$word")

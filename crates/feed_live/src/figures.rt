@@ -85,6 +85,11 @@ impl FeedFigures {
     }
 }
 
+/// The statuses that a request can be refused with.
+const REFUSALS: usize = 5;
+
+const STATUSES: [u16; REFUSALS] = [400, 404, 405, 431, 503];
+
 /// What was counted of the screens since the start.
 #[derive(Clone, Copy, Debug)]
 pub struct ScreenTotals {
@@ -93,6 +98,8 @@ pub struct ScreenTotals {
     pub opened: u64,
     /// How many were answered with a status other than 200.
     pub refused: u64,
+    /// Each such status, and how many were answered with it.
+    pub refused_by: [(u16, u64); REFUSALS],
     pub cut: u64,
     /// How many bytes they were handed.
     pub bytes: u64,
@@ -104,6 +111,7 @@ impl ScreenTotals {
             most: 0,
             opened: 0,
             refused: 0,
+            refused_by: STATUSES.map(|status| (status, 0)),
             cut: 0,
             bytes: 0,
         }
@@ -119,6 +127,11 @@ impl ScreenTotals {
     pub(crate) fn answer(&mut self, status: u16) {
         if status != 200 {
             self.refused = self.refused.saturating_add(1);
+        }
+        for refused in &mut self.refused_by {
+            if refused.0 == status {
+                refused.1 = refused.1.saturating_add(1);
+            }
         }
     }
 

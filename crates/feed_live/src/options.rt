@@ -1,7 +1,7 @@
 //! What a relay is asked to be.
 
 use crate::saved::Restored;
-use feed_answer::{Framing, Place};
+use feed_answer::{Framing, Identity, Place};
 use feed_node::Mirror;
 
 /// How many screens, and how far back and how silent they may be.
@@ -28,6 +28,8 @@ pub struct LiveLimits {
 pub struct Start {
     /// The servers that are asked; none where the feed is the input.
     pub places: Vec<Place>,
+    /// As whom they are asked.
+    pub identity: Identity,
     /// What the state files had.
     pub restored: Restored,
     /// A mirror that has published nothing.

@@ -6,7 +6,7 @@ use crate::device::{Link, Stop};
 use crate::figures::{FeedFigures, Following};
 use crate::screens::{Screens, Shown};
 use crate::told::{Telling, Told, Why};
-use feed_answer::{Framing, Place, request_text};
+use feed_answer::{Framing, Identity, Place, request_text_as};
 use feed_follow::{FollowFault, Progress};
 use feed_hub::{Answering, Upstream};
 use feed_node::{Mirror, Node};
@@ -41,6 +41,7 @@ enum Reach {
 #[derive(Drop)]
 pub(crate) struct Source {
     places: Vec<Place>,
+    identity: Identity,
     upstream: Upstream,
     answering: Answering,
     /// A mirror that has published nothing.
@@ -67,6 +68,7 @@ impl Source {
     pub(crate) fn new(
         alloc: Global,
         places: Vec<Place>,
+        identity: Identity,
         mirror: Mirror,
         blank: Mirror,
         framing: Framing,
@@ -77,6 +79,7 @@ impl Source {
         Source {
             upstream: Upstream::new(places.len().max(1), now),
             places,
+            identity,
             answering: Answering::new(mirror, framing),
             blank: Answering::new(blank, framing),
             reach: Reach::Away,
@@ -207,7 +210,12 @@ impl Source {
     fn write_request(&mut self, alloc: Global) -> Result<(), AllocError> {
         let mut text = Vec::new(alloc);
         if let Some(place) = self.places.get(self.upstream.place()) {
-            request_text(place, self.answering.mirror().since(), &mut text)?;
+            request_text_as(
+                place,
+                self.answering.mirror().since(),
+                &self.identity,
+                &mut text,
+            )?;
         }
         self.request = text;
         Ok(())

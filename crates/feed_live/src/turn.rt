@@ -69,6 +69,7 @@ impl Live {
     ) -> Live {
         let Start {
             places,
+            identity,
             restored,
             blank,
         } = start;
@@ -79,7 +80,7 @@ impl Live {
             None
         };
         let feeds = places.is_empty();
-        let mut source = Source::new(alloc, places, mirror, blank, limits.framing, now);
+        let mut source = Source::new(alloc, places, identity, mirror, blank, limits.framing, now);
         if feeds {
             source.begin_input(now);
         }

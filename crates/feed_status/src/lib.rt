@@ -13,4 +13,4 @@ mod status;
 pub use answering::answer;
 pub use escape::put_text;
 pub use health::Level;
-pub use status::{BOUNDS, Latency, Screens, StateFile, Status, Upstream, UpstreamState};
+pub use status::{BOUNDS, Latency, Refused, Screens, StateFile, Status, Upstream, UpstreamState};

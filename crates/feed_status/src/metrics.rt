@@ -26,6 +26,24 @@ impl fmt::Display for FineSeconds {
     }
 }
 
+/// What stands before the values of a metric: what it is, and its type.
+#[derive(Clone, Copy)]
+struct Family<'a> {
+    name: &'a str,
+    kind: &'a str,
+    help: &'a str,
+}
+
+impl fmt::Display for Family<'_> {
+    fn fmt<W: fmt::Write>(&self, f: &mut fmt::Formatter<W>) -> fmt::Result {
+        let (name, kind, help) = (self.name, self.kind, self.help);
+        write!(
+            f,
+            "# HELP tunygarop_{name} {help}\n# TYPE tunygarop_{name} {kind}\n"
+        )
+    }
+}
+
 /// One metric without labels.
 #[derive(Clone, Copy)]
 struct Metric<'a, V> {
@@ -38,10 +56,7 @@ struct Metric<'a, V> {
 impl<V: fmt::Display> fmt::Display for Metric<'_, V> {
     fn fmt<W: fmt::Write>(&self, f: &mut fmt::Formatter<W>) -> fmt::Result {
         let (name, kind, help) = (self.name, self.kind, self.help);
-        write!(
-            f,
-            "# HELP tunygarop_{name} {help}\n# TYPE tunygarop_{name} {kind}\n"
-        )?;
+        write!(f, "{}", Family { name, kind, help })?;
         write!(f, "tunygarop_{name} {}\n", self.value)
     }
 }
@@ -90,7 +105,8 @@ impl fmt::Display for Metrics<'_> {
     fn fmt<W: fmt::Write>(&self, f: &mut fmt::Formatter<W>) -> fmt::Result {
         let status = self.0;
         write!(f, "{}{}", About(status), Feed(status))?;
-        write!(f, "{}{}", OfUpstream(status), OfScreens(status))?;
+        write!(f, "{}{}", UpstreamInfo(status), OfUpstream(status))?;
+        write!(f, "{}{}", OfScreens(status), OfRefused(status))?;
         write!(f, "{}{}", OfFile(status), Histogram(&status.latency))
     }
 }
@@ -136,6 +152,28 @@ impl fmt::Display for Feed<'_> {
             f,
             "{}",
             gauge("objects", "Objects that are published.", self.0.objects)
+        )
+    }
+}
+
+#[derive(Clone, Copy)]
+struct UpstreamInfo<'a>(&'a Status<'a>);
+
+impl fmt::Display for UpstreamInfo<'_> {
+    fn fmt<W: fmt::Write>(&self, f: &mut fmt::Formatter<W>) -> fmt::Result {
+        let upstream = &self.0.upstream;
+        let (name, state) = (Label(upstream.name), upstream.state.word());
+        f.write_str("# HELP tunygarop_upstream_info The server, and its state.\n")?;
+        f.write_str("# TYPE tunygarop_upstream_info gauge\n")?;
+        write!(
+            f,
+            "tunygarop_upstream_info{{name=\"{name}\",state=\"{state}\"}} 1\n"
+        )?;
+        let since = Seconds(upstream.since_ms);
+        write!(
+            f,
+            "{}",
+            gauge("upstream_state_seconds", "Time in this state.", since)
         )
     }
 }
@@ -211,15 +249,6 @@ impl fmt::Display for OfScreens<'_> {
         write!(
             f,
             "{}",
-            counter(
-                "screens_refused_total",
-                "Requests refused.",
-                screens.refused
-            )
-        )?;
-        write!(
-            f,
-            "{}",
             counter("screens_cut_total", "Slow screens cut.", screens.cut)
         )?;
         write!(
@@ -229,6 +258,36 @@ impl fmt::Display for OfScreens<'_> {
                 "screens_bytes_total",
                 "Bytes sent to screens.",
                 screens.bytes
+            )
+        )
+    }
+}
+
+#[derive(Clone, Copy)]
+struct OfRefused<'a>(&'a Status<'a>);
+
+impl fmt::Display for OfRefused<'_> {
+    fn fmt<W: fmt::Write>(&self, f: &mut fmt::Formatter<W>) -> fmt::Result {
+        let family = Family {
+            name: "screens_refused_total",
+            kind: "counter",
+            help: "Requests refused, by the status of the answer.",
+        };
+        write!(f, "{family}")?;
+        for refused in &self.0.screens.refused_by {
+            let (status, count) = (refused.status, refused.count);
+            write!(
+                f,
+                "tunygarop_screens_refused_total{{status=\"{status}\"}} {count}\n"
+            )?;
+        }
+        write!(
+            f,
+            "{}",
+            counter(
+                "refused_by_address_total",
+                "Connections closed for their address.",
+                self.0.refused_by_address
             )
         )
     }

@@ -1,6 +1,6 @@
 //! The table of the page.
 
-use crate::status::{StateFile, Status, UpstreamState};
+use crate::status::{Screens, StateFile, Status, UpstreamState};
 use serde::Serialize;
 use std::alloc::{AllocError, Global};
 use std::fmt;
@@ -48,6 +48,19 @@ fn number(alloc: Global, label: &'static str, value: u64) -> Result<Row, AllocEr
     row_of(label, format!(in alloc; "{value}"))
 }
 
+/// How many were refused, and how many of them with which status.
+fn refused(alloc: Global, screens: &Screens) -> Result<String, AllocError> {
+    let total = screens.refused;
+    let mut text = format!(in alloc; "{total}")?;
+    for refused in &screens.refused_by {
+        let (status, count) = (refused.status, refused.count);
+        if count > 0 {
+            text.push_str(format!(in alloc; ", {status}: {count}")?.as_str())?;
+        }
+    }
+    Ok(text)
+}
+
 fn state_file(alloc: Global, file: Option<StateFile>) -> Result<String, AllocError> {
     match file {
         None => String::from_str(alloc, "none"),
@@ -86,7 +99,8 @@ fn of_screens(alloc: Global, status: &Status<'_>, to: &mut Vec<Row>) -> Result<(
     to.push(number(alloc, "Behind", screens.behind)?)?;
     to.push(number(alloc, "Most at once", screens.most)?)?;
     to.push(number(alloc, "Opened", screens.opened)?)?;
-    to.push(number(alloc, "Refused", screens.refused)?)?;
+    to.push(row_of("Refused", refused(alloc, screens))?)?;
+    to.push(number(alloc, "Refused by address", status.refused_by_address)?)?;
     to.push(number(alloc, "Cut as slow", screens.cut)?)?;
     to.push(number(alloc, "Bytes out", screens.bytes)?)?;
     Ok(())

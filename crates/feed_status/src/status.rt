@@ -26,6 +26,19 @@ pub enum UpstreamState {
     Ended,
 }
 
+impl UpstreamState {
+    /// The word that JSON and metrics have for it.
+    pub(crate) fn word(self) -> &'static str {
+        match self {
+            UpstreamState::Following => "following",
+            UpstreamState::Asking => "asking",
+            UpstreamState::Pausing => "pausing",
+            UpstreamState::Input => "input",
+            UpstreamState::Ended => "ended",
+        }
+    }
+}
+
 /// The server that is followed.
 #[derive(Clone, Copy, Debug, Serialize)]
 pub struct Upstream<'a> {
@@ -38,6 +51,16 @@ pub struct Upstream<'a> {
     pub silent_ms: u64,
     /// How many attempts failed since the last one that was answered.
     pub failures: u64,
+}
+
+/// How many statuses a request can be refused with.
+const REFUSALS: usize = 5;
+
+/// How many requests were answered with a status.
+#[derive(Clone, Copy, Debug, Serialize)]
+pub struct Refused {
+    pub status: u16,
+    pub count: u64,
 }
 
 /// The connections on the feed's port.
@@ -54,6 +77,8 @@ pub struct Screens {
     pub opened: u64,
     /// How many were answered with a status other than 200.
     pub refused: u64,
+    /// The same, status by status.
+    pub refused_by: [Refused; REFUSALS],
     /// How many were cut, since they were too slow.
     pub cut: u64,
     pub bytes: u64,
@@ -114,6 +139,9 @@ pub struct Status<'a> {
     pub objects: u64,
     /// How many bytes came from upstream.
     pub bytes: u64,
+    /// How many connections were closed at once, since their address may not connect, or not once
+    /// more.
+    pub refused_by_address: u64,
     pub screens: Screens,
     pub state_file: Option<StateFile>,
     pub latency: Latency,

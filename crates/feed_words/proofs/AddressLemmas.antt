@@ -32,7 +32,7 @@ last_cut c text (Some x) h low = (
 )
 
 -- where the byte stands behind xs
-not_in : (c : ℕ) (text xs ys : List ℕ) → Lacks c text → text ≡ xs ++ c ∷ ys → ⊥
+pub not_in : (c : ℕ) (text xs ys : List ℕ) → Lacks c text → text ≡ xs ++ c ∷ ys → ⊥
 not_in c text xs ys lacks e =
     let here : slice_index text (length xs) ≡ c = ap (λ l. slice_index l (length xs)) e ∙ get_or-append_seam xs c ys 0 in
     let inside : length xs < length text = omega (arith, ap length e, length-append xs (c ∷ ys)) in

@@ -1,3 +1,4 @@
 mod AddressLemmas
 mod LiveLemmas
+mod NetworkLemmas
 mod WordsLemmas

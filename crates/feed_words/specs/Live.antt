@@ -45,8 +45,23 @@ listen = tied (number_in (codes "listen") most_port)
 abbrev pub address : Rule
 address = tied (with_default (codes "127.0.0.1") (text_option (codes "address")))
 
+abbrev pub host_header : Rule
+host_header = tied options.host_header
+
+abbrev pub user_file : Rule
+user_file = tied options.user_file
+
+abbrev pub allow : Rule
+allow = text_option (codes "allow")
+
+abbrev pub per_address : Rule
+per_address = number_in (codes "per-address") most_screens
+
 abbrev pub status : Rule
 status = number_in (codes "status") most_port
+
+abbrev pub status_address : Rule
+status_address = tied (text_option (codes "status-address"))
 
 abbrev pub screens : Rule
 screens = with_default (codes "1000") (number_in (codes "screens") most_screens)
@@ -73,31 +88,39 @@ quiet = flag (codes "quiet")
 abbrev pub with_server : App → App
 with_server command = with_rule (with_rule command host) port
 
--- a command with the options that say what is followed
+-- a command with the options that say what a server is told of who asks
+abbrev pub with_identity : App → App
+with_identity command = with_rule (with_rule command host_header) user_file
+
+-- a command with the options that say what is followed, and until when
 abbrev pub with_upstream : App → App
-with_upstream command =
-    with_rule (with_rule (with_server (with_rule command options.contest)) base) from
+with_upstream command = with_rule (with_identity
+    (with_rule (with_rule (with_server (with_rule command options.contest)) base) from)) until_eof
 
 -- a command with the options that say to whom it is served
 abbrev pub with_listener : App → App
 with_listener command = with_rule (with_rule (with_rule command listen) address) screens
 
+-- a command with the options that say who may connect
+abbrev pub with_guard : App → App
+with_guard command = with_rule (with_rule command allow) per_address
+
 -- a command with the options that say to whom it is served, and how
 abbrev pub with_screens : App → App
-with_screens command =
-    with_rule (with_rule (with_rule (with_listener command) idle) window) options.chunked
+with_screens command = with_rule (with_rule (with_rule (with_guard (with_listener command)) idle)
+    window) options.chunked
 
--- a command with the options that say what is kept and reported, and when it ends
-abbrev pub with_course : App → App
-with_course command =
-    with_rule (with_rule (with_rule (with_rule command state) until_eof) verbose) quiet
+-- a command with the options that say what is kept
+abbrev pub with_state : App → App
+with_state command = with_limits (with_rule command state)
 
--- a command with the options that say who may watch it
+-- a command with the options that say who may watch it, and what it reports
 abbrev pub with_watching : App → App
-with_watching command = with_rule command status
+with_watching command =
+    with_rule (with_rule (with_rule (with_rule command status) status_address) verbose) quiet
 
 abbrev pub live : App
-live = with_limits (with_watching (with_course (with_screens (with_upstream (new_app (codes "live"))))))
+live = with_watching (with_state (with_screens (with_upstream (new_app (codes "live")))))
 
 -- ---- what its options ask for
 
@@ -107,6 +130,10 @@ pub record AsksUpstream (rows : List Row) (upstream : UpstreamOptions) : Type 0 
   pub port_is : IsNumber (codes "port") most_port rows upstream.port
   pub from_is : text_at (codes "from") rows ≡ option_map (λ text. text.now) upstream.from
   pub base_is : text_at (codes "base") rows ≡ Some upstream.base.now
+  pub host_header_is :
+      text_at (codes "host-header") rows ≡ option_map (λ text. text.now) upstream.host_header
+  pub user_file_is :
+      text_at (codes "user-file") rows ≡ option_map (λ text. text.now) upstream.user_file
 
 -- a server is followed where `--host` is given, and else standard input
 abbrev pub IsUpstream : List Row → Option UpstreamOptions → Type 0
@@ -128,7 +155,12 @@ pub record AsksLive (rows : List Row) (options : LiveOptions) : Type 0 where
   pub upstream_is : IsUpstream rows options.upstream
   pub listen_is : IsNumberIfGiven (codes "listen") most_port rows options.listen
   pub address_is : text_at (codes "address") rows ≡ Some options.address.now
+  pub allow_is : text_at (codes "allow") rows ≡ option_map (λ text. text.now) options.allow
+  pub per_address_is :
+      IsNumberIfGiven (codes "per-address") most_screens rows options.per_address
   pub status_is : IsNumberIfGiven (codes "status") most_port rows options.status
+  pub status_address_is :
+      text_at (codes "status-address") rows ≡ option_map (λ text. text.now) options.status_address
   pub screens_are : IsNumber (codes "screens") most_screens rows options.screens
   pub idle_is : IsNumber (codes "idle") most_idle rows options.idle
   pub window_is : IsNumber (codes "window") most_window rows options.window

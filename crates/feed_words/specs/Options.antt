@@ -89,6 +89,12 @@ from = text_option (codes "from")
 abbrev pub base : Rule
 base = with_default [] (text_option (codes "base"))
 
+abbrev pub host_header : Rule
+host_header = text_option (codes "host-header")
+
+abbrev pub user_file : Rule
+user_file = text_option (codes "user-file")
+
 abbrev pub turns : Rule
 turns = with_default (codes "1000000") (number_in (codes "turns") most_rounds)
 

@@ -7,7 +7,7 @@ use Rattle.clap.specs.Words.{App, Row, Text, new_app, subcommand_of, with_rule, 
 use Rattle.feed_node.specs.Limits.{most_commits}
 use Rattle.feed_words.specs.Addresses.{most_port}
 use Rattle.feed_words.specs.Live.{live, AsksLive}
-use Rattle.feed_words.specs.Options.{most_rounds, most_silence, verbose, port, listen, contest, count, turn, chunked, back, host, from, base, turns, silence, resume, with_limits}
+use Rattle.feed_words.specs.Options.{most_rounds, most_silence, verbose, port, listen, contest, count, turn, chunked, back, host, from, base, host_header, user_file, turns, silence, resume, with_limits}
 use Rattle.feed_words.specs.Options.{text_at, IsNumber, IsNumberUpTo, IsNumberIfGiven, IsGiven, IsFramed, AsksLimits}
 use Rattle.feed_words.specs.declared.request.Local.TheVariants as local
 use Rattle.feed_words.specs.declared.request.Request.{Request}
@@ -23,10 +23,14 @@ use Rattle.feed_words.specs.declared.request.RelayOptions.{RelayOptions}
 abbrev pub with_place : App → App
 with_place command = with_rule (with_rule (with_rule (with_rule command host) port) from) contest
 
+-- a command with the options that say what a server is told of who asks
+abbrev pub with_identity : App → App
+with_identity command = with_rule (with_rule command host_header) user_file
+
 -- a command with the options that say what is followed, and how far
 abbrev pub with_followed : App → App
 with_followed command =
-    with_rule (with_rule (with_rule (with_place command) base) turns) silence
+    with_rule (with_rule (with_identity (with_rule (with_place command) base)) turns) silence
 
 -- a command with the options of `pull`
 abbrev pub with_pull : App → App
@@ -103,6 +107,8 @@ pub record AsksPull (rows : List Row) (options : PullOptions) : Type 0 where
   pub from_is : text_at (codes "from") rows ≡ option_map (λ text. text.now) options.from
   pub base_is : text_at (codes "base") rows ≡ Some options.base.now
   pub contest_is : text_at (codes "contest") rows ≡ Some options.contest.now
+  pub host_header_is : text_at (codes "host-header") rows ≡ option_map (λ text. text.now) options.host_header
+  pub user_file_is : text_at (codes "user-file") rows ≡ option_map (λ text. text.now) options.user_file
   pub turns_are : IsNumber (codes "turns") most_rounds rows options.turns
   pub silence_is : IsNumberIfGiven (codes "silence") most_silence rows options.silence
   pub resume_is : IsGiven (codes "resume") rows options.resume

@@ -100,14 +100,14 @@ fn first_bad(text: &str) -> Option<usize>
 }
 
 /// How many parts there are.
-fn count_parts(text: &str) -> usize
+pub(crate) fn count_parts(text: &str) -> usize
     ensures { result ≡ length (parts text.now) }
 {
     text.split(',').count()
 }
 
 /// The parts.
-fn parts_of(alloc: Global, text: &str) -> Result<Vec<&str>, AllocError>
+pub(crate) fn parts_of(alloc: Global, text: &str) -> Result<Vec<&str>, AllocError>
     ensures { IfOk result (λ all. map (λ part. part.now) all.items ≡ parts text.now) }
 {
     text.split(',').collect(alloc)

@@ -2,10 +2,12 @@
 #![tactic(auto)]
 
 mod address;
+mod network;
 mod request;
 mod words;
 
 pub use address::{AddressFault, addresses};
+pub use network::{Network, Origin, is_in_any, networks};
 pub use request::{
     LiveOptions, Local, NoCommand, PullOptions, RelayOptions, Request, ServeOptions, TablesOptions,
     UpstreamOptions, Verbosity,

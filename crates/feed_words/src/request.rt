@@ -47,6 +47,10 @@ pub struct PullOptions<'a> {
     pub base: &'a str,
     /// The contest whose feed is followed.
     pub contest: &'a str,
+    /// What requests call the server, where that is not its host. Any text will do.
+    pub host_header: Option<&'a str>,
+    /// The name of the file with the user's name and password. Any text will do.
+    pub user_file: Option<&'a str>,
     /// The most reads of one connection, 1 to 1,000,000.
     pub turns: u64,
     /// After how many seconds without a connection or a byte a server is left, 1 to 3,600; without
@@ -84,6 +88,10 @@ pub struct UpstreamOptions<'a> {
     pub from: Option<&'a str>,
     /// What stands before `/contests` in the path of the feed.
     pub base: &'a str,
+    /// What requests call each server, as that of [`PullOptions`].
+    pub host_header: Option<&'a str>,
+    /// The name of the file with the user's name and password, as that of [`PullOptions`].
+    pub user_file: Option<&'a str>,
 }
 
 /// How much `live` reports on standard error.
@@ -109,8 +117,16 @@ pub struct LiveOptions<'a> {
     pub listen: Option<u16>,
     /// The address of this machine that they come to. Any text will do.
     pub address: &'a str,
-    /// A further port of that address, 1 to 65,535, that those who watch the relay come to.
+    /// Which addresses may connect, as a list of networks; without it each may. Any text will do.
+    pub allow: Option<&'a str>,
+    /// How many screens one address may have at once, 1 to 10,000; without it as many as there may
+    /// be.
+    pub per_address: Option<u64>,
+    /// A further port, 1 to 65,535, that those who watch the relay come to.
     pub status: Option<u16>,
+    /// The address of this machine that they come to; without it that of the screens. Any text will
+    /// do.
+    pub status_address: Option<&'a str>,
     /// How many screens are served at once, 1 to 10,000.
     pub screens: usize,
     /// After how many seconds without a commit a screen is sent a line feed, 1 to 3,600.

@@ -11,7 +11,7 @@ mod options;
 use crate::request::{NoCommand, Request};
 use asked::request_entered;
 use clap::error::ErrorKind;
-use line::command_line;
+use line::{USUAL_CALLS, command_line};
 use std::alloc::Global;
 
 /// The name of the program.
@@ -50,12 +50,26 @@ fn parse<'a>(alloc: Global, words: &'a [&'a str]) -> Result<Request<'a>, clap::E
     }
 }
 
+/// A refusal with the usual calls below it.
+fn with_usual_calls(reply: NoCommand) -> NoCommand {
+    let NoCommand::Refused(mut text) = reply else {
+        return reply;
+    };
+    for more in ["\n", USUAL_CALLS, "\n"] {
+        if text.push_str(more).is_err() {
+            return NoCommand::Memory;
+        }
+    }
+    NoCommand::Refused(text)
+}
+
 /// What the words ask for; the first of them is the program's name.
 pub fn parse_words<'a>(alloc: Global, words: &'a [&'a str]) -> Result<Request<'a>, NoCommand>
     ensures { IfOk result (λ request. Asks (map (λ word. word.now) words.entry.now) request) }
 {
     match parse(alloc, words) {
         Ok(request) => Ok(request),
+        Err(error) if words.len() <= 1 => Err(with_usual_calls(reply(alloc, &error))),
         Err(error) => Err(reply(alloc, &error)),
     }
 }

@@ -88,11 +88,12 @@ impl<'r> Reporter<'r> {
         }
     }
 
-    /// Reports a line.
-    pub(crate) fn line(&self, text: &str) {
+    /// Reports a line. Whether it was written.
+    pub(crate) fn line(&self, text: &str) -> bool {
         let name = self.name;
-        if let Ok(line) = format!(in self.rt.alloc(); "{name}: {text}\n") {
-            write_line(self.rt, line.as_bytes());
+        match format!(in self.rt.alloc(); "{name}: {text}\n") {
+            Ok(line) => write_line(self.rt, line.as_bytes()),
+            Err(_) => false,
         }
     }
 

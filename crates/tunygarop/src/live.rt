@@ -1,5 +1,6 @@
 //! The command `live`: one relay, in one process and one thread, over sockets that never wait.
 
+mod guard;
 mod link;
 mod making;
 mod sockets;
@@ -9,7 +10,8 @@ mod telling;
 mod watchers;
 mod watching;
 
-use feed_cli::{Fault, LiveOptions, Verbosity};
+use crate::ending::Failure;
+use feed_cli::{LiveOptions, Verbosity};
 use feed_live::{Devices, Following, Input, Live, Ready, Turn};
 use link::{LINK, Servers};
 use making::{needs_memory, of_system, prepare};
@@ -162,7 +164,12 @@ impl Engine<'_> {
             Following::Input | Following::Ended => String::from_str(alloc, "standard input")?,
             _ => name_of(alloc, &self.devices.link, feed.server)?,
         };
-        let status = self.watched.status(&self.live, name.as_str(), now);
+        let refused = self
+            .devices
+            .sockets
+            .refused()
+            .saturating_add(self.watchers.refused());
+        let status = self.watched.status(&self.live, name.as_str(), refused, now);
         self.watchers.serve(alloc, &status, now);
         Ok(())
     }
@@ -225,7 +232,7 @@ fn first(piece: &[u8], count: usize) -> &[u8] {
 }
 
 /// Follows a server, or standard input, and serves what that publishes.
-pub(crate) fn live_feed(rt: &HostRuntime, options: &LiveOptions<'_>) -> Result<(), Fault> {
+pub(crate) fn live_feed(rt: &HostRuntime, options: &LiveOptions<'_>) -> Result<(), Failure> {
     let mut engine = prepare(rt, options)?;
     if let Some(port) = options.listen {
         let address = options.address;
@@ -235,5 +242,5 @@ pub(crate) fn live_feed(rt: &HostRuntime, options: &LiveOptions<'_>) -> Result<(
         }
     }
     let reads_input = options.upstream.is_none() || options.until_eof;
-    of_system(engine.run(reads_input))
+    Ok(of_system(engine.run(reads_input))?)
 }

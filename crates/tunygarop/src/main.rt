@@ -5,13 +5,14 @@ mod connection;
 mod ending;
 mod errors;
 mod hosts;
+mod identity;
 mod live;
 mod pull;
 mod relay;
 mod serve;
 mod sockets;
 
-use ending::{Failure, ended};
+use ending::ended;
 use feed_cli::stream::Stream;
 use feed_cli::{Local, NoCommand, Request, answer_words, parse_words, run};
 use live::live_feed;
@@ -55,7 +56,7 @@ fn run_request(rt: &HostRuntime, request: &Request<'_>) -> u8 {
         Request::Serve(options) => ended(rt, "serve", serve_feed(rt, options)),
         Request::Pull(options) => ended(rt, "pull", pull_feed(rt, options)),
         Request::Relay(options) => ended(rt, "relay", relay_feed(rt, options)),
-        Request::Live(options) => ended(rt, "live", live_feed(rt, options).map_err(Failure::from)),
+        Request::Live(options) => ended(rt, "live", live_feed(rt, options)),
     }
 }
 

@@ -141,6 +141,19 @@ fn patience(matches: &ArgMatches<'_>) -> Option<(u64, Option<u64>)>
     Some((turns, silence))
 }
 
+/// What a server is told of who asks: its name, and the file with the user.
+pub(super) fn identity<'a>(matches: &ArgMatches<'a>) -> (Option<&'a str>, Option<&'a str>)
+    ensures host_header { text_at (codes "host-header") (rows_of (found_of matches.now))
+        ≡ option_map (λ t. t.now) result.0 }
+    ensures user_file { text_at (codes "user-file") (rows_of (found_of matches.now))
+        ≡ option_map (λ t. t.now) result.1 }
+{
+    (
+        text_if_given(matches, "host-header"),
+        text_if_given(matches, "user-file"),
+    )
+}
+
 /// What the options of `pull` ask for, and those of `relay` that it has, too.
 fn pull_options<'a>(matches: &ArgMatches<'a>) -> Option<PullOptions<'a>>
     ensures { IfSome result (λ options. AsksPull (rows_of (found_of matches.now)) options) }
@@ -150,6 +163,7 @@ fn pull_options<'a>(matches: &ArgMatches<'a>) -> Option<PullOptions<'a>>
     let from = text_if_given(matches, "from");
     let base = text(matches, "base")?;
     let contest = text(matches, "contest")?;
+    let (host_header, user_file) = identity(matches);
     let (turns, silence) = patience(matches)?;
     let limits = limits(matches)?;
     Some(PullOptions {
@@ -158,6 +172,8 @@ fn pull_options<'a>(matches: &ArgMatches<'a>) -> Option<PullOptions<'a>>
         from,
         base,
         contest,
+        host_header,
+        user_file,
         turns,
         silence,
         resume: is_given(matches, "resume"),

@@ -7,7 +7,9 @@ ghost use Rattle.feed_words.specs.Live.{is_verbose as verbose_of, is_quiet as qu
 ghost use Rattle.feed_words.specs.Live.{AsksUpstream, IsUpstream, AsksLive};
 ghost use Rattle.feed_words.specs.Options.{IsNumberIfGiven, IsGiven};
 
-use super::asked::{framing, is_given, limits, number, number_if_given, port, text, text_if_given};
+use super::asked::{
+    framing, identity, is_given, limits, number, number_if_given, port, text, text_if_given,
+};
 use super::live::{MOST_IDLE, MOST_SCREENS, MOST_WINDOW};
 use super::options::MOST_PORT;
 use crate::request::{LiveOptions, UpstreamOptions, Verbosity};
@@ -29,11 +31,14 @@ fn upstream_at<'a>(matches: &ArgMatches<'a>) -> Option<UpstreamOptions<'a>>
     let host = text(matches, "host")?;
     let port = port(matches, "port")?;
     let base = text(matches, "base")?;
+    let (host_header, user_file) = identity(matches);
     Some(UpstreamOptions {
         host,
         port,
         from: text_if_given(matches, "from"),
         base,
+        host_header,
+        user_file,
     })
 }
 
@@ -79,6 +84,7 @@ pub(super) fn live_options<'a>(matches: &ArgMatches<'a>) -> Option<LiveOptions<'
         return None;
     }
     let address = text(matches, "address")?;
+    let per_address = number_if_given(matches, "per-address", MOST_SCREENS)?;
     let status = port_if_given(matches, "status")?;
     let screens = number(matches, "screens", MOST_SCREENS)?;
     let idle = number(matches, "idle", MOST_IDLE)?;
@@ -90,7 +96,10 @@ pub(super) fn live_options<'a>(matches: &ArgMatches<'a>) -> Option<LiveOptions<'
         upstream,
         listen,
         address,
+        allow: text_if_given(matches, "allow"),
+        per_address,
         status,
+        status_address: text_if_given(matches, "status-address"),
         screens: screens as usize,
         idle,
         window,

@@ -9,6 +9,16 @@ use super::{PROGRAM, VERSION, options};
 use clap::{Arg, Command};
 use std::alloc::{AllocError, Global};
 
+/// How the program is mostly called.
+pub(super) const USUAL_CALLS: &str = "\
+Usual calls:
+  tunygarop live --contest finals --host 10.0.0.5 --port 80 --listen 8001 --state finals.state
+        relays a server's feed to screens, and keeps it in a file
+  tunygarop live --contest finals --host 10.0.0.6 --port 8001 --state screen.state
+        is a screen: keeps a file up to date, which the next call reads
+  tunygarop tables < screen.state
+        prints the tables of such a file, or of a feed";
+
 /// What `--verbose` does in a command that opens connections.
 const CONNECTIONS: &str = "Report each connection, too";
 
@@ -94,12 +104,21 @@ fn with_place<'a>(alloc: Global, command: Command<'a>) -> Result<Command<'a>, Al
     add_option(placed, options::contest(alloc))
 }
 
+/// A command with the options that say what a server is told of who asks.
+fn with_identity<'a>(alloc: Global, command: Command<'a>) -> Result<Command<'a>, AllocError>
+    ensures { IfOk result (λ c. app_of c ≡ words.with_identity (app_of command.entry)) }
+{
+    let named = add_option(command, options::host_header(alloc))?;
+    add_option(named, options::user_file(alloc))
+}
+
 /// A command with the options that say what is followed, and how far.
 fn with_followed<'a>(alloc: Global, command: Command<'a>) -> Result<Command<'a>, AllocError>
     ensures { IfOk result (λ c. app_of c ≡ words.with_followed (app_of command.entry)) }
 {
     let followed = with_place(alloc, command)?;
     let followed = add_option(followed, options::base(alloc))?;
+    let followed = with_identity(alloc, followed)?;
     let followed = add_option(followed, options::turns(alloc))?;
     add_option(followed, options::silence(alloc))
 }
@@ -150,6 +169,7 @@ fn local_program<'a>(alloc: Global) -> Result<Command<'a>, AllocError>
     let program = Command::new(alloc, PROGRAM)
         .about("Mirrors the event feed of a programming contest (CLICS Contest API 2023-06)")
         .version(VERSION)
+        .after_help(USUAL_CALLS)
         .subcommand_required(true);
     let check =
         "Counts the lines of the event feed on standard input, or names the first that can't be read";

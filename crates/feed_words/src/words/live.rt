@@ -78,14 +78,62 @@ fn address<'a>(alloc: Global) -> Result<Arg<'a>, AllocError>
         .requires_arg("listen")
 }
 
+/// `--host-header NAME`, with `--host`.
+fn host_header<'a>(alloc: Global) -> Result<Arg<'a>, AllocError>
+    ensures rule { IfOk result (λ option. rule_of option ≡ live.host_header) }
+    ensures local { IfOk result (λ option. option.global ≡ false) }
+{
+    options::host_header(alloc).requires_arg("host")
+}
+
+/// `--user-file FILE`, with `--host`.
+fn user_file<'a>(alloc: Global) -> Result<Arg<'a>, AllocError>
+    ensures rule { IfOk result (λ option. rule_of option ≡ live.user_file) }
+    ensures local { IfOk result (λ option. option.global ≡ false) }
+{
+    options::user_file(alloc).requires_arg("host")
+}
+
+/// `--allow LIST`.
+fn allow<'a>(alloc: Global) -> Arg<'a>
+    ensures rule { rule_of result ≡ live.allow }
+    ensures local { result.global ≡ false }
+{
+    text(alloc, "allow", "LIST").help(
+        "Who may connect, as addresses and networks, 10.1.0.0/16,2001:db8::/32; \
+          without it everybody may",
+    )
+}
+
+/// `--per-address K`.
+fn per_address<'a>(alloc: Global) -> Arg<'a>
+    ensures rule { rule_of result ≡ live.per_address }
+    ensures local { result.global ≡ false }
+{
+    number(alloc, "per-address", "K", MOST_SCREENS).help(
+        "How many screens one address may have at once, 1 to 10000; \
+          without it as many as --screens",
+    )
+}
+
 /// `--status PORT`.
 fn status<'a>(alloc: Global) -> Arg<'a>
     ensures rule { rule_of result ≡ live.status }
     ensures local { result.global ≡ false }
 {
     number(alloc, "status", "PORT", MOST_PORT).help(
-        "A further port of that address, with a page, JSON and metrics on the relay",
+        "A further port, with a page, JSON and metrics on the relay",
     )
+}
+
+/// `--status-address A`, with `--status`.
+fn status_address<'a>(alloc: Global) -> Result<Arg<'a>, AllocError>
+    ensures rule { IfOk result (λ option. rule_of option ≡ live.status_address) }
+    ensures local { IfOk result (λ option. option.global ≡ false) }
+{
+    text(alloc, "status-address", "A")
+        .help("The address that port is at; without it that of --address")
+        .requires_arg("status")
 }
 
 /// `--screens N`.
@@ -155,6 +203,13 @@ fn quiet<'a>(alloc: Global) -> Arg<'a>
     flag(alloc, "quiet").help("Report nothing but why the command ends")
 }
 
+/// A command whose further options stand under a heading in its help.
+fn under<'a>(command: Command<'a>, heading: &'a str) -> Command<'a>
+    ensures { app_of result ≡ app_of command.entry }
+{
+    command.next_help_heading(heading)
+}
+
 /// A command with the options that name a server.
 fn with_server<'a>(alloc: Global, command: Command<'a>) -> Result<Command<'a>, AllocError>
     ensures { IfOk result (λ c. app_of c ≡ live.with_server (app_of command.entry)) }
@@ -163,14 +218,25 @@ fn with_server<'a>(alloc: Global, command: Command<'a>) -> Result<Command<'a>, A
     add_option(named, port(alloc)?)
 }
 
+/// A command with the options that say what a server is told of who asks.
+fn with_identity<'a>(alloc: Global, command: Command<'a>) -> Result<Command<'a>, AllocError>
+    ensures { IfOk result (λ c. app_of c ≡ live.with_identity (app_of command.entry)) }
+{
+    let named = add_option(command, host_header(alloc)?)?;
+    add_option(named, user_file(alloc)?)
+}
+
 /// A command with the options that say what is followed.
 fn with_upstream<'a>(alloc: Global, command: Command<'a>) -> Result<Command<'a>, AllocError>
     ensures { IfOk result (λ c. app_of c ≡ live.with_upstream (app_of command.entry)) }
 {
-    let followed = add_option(command, options::contest(alloc))?;
+    let followed = under(command, "Upstream");
+    let followed = add_option(followed, options::contest(alloc))?;
     let followed = with_server(alloc, followed)?;
     let followed = add_option(followed, base(alloc)?)?;
-    add_option(followed, from(alloc)?)
+    let followed = add_option(followed, from(alloc)?)?;
+    let followed = with_identity(alloc, followed)?;
+    add_option(followed, until_eof(alloc))
 }
 
 /// A command with the options that say to whom it is served.
@@ -182,31 +248,44 @@ fn with_listener<'a>(alloc: Global, command: Command<'a>) -> Result<Command<'a>,
     add_option(served, screens(alloc))
 }
 
+/// A command with the options that say who may connect.
+fn with_guard<'a>(alloc: Global, command: Command<'a>) -> Result<Command<'a>, AllocError>
+    ensures { IfOk result (λ c. app_of c ≡ live.with_guard (app_of command.entry)) }
+{
+    let guarded = add_option(command, allow(alloc))?;
+    add_option(guarded, per_address(alloc))
+}
+
 /// A command with the options that say to whom it is served, and how.
 fn with_screens<'a>(alloc: Global, command: Command<'a>) -> Result<Command<'a>, AllocError>
     ensures { IfOk result (λ c. app_of c ≡ live.with_screens (app_of command.entry)) }
 {
-    let served = with_listener(alloc, command)?;
+    let served = under(command, "Screens");
+    let served = with_listener(alloc, served)?;
+    let served = with_guard(alloc, served)?;
     let served = add_option(served, idle(alloc))?;
     let served = add_option(served, window(alloc))?;
     add_option(served, options::chunked(alloc))
 }
 
-/// A command with the options that say what is kept and reported, and when it ends.
-fn with_course<'a>(alloc: Global, command: Command<'a>) -> Result<Command<'a>, AllocError>
-    ensures { IfOk result (λ c. app_of c ≡ live.with_course (app_of command.entry)) }
+/// A command with the options that say what is kept.
+fn with_state<'a>(alloc: Global, command: Command<'a>) -> Result<Command<'a>, AllocError>
+    ensures { IfOk result (λ c. app_of c ≡ live.with_state (app_of command.entry)) }
 {
-    let kept = add_option(command, state(alloc))?;
-    let kept = add_option(kept, until_eof(alloc))?;
-    let kept = add_option(kept, verbose(alloc)?)?;
-    add_option(kept, quiet(alloc))
+    let kept = under(command, "State");
+    let kept = add_option(kept, state(alloc))?;
+    with_limits(alloc, kept)
 }
 
-/// A command with the options that say who may watch it.
+/// A command with the options that say who may watch it, and what it reports.
 fn with_watching<'a>(alloc: Global, command: Command<'a>) -> Result<Command<'a>, AllocError>
     ensures { IfOk result (λ c. app_of c ≡ live.with_watching (app_of command.entry)) }
 {
-    add_option(command, status(alloc))
+    let watched = under(command, "Watching");
+    let watched = add_option(watched, status(alloc))?;
+    let watched = add_option(watched, status_address(alloc)?)?;
+    let watched = add_option(watched, verbose(alloc)?)?;
+    add_option(watched, quiet(alloc))
 }
 
 /// `live`.
@@ -216,7 +295,6 @@ pub(super) fn live<'a>(alloc: Global) -> Result<Command<'a>, AllocError>
     let about = "Follows an event feed for ever and serves it to many screens at once";
     let live = with_upstream(alloc, command(alloc, "live", about))?;
     let live = with_screens(alloc, live)?;
-    let live = with_course(alloc, live)?;
-    let live = with_watching(alloc, live)?;
-    with_limits(alloc, live)
+    let live = with_state(alloc, live)?;
+    with_watching(alloc, live)
 }

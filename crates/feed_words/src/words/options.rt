@@ -189,6 +189,27 @@ pub(crate) fn base<'a>(alloc: Global) -> Arg<'a>
         .default_value("")
 }
 
+/// `--host-header NAME`.
+pub(crate) fn host_header<'a>(alloc: Global) -> Arg<'a>
+    ensures rule { rule_of result ≡ words.host_header }
+    ensures local { result.global ≡ false }
+{
+    text(alloc, "host-header", "NAME").help(
+        "What requests call the server, for one that is reached through a proxy; \
+          without it that is its host",
+    )
+}
+
+/// `--user-file FILE`.
+pub(crate) fn user_file<'a>(alloc: Global) -> Arg<'a>
+    ensures rule { rule_of result ≡ words.user_file }
+    ensures local { result.global ≡ false }
+{
+    text(alloc, "user-file", "FILE").help(
+        "A file with a line NAME:PASSWORD for the server, which nobody else may read",
+    )
+}
+
 /// `--turns T`.
 pub(crate) fn turns<'a>(alloc: Global) -> Arg<'a>
     ensures rule { rule_of result ≡ words.turns }

@@ -1,6 +1,9 @@
 //! What a relay is made of, before its first turn: state files are read, and ports opened.
 
-use crate::hosts::without_brackets;
+use crate::ending::Failure;
+use crate::hosts::{Hosts, without_brackets};
+use crate::identity::identity_of;
+use crate::live::guard::Guard;
 use crate::live::link::Servers;
 use crate::live::sockets::Port;
 use crate::live::standard::{ErrorStream, InputStream};
@@ -8,13 +11,14 @@ use crate::live::store::{Files, Names, read_file};
 use crate::live::watchers::{WATCHERS, Watchers};
 use crate::live::watching::Watched;
 use crate::live::{Engine, LISTENER};
-use feed_answer::Place;
+use feed_answer::{Identity, Place};
 use feed_cli::{
     AddressFault, Fault, LiveOptions, NetworkFault, PullOptions, UpstreamOptions, Verbosity,
     servers_of,
 };
 use feed_live::{Devices, Live, LiveLimits, Ready, Restored, Start, restore};
 use feed_node::{Limits, Mirror};
+use feed_words::{Network, networks};
 use mio::net::TcpListener;
 use mio::{Events, Interest, Poll, Token};
 use std::alloc::{AllocError, Global};
@@ -37,11 +41,22 @@ fn pull_options<'a>(options: &LiveOptions<'a>, upstream: &UpstreamOptions<'a>) -
         from: upstream.from,
         base: upstream.base,
         contest: options.contest,
+        host_header: upstream.host_header,
+        user_file: upstream.user_file,
         turns: 1,
         silence: None,
         resume: false,
         verbose: false,
         limits: options.limits,
+    }
+}
+
+/// The same, of servers whose names are as a request has them.
+fn named<'a>(options: &PullOptions<'a>, hosts: &'a Hosts) -> PullOptions<'a> {
+    PullOptions {
+        host: hosts.host(),
+        from: hosts.from(),
+        ..*options
     }
 }
 
@@ -69,11 +84,10 @@ fn servers(rt: &HostRuntime, options: &LiveOptions<'_>) -> Result<Asked, Fault> 
             places: Vec::new(rt.alloc()),
         });
     };
-    let servers = servers_of(rt.alloc(), &pull_options(options, upstream))?;
-    push(
-        &mut addresses,
-        address_of(rt, upstream.host, upstream.port)?,
-    )?;
+    let asked = pull_options(options, upstream);
+    let hosts = Hosts::new(rt.alloc(), &asked)?;
+    let servers = servers_of(rt.alloc(), &named(&asked, &hosts))?;
+    push(&mut addresses, address_of(rt, hosts.host(), upstream.port)?)?;
     for (host, port) in &servers.further {
         push(&mut addresses, address_of(rt, host.as_str(), *port)?)?;
     }
@@ -125,18 +139,18 @@ fn restored(
     needs_memory(restore(alloc, limits, before.as_slice(), file.as_slice()))
 }
 
-/// Listens at a port, where there is one.
+/// Listens at a port of an address, where there is one.
 fn listener_of(
     rt: &HostRuntime,
     poll: &Poll,
-    options: &LiveOptions<'_>,
+    address: &str,
     port: Option<u16>,
     token: Token,
 ) -> Result<Option<TcpListener>, Fault> {
     let Some(port) = port else {
         return Ok(None);
     };
-    let Ok(address) = options.address.parse::<IpAddr>() else {
+    let Ok(address) = without_brackets(address).parse::<IpAddr>() else {
         return Err(Fault::of_addresses(AddressFault::BadAddress(0)));
     };
     let Ok(mut listener) = TcpListener::bind(rt, SocketAddr::new(address, port)) else {
@@ -161,6 +175,17 @@ fn limits_of(options: &LiveOptions<'_>) -> LiveLimits {
     }
 }
 
+/// The networks that may connect, where they are listed.
+fn allowed(alloc: Global, options: &LiveOptions<'_>) -> Result<Option<Vec<Network>>, Fault> {
+    let Some(list) = options.allow else {
+        return Ok(None);
+    };
+    match networks(alloc, list) {
+        Ok(networks) => Ok(Some(networks)),
+        Err(fault) => Err(Fault::of_addresses(fault)),
+    }
+}
+
 /// The devices, and the port that is listened at.
 fn devices<'r>(
     rt: &'r HostRuntime,
@@ -169,14 +194,12 @@ fn devices<'r>(
     names: Option<Names>,
     addresses: Vec<SocketAddr>,
 ) -> Result<Devices<Port, Servers<'r>, Files<'r>>, Fault> {
-    let listener = listener_of(rt, poll, options, options.listen, LISTENER)?;
+    let guard = Guard::new(allowed(rt.alloc(), options)?, options.per_address);
+    let listener = listener_of(rt, poll, options.address, options.listen, LISTENER)?;
     let registry = poll.registry();
+    let sockets = of_system(registry.try_clone())?;
     Ok(Devices {
-        sockets: Port::new(
-            of_system(registry.try_clone())?,
-            listener,
-            Vec::new(rt.alloc()),
-        ),
+        sockets: Port::new(rt.alloc(), sockets, listener, guard),
         link: Servers::new(rt, of_system(registry.try_clone())?, addresses),
         store: Files::new(rt, names),
     })
@@ -184,9 +207,11 @@ fn devices<'r>(
 
 /// Who watches the relay, and the port that they come to.
 fn watchers(rt: &HostRuntime, poll: &Poll, options: &LiveOptions<'_>) -> Result<Watchers, Fault> {
-    let listener = listener_of(rt, poll, options, options.status, WATCHERS)?;
+    let guard = Guard::new(allowed(rt.alloc(), options)?, None);
+    let address = options.status_address.unwrap_or(options.address);
+    let listener = listener_of(rt, poll, address, options.status, WATCHERS)?;
     let registry = of_system(poll.registry().try_clone())?;
-    Ok(Watchers::new(rt.alloc(), registry, listener))
+    Ok(Watchers::new(rt.alloc(), registry, listener, guard))
 }
 
 /// All ends of connections and files.
@@ -252,6 +277,7 @@ fn start_of(
     options: &LiveOptions<'_>,
     names: Option<&Names>,
     places: Vec<Place>,
+    identity: Identity,
 ) -> Result<Start, Fault> {
     let blank = needs_memory(Mirror::new(rt.alloc(), options.limits))?;
     let restored = restored(rt, options, options.limits, names)?;
@@ -259,15 +285,25 @@ fn start_of(
         restored,
         blank,
         places,
+        identity,
     })
 }
 
+/// As whom servers are asked: as nobody in particular where the feed is the input.
+fn identity(rt: &HostRuntime, options: &LiveOptions<'_>) -> Result<Identity, Failure> {
+    match &options.upstream {
+        Some(upstream) => identity_of(rt, upstream.host_header, upstream.user_file),
+        None => Ok(Identity::anonymous()),
+    }
+}
+
 /// Reads the state files.
-fn make_plan(rt: &HostRuntime, options: &LiveOptions<'_>) -> Result<Plan, Fault> {
+fn make_plan(rt: &HostRuntime, options: &LiveOptions<'_>) -> Result<Plan, Failure> {
     let names = names_of(rt, options)?;
     let contest = needs_memory(String::from_str(rt.alloc(), options.contest))?;
     let Asked { addresses, places } = servers(rt, options)?;
-    let start = start_of(rt, options, names.as_ref(), places)?;
+    let identity = identity(rt, options)?;
+    let start = start_of(rt, options, names.as_ref(), places, identity)?;
     Ok(Plan {
         start,
         contest,
@@ -280,7 +316,7 @@ fn make_plan(rt: &HostRuntime, options: &LiveOptions<'_>) -> Result<Plan, Fault>
 pub(super) fn prepare<'r>(
     rt: &'r HostRuntime,
     options: &LiveOptions<'_>,
-) -> Result<Engine<'r>, Fault> {
+) -> Result<Engine<'r>, Failure> {
     let start = of_system(Instant::now(rt))?;
     let buffers = needs_memory(make_buffers(rt.alloc()))?;
     let watched = needs_memory(Watched::new(rt.alloc(), options))?;

@@ -2,9 +2,12 @@
 
 ghost use Rattle.std.specs.Prelude.{◌≡◌, ◌≤◌, length, IfOk};
 
+use crate::live::guard::Guard;
 use feed_live::{Sockets, Stop};
+use feed_words::Origin;
 use mio::net::{TcpListener, TcpStream};
 use mio::{Interest, Registry, Token};
+use std::alloc::Global;
 use std::io;
 use std::io::{ErrorKind, Read, Write};
 use std::net::{Shutdown, SocketAddr};
@@ -12,12 +15,20 @@ use std::net::{Shutdown, SocketAddr};
 /// The token of the first screen's socket; those before it are other devices'.
 pub(crate) const FIRST_SCREEN: usize = 16;
 
-/// A port that screens connect to, and their sockets, each at its number.
+/// The socket of one screen, and whose it is.
+#[derive(Drop)]
+struct Peer {
+    stream: TcpStream,
+    origin: Origin,
+}
+
+/// A port that screens connect to, who may connect, and their sockets, each at its number.
 #[derive(Drop)]
 pub(crate) struct Port {
     registry: Registry,
     listener: Option<TcpListener>,
-    streams: Vec<Option<TcpStream>>,
+    guard: Guard,
+    peers: Vec<Option<Peer>>,
 }
 
 /// How often a call that a signal broke off is made.
@@ -65,32 +76,53 @@ pub(crate) fn write_once(stream: &mut TcpStream, bytes: &[u8]) -> Result<usize, 
 impl Port {
     /// No screens yet. Without a listener none comes.
     pub(crate) fn new(
+        alloc: Global,
         registry: Registry,
         listener: Option<TcpListener>,
-        streams: Vec<Option<TcpStream>>,
+        guard: Guard,
     ) -> Port {
         Port {
             registry,
             listener,
-            streams,
+            guard,
+            peers: Vec::new(alloc),
         }
+    }
+
+    /// How many may not connect, and were closed.
+    pub(crate) fn refused(&self) -> u64 {
+        self.guard.refused()
     }
 
     fn stream(&mut self, at: usize) -> Option<&mut TcpStream> {
-        self.streams.get_mut(at)?.as_mut()
+        match self.peers.get_mut(at)? {
+            Some(peer) => Some(&mut peer.stream),
+            None => None,
+        }
+    }
+
+    /// How many connections somebody has.
+    fn count_of(&self, origin: Origin) -> u64 {
+        let mut count = 0u64;
+        for peer in &self.peers {
+            if peer.as_ref().is_some_and(|peer| peer.origin == origin) {
+                count = count.saturating_add(1);
+            }
+        }
+        count
     }
 
     /// Keeps a socket at its number, and has events of it told.
-    fn keep(&mut self, at: usize, mut stream: TcpStream) -> io::Result<()> {
+    fn keep(&mut self, at: usize, origin: Origin, mut stream: TcpStream) -> io::Result<()> {
         let _ = stream.set_nodelay(true);
         let interests = Interest::READABLE | Interest::WRITABLE;
         let token = Token(FIRST_SCREEN.saturating_add(at));
-        for _ in self.streams.len()..=at {
-            self.streams.push(None)?;
+        for _ in self.peers.len()..=at {
+            self.peers.push(None)?;
         }
         self.registry.register(&mut stream, token, interests)?;
-        if let Some(place) = self.streams.get_mut(at) {
-            *place = Some(stream);
+        if let Some(place) = self.peers.get_mut(at) {
+            *place = Some(Peer { stream, origin });
         }
         Ok(())
     }
@@ -101,12 +133,19 @@ impl Sockets for Port {
         let Some(listener) = &self.listener else {
             return Err(Stop::Waits);
         };
-        match listener.accept() {
-            Ok((stream, peer)) => match self.keep(at, stream) {
-                Ok(()) => Ok(peer),
-                Err(_) => Err(Stop::Failed),
-            },
-            Err(error) => Err(stop_of(&error)),
+        let (stream, peer) = match listener.accept() {
+            Ok(accepted) => accepted,
+            Err(error) => return Err(stop_of(&error)),
+        };
+        let origin = Origin::of(peer.ip());
+        let count = self.count_of(origin);
+        // Who may not connect is closed here, with its socket.
+        if !self.guard.lets_in(origin, count) {
+            return Err(Stop::Gone);
+        }
+        match self.keep(at, origin, stream) {
+            Ok(()) => Ok(peer),
+            Err(_) => Err(Stop::Failed),
         }
     }
 
@@ -131,7 +170,7 @@ impl Sockets for Port {
     }
 
     fn close(&mut self, at: usize) {
-        if let Some(place) = self.streams.get_mut(at) {
+        if let Some(place) = self.peers.get_mut(at) {
             *place = None;
         }
     }

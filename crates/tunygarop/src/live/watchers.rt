@@ -1,10 +1,12 @@
 //! The status port: those who watch the relay ask it over HTTP, each with one connection. They are
 //! answered with what the relay is at that moment, and change nothing of it.
 
+use crate::live::guard::Guard;
 use crate::live::sockets::{read_once, write_once};
 use feed_answer::{HEAD_BYTES, HeadRead, look_at_request};
 use feed_live::Stop;
 use feed_status::{Status, answer};
+use feed_words::Origin;
 use mio::net::{TcpListener, TcpStream};
 use mio::{Interest, Registry, Token};
 use slab::Slab;
@@ -119,6 +121,7 @@ impl Watcher {
 pub(crate) struct Watchers {
     registry: Registry,
     listener: Option<TcpListener>,
+    guard: Guard,
     is_waited_for: bool,
     watchers: Slab<Watcher>,
 }
@@ -128,13 +131,20 @@ impl Watchers {
         alloc: Global,
         registry: Registry,
         listener: Option<TcpListener>,
+        guard: Guard,
     ) -> Watchers {
         Watchers {
             registry,
             listener,
+            guard,
             is_waited_for: false,
             watchers: Slab::new(alloc),
         }
+    }
+
+    /// How many may not connect, and were closed.
+    pub(crate) fn refused(&self) -> u64 {
+        self.guard.refused()
     }
 
     /// An event came for the port.
@@ -206,9 +216,13 @@ impl Watchers {
         }
     }
 
-    /// Takes one; none where nobody waits, or it can't be taken.
+    /// Takes one, and closes it where it may not connect; none where nobody waits, or it can't be
+    /// taken.
     fn accept_one(&mut self, alloc: Global, now: u64) -> Option<()> {
-        let (mut stream, _) = self.listener.as_ref()?.accept().ok()?;
+        let (mut stream, peer) = self.listener.as_ref()?.accept().ok()?;
+        if !self.guard.lets_in(Origin::of(peer.ip()), 0) {
+            return Some(());
+        }
         let at = self.watchers.vacant_key();
         let token = Token(FIRST_WATCHER.saturating_add(at));
         let interests = Interest::READABLE | Interest::WRITABLE;

@@ -2,7 +2,7 @@
 
 use feed_cli::{LiveOptions, VERSION};
 use feed_live::{FeedFigures, Following, Live, ScreenFigures};
-use feed_status::{Latency, Screens, StateFile, Status, Upstream, UpstreamState};
+use feed_status::{Latency, Refused, Screens, StateFile, Status, Upstream, UpstreamState};
 use std::alloc::{AllocError, Global};
 
 /// What is told beside what the relay counts itself.
@@ -28,8 +28,15 @@ impl Watched {
         self.latency.add(commits, time);
     }
 
-    /// What the relay is at this moment, with the name of the server that it follows.
-    pub(crate) fn status<'a>(&'a self, live: &'a Live, name: &'a str, now: u64) -> Status<'a> {
+    /// What the relay is at this moment, with the name of the server that it follows, and how many
+    /// connections were refused by their address.
+    pub(crate) fn status<'a>(
+        &'a self,
+        live: &'a Live,
+        name: &'a str,
+        refused: u64,
+        now: u64,
+    ) -> Status<'a> {
         let feed = live.feed_figures();
         let node = live.node();
         Status {
@@ -42,6 +49,7 @@ impl Watched {
             commits: feed.commits,
             objects: node.published().map(|tables| tables.size()).unwrap_or(0) as u64,
             bytes: feed.bytes,
+            refused_by_address: refused,
             screens: screens_of(&live.screen_figures()),
             state_file: live.file_figures().map(|(bytes, at)| StateFile {
                 bytes,
@@ -77,6 +85,9 @@ fn screens_of(screens: &ScreenFigures) -> Screens {
         most: totals.most as u64,
         opened: totals.opened,
         refused: totals.refused,
+        refused_by: totals
+            .refused_by
+            .map(|(status, count)| Refused { status, count }),
         cut: totals.cut,
         bytes: totals.bytes,
     }
