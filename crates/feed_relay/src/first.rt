@@ -1,4 +1,4 @@
-//! Following the first of several places that serves.
+//! Following the first of several servers that serves.
 ghost use Rattle.std.specs.Prelude.{◌≡◌, ◌≢◌, ◌+◌, ◌≤◌, ◌++◌, List, length, None, IfOk, OnErr};
 ghost use Rattle.std.specs.Vec.{vec_capacity};
 ghost use Rattle.feed_relay.specs.declared.first.Attempt.{Attempt as Tried};
@@ -11,6 +11,7 @@ ghost use Rattle.feed_relay.specs.First.{FollowsFirst};
 use crate::dial::Dial;
 use crate::fault::NetworkFault;
 use crate::pulling::pull_once;
+use crate::server::Server;
 use feed_http::{EngineFault, Followed, Place};
 use feed_node::Mirror;
 use std::alloc::{AllocError, Global};
@@ -58,7 +59,7 @@ impl AttemptEnd {
 }
 
 /// Whether memory ran out at the last of these attempts.
-pub(crate) fn has_run_out(attempts: &[Attempt]) -> bool
+pub fn has_run_out(attempts: &[Attempt]) -> bool
     ensures { result ≡ ran_out attempts.now }
 {
     match attempts.last() {
@@ -132,28 +133,29 @@ fn ask_place<D: Dial>(
     again
 }
 
-/// Asks these places, in their order, for what a mirror lacks, and follows the response, each on a
-/// connection that is dialed by the place's number and in at most so many reads (`turns`): up to
-/// the first whose feed was followed to its end, or at which memory ran out, or all. Where a place
+/// Asks these servers, in their order, for what a mirror lacks, and follows the response, each on a
+/// connection that is dialed by the server's number and in at most so many reads (`turns`): up to
+/// the first whose feed was followed to its end, or at which memory ran out, or all. Where a server
 /// refuses the mirror's token, it is asked once more, for everything. Tells each attempt, in order.
-/// The room for two attempts at each place is taken first; where there is none, nobody is asked.
+/// The room for two attempts at each server is taken first; where there is none, nobody is asked.
 pub fn follow_first<D: Dial>(
     alloc: Global,
     dial: &mut D,
-    places: &[Place],
+    servers: &[Server],
     mirror: &mut Mirror,
     turns: u64,
 ) -> Result<Vec<Attempt>, AllocError>
     ensures followed { let dialer = dialer_of (devices_of D.Reader.remaining D.Reader.reads
         D.Reader.failures D.Writer.contents D.Writer.failures) D.misses D.dials D.closes in
-        IfOk result (λ attempts. FollowsFirst dialer places.now turns
+        IfOk result (λ attempts. FollowsFirst dialer servers.now turns
         (position mirror.old dial.old) attempts.items (position mirror.new dial.new)) }
     ensures cut { mirror.old.connection ≡ None → mirror.new.connection ≡ None }
     ensures memory { OnErr result ((mirror.new ≡ mirror.old) × (dial.new ≡ dial.old)) }
 {
-    let room = places.len().checked_mul(2).ok_or(AllocError)?;
+    let room = servers.len().checked_mul(2).ok_or(AllocError)?;
     let mut attempts = Vec::with_capacity(alloc, room)?;
-    'places: for (number, place) in places.iter().enumerate() {
+    'servers: for (number, server) in servers.iter().enumerate() {
+        let place = &server.place;
         let outcome = ask_place(alloc, dial, number, place, mirror, turns, &mut attempts);
         if outcome.is_last() {
             return Ok(attempts);

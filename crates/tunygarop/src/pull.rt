@@ -32,11 +32,11 @@ fn pull_named(rt: &HostRuntime, options: &PullOptions<'_>) -> Result<(), Failure
         Err(fault) => return Err(Failure::of_saved_tables(fault)),
     };
     let reporter = Reporter::new(rt, "pull", options.verbose);
-    let mut dialer = Dialer::new(rt, reporter, options, &servers.further);
+    let mut dialer = Dialer::new(rt, reporter, options, &servers);
     print_pulled(
         rt.alloc(),
         options,
-        &servers.places,
+        &servers,
         &mut mirror,
         &mut dialer,
         &mut Stream::new(rt.stdout()),

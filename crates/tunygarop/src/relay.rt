@@ -33,11 +33,11 @@ fn relay_named(rt: &HostRuntime, options: &RelayOptions<'_>) -> Result<(), Failu
     };
     let reporter = Reporter::new(rt, "relay", options.pull.verbose);
     let mut port = Port::bind(rt, reporter, options.listen)?;
-    let mut dialer = Dialer::new(rt, reporter, &options.pull, &servers.further);
+    let mut dialer = Dialer::new(rt, reporter, &options.pull, &servers);
     print_relayed(
         rt.alloc(),
         options,
-        &servers.places,
+        &servers,
         &mut mirror,
         &mut dialer,
         &mut port,

@@ -1,7 +1,8 @@
 //! What the feed of the first of several servers publishes, printed.
 ghost use Rattle.std.specs.Prelude.{◌≡◌, ◌⊎◌, ◌++◌, ◌∷◌, [], false, true, map, is_some, string_bytes, IfOk, IfErr, OnOk, Ok, IsErrOf};
 ghost use Rattle.feed_cli.specs.Pull.{host_text, first_address, place_at as place_of, RefusesServer, AreFurther, RefusesFurther};
-ghost use Rattle.feed_cli.specs.Pull.{AreServers, RefusesOneOf, HasNoServers, StartsFrom, FailsToStart};
+ghost use Rattle.feed_cli.specs.Streams.{wrote_by};
+ghost use Rattle.feed_cli.specs.Pull.{asked_at, asked_of, AreServers, RefusesOneOf, HasNoServers, StartsFrom, FailsToStart};
 ghost use Rattle.feed_cli.specs.Pull.{outcome_of_attempt, outcome_of_pull, PrintedPulled, PullFails};
 ghost use Rattle.feed_http.specs.Device.{HasFailed};
 ghost use Rattle.feed_http.specs.Exchange.{devices_of};
@@ -16,18 +17,9 @@ use crate::telling::Teller;
 use feed_http::device::{FeedRead, FeedWrite};
 use feed_http::{EngineFault, FollowFault, Followed, Place};
 use feed_node::Mirror;
-use feed_relay::{Attempt, AttemptEnd, Dial, NetworkFault, follow_first};
+use feed_relay::{Attempt, AttemptEnd, Dial, NetworkFault, Server, follow_first};
 use feed_words::{PullOptions, addresses};
 use std::alloc::{AllocError, Global};
-
-/// The servers that a command follows.
-#[derive(Drop)]
-pub struct Servers {
-    /// The addresses after the first one: of each the host and the port.
-    pub further: Vec<(String, u16)>,
-    /// What each server is asked for, that of the first one at the start.
-    pub places: Vec<Place>,
-}
 
 /// The server's host, with its port.
 fn host_and_port(alloc: Global, options: &PullOptions<'_>) -> Result<String, AllocError>
@@ -62,22 +54,23 @@ fn place_at(alloc: Global, options: &PullOptions<'_>, host: &str, port: u16) -> 
     first_place(alloc, &here)
 }
 
-/// Appends that place.
-fn push_place(
+/// Appends the server at this address.
+fn push_server(
     alloc: Global,
     options: &PullOptions<'_>,
     host: &str,
     port: u16,
-    places: &mut Vec<Place>,
+    servers: &mut Vec<Server>,
 ) -> Result<(), Fault>
-    ensures ok { OnOk result (map (λ place. Ok place) places.new.items
-        ≡ map (λ place. Ok place) places.old.items ++ place_of options.now (host.now, port) ∷ []) }
+    ensures ok { OnOk result (map asked_of servers.new.items
+        ≡ map asked_of servers.old.items ++ asked_at options.now (host.now, port) ∷ []) }
     ensures made { OnOk result
         ((place : Named) × (place_of options.now (host.now, port) ≡ Ok place)) }
     ensures err { IfErr result (λ why. RefusesServer options.now (host.now, port) why) }
 {
     let place = place_at(alloc, options, host, port)?;
-    match places.push(place) {
+    let host = format!(in alloc; "{host}")?;
+    match servers.push(Server { host, port, place }) {
         Ok(()) => Ok(()),
         Err(_) => Err(Fault::Memory),
     }
@@ -98,36 +91,35 @@ fn further_addresses(alloc: Global, options: &PullOptions<'_>) -> Result<Vec<(St
     }
 }
 
-/// Appends the places at these addresses.
-fn push_places(
+/// Appends the servers at these addresses.
+fn push_servers(
     alloc: Global,
     options: &PullOptions<'_>,
     addresses: &[(String, u16)],
-    places: &mut Vec<Place>,
+    servers: &mut Vec<Server>,
 ) -> Result<(), Fault>
     ensures ok { let asked = map (λ a. (string_bytes a.0, a.1)) addresses.now in
-        OnOk result (map (λ place. Ok place) places.new.items
-        ≡ map (λ place. Ok place) places.old.items ++ map (place_of options.now) asked) }
+        OnOk result (map asked_of servers.new.items
+        ≡ map asked_of servers.old.items ++ map (asked_at options.now) asked) }
     ensures err { let asked = map (λ a. (string_bytes a.0, a.1)) addresses.now in
         IfErr result (λ why. RefusesOneOf options.now asked why) }
 {
     'addresses: for (host, port) in addresses {
-        push_place(alloc, options, host.as_str(), *port, places)?;
+        push_server(alloc, options, host.as_str(), *port, servers)?;
     }
     Ok(())
 }
 
 /// The servers that are asked: the one after `--host` and `--port`, and those after `--from`.
-pub fn servers_of(alloc: Global, options: &PullOptions<'_>) -> Result<Servers, Fault>
-    ensures ok { IfOk result (λ servers. AreServers options.now
-        (map (λ a. (string_bytes a.0, a.1)) servers.further.items) servers.places.items) }
+pub fn servers_of(alloc: Global, options: &PullOptions<'_>) -> Result<Vec<Server>, Fault>
+    ensures ok { IfOk result (λ servers. AreServers options.now servers.items) }
     ensures err { IfErr result (λ why. HasNoServers options.now why) }
 {
-    let mut places = Vec::new(alloc);
-    push_place(alloc, options, options.host, options.port, &mut places)?;
+    let mut servers = Vec::new(alloc);
+    push_server(alloc, options, options.host, options.port, &mut servers)?;
     let further = further_addresses(alloc, options)?;
-    push_places(alloc, options, &further, &mut places)?;
-    Ok(Servers { further, places })
+    push_servers(alloc, options, &further, &mut servers)?;
+    Ok(servers)
 }
 
 /// A mirror with nothing published; or, where it is to resume, the one that the input, at most
@@ -183,46 +175,43 @@ pub fn pull_outcome(attempts: &[Attempt]) -> Result<(), Fault>
     }
 }
 
-/// Follows the first of these places that serves, tells why those before it failed, and prints the
-/// snapshot of what the mirror shows then, also where the last one failed. Out of memory,
-/// nothing is printed.
+/// Follows the first of these servers that serves, tells why those before it failed, and prints the
+/// snapshot of what the mirror shows then, also where the last one failed. That is told, too, where
+/// the snapshot can't be printed. Out of memory, nothing is printed.
 pub fn print_pulled<D: Dial, W: FeedWrite, E: FeedWrite>(
     alloc: Global,
     options: &PullOptions<'_>,
-    places: &[Place],
+    servers: &[Server],
     mirror: &mut Mirror,
-    server: &mut D,
+    dial: &mut D,
     out: &mut W,
     err: &mut E,
 ) -> Result<(), Fault>
     ensures ok { let dialer = dialer_of (devices_of D.Reader.remaining D.Reader.reads
         D.Reader.failures D.Writer.contents D.Writer.failures) D.misses D.dials D.closes in
-        OnOk result (PrintedPulled dialer places.now options.now.turns
-        (position mirror.old server.old) (Ok tt)
-        (position mirror.new server.new) (W.contents out.old) (W.contents out.new)) }
+        OnOk result (PrintedPulled dialer servers.now options.now.turns
+        (position mirror.old dial.old) (Ok tt) (position mirror.new dial.new)
+        (wrote_by W.contents W.failures out.old out.new)) }
     ensures some { OnOk result (is_some mirror.new.node.published ≡ true) }
+    ensures told { OnOk result (E.failures err.new ≡ E.failures err.old) }
     ensures err { let dialer = dialer_of (devices_of D.Reader.remaining D.Reader.reads
         D.Reader.failures D.Writer.contents D.Writer.failures) D.misses D.dials D.closes in
-        IfErr result (λ why. PullFails dialer places.now options.now.turns why
-        (position mirror.old server.old) (position mirror.new server.new)
-        (W.contents out.old) (W.contents out.new)) }
-
-    // Where all was printed, an attempt could not be told.
-    ensures write { let dialer = dialer_of (devices_of D.Reader.remaining D.Reader.reads
-        D.Reader.failures D.Writer.contents D.Writer.failures) D.misses D.dials D.closes in
-        IsErrOf result Fault.Write → HasFailed (W.failures out.old) (W.failures out.new)
-        ⊎ PrintedPulled dialer places.now options.now.turns
-        (position mirror.old server.old) (Ok tt)
-        (position mirror.new server.new) (W.contents out.old) (W.contents out.new) }
+        IfErr result (λ why. PullFails dialer servers.now options.now.turns why
+        (position mirror.old dial.old) (position mirror.new dial.new)
+        (wrote_by W.contents W.failures out.old out.new) (E.failures err.old)
+        (E.failures err.new)) }
 {
-    let attempts = follow_first(alloc, server, places, mirror, options.turns)?;
-    let mut teller = Teller::new("pull", err);
-    teller.tell_earlier(&attempts);
+    let attempts = follow_first(alloc, dial, servers, mirror, options.turns)?;
+    let mut teller = Teller::new("pull");
+    teller.tell_earlier(&attempts, err);
     let pulled = pull_outcome(&attempts);
     if pulled == Err(Fault::Memory) {
         return pulled;
     }
-    print_snapshot(mirror, out)?;
+    if let Err(failed) = print_snapshot(mirror, out) {
+        teller.tell_outcome(pulled, err);
+        return Err(failed);
+    }
     outcome(pulled, mirror.node().token().is_some())?;
     teller.outcome()
 }

@@ -69,22 +69,19 @@ fn servers(rt: &HostRuntime, options: &LiveOptions<'_>) -> Result<Asked, Fault> 
             places: Vec::new(rt.alloc()),
         });
     };
-    let servers = servers_of(rt.alloc(), &pull_options(options, upstream))?;
-    push(
-        &mut addresses,
-        address_of(rt, upstream.host, upstream.port)?,
-    )?;
-    for (host, port) in &servers.further {
-        push(&mut addresses, address_of(rt, host.as_str(), *port)?)?;
+    let mut places = Vec::new(rt.alloc());
+    for server in servers_of(rt.alloc(), &pull_options(options, upstream))? {
+        push(
+            &mut addresses,
+            address_of(rt, server.host.as_str(), server.port)?,
+        )?;
+        push(&mut places, server.place)?;
     }
-    Ok(Asked {
-        addresses,
-        places: servers.places,
-    })
+    Ok(Asked { addresses, places })
 }
 
-fn push(addresses: &mut Vec<SocketAddr>, address: SocketAddr) -> Result<(), Fault> {
-    match addresses.push(address) {
+fn push<T: Drop>(list: &mut Vec<T>, item: T) -> Result<(), Fault> {
+    match list.push(item) {
         Ok(()) => Ok(()),
         Err(_) => Err(Fault::Memory),
     }
