@@ -18,8 +18,8 @@ pub use asking::ask;
 pub use device::{FeedRead, FeedWrite};
 pub use fault::{EngineFault, Followed, Served};
 pub use feed_answer::{
-    Answered, Framing, HEAD_BYTES, HEAD_FIELDS, HEAD_LINES, Place, PlaceFault, answer, answer_laws,
-    frame, frame_end, request_text,
+    Answered, Framing, HEAD_BYTES, HEAD_FIELDS, HEAD_LINES, Identity, IdentityFault, Place,
+    PlaceFault, answer, answer_laws, frame, frame_end, request_text, request_text_as,
 };
 pub use feed_follow::{FollowFault, Follower, Progress};
 pub use following::follow;

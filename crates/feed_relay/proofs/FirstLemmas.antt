@@ -4,7 +4,7 @@ use Rattle.std.proofs.lemmas.List.{take-append-drop}
 use Rattle.feed_relay.specs.declared.server.Server.{Server}
 use Rattle.feed_http.specs.declared.fault.Followed.TheVariants as followed
 use Rattle.feed_relay.specs.Dialing.{Dialer}
-use Rattle.feed_relay.specs.First.{Position, position, attempt_at, is_last, Attempts, AsksPlace, GoesOn, StopsAt, none_asked, one_asked}
+use Rattle.feed_relay.specs.First.{Position, position, attempt_at, is_last, Attempts, AsksServer, GoesOn, StopsAt, none_asked, one_asked}
 use Rattle.feed_relay.specs.declared.first.Attempt.{Attempt}
 use Rattle.feed_relay.specs.declared.first.AttemptEnd.{AttemptEnd}
 use Rattle.feed_relay.specs.declared.first.AttemptEnd.TheVariants.{Followed}
@@ -16,14 +16,14 @@ module _ {D R W : Type 0} where
       (outcome : AttemptEnd) → GoesOn dialer turns start (take number servers) earlier middle
       → length (take number servers) ≡ number
       → take (number + 1) servers ≡ take number servers ++ server ∷ []
-      → AsksPlace dialer number server.place turns middle attempts outcome end
+      → AsksServer dialer number server turns middle attempts outcome end
       → is_last outcome ≡ false → all ≡ earlier ++ attempts
       → GoesOn dialer turns start (take (number + 1) servers) all end
   goes_on dialer turns number start middle end servers server earlier attempts all outcome went count next asked on is =
       subst (λ l. GoesOn dialer turns start l all end) (sym next)
       (subst (λ l. GoesOn dialer turns start (take number servers ++ server ∷ []) l end) (sym is)
       (one_asked (take number servers) server earlier attempts outcome middle end went
-      (subst (λ n. AsksPlace dialer n server.place turns middle attempts outcome end) (sym count) asked) on))
+      (subst (λ n. AsksServer dialer n server turns middle attempts outcome end) (sym count) asked) on))
 
   -- behind the last place no other one is asked
   pub stops_at : (dialer : Dialer D R W) (turns number : ℕ) (start middle end : Position D)
@@ -31,7 +31,7 @@ module _ {D R W : Type 0} where
       (outcome : AttemptEnd) → GoesOn dialer turns start (take number servers) earlier middle
       → length (take number servers) ≡ number
       → take (number + 1) servers ≡ take number servers ++ server ∷ []
-      → AsksPlace dialer number server.place turns middle attempts outcome end
+      → AsksServer dialer number server turns middle attempts outcome end
       → is_last outcome ≡ true → all ≡ earlier ++ attempts
       → StopsAt dialer turns start servers all end
   stops_at dialer turns number start middle end servers server earlier attempts all outcome went count next asked last is =
@@ -46,7 +46,7 @@ module _ {D R W : Type 0} where
         outcome = outcome;
         middle = middle;
         went = went;
-        asked = subst (λ n. AsksPlace dialer n server.place turns middle attempts outcome end) (sym count) asked;
+        asked = subst (λ n. AsksServer dialer n server turns middle attempts outcome end) (sym count) asked;
         stops = last;
         all = is;
       }

@@ -15,16 +15,16 @@ pub trait Dial {
     // How many calls opened none. The count stays at `u64::MAX`.
     ghost misses: { Self → ℕ };
 
-    // What a call for the place of this number makes of it, and which connection that opens.
+    // What a call for the server of this number makes of it, and which connection that opens.
     ghost dials: { Self → ℕ → Self → Option (Self.Reader × Self.Writer) → Type 0 };
 
     // What it is once a connection, at these ends, was given back.
     ghost closes: { Self → Self.Reader → Self.Writer → Self → Type 0 };
 
-    /// Opens a connection to the place of this number, counted from 0.
-    fn dial(&mut self, place: usize) -> Option<(Self::Reader, Self::Writer)>
+    /// Opens a connection to the server of this number, counted from 0.
+    fn dial(&mut self, server: usize) -> Option<(Self::Reader, Self::Writer)>
         ensures misses { misses self.new ≡ misses_after (misses self.old) result }
-        ensures dialed { dials self.old place self.new result };
+        ensures dialed { dials self.old server self.new result };
 
     /// Takes a connection back that it opened, and closes it.
     fn close(&mut self, reader: Self::Reader, writer: Self::Writer)

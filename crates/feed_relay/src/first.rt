@@ -5,14 +5,14 @@ ghost use Rattle.feed_relay.specs.declared.first.Attempt.{Attempt as Tried};
 ghost use Rattle.feed_http.specs.Exchange.{devices_of};
 ghost use Rattle.feed_relay.specs.Dialing.{dialer_of};
 ghost use Rattle.feed_relay.specs.First.{position, is_last, is_want_of_memory, ran_out};
-ghost use Rattle.feed_relay.specs.First.{Attempts, AsksPlace};
+ghost use Rattle.feed_relay.specs.First.{Attempts, AsksServer};
 ghost use Rattle.feed_relay.specs.First.{FollowsFirst};
 
 use crate::dial::Dial;
 use crate::fault::NetworkFault;
 use crate::pulling::pull_once;
 use crate::server::Server;
-use feed_http::{EngineFault, Followed, Place};
+use feed_http::{EngineFault, Followed};
 use feed_node::Mirror;
 use std::alloc::{AllocError, Global};
 
@@ -27,11 +27,11 @@ pub enum AttemptEnd {
     Failed(EngineFault),
 }
 
-/// One attempt to follow a place.
+/// One attempt to follow a server.
 #[derive(Clone, Copy, Debug, PartialEq, Eq)]
 pub struct Attempt {
-    /// The number of the place, counted from 0.
-    pub place: usize,
+    /// The number of the server, counted from 0.
+    pub server: usize,
     /// What came of it.
     pub outcome: AttemptEnd,
 }
@@ -47,7 +47,7 @@ impl AttemptEnd {
         }
     }
 
-    /// Whether no further place is asked then: a feed was followed to its end, or memory ran out.
+    /// Whether no further server is asked then: a feed was followed to its end, or memory ran out.
     pub fn is_last(self) -> bool
         ensures { result ≡ is_last self }
     {
@@ -68,26 +68,26 @@ pub fn has_run_out(attempts: &[Attempt]) -> bool
     }
 }
 
-/// One attempt at the place of this number: a connection to it is opened, asked and followed on,
+/// One attempt at the server of this number: a connection to it is opened, asked and followed on,
 /// and given back.
-fn try_place<D: Dial>(
+fn try_server<D: Dial>(
     alloc: Global,
     dial: &mut D,
     number: usize,
-    place: &Place,
+    server: &Server,
     mirror: &mut Mirror,
     turns: u64,
 ) -> AttemptEnd
     ensures tried { let dialer = dialer_of (devices_of D.Reader.remaining D.Reader.reads
         D.Reader.failures D.Writer.contents D.Writer.failures) D.misses D.dials D.closes in
-        Attempts dialer number place.now turns (position mirror.old dial.old) result
+        Attempts dialer number server.now turns (position mirror.old dial.old) result
         (position mirror.new dial.new) }
     ensures cut { mirror.old.connection ≡ None → mirror.new.connection ≡ None }
 {
     let Some((mut reader, mut writer)) = dial.dial(number) else {
         return AttemptEnd::NoLink;
     };
-    let pulled = pull_once(alloc, place, mirror, turns, &mut reader, &mut writer);
+    let pulled = pull_once(alloc, server, mirror, turns, &mut reader, &mut writer);
     dial.close(reader, writer);
     match pulled {
         Ok(followed) => AttemptEnd::Followed(followed),
@@ -95,13 +95,13 @@ fn try_place<D: Dial>(
     }
 }
 
-/// All attempts at the place of this number, which are told after the earlier ones: one, or, where
+/// All attempts at the server of this number, which are told after the earlier ones: one, or, where
 /// the token was refused, another one. Answers what the last one came to.
-fn ask_place<D: Dial>(
+fn ask_server<D: Dial>(
     alloc: Global,
     dial: &mut D,
     number: usize,
-    place: &Place,
+    server: &Server,
     mirror: &mut Mirror,
     turns: u64,
     attempts: &mut Vec<Attempt>,
@@ -111,23 +111,23 @@ fn ask_place<D: Dial>(
         D.Reader.failures D.Writer.contents D.Writer.failures) D.misses D.dials D.closes in
         (tried : List Tried) × (attempts.new.items ≡ attempts.old.items ++ tried)
         × (length tried ≤ 2)
-        × AsksPlace dialer number place.now turns (position mirror.old dial.old) tried
+        × AsksServer dialer number server.now turns (position mirror.old dial.old) tried
         result (position mirror.new dial.new) }
     ensures known { result ≢ AttemptEnd.Followed Followed.TokenRefused }
     ensures capacity { vec_capacity attempts.new ≡ vec_capacity attempts.old }
     ensures cut { mirror.old.connection ≡ None → mirror.new.connection ≡ None }
 {
-    let outcome = try_place(alloc, dial, number, place, mirror, turns);
+    let outcome = try_server(alloc, dial, number, server, mirror, turns);
     attempts.push_reserved(Attempt {
-        place: number,
+        server: number,
         outcome,
     });
     if outcome != AttemptEnd::Followed(Followed::TokenRefused) {
         return outcome;
     }
-    let again = try_place(alloc, dial, number, place, mirror, turns);
+    let again = try_server(alloc, dial, number, server, mirror, turns);
     attempts.push_reserved(Attempt {
-        place: number,
+        server: number,
         outcome: again,
     });
     again
@@ -155,8 +155,7 @@ pub fn follow_first<D: Dial>(
     let room = servers.len().checked_mul(2).ok_or(AllocError)?;
     let mut attempts = Vec::with_capacity(alloc, room)?;
     'servers: for (number, server) in servers.iter().enumerate() {
-        let place = &server.place;
-        let outcome = ask_place(alloc, dial, number, place, mirror, turns, &mut attempts);
+        let outcome = ask_server(alloc, dial, number, server, mirror, turns, &mut attempts);
         if outcome.is_last() {
             return Ok(attempts);
         }

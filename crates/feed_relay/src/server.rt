@@ -1,8 +1,8 @@
 //! A server that is followed.
 
-use feed_http::Place;
+use feed_http::{Identity, Place};
 
-/// A server: where it is, and what it is asked for.
+/// A server: where it is, what it is asked for, and as whom.
 #[derive(Drop)]
 pub struct Server {
     /// Its name or address.
@@ -11,4 +11,6 @@ pub struct Server {
     pub port: u16,
     /// The feed that it is asked for.
     pub place: Place,
+    /// As whom it is asked.
+    pub identity: Identity,
 }

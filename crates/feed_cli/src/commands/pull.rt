@@ -1,6 +1,6 @@
 //! What the feed of the first of several servers publishes, printed.
 ghost use Rattle.std.specs.Prelude.{◌≡◌, ◌⊎◌, ◌++◌, ◌∷◌, [], false, true, map, is_some, string_bytes, IfOk, IfErr, OnOk, Ok, IsErrOf};
-ghost use Rattle.feed_cli.specs.Pull.{host_text, first_address, place_at as place_of, RefusesServer, AreFurther, RefusesFurther};
+ghost use Rattle.feed_cli.specs.Pull.{host_text, first_address, place_at as place_of, identity_of_caller as identity_of, RefusesAddress, RefusesCaller, HasServer, RefusesServer, AreFurther, RefusesFurther};
 ghost use Rattle.feed_cli.specs.Streams.{wrote_by};
 ghost use Rattle.feed_cli.specs.Pull.{asked_at, asked_of, AreServers, RefusesOneOf, HasNoServers, StartsFrom, FailsToStart};
 ghost use Rattle.feed_cli.specs.Pull.{outcome_of_attempt, outcome_of_pull, PrintedPulled, PullFails};
@@ -8,18 +8,25 @@ ghost use Rattle.feed_http.specs.Device.{HasFailed};
 ghost use Rattle.feed_http.specs.Exchange.{devices_of};
 ghost use Rattle.feed_relay.specs.Dialing.{dialer_of};
 ghost use Rattle.feed_relay.specs.First.{position};
-ghost use Rattle.feed_answer.specs.Place.{Place as Named};
 
 use crate::fault::Fault;
 use crate::input::{INPUT_BYTES, read_all};
 use crate::snapshot::{outcome, print_snapshot};
 use crate::telling::Teller;
 use feed_http::device::{FeedRead, FeedWrite};
-use feed_http::{EngineFault, FollowFault, Followed, Place};
+use feed_http::{EngineFault, FollowFault, Followed, Identity, Place};
 use feed_node::Mirror;
 use feed_relay::{Attempt, AttemptEnd, Dial, NetworkFault, Server, follow_first};
 use feed_words::{PullOptions, addresses};
 use std::alloc::{AllocError, Global};
+
+/// Who asks: the name by which the servers are called, where it is not the host of each, and the
+/// user, as `NAME:PASSWORD`.
+#[derive(Clone, Copy)]
+pub struct Caller<'a> {
+    pub host: Option<&'a str>,
+    pub user: Option<&'a str>,
+}
 
 /// The server's host, with its port.
 fn host_and_port(alloc: Global, options: &PullOptions<'_>) -> Result<String, AllocError>
@@ -32,7 +39,7 @@ fn host_and_port(alloc: Global, options: &PullOptions<'_>) -> Result<String, All
 fn first_place(alloc: Global, options: &PullOptions<'_>) -> Result<Place, Fault>
     ensures ok { IfOk result (λ place.
         place_of options.now (first_address options.now) ≡ Ok place) }
-    ensures err { IfErr result (λ why. RefusesServer options.now (first_address options.now) why) }
+    ensures err { IfErr result (λ why. RefusesAddress options.now (first_address options.now) why) }
 {
     let host = host_and_port(alloc, options)?;
     match Place::new(alloc, host.as_str(), options.base, options.contest) {
@@ -44,7 +51,7 @@ fn first_place(alloc: Global, options: &PullOptions<'_>) -> Result<Place, Fault>
 /// The place that is asked for the feed at this address.
 fn place_at(alloc: Global, options: &PullOptions<'_>, host: &str, port: u16) -> Result<Place, Fault>
     ensures ok { IfOk result (λ place. place_of options.now (host.now, port) ≡ Ok place) }
-    ensures err { IfErr result (λ why. RefusesServer options.now (host.now, port) why) }
+    ensures err { IfErr result (λ why. RefusesAddress options.now (host.now, port) why) }
 {
     let here = PullOptions {
         host,
@@ -54,23 +61,41 @@ fn place_at(alloc: Global, options: &PullOptions<'_>, host: &str, port: u16) -> 
     first_place(alloc, &here)
 }
 
+/// As whom servers are asked.
+fn identity_for(alloc: Global, caller: Caller<'_>) -> Result<Identity, Fault>
+    ensures ok { IfOk result (λ identity. identity_of caller ≡ Ok identity) }
+    ensures err { IfErr result (λ why. RefusesCaller caller why) }
+{
+    match Identity::new(alloc, caller.host, caller.user) {
+        Ok(identity) => Ok(identity),
+        Err(fault) => Err(Fault::of_identity(fault)),
+    }
+}
+
 /// Appends the server at this address.
 fn push_server(
     alloc: Global,
     options: &PullOptions<'_>,
+    caller: Caller<'_>,
     host: &str,
     port: u16,
     servers: &mut Vec<Server>,
 ) -> Result<(), Fault>
     ensures ok { OnOk result (map asked_of servers.new.items
-        ≡ map asked_of servers.old.items ++ asked_at options.now (host.now, port) ∷ []) }
-    ensures made { OnOk result
-        ((place : Named) × (place_of options.now (host.now, port) ≡ Ok place)) }
-    ensures err { IfErr result (λ why. RefusesServer options.now (host.now, port) why) }
+        ≡ map asked_of servers.old.items ++ asked_at options.now caller (host.now, port) ∷ []) }
+    ensures made { OnOk result (HasServer options.now caller (host.now, port)) }
+    ensures err { IfErr result
+        (λ why. RefusesServer options.now caller (host.now, port) why) }
 {
     let place = place_at(alloc, options, host, port)?;
-    let host = format!(in alloc; "{host}")?;
-    match servers.push(Server { host, port, place }) {
+    let identity = identity_for(alloc, caller)?;
+    let server = Server {
+        host: format!(in alloc; "{host}")?,
+        port,
+        place,
+        identity,
+    };
+    match servers.push(server) {
         Ok(()) => Ok(()),
         Err(_) => Err(Fault::Memory),
     }
@@ -95,30 +120,43 @@ fn further_addresses(alloc: Global, options: &PullOptions<'_>) -> Result<Vec<(St
 fn push_servers(
     alloc: Global,
     options: &PullOptions<'_>,
+    caller: Caller<'_>,
     addresses: &[(String, u16)],
     servers: &mut Vec<Server>,
 ) -> Result<(), Fault>
     ensures ok { let asked = map (λ a. (string_bytes a.0, a.1)) addresses.now in
         OnOk result (map asked_of servers.new.items
-        ≡ map asked_of servers.old.items ++ map (asked_at options.now) asked) }
+        ≡ map asked_of servers.old.items ++ map (asked_at options.now caller) asked) }
     ensures err { let asked = map (λ a. (string_bytes a.0, a.1)) addresses.now in
-        IfErr result (λ why. RefusesOneOf options.now asked why) }
+        IfErr result (λ why. RefusesOneOf options.now caller asked why) }
 {
     'addresses: for (host, port) in addresses {
-        push_server(alloc, options, host.as_str(), *port, servers)?;
+        push_server(alloc, options, caller, host.as_str(), *port, servers)?;
     }
     Ok(())
 }
 
-/// The servers that are asked: the one after `--host` and `--port`, and those after `--from`.
-pub fn servers_of(alloc: Global, options: &PullOptions<'_>) -> Result<Vec<Server>, Fault>
-    ensures ok { IfOk result (λ servers. AreServers options.now servers.items) }
-    ensures err { IfErr result (λ why. HasNoServers options.now why) }
+/// The servers that are asked: the one after `--host` and `--port`, and those after `--from`; each
+/// as this caller.
+pub fn servers_of(
+    alloc: Global,
+    options: &PullOptions<'_>,
+    caller: Caller<'_>,
+) -> Result<Vec<Server>, Fault>
+    ensures ok { IfOk result (λ servers. AreServers options.now caller servers.items) }
+    ensures err { IfErr result (λ why. HasNoServers options.now caller why) }
 {
     let mut servers = Vec::new(alloc);
-    push_server(alloc, options, options.host, options.port, &mut servers)?;
+    push_server(
+        alloc,
+        options,
+        caller,
+        options.host,
+        options.port,
+        &mut servers,
+    )?;
     let further = further_addresses(alloc, options)?;
-    push_servers(alloc, options, &further, &mut servers)?;
+    push_servers(alloc, options, caller, &further, &mut servers)?;
     Ok(servers)
 }
 

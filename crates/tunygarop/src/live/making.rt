@@ -10,8 +10,8 @@ use crate::live::watching::Watched;
 use crate::live::{Engine, LISTENER};
 use feed_answer::Place;
 use feed_cli::{
-    AddressFault, Fault, LiveOptions, NetworkFault, PullOptions, UpstreamOptions, Verbosity,
-    servers_of,
+    AddressFault, Caller, Fault, LiveOptions, NetworkFault, PullOptions, UpstreamOptions,
+    Verbosity, servers_of,
 };
 use feed_live::{Devices, Live, LiveLimits, Ready, Restored, Start, restore};
 use feed_node::{Limits, Mirror};
@@ -70,7 +70,11 @@ fn servers(rt: &HostRuntime, options: &LiveOptions<'_>) -> Result<Asked, Fault> 
         });
     };
     let mut places = Vec::new(rt.alloc());
-    for server in servers_of(rt.alloc(), &pull_options(options, upstream))? {
+    let caller = Caller {
+        host: None,
+        user: None,
+    };
+    for server in servers_of(rt.alloc(), &pull_options(options, upstream), caller)? {
         push(
             &mut addresses,
             address_of(rt, server.host.as_str(), server.port)?,

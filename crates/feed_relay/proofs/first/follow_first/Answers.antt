@@ -21,7 +21,7 @@ servers-init g c =
 
 pub returns-then-is_last-clause-followed : goal.returns-then-is_last-clause-followed
 returns-then-is_last-clause-followed g c =
-    let asked = c.ask_place-outcome.ensures.asked in
+    let asked = c.ask_server-outcome.ensures.asked in
     let lt : c.servers.number < length c.args.servers.now = c.servers-test.true in
     inr (stops_at _ c.args.turns c.servers.number _ _ _ c.args.servers.now c.index-servers-number.result _ asked.0 _ _ c.servers.invariant.goes
     (length-take-le c.servers.number c.args.servers.now (omega (arith, lt)))
@@ -30,7 +30,7 @@ returns-then-is_last-clause-followed g c =
 
 pub servers-preserved : goal.servers-preserved
 servers-preserved g c =
-    let asked = c.ask_place-outcome.ensures.asked in
+    let asked = c.ask_server-outcome.ensures.asked in
     let lt : c.servers.number < length c.args.servers.now = c.servers-test.true in
     record {
       goes = goes_on _ c.args.turns c.servers.number _ _ _ c.args.servers.now c.index-servers-number.result _ asked.0 _ _ c.servers.invariant.goes
@@ -38,6 +38,6 @@ servers-preserved g c =
           (take_more c.args.servers.now c.servers.number _ lt ∙ ap (λ p. take c.servers.number c.args.servers.now ++ p ∷ []) (sym c.index-servers-number.is))
           asked.3 (sym c.is_last.ensures ∙ c.if-is_last.false) asked.1;
       few = let a = c.servers.invariant.few in let b = ap length asked.1 ∙ length-append c.servers.attempts.items asked.0 in let d = asked.2 in omega (arith, a, b, d);
-      room = let a = c.servers.invariant.room in let b = c.ask_place-outcome.ensures.capacity in omega (arith, a, b);
-      cut = λ none. c.ask_place-outcome.ensures.cut (c.servers.invariant.cut none);
+      room = let a = c.servers.invariant.room in let b = c.ask_server-outcome.ensures.capacity in omega (arith, a, b);
+      cut = λ none. c.ask_server-outcome.ensures.cut (c.servers.invariant.cut none);
     }
