@@ -42,10 +42,7 @@ fn first_place(alloc: Global, options: &PullOptions<'_>) -> Result<Place, Fault>
     ensures err { IfErr result (λ why. RefusesAddress options.now (first_address options.now) why) }
 {
     let host = host_and_port(alloc, options)?;
-    match Place::new(alloc, host.as_str(), options.base, options.contest) {
-        Ok(place) => Ok(place),
-        Err(fault) => Err(Fault::of_place(fault)),
-    }
+    Place::new(alloc, host.as_str(), options.base, options.contest).map_err(Fault::of_place)
 }
 
 /// The place that is asked for the feed at this address.
@@ -66,10 +63,7 @@ fn identity_for(alloc: Global, caller: Caller<'_>) -> Result<Identity, Fault>
     ensures ok { IfOk result (λ identity. identity_of caller ≡ Ok identity) }
     ensures err { IfErr result (λ why. RefusesCaller caller why) }
 {
-    match Identity::new(alloc, caller.host, caller.user) {
-        Ok(identity) => Ok(identity),
-        Err(fault) => Err(Fault::of_identity(fault)),
-    }
+    Identity::new(alloc, caller.host, caller.user).map_err(Fault::of_identity)
 }
 
 /// Appends the server at this address.
@@ -110,10 +104,7 @@ fn further_addresses(alloc: Global, options: &PullOptions<'_>) -> Result<Vec<(St
     let Some(text) = options.from else {
         return Ok(Vec::new(alloc));
     };
-    match addresses(alloc, text) {
-        Ok(further) => Ok(further),
-        Err(fault) => Err(Fault::of_addresses(fault)),
-    }
+    addresses(alloc, text).map_err(Fault::of_addresses)
 }
 
 /// Appends the servers at these addresses.
