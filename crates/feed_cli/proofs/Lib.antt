@@ -1,8 +1,11 @@
 mod CheckLemmas
 mod CommandLemmas
+mod InTurnLemmas
 mod MappedLemmas
 mod PlayLemmas
 pub mod PrintingLemmas
 mod PullLemmas
+pub mod RelayLemmas
 pub mod ServeLemmas
 mod TablesLemmas
+mod TellingLemmas

@@ -7,11 +7,12 @@ use Rattle.feed_node.specs.declared.commit.Commit.{Commit}
 use Rattle.feed_node.specs.declared.primary.CommitFault.{CommitFault}
 use Rattle.feed_node.specs.declared.primary.CommitFault.TheVariants as commit
 use Rattle.feed_http.specs.Live.{Intake, intake_of, Accepts, accepts_none, accepts_one, TakesTurn, HasSent, none_sent, commit_sent, turn_taken, SendsLiveTo, WroteLive, RefusesInTurn, ServedLive, ServesLive}
-use Rattle.feed_http.specs.Exchange.{Exchange}
+use Rattle.feed_http.specs.Exchange.{Exchange, exchange}
 use Rattle.feed_http.specs.declared.fault.EngineFault.{EngineFault}
 use Rattle.feed_http.specs.declared.fault.Served.{Served}
+use Rattle.feed_http.specs.declared.service.Service.{Service}
+use Rattle.feed_relay.specs.Dialing.{Links}
 use Rattle.feed_answer.specs.Answered.{AnswerParts}
-use Rattle.feed_answer.specs.declared.framing.Framing.{Framing}
 use Rattle.feed_http.specs.declared.fault.EngineFault.TheVariants as engine
 use Rattle.feed_relay.specs.declared.fault.NetworkFault.{NetworkFault}
 use Rattle.feed_relay.specs.declared.fault.NetworkFault.TheVariants as network
@@ -20,8 +21,10 @@ use Rattle.feed_note.specs.Counts.{AreRead}
 use Rattle.feed_note.specs.declared.line.Line.{Line}
 use Rattle.feed_node.specs.Limits.{Limits}
 use Rattle.feed_cli.specs.Check.{IsWhole}
-use Rattle.feed_cli.specs.Fault.{fault_of_network, fault_of_commit, is_one_connections}
-use Rattle.feed_cli.specs.Serve.{new_source, RefusedAtStart, StartFails, Takes, TakesAndDrops, FailsTaking, EndsTaking}
+use Rattle.feed_cli.specs.Fault.{fault_of_network, fault_of_commit, is_one_connections, goes_on}
+use Rattle.feed_cli.specs.InTurn.{InTurn, none_done, one_done}
+use Rattle.feed_cli.specs.Telling.{FailsAs}
+use Rattle.feed_cli.specs.Serve.{new_source, RefusedAtStart, StartFails, Takes, TakesAndDrops, EndsTaking, Serving, ServesOne, ServesOn, ServesAll, StopsServing}
 use Rattle.feed_cli.specs.declared.fault.Fault.{Fault}
 use Rattle.feed_cli.specs.declared.fault.Fault.TheVariants as fault
 use Rattle.feed_cli.specs.declared.fault.RemoteFault.TheVariants as remote
@@ -107,62 +110,73 @@ pub drops_at_once : (turn : ℕ) (start : Intake) (why : CommitFault) (now : Int
 drops_at_once turn start why now refuses =
     drops_in_turn turn start start why now (takes_none start) refuses
 
+-- what was taken where a connection failed: one batch was refused at a commit's fault alone
+abbrev FailsTaking : NetworkFault → Intake → Intake → Type 0
+FailsTaking network.Accept start now = now ≡ start
+FailsTaking (network.Engine (engine.Commit why)) start now = TakesAndDrops start why now
+FailsTaking (network.Engine (engine.Follow why)) start now = ⊥
+FailsTaking (network.Engine engine.Memory) start now = Takes start now
+FailsTaking (network.Engine engine.Read) start now = now ≡ start
+FailsTaking (network.Engine engine.Turns) start now = now ≡ start
+FailsTaking (network.Engine engine.Write) start now = Takes start now
+FailsTaking network.Connect start now = ⊥
+FailsTaking network.Bind start now = ⊥
+
 -- what was served says what was taken
-pub takes_served : (turn : ℕ) (contest : List ℕ) (framing : Framing) (back turns : ℕ)
-    (spoken : Exchange) (start : Intake) (served : Served) (now : Intake)
-    → ServesLive turn contest framing back turns spoken start (Ok served) now → Takes start now
-takes_served turn contest framing back turns spoken start served now live =
-    let ((answer, text, has, sends, wrote), gone, left) = live.came in
+takes_served : (turn : ℕ) (service : Service) (spoken : Exchange) (start : Intake)
+    (served : Served) (now : Intake) → ServesLive turn service spoken start (Ok served) now
+    → Takes start now
+takes_served turn service spoken start served now live =
+    let ((answer, text, has, sends, wrote), left) = live.came in
     takes_to turn start answer.session sends.sent sends.gone now sends.sends
 
-pub fails_served : (turn : ℕ) (contest : List ℕ) (framing : Framing) (back turns : ℕ)
-    (spoken : Exchange) (start : Intake) (why : EngineFault) (now : Intake)
-    → ServesLive turn contest framing back turns spoken start (Err why) now
+fails_served : (turn : ℕ) (service : Service) (spoken : Exchange) (start : Intake)
+    (why : EngineFault) (now : Intake) → ServesLive turn service spoken start (Err why) now
     → FailsTaking (network.Engine why) start now
-fails_served turn contest framing back turns spoken start engine.Read now live =
+fails_served turn service spoken start engine.Read now live =
     let (broke, same, failed) = live.came in same
-fails_served turn contest framing back turns spoken start engine.Turns now live =
+fails_served turn service spoken start engine.Turns now live =
     let (broke, same, rose) = live.came in same
-fails_served turn contest framing back turns spoken start engine.Write now live =
+fails_served turn service spoken start engine.Write now live =
     let ((answer, has, wrote), failed) = live.came in
     takes_wrote turn start answer now spoken.written_old spoken.written_new wrote
-fails_served turn contest framing back turns spoken start (engine.Commit why) now live =
+fails_served turn service spoken start (engine.Commit why) now live =
     let (answer, has, wrote) = live.came in
     let (opened, text, is, refused, appends) = wrote in
     drops_in_turn turn start refused.before why now
     (takes_sent turn start opened refused.sent refused.before refused.token refused.has_sent)
     refused.refuses
-fails_served turn contest framing back turns spoken start engine.Memory now live = unserved live.came
+fails_served turn service spoken start engine.Memory now live = unserved live.came
   where
-    unserved : ServedLive turn contest framing back turns spoken start (Err engine.Memory) now
-        → Takes start now
+    unserved : ServedLive turn service.contest.now service.framing service.back service.turns spoken
+        start (Err engine.Memory) now → Takes start now
     unserved (inl (wrote, same)) = subst (λ n. Takes start n) (sym same) (takes_none start)
     unserved (inr (answer, has, wrote)) =
         takes_wrote turn start answer now spoken.written_old spoken.written_new wrote
-fails_served turn contest framing back turns spoken start (engine.Follow why) now live =
+fails_served turn service spoken start (engine.Follow why) now live =
     absurd live.came
 
 -- a fault of one connection drops nothing
-pub goes_on : (why : NetworkFault) (start now : Intake)
+keeps_on : (why : NetworkFault) (start now : Intake)
     → is_one_connections (fault_of_network why) ≡ true → FailsTaking why start now
     → Takes start now
-goes_on network.Connect start now one fails = absurd fails
-goes_on network.Bind start now one fails = absurd fails
-goes_on network.Accept start now one fails = absurd (true≢false (sym one))
-goes_on (network.Engine engine.Read) start now one fails =
+keeps_on network.Connect start now one fails = absurd fails
+keeps_on network.Bind start now one fails = absurd fails
+keeps_on network.Accept start now one fails = absurd (true≢false (sym one))
+keeps_on (network.Engine engine.Read) start now one fails =
     subst (λ n. Takes start n) (sym fails) (takes_none start)
-goes_on (network.Engine engine.Turns) start now one fails =
+keeps_on (network.Engine engine.Turns) start now one fails =
     subst (λ n. Takes start n) (sym fails) (takes_none start)
-goes_on (network.Engine engine.Write) start now one fails = fails
-goes_on (network.Engine engine.Memory) start now one fails = absurd (true≢false (sym one))
-goes_on (network.Engine (engine.Commit commit.EmptyBatch)) start now one fails = absurd (true≢false (sym one))
-goes_on (network.Engine (engine.Commit commit.LastToken)) start now one fails = absurd (true≢false (sym one))
-goes_on (network.Engine (engine.Commit commit.TooLarge)) start now one fails = absurd (true≢false (sym one))
-goes_on (network.Engine (engine.Commit commit.Memory)) start now one fails = absurd (true≢false (sym one))
-goes_on (network.Engine (engine.Follow why)) start now one fails = absurd fails
+keeps_on (network.Engine engine.Write) start now one fails = fails
+keeps_on (network.Engine engine.Memory) start now one fails = absurd (true≢false (sym one))
+keeps_on (network.Engine (engine.Commit commit.EmptyBatch)) start now one fails = absurd (true≢false (sym one))
+keeps_on (network.Engine (engine.Commit commit.LastToken)) start now one fails = absurd (true≢false (sym one))
+keeps_on (network.Engine (engine.Commit commit.TooLarge)) start now one fails = absurd (true≢false (sym one))
+keeps_on (network.Engine (engine.Commit commit.Memory)) start now one fails = absurd (true≢false (sym one))
+keeps_on (network.Engine (engine.Follow why)) start now one fails = absurd fails
 
 -- any other one ends it
-pub ends_it : (why : NetworkFault) (start now : Intake)
+ends_it : (why : NetworkFault) (start now : Intake)
     → is_one_connections (fault_of_network why) ≡ false → FailsTaking why start now
     → EndsTaking (fault_of_network why) start now
 ends_it network.Connect start now one fails = absurd fails
@@ -180,7 +194,7 @@ ends_it (network.Engine (engine.Commit commit.Memory)) start now one fails = inr
 ends_it (network.Engine (engine.Follow why)) start now one fails = absurd fails
 
 -- and what was taken before it counts
-pub ends_later : (why : Fault) (start mid now : Intake) → Takes start mid
+ends_later : (why : Fault) (start mid now : Intake) → Takes start mid
     → EndsTaking why mid now → EndsTaking why start now
 ends_later fault.Memory start mid now before (inl after) = inl (takes_more start mid now before after)
 ends_later fault.Memory start mid now before (inr after) =
@@ -194,6 +208,7 @@ ends_later (fault.Survey why) start mid now before after = absurd after
 ends_later (fault.Play why) start mid now before after = absurd after
 ends_later fault.Unpublished start mid now before after = absurd after
 ends_later (fault.Remote (remote.Place why)) start mid now before after = absurd after
+ends_later (fault.Remote (remote.Identity why)) start mid now before after = absurd after
 ends_later (fault.Remote (remote.Address why)) start mid now before after = absurd after
 ends_later (fault.Remote (remote.Batch why)) start mid now before after = absurd after
 ends_later (fault.Remote (remote.Commit why)) start mid now before after = absurd after
@@ -208,6 +223,59 @@ ends_later (fault.Remote (remote.Network (network.Engine engine.Read))) start mi
 ends_later (fault.Remote (remote.Network (network.Engine engine.Write))) start mid now before after = absurd after
 ends_later (fault.Remote (remote.Network (network.Engine engine.Turns))) start mid now before after = absurd after
 ends_later (fault.Remote (remote.Network (network.Engine (engine.Follow why)))) start mid now before after = absurd after
+
+-- ---- connection by connection
+
+abbrev TakesBy : Result Served NetworkFault → Intake → Intake → Type 0
+TakesBy (Ok served) start now = Takes start now
+TakesBy (Err why) start now = FailsTaking why start now
+
+module _ {A R W : Type 0} (links : Links A R W) (turn : ℕ) (service : Service) where
+  takes_one : (start : Serving A) (served : Result Served NetworkFault) (end : Serving A)
+      → ServesOne links turn service start served end → TakesBy served start.intake end.intake
+  takes_one start (Ok served) end (on, none) =
+      takes_served turn service (exchange links.devices on.reader on.left on.writer on.written)
+      start.intake served end.intake on.spoke
+  takes_one start (Err (network.Engine why)) end (on, none) =
+      fails_served turn service (exchange links.devices on.reader on.left on.writer on.written)
+      start.intake why end.intake on.spoke
+  takes_one start (Err network.Accept) end (on, none) = none refl
+  takes_one start (Err network.Connect) end (on, none) = absurd on
+  takes_one start (Err network.Bind) end (on, none) = absurd on
+
+  takes_on : (start : Serving A) (served : Result Served NetworkFault) (end : Serving A)
+      → ServesOn links turn service start served end → Takes start.intake end.intake
+  takes_on start (Ok served) end (one, on) = takes_one start (Ok served) end one
+  takes_on start (Err why) end (one, on) =
+      keeps_on why start.intake end.intake on (takes_one start (Err why) end one)
+
+  takes_each : (start : Serving A) (all : List (Result Served NetworkFault)) (end : Serving A)
+      → InTurn (ServesOn links turn service) start all end → Takes start.intake end.intake
+  takes_each start all end none_done = takes_none start.intake
+  takes_each start all end (one_done before this middle _ run does) =
+      takes_more start.intake middle.intake end.intake (takes_each start before middle run)
+      (takes_on middle this end does)
+
+  pub takes_all : (count : ℕ) (start end : Serving A) → ServesAll links turn service count start end
+      → Takes start.intake end.intake
+  takes_all count start end (all, many, run) = takes_each start all end run
+
+  takes_last : (start : Serving A) (why : Fault) (served : Result Served NetworkFault)
+      (end : Serving A) → ServesOne links turn service start served end → goes_on served ≡ false
+      → FailsAs served why → EndsTaking why start.intake end.intake
+  takes_last start why (Ok served) end one off told = absurd (true≢false off)
+  takes_last start why (Err fault) end one off told =
+      subst (λ w. EndsTaking w start.intake end.intake) (sym told)
+      (ends_it fault start.intake end.intake off (takes_one start (Err fault) end one))
+
+  pub takes_some : (count : ℕ) (start : Serving A) (why : Fault) (end : Serving A)
+      → StopsServing links turn service count start why end
+      → EndsTaking why start.intake end.intake
+  takes_some count start why end stops =
+      let (served, one, off, told) = stops.last in
+      ends_later why start.intake stops.middle.intake end.intake
+      (takes_all stops.served start stops.middle stops.before)
+      (takes_last stops.middle why served end one off told)
 
 -- a batch was refused at the start, before anything was served
 module _ {A : Type 0} where

@@ -14,8 +14,9 @@ use Rattle.feed_node.specs.declared.fault.FeedFault.TheVariants as feed
 use Rattle.feed_node.specs.Limits.{Limits}
 use Rattle.feed_node.specs.Mirroring.{MirrorState, StandsAt, Fed, HasStopped, Faulted}
 use Rattle.feed_node.specs.Reading.{Reads, FaultsAt, reads}
+use Rattle.feed_relay.specs.Serving.{engine_turns}
 use Rattle.feed_cli.specs.Fault.{fault_of_feed}
-use Rattle.feed_cli.specs.Tables.{first_opening, input_turns, Stands, HasRead, HasReadOn, IsLeft, HasFaulted, IsFed, Printed, PrintedSome, PrintedPrefix, outcome_of, TablesFail}
+use Rattle.feed_cli.specs.Tables.{first_opening, Stands, HasRead, HasReadOn, IsLeft, HasFaulted, IsFed, Printed, PrintedSome, PrintedPrefix, outcome_of, TablesFail}
 use Rattle.feed_cli.specs.Streams.{Streams}
 use Rattle.feed_cli.specs.declared.fault.Fault.{Fault}
 use Rattle.feed_cli.specs.declared.fault.Fault.TheVariants as fault
@@ -74,7 +75,7 @@ read_by limits least a b mirror s = record {
 }
 
 -- all reads that are allowed gave something
-pub read_on_by : (limits : Limits) (least : ℕ) (a b : Option (List ℕ)) (mirror : MirrorState) → input_turns ≤ least → Stands limits least a b [] mirror
+pub read_on_by : (limits : Limits) (least : ℕ) (a b : Option (List ℕ)) (mirror : MirrorState) → engine_turns ≤ least → Stands limits least a b [] mirror
     → HasReadOn limits a b mirror.node.published
 unfolding read_by
 read_on_by limits least a b mirror all s = record {

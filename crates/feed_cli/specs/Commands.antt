@@ -32,12 +32,12 @@ IsDeviceFault fault.Read s = HasDeviceFailed s.failed_reads_old s.failed_reads_n
 IsDeviceFault fault.Write s = HasDeviceFailed s.failed_writes_old s.failed_writes_new
 IsDeviceFault why s = Unit {0}
 
--- the command failed, and this is the status that tells it
-pub record EndsBy (asked : Local) (status : ℕ) (s : Streams) : Type 0 where
+-- the command failed, and this is the status that tells it; what could not be told is counted
+pub record EndsBy (asked : Local) (status : ℕ) (s : Streams) (untold_old untold_new : ℕ) : Type 0 where
   pub why : Fault
   pub failed : Fails asked why s
   pub device : IsDeviceFault why s
-  pub told : IsToldStatus why status
+  pub told : IsToldStatus why untold_old untold_new status
 
 -- all of the text was written, or the device failed, and a prefix of it was
 abbrev pub IsWritten : List ℕ → Wrote → Type 0

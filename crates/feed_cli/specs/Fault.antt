@@ -1,8 +1,12 @@
 -- Why a command fails, for the fault of what it calls, and the statuses that the program ends with.
-use Rattle.std.specs.Prelude.{◌≡◌, ◌⊎◌, ℕ, Bool, true, false, max, Option, if◌then◌else◌}
+use Rattle.std.specs.Prelude.{◌≡◌, ◌⊎◌, ℕ, Bool, true, false, max, Option, Result, Ok, Err, if◌then◌else◌}
+use Rattle.feed_answer.specs.declared.identity.IdentityFault.{IdentityFault}
+use Rattle.feed_answer.specs.declared.identity.IdentityFault.TheVariants as identity
 use Rattle.feed_answer.specs.declared.place.PlaceFault.{PlaceFault}
 use Rattle.feed_answer.specs.declared.place.PlaceFault.TheVariants as place
+use Rattle.feed_http.specs.Device.{HasFailed}
 use Rattle.feed_http.specs.declared.fault.EngineFault.{EngineFault}
+use Rattle.feed_http.specs.declared.fault.Served.{Served}
 use Rattle.feed_http.specs.declared.fault.EngineFault.TheVariants as engine
 use Rattle.feed_node.specs.declared.primary.CommitFault.{CommitFault}
 use Rattle.feed_node.specs.declared.primary.CommitFault.TheVariants as commit
@@ -45,6 +49,10 @@ abbrev pub fault_of_place : PlaceFault → Fault
 fault_of_place place.Memory = fault.Memory
 fault_of_place why = fault.Remote (remote.Place why)
 
+abbrev pub fault_of_identity : IdentityFault → Fault
+fault_of_identity identity.Memory = fault.Memory
+fault_of_identity why = fault.Remote (remote.Identity why)
+
 abbrev pub fault_of_addresses : AddressFault → Fault
 fault_of_addresses address.Memory = fault.Memory
 fault_of_addresses why = fault.Remote (remote.Address why)
@@ -74,6 +82,7 @@ status_of_network why = 4
 -- 1 for servers that can't be named so, 2 for a faulty input or response, 4 for a device's fault
 abbrev pub status_of_remote : RemoteFault → ℕ
 status_of_remote (remote.Place why) = 1
+status_of_remote (remote.Identity why) = 1
 status_of_remote (remote.Address why) = 1
 status_of_remote (remote.Batch why) = 2
 status_of_remote (remote.Commit why) = 2
@@ -94,6 +103,11 @@ abbrev pub is_one_connections : Fault → Bool
 is_one_connections (fault.Remote why) = is_of_a_connection why
 is_one_connections why = false
 
+-- another connection can be served after one that came to this
+abbrev pub goes_on : Result Served NetworkFault → Bool
+goes_on (Ok served) = true
+goes_on (Err why) = is_one_connections (fault_of_network why)
+
 -- 5 for want of memory, 4 for a device's fault, 2 for a faulty input, 3 where nothing is published
 abbrev pub status_of : Fault → ℕ
 status_of fault.Memory = 5
@@ -107,7 +121,9 @@ status_of (fault.Play why) = if is_memory why.cause then 5 else 2
 status_of fault.Unpublished = 3
 status_of (fault.Remote why) = status_of_remote why
 
--- the status after a fault was told; where it could not be, a device has failed too
-abbrev pub IsToldStatus : Fault → ℕ → Type 0
-IsToldStatus why status =
-    (status ≡ status_of why) ⊎ (status ≡ max (status_of why) (status_of fault.Write))
+-- the status after a fault was told; where the device failed, between these counts of its failures,
+-- it tells of that, too
+abbrev pub IsToldStatus : Fault → ℕ → ℕ → ℕ → Type 0
+IsToldStatus why old new status =
+    (status ≡ status_of why)
+    ⊎ (HasFailed old new × (status ≡ max (status_of why) (status_of fault.Write)))

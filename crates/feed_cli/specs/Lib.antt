@@ -1,9 +1,12 @@
 pub mod Check
 pub mod Commands
 pub mod Fault
+pub mod InTurn
 pub mod Play
 pub mod Printing
 pub mod Pull
+pub mod Relay
 pub mod Serve
 pub mod Streams
 pub mod Tables
+pub mod Telling

@@ -1,26 +1,32 @@
 -- What the command `pull` starts from, follows and prints.
 use Rattle.std.specs.Prelude.{◌≡◌, ◌⊎◌, ℕ, Bool, true, false, List, [], ◌∷◌, ◌++◌, map, Option, Some, None, Result, Ok, Err}
-use Rattle.std.specs.Prelude.{codes, decimal, Contains, IsSomeAnd, option_map, unwrap_or}
+use Rattle.std.specs.Prelude.{codes, decimal, string_bytes, Contains, IsSomeAnd, option_map, unwrap_or}
 use Rattle.std.specs.Borrow.{Bor}
+use Rattle.std.specs.Option.{option_copied}
 use Rattle.std.specs.Io.KnownBytes.{Appends, Keeps}
 use Rattle.feed_note.specs.Texts.{published_text}
 use Rattle.feed_node.specs.Limits.{Limits}
 use Rattle.feed_node.specs.Mirroring.{MirrorState, IsRestored, FailsToRestore, new_mirror}
 use Rattle.feed_answer.specs.Place.{Place, RefusesPlace, place_of}
 use Rattle.feed_answer.specs.declared.place.PlaceFault.{PlaceFault}
+use Rattle.feed_answer.specs.Identity.{Identity, identity_of, RefusesIdentity}
+use Rattle.feed_answer.specs.declared.identity.IdentityFault.{IdentityFault}
 use Rattle.feed_follow.specs.declared.fault.FollowFault.TheVariants.{BadHead}
-use Rattle.feed_http.specs.Device.{AppendsPrefix}
+use Rattle.feed_http.specs.Device.{HasFailed, AppendsPrefix}
 use Rattle.feed_http.specs.declared.fault.EngineFault.TheVariants.{Follow}
 use Rattle.feed_http.specs.declared.fault.Followed.TheVariants as followed
 use Rattle.feed_relay.specs.Dialing.{Dialer}
-use Rattle.feed_relay.specs.First.{Position, FollowsFirst, last_outcome}
+use Rattle.feed_relay.specs.First.{Position, FollowsFirst, last_outcome, ran_out}
 use Rattle.feed_relay.specs.declared.fault.NetworkFault.TheVariants.{Connect, Engine}
 use Rattle.feed_relay.specs.declared.first.Attempt.{Attempt}
 use Rattle.feed_relay.specs.declared.first.AttemptEnd.{AttemptEnd}
 use Rattle.feed_relay.specs.declared.first.AttemptEnd.TheVariants.{NoLink, Followed, Failed}
+use Rattle.feed_relay.specs.declared.server.Server.{Server}
 use Rattle.feed_words.specs.Addresses.{IsListOf, RefusesList}
 use Rattle.feed_cli.specs.Check.{IsWhole, InputTooLong}
 use Rattle.feed_cli.specs.Fault.{fault_of_network}
+use Rattle.feed_cli.specs.Streams.{Wrote}
+use Rattle.feed_cli.specs.declared.commands.pull.Caller.{Caller}
 use Rattle.feed_cli.specs.declared.fault.Fault.{Fault}
 use Rattle.feed_cli.specs.declared.fault.Fault.TheVariants as fault
 use Rattle.feed_cli.specs.declared.fault.RemoteFault.TheVariants as remote
@@ -41,11 +47,34 @@ abbrev pub place_at : PullOptions → List ℕ × ℕ → Result Place PlaceFaul
 place_at options address = place_of (server_text address) options.base.now options.contest.now
 
 -- why there is none
-abbrev pub RefusesServer : PullOptions → List ℕ × ℕ → Fault → Type 0
-RefusesServer options address fault.Memory = Unit {0}
-RefusesServer options address (fault.Remote (remote.Place why)) =
+abbrev pub RefusesAddress : PullOptions → List ℕ × ℕ → Fault → Type 0
+RefusesAddress options address fault.Memory = Unit {0}
+RefusesAddress options address (fault.Remote (remote.Place why)) =
     RefusesPlace (server_text address) options.base.now options.contest.now why
-RefusesServer options address why = ⊥
+RefusesAddress options address why = ⊥
+
+-- as whom a server is asked
+abbrev pub identity_of_caller : Caller → Result Identity IdentityFault
+identity_of_caller caller = identity_of (option_copied caller.host) (option_copied caller.user)
+
+-- why nobody can ask so
+abbrev pub RefusesCaller : Caller → Fault → Type 0
+RefusesCaller caller fault.Memory = Unit {0}
+RefusesCaller caller (fault.Remote (remote.Identity why)) =
+    RefusesIdentity (option_copied caller.host) (option_copied caller.user) why
+RefusesCaller caller why = ⊥
+
+-- the server at this address can be asked by this caller
+abbrev pub HasServer : PullOptions → Caller → List ℕ × ℕ → Type 0
+HasServer options caller address =
+    ((place : Place) × (place_at options address ≡ Ok place))
+    × ((identity : Identity) × (identity_of_caller caller ≡ Ok identity))
+
+-- why it can't: the address is refused, or the caller
+abbrev pub RefusesServer : PullOptions → Caller → List ℕ × ℕ → Fault → Type 0
+RefusesServer options caller address why =
+    RefusesAddress options address why
+    ⊎ (((place : Place) × (place_at options address ≡ Ok place)) × RefusesCaller caller why)
 
 -- the first address
 abbrev pub first_address : PullOptions → List ℕ × ℕ
@@ -63,27 +92,40 @@ RefusesFurther from (fault.Remote (remote.Address why)) =
     IsSomeAnd from (λ text. RefusesList text.now why)
 RefusesFurther from why = ⊥
 
--- the servers at these further addresses are asked, too, and these are the places of all of them
-pub record AreServers (options : PullOptions) (further : List (List ℕ × ℕ)) (places : List Place)
-    : Type 0 where
+-- an address, the place that is asked there, and as whom
+abbrev pub Asked : Type 0
+Asked = (List ℕ × ℕ) × (Result Place PlaceFault × Result Identity IdentityFault)
+
+abbrev pub asked_at : PullOptions → Caller → List ℕ × ℕ → Asked
+asked_at options caller address =
+    (address, (place_at options address, identity_of_caller caller))
+
+abbrev pub asked_of : Server → Asked
+asked_of server =
+    ((string_bytes server.host, server.port), (Ok server.place, Ok server.identity))
+
+-- the servers are those at the first address and the further ones, each with the place there, and
+-- are asked by this caller
+pub record AreServers (options : PullOptions) (caller : Caller) (servers : List Server) : Type 0 where
+  pub further : List (List ℕ × ℕ)
   pub listed : AreFurther options.from further
-  pub asked : map (λ place. Ok place) places
-      ≡ map (place_at options) (first_address options ∷ further)
+  pub asked : map asked_of servers
+      ≡ map (asked_at options caller) (first_address options ∷ further)
 
 -- one of these addresses is refused
-abbrev pub RefusesOneOf : PullOptions → List (List ℕ × ℕ) → Fault → Type 0
-RefusesOneOf options addresses why =
-    (address : List ℕ × ℕ) × Contains addresses address × RefusesServer options address why
+abbrev pub RefusesOneOf : PullOptions → Caller → List (List ℕ × ℕ) → Fault → Type 0
+RefusesOneOf options caller addresses why =
+    (address : List ℕ × ℕ) × Contains addresses address × RefusesServer options caller address why
 
 -- why there are no such servers: the first address is refused; or it is not, but the list of the
 -- further ones, or one of those
-abbrev pub HasNoServers : PullOptions → Fault → Type 0
-HasNoServers options why =
-    RefusesServer options (first_address options) why
-    ⊎ ((place : Place) × (place_at options (first_address options) ≡ Ok place)
+abbrev pub HasNoServers : PullOptions → Caller → Fault → Type 0
+HasNoServers options caller why =
+    RefusesServer options caller (first_address options) why
+    ⊎ (HasServer options caller (first_address options)
     × (RefusesFurther options.from why
     ⊎ ((further : List (List ℕ × ℕ)) × AreFurther options.from further
-    × RefusesOneOf options further why)))
+    × RefusesOneOf options caller further why)))
 
 -- the mirror is new; or, where it resumes, the whole input was read, and restores it
 abbrev pub StartsFrom : Bool → Limits → Option (List ℕ) → Option (List ℕ) → MirrorState → Type 0
@@ -116,37 +158,48 @@ abbrev pub outcome_of_pull : List Attempt → Result (Unit {0}) Fault
 outcome_of_pull attempts =
     unwrap_or (option_map outcome_of_attempt (last_outcome attempts)) (Ok tt)
 
+-- the output failed, and a prefix of the text was printed; or all of it, and a fault could not be
+-- told, so that another device failed
+abbrev pub IsCutShort : List ℕ → Wrote → ℕ → ℕ → Type 0
+IsCutShort text out untold_old untold_new =
+    (HasFailed out.failed_old out.failed_new × AppendsPrefix out.old out.new text)
+    ⊎ (HasFailed untold_old untold_new × Appends out.old out.new text)
+
 module _ {D R W : Type 0} where
-  -- which places were asked, what that came to, and what the mirror is then
-  pub record HasPulled (dialer : Dialer D R W) (places : List Place) (turns : ℕ) (start : Position D)
-      (ended : Result (Unit {0}) Fault) (end : Position D) : Type 0 where
+  -- which servers were asked, what that came to, and what the mirror is then
+  pub record HasPulled (dialer : Dialer D R W) (servers : List Server) (turns : ℕ)
+      (start : Position D) (ended : Result (Unit {0}) Fault) (end : Position D) : Type 0 where
     pub attempts : List Attempt
-    pub follows : FollowsFirst dialer places turns start attempts end
+    pub follows : FollowsFirst dialer servers turns start attempts end
     pub came : outcome_of_pull attempts ≡ ended
 
   -- the same, and the snapshot of what the mirror shows was printed
-  pub record PrintedPulled (dialer : Dialer D R W) (places : List Place) (turns : ℕ)
-      (start : Position D) (ended : Result (Unit {0}) Fault) (end : Position D)
-      (old new : Option (List ℕ)) : Type 0 where
-    pub has : HasPulled dialer places turns start ended end
-    pub printed : Appends old new (published_text end.mirror.node.published)
+  pub record PrintedPulled (dialer : Dialer D R W) (servers : List Server) (turns : ℕ)
+      (start : Position D) (ended : Result (Unit {0}) Fault) (end : Position D) (out : Wrote)
+      : Type 0 where
+    pub has : HasPulled dialer servers turns start ended end
+    pub printed : Appends out.old out.new (published_text end.mirror.node.published)
 
-  -- the same, and a prefix of the snapshot was printed
-  pub record PrintedPrefixPulled (dialer : Dialer D R W) (places : List Place) (turns : ℕ)
-      (start end : Position D) (old new : Option (List ℕ)) : Type 0 where
-    pub ended : Result (Unit {0}) Fault
-    pub has : HasPulled dialer places turns start ended end
-    pub printed : AppendsPrefix old new (published_text end.mirror.node.published)
+  -- why memory ran out: there was no room for the attempts, and nobody was asked; or it ran out at
+  -- the last of them
+  abbrev pub RunsOut : Dialer D R W → List Server → ℕ → Position D → Position D → Type 0
+  RunsOut dialer servers turns start end =
+      (end ≡ start)
+      ⊎ ((attempts : List Attempt) × FollowsFirst dialer servers turns start attempts end
+      × (ran_out attempts ≡ true))
 
-  -- what was pulled and printed where the command fails
-  abbrev pub PullFails : Dialer D R W → List Place → ℕ → Fault → Position D → Position D
-      → Option (List ℕ) → Option (List ℕ) → Type 0
-  PullFails dialer places turns fault.Memory start end old new = Keeps old new
-  PullFails dialer places turns fault.Write start end old new =
-      PrintedPrefixPulled dialer places turns start end old new
-  PullFails dialer places turns fault.Unpublished start end old new =
-      PrintedPulled dialer places turns start (Ok tt) end old new
+  -- What was pulled and printed where the command fails. What could not be told is counted between
+  -- two counts.
+  abbrev pub PullFails : Dialer D R W → List Server → ℕ → Fault → Position D → Position D → Wrote
+      → ℕ → ℕ → Type 0
+  PullFails dialer servers turns fault.Memory start end out untold_old untold_new =
+      RunsOut dialer servers turns start end × Keeps out.old out.new
+  PullFails dialer servers turns fault.Write start end out untold_old untold_new =
+      ((ended : Result (Unit {0}) Fault) × HasPulled dialer servers turns start ended end)
+      × IsCutShort (published_text end.mirror.node.published) out untold_old untold_new
+  PullFails dialer servers turns fault.Unpublished start end out untold_old untold_new =
+      PrintedPulled dialer servers turns start (Ok tt) end out
       × (end.mirror.node.published ≡ None)
-  PullFails dialer places turns (fault.Remote why) start end old new =
-      PrintedPulled dialer places turns start (Err (fault.Remote why)) end old new
-  PullFails dialer places turns why start end old new = ⊥
+  PullFails dialer servers turns (fault.Remote why) start end out untold_old untold_new =
+      PrintedPulled dialer servers turns start (Err (fault.Remote why)) end out
+  PullFails dialer servers turns why start end out untold_old untold_new = ⊥

@@ -1,5 +1,5 @@
 -- What the command `serve` starts from, and what it commits.
-use Rattle.std.specs.Prelude.{◌≡◌, ◌⊎◌, ℕ, List, [], ◌∷◌, ◌++◌, Option, Some, None}
+use Rattle.std.specs.Prelude.{◌≡◌, ◌⊎◌, ◌<◌, ℕ, max, true, false, List, [], ◌∷◌, ◌++◌, length, Option, Some, None, unwrap_or, Result}
 use Rattle.feed_note.specs.Batches.{batch_changes}
 use Rattle.feed_note.specs.Counts.{AreRead, StopsAt}
 use Rattle.feed_note.specs.declared.line.Line.{Line}
@@ -9,11 +9,20 @@ use Rattle.feed_node.specs.Limits.{Limits}
 use Rattle.feed_node.specs.Log.{new_primary, RefusesBatch}
 use Rattle.feed_node.specs.declared.primary.CommitFault.{CommitFault}
 use Rattle.feed_node.specs.declared.primary.CommitFault.TheVariants as commit
+use Rattle.feed_http.specs.Device.{HasFailed}
 use Rattle.feed_http.specs.Live.{Accepts, Intake}
+use Rattle.feed_http.specs.declared.fault.Served.{Served}
+use Rattle.feed_http.specs.declared.service.Service.{Service}
 use Rattle.feed_http.specs.declared.fault.EngineFault.TheVariants as engine
+use Rattle.feed_relay.specs.Dialing.{Links}
+use Rattle.feed_relay.specs.Serving.{ServesLiveNext, engine_turns}
 use Rattle.feed_relay.specs.declared.fault.NetworkFault.{NetworkFault}
 use Rattle.feed_relay.specs.declared.fault.NetworkFault.TheVariants as network
+use Rattle.feed_words.specs.declared.request.ServeOptions.{ServeOptions}
 use Rattle.feed_cli.specs.Check.{IsWhole, InputTooLong}
+use Rattle.feed_cli.specs.Fault.{goes_on}
+use Rattle.feed_cli.specs.InTurn.{InTurn}
+use Rattle.feed_cli.specs.Telling.{FailsAs}
 use Rattle.feed_cli.specs.declared.fault.Fault.{Fault}
 use Rattle.feed_cli.specs.declared.fault.Fault.TheVariants as fault
 use Rattle.feed_cli.specs.declared.fault.RemoteFault.TheVariants as remote
@@ -54,18 +63,6 @@ pub record TakesAndDrops (start : Intake) (why : CommitFault) (now : Intake) : T
   pub batches : start.batches ≡ taken ++ batch ∷ now.batches
   pub refused : RefusesBatch now.primary batch why
 
--- what was taken where a connection failed: one batch was refused at a commit's fault alone
-abbrev pub FailsTaking : NetworkFault → Intake → Intake → Type 0
-FailsTaking network.Accept start now = now ≡ start
-FailsTaking (network.Engine (engine.Commit why)) start now = TakesAndDrops start why now
-FailsTaking (network.Engine (engine.Follow why)) start now = ⊥
-FailsTaking (network.Engine engine.Memory) start now = Takes start now
-FailsTaking (network.Engine engine.Read) start now = now ≡ start
-FailsTaking (network.Engine engine.Turns) start now = now ≡ start
-FailsTaking (network.Engine engine.Write) start now = Takes start now
-FailsTaking network.Connect start now = ⊥
-FailsTaking network.Bind start now = ⊥
-
 -- what was taken where serving ended with this fault
 abbrev pub EndsTaking : Fault → Intake → Intake → Type 0
 EndsTaking fault.Memory start now = Takes start now ⊎ TakesAndDrops start commit.Memory now
@@ -74,6 +71,66 @@ EndsTaking (fault.Remote (remote.Network network.Accept)) start now = Takes star
 EndsTaking (fault.Remote (remote.Network (network.Engine (engine.Commit why)))) start now =
     TakesAndDrops start why now
 EndsTaking why start now = ⊥
+
+-- ---- what it does on connections
+
+-- how many batches are taken each time that a session is up to date
+abbrev pub turn_of : Option ℕ → ℕ
+turn_of turn = max (unwrap_or turn 1) 1
+
+-- how each connection is served
+abbrev pub serve_service : ServeOptions → Service
+serve_service options =
+    record {
+      contest = options.contest;
+      framing = options.framing;
+      back = options.back;
+      turns = engine_turns;
+    }
+
+-- a primary with its batches, and what followers connect to
+pub record Serving (A : Type 0) : Type 0 where
+  pub intake : Intake
+  pub listener : A
+
+abbrev pub serving : {A : Type 0} → Intake → A → Serving A
+serving intake listener = record { intake = intake; listener = listener }
+
+module _ {A R W : Type 0} (links : Links A R W) (turn : ℕ) (service : Service) where
+  -- one connection was accepted and served
+  abbrev pub ServesOne : Serving A → Result Served NetworkFault → Serving A → Type 0
+  ServesOne start served end =
+      ServesLiveNext links turn service start.intake start.listener served end.intake end.listener
+
+  -- and others can be served after it
+  abbrev pub ServesOn : Serving A → Result Served NetworkFault → Serving A → Type 0
+  ServesOn start served end = ServesOne start served end × (goes_on served ≡ true)
+
+  -- it was the last, for this fault
+  abbrev pub EndsServing : Serving A → Fault → Serving A → Type 0
+  EndsServing start why end =
+      (served : Result Served NetworkFault) × ServesOne start served end
+      × (goes_on served ≡ false) × FailsAs served why
+
+  -- so many connections were served, one after another
+  abbrev pub ServesAll : ℕ → Serving A → Serving A → Type 0
+  ServesAll count start end =
+      (all : List (Result Served NetworkFault)) × (length all ≡ count)
+      × InTurn ServesOn start all end
+
+  -- fewer connections were served, and then the last one
+  pub record StopsServing (count : ℕ) (start : Serving A) (why : Fault) (end : Serving A) : Type 0 where
+    pub served : ℕ
+    pub fewer : served < count
+    pub middle : Serving A
+    pub before : ServesAll served start middle
+    pub last : EndsServing middle why end
+
+  -- where the command fails: all connections were served, but a fault was not told; or it stopped
+  abbrev pub ServingFails : ℕ → Fault → Serving A → Serving A → ℕ → ℕ → Type 0
+  ServingFails count why start end untold_old untold_new =
+      ((why ≡ fault.Write) × ServesAll count start end × HasFailed untold_old untold_new)
+      ⊎ StopsServing count start why end
 
 -- ---- where it can't start
 

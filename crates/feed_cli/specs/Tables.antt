@@ -9,6 +9,7 @@ use Rattle.feed_node.specs.States.{nothing_published}
 use Rattle.feed_node.specs.Mirroring.{MirrorState, StandsAt}
 use Rattle.feed_node.specs.Reading.{Opening, Reads, FaultsAt, reads}
 use Rattle.feed_http.specs.Device.{AppendsPrefix}
+use Rattle.feed_relay.specs.Serving.{engine_turns}
 use Rattle.feed_cli.specs.Streams.{Streams}
 use Rattle.feed_cli.specs.declared.fault.Fault.{Fault}
 use Rattle.feed_cli.specs.declared.fault.FeedStop.{FeedStop}
@@ -17,10 +18,6 @@ use Rattle.feed_cli.specs.declared.fault.Fault.TheVariants as fault
 -- a first connection: nothing is published, and it asks for everything
 abbrev pub first_opening : Opening
 first_opening = record { before = nothing_published; fresh = true }
-
--- the most reads that the input is given
-abbrev pub input_turns : ℕ
-input_turns = 1000000
 
 -- At least so many bytes were read. But for those behind, they were fed to a mirror on its first
 -- connection, and nothing is wrong with them.
@@ -46,7 +43,7 @@ pub record HasRead (limits : Limits) (old new : Option (List ℕ)) (shown : Opti
 pub record HasReadOn (limits : Limits) (old new : Option (List ℕ)) (shown : Option Published)
     : Type 0 where
   pub whole : HasRead limits old new shown
-  pub many : input_turns ≤ length whole.bytes
+  pub many : engine_turns ≤ length whole.bytes
 
 -- all that was read was fed; or, where the fault's line is told, what was read up to that line
 abbrev pub IsLeft : Option ℕ → List ℕ → Type 0

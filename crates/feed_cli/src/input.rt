@@ -4,6 +4,7 @@ ghost use Rattle.std.specs.Io.KnownBytes.{IsAtEnd};
 ghost use Rattle.feed_http.specs.Device.{HasFailed, Moved, MovedSome};
 
 use feed_http::device::{Failed, FeedRead};
+use feed_http::head_reading::READ_BYTES;
 
 /// Why input was not read whole.
 #[derive(Clone, Copy, Debug, PartialEq, Eq)]
@@ -19,16 +20,13 @@ pub enum InputFault {
 /// The most bytes of an input that is read whole.
 pub const INPUT_BYTES: usize = 67_108_864;
 
-/// The most bytes that are read at once.
-pub const PIECE: usize = 4096;
-
 /// Makes one read of at most 4,096 bytes, adds what it gave, and answers how much that was: none at
 /// the end alone.
 fn read_piece<R: FeedRead>(reader: &mut R, bytes: &mut Vec<u8>) -> Result<usize, InputFault>
     ensures given { OnOk result (Moved (R.remaining reader.old) (R.remaining reader.new)
         bytes.old.items bytes.new.items) }
     ensures grown { IfOk result (λ n. vec_len bytes.new ≡ vec_len bytes.old + n) }
-    ensures piece { IfOk result (λ n. n ≤ PIECE) }
+    ensures piece { IfOk result (λ n. n ≤ READ_BYTES) }
     ensures end { IfOk result (λ n. n ≡ 0 → IsAtEnd (R.remaining reader.new)) }
     ensures lost { OnErr result (MovedSome (R.remaining reader.old) (R.remaining reader.new)
         bytes.old.items bytes.new.items) }
@@ -37,7 +35,7 @@ fn read_piece<R: FeedRead>(reader: &mut R, bytes: &mut Vec<u8>) -> Result<usize,
     ensures not_long { ¬ (IsErrOf result InputFault.TooLong) }
     ensures quiet { OnOk result (R.failures reader.new ≡ R.failures reader.old) }
 {
-    let mut piece = [0u8; PIECE];
+    let mut piece = [0u8; READ_BYTES];
     match reader.read_some(&mut piece) {
         Ok(count) => match bytes.extend_from_slice(&piece[..count]) {
             Ok(()) => Ok(count),

@@ -4,22 +4,20 @@
 mod commands;
 mod fault;
 mod input;
-mod listen;
 mod printing;
 mod snapshot;
 mod telling;
 
-pub use commands::pull::{Servers, print_pulled, pull_outcome, servers_of, start_mirror};
+pub use commands::pull::{Caller, print_pulled, pull_outcome, servers_of, start_mirror};
 pub use commands::relay::print_relayed;
 pub use commands::serve::{Source, serve_all, start_source};
 pub use commands::{answer_words, perform, run};
 pub use fault::{Fault, FeedStop, RemoteFault};
 pub use feed_http::{device, memory, stream};
 pub use feed_play::{PlayCause, PlayFault, play};
-pub use feed_relay::{Dial, NetworkFault};
+pub use feed_relay::{Accept, Dial, NetworkFault, Server};
 pub use feed_words::{
     AddressFault, LiveOptions, Local, NoCommand, PROGRAM, PullOptions, RelayOptions, Request,
     ServeOptions, TablesOptions, UpstreamOptions, VERSION, Verbosity, addresses, parse_words,
 };
-pub use listen::Listen;
 pub use telling::tell;

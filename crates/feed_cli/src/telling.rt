@@ -1,121 +1,146 @@
 //! What is told of faults.
-ghost use Rattle.std.specs.Prelude.{◌≡◌, IfErr};
-ghost use Rattle.feed_cli.specs.Fault.{IsToldStatus};
+ghost use Rattle.std.specs.Prelude.{◌≡◌, true, false, IfErr, OnOk, OnErr};
+ghost use Rattle.feed_http.specs.Device.{counted};
+ghost use Rattle.feed_cli.specs.Fault.{IsToldStatus, goes_on};
+ghost use Rattle.feed_cli.specs.Telling.{HasTold, FailsAs};
 
 use crate::commands::pull::attempt_outcome;
 use crate::fault::{Fault, FeedStop};
-use feed_http::device::{FeedWrite, write_all};
-use feed_relay::Attempt;
-use std::fmt;
+use arrayvec::ArrayString;
+use feed_http::Served;
+use feed_http::device::{Failed, FeedWrite, write_all};
+use feed_relay::{Attempt, NetworkFault};
 use std::fmt::Write;
 
-/// A device that text is printed to.
-#[derive(Drop)]
-struct Printer<'a, W> {
-    device: &'a mut W,
-}
+/// The most bytes of what is told of one fault. The longest text has less than half as many.
+const ROOM: usize = 512;
 
-impl<W: FeedWrite> Write for Printer<'_, W> {
-    ghost use Rattle.std.specs.Io.KnownBytes.{Appends};
-
-    ghost write_str_gives = { λ p text q.
-        Appends (W.contents p.device.now) (W.contents q.device.now) text };
-
-    fn write_str(&mut self, text: &str) -> fmt::Result {
-        match write_all(self.device, text.as_bytes()) {
-            Ok(()) => Ok(()),
-            Err(_) => Err(fmt::Error),
-        }
+/// What is told of a fault: its text, and on a second line where in the feed it is, where that was
+/// asked for.
+fn text_of(name: &str, fault: Fault) -> ArrayString<ROOM> {
+    let mut text = ArrayString::new();
+    let _ = write!(text, "{name}: {fault}\n");
+    if let Fault::Feed(
+        FeedStop {
+            line: Some(line),
+            ..
+        },
+    ) = fault
+    {
+        let _ = write!(text, "{name}: line {line}\n");
     }
+    text
 }
 
-/// Prints a text to a device.
-pub(crate) fn print<W: FeedWrite, T: fmt::Display + Drop>(
-    device: &mut W,
-    text: T,
-) -> Result<(), Fault>
-    ensures { IfErr result (λ fault. fault ≡ Fault.Write) }
+/// Prints a fault of the command of this name.
+fn print_fault<E: FeedWrite>(name: &str, fault: Fault, err: &mut E) -> Result<(), Failed>
+    ensures quiet { OnOk result (E.failures err.new ≡ E.failures err.old) }
+    ensures once { OnErr result (E.failures err.new ≡ counted (E.failures err.old) 1) }
 {
-    match (Printer { device }).write(text) {
-        Ok(()) => Ok(()),
-        Err(_) => Err(Fault::Write),
-    }
+    let text = text_of(name, fault);
+    write_all(err, text.as_bytes())
 }
 
-/// Prints a fault, and on a second line where in the feed it is, where that was asked for.
-fn print_fault<E: FeedWrite>(name: &str, fault: Fault, err: &mut E) -> Result<(), Fault>
-    ensures { IfErr result (λ failed. failed ≡ Fault.Write) }
-{
-    print(err, format_args!("{name}: {fault}\n"))?;
-    match fault {
-        Fault::Feed(
-            FeedStop {
-                line: Some(line),
-                ..
-            },
-        ) => print(err, format_args!("{name}: line {line}\n")),
-        _ => Ok(()),
-    }
-}
-
-/// Tells a fault of the command of this name, and answers the status of the program. Where it can't be told, a device has failed
-/// too.
+/// Tells a fault of the command of this name, and answers the status of the program. Where it can't
+/// be told, a device has failed too.
 pub fn tell<E: FeedWrite>(name: &str, fault: Fault, err: &mut E) -> u8
-    ensures { IsToldStatus fault result }
+    ensures { IsToldStatus fault (E.failures err.old) (E.failures err.new) result }
 {
     match print_fault(name, fault, err) {
         Ok(()) => fault.status(),
-        Err(failed) => fault.status().max(failed.status()),
+        Err(Failed) => fault.status().max(Fault::Write.status()),
     }
 }
 
 /// What tells the faults that don't end a command.
 #[derive(Drop)]
-pub(crate) struct Teller<'a, E> {
+pub(crate) struct Teller {
     name: &'static str,
-    err: &'a mut E,
-    failed: bool,
+    has_failed: bool,
 }
 
-impl<'a, E: FeedWrite> Teller<'a, E> {
+impl Teller {
     /// Nothing was told yet by the command of this name.
-    pub(crate) fn new(name: &'static str, err: &'a mut E) -> Teller<'a, E> {
+    pub(crate) fn new(name: &'static str) -> Teller
+        ensures { result.has_failed ≡ false }
+    {
         Teller {
             name,
-            err,
-            failed: false,
+            has_failed: false,
         }
     }
 
     /// Tells a fault. Where it can't be told, the command goes on all the same.
-    pub(crate) fn tell(&mut self, fault: Fault) {
-        if print_fault(self.name, fault, self.err).is_err() {
-            self.failed = true;
+    pub(crate) fn tell<E: FeedWrite>(&mut self, fault: Fault, err: &mut E)
+        ensures { HasTold (E.failures err.old) (E.failures err.new)
+            self.old.has_failed self.new.has_failed }
+    {
+        if print_fault(self.name, fault, err).is_err() {
+            self.has_failed = true;
+        }
+    }
+
+    /// Tells the fault that this came to, where there is one.
+    pub(crate) fn tell_outcome<E: FeedWrite>(&mut self, outcome: Result<(), Fault>, err: &mut E)
+        ensures { HasTold (E.failures err.old) (E.failures err.new)
+            self.old.has_failed self.new.has_failed }
+    {
+        if let Err(fault) = outcome {
+            self.tell(fault, err);
         }
     }
 
     /// Tells why these attempts failed.
-    pub(crate) fn tell_attempts(&mut self, attempts: &[Attempt]) {
-        for attempt in attempts {
-            if let Err(fault) = attempt_outcome(attempt.outcome) {
-                self.tell(fault);
-            }
+    pub(crate) fn tell_attempts<E: FeedWrite>(&mut self, attempts: &[Attempt], err: &mut E)
+        ensures { HasTold (E.failures err.old) (E.failures err.new)
+            self.old.has_failed self.new.has_failed }
+    {
+        'attempts: for attempt in attempts {
+            self.tell_outcome(attempt_outcome(attempt.outcome), err);
         }
     }
 
     /// The same of all but the last one.
-    pub(crate) fn tell_earlier(&mut self, attempts: &[Attempt]) {
+    pub(crate) fn tell_earlier<E: FeedWrite>(&mut self, attempts: &[Attempt], err: &mut E)
+        ensures { HasTold (E.failures err.old) (E.failures err.new)
+            self.old.has_failed self.new.has_failed }
+    {
         if let Some((_, earlier)) = attempts.split_last() {
-            self.tell_attempts(earlier);
+            self.tell_attempts(earlier, err);
         }
+    }
+
+    /// What a connection came to: its fault is told where others can be served after it, and is the
+    /// command's else.
+    pub(crate) fn end_connection<E: FeedWrite>(
+        &mut self,
+        served: Result<Served, NetworkFault>,
+        err: &mut E,
+    ) -> Result<(), Fault>
+        ensures on { OnOk result (goes_on served ≡ true) }
+        ensures ends { IfErr result (λ why. (goes_on served ≡ false) × FailsAs served why) }
+        ensures told { HasTold (E.failures err.old) (E.failures err.new)
+            self.old.has_failed self.new.has_failed }
+    {
+        let Err(fault) = served else {
+            return Ok(());
+        };
+        let fault = Fault::of_network(fault);
+        if !fault.is_of_a_connection() {
+            return Err(fault);
+        }
+        self.tell(fault, err);
+        Ok(())
     }
 
     /// What the command comes to that has gone on to its end: a device's fault where something could
     /// not be told.
     pub(crate) fn outcome(&self) -> Result<(), Fault>
-        ensures { IfErr result (λ failed. failed ≡ Fault.Write) }
+        ensures ok { OnOk result (self.now.has_failed ≡ false) }
+        ensures err { IfErr result
+            (λ why. (why ≡ Fault.Write) × (self.now.has_failed ≡ true)) }
     {
-        if self.failed {
+        if self.has_failed {
             Err(Fault::Write)
         } else {
             Ok(())

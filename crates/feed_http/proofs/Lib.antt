@@ -1,6 +1,7 @@
 pub mod DeviceLemmas
 pub mod FollowingLemmas
 pub mod LiveLemmas
+pub mod LostLemmas
 pub mod OpenedLemmas
 pub mod RestLemmas
 pub mod ServedLemmas

@@ -1,6 +1,6 @@
 -- A session is opened at status 200, and at no other.
 use Rattle.std.proofs.Common.{arith, ◌≡◌, ◌≢◌, refl, sym, ◌∙◌, subst, ℕ, Bool, true, false, List, [], ◌∷◌}
-use Rattle.std.specs.Prelude.{Option, Some, None, Result, Ok, Err, Vec, IfOk}
+use Rattle.std.specs.Prelude.{Option, Some, None, Result, Ok, Err, Vec, IfOk, IfSome}
 use Rattle.std.specs.Io.KnownBytes.{Appends}
 use Rattle.feed_tables.specs.declared.change.Change.{Change}
 use Rattle.feed_node.specs.declared.commit.Commit.{Commit}
@@ -14,8 +14,9 @@ use Rattle.feed_answer.specs.Asked.{Asked, refused, feed, framing_for}
 use Rattle.feed_answer.specs.Opening.{Started, opens}
 use Rattle.feed_http.specs.declared.fault.EngineFault.{EngineFault}
 use Rattle.feed_http.specs.declared.fault.Served.{Served}
+use Rattle.feed_http.specs.declared.service.Service.{Service}
 use Rattle.feed_http.specs.Exchange.{Exchange}
-use Rattle.feed_http.specs.Live.{Intake, IsOver, IsLongTurn, HasAnswer, SendsLiveTo, SendsLive, ServedLive, TakesAll}
+use Rattle.feed_http.specs.Live.{Intake, IsOver, IsLongTurn, LosesItsToken, HasAnswer, SendsLiveTo, SendsLive, ServedLive, TakesAll}
 
 -- with this status a session was opened, or none was
 abbrev pub OpenedAt : ℕ → Option (List ℕ) → Type 0
@@ -57,11 +58,23 @@ stays : (turn : ℕ) (start now : Intake) (status : ℕ) (o : Option (List ℕ))
 stays turn start now status None sent gone none (_, _, same) other = same
 stays turn start now status (Some opened) sent gone there sends other = absurd (other there)
 
+-- a session that is opened loses its token, where another one would
+loses : (turn : ℕ) (start : Intake) (status : ℕ) (o : Option (List ℕ)) (gone : Bool)
+    → OpenedAt status o → IfSome o (λ _. LosesItsToken turn start gone) → status ≡ 200
+    → LosesItsToken turn start gone
+loses turn start status None gone none lost is = absurd (none is)
+loses turn start status (Some opened) gone there lost is = lost
+
 -- at this end of a connection
 pub takes_all : (turn : ℕ) (start now : Intake) (answer : AnswerParts) (text : List ℕ)
     (served : Served) → OpenedAt answer.status answer.session
-    → SendsLive turn start answer text served now → TakesAll start served now
-takes_all turn start now answer text served opened sends = record {
+    → SendsLive turn start answer text served now → (served.gone ≡ true → IsLongTurn turn start)
+    → IfSome answer.session (λ _. LosesItsToken turn start served.gone)
+    → TakesAll turn start served now
+takes_all turn start now answer text served opened sends long lost = record {
+  only_long = long;
+  each_long = λ is. loses turn start answer.status answer.session served.gone opened lost
+      (sym sends.tells.status ∙ is);
   all_taken = λ is kept. ends_empty turn start now answer.status answer.session sends.sent
       sends.gone opened sends.sends (sym sends.tells.status ∙ is) (sym sends.tells.gone_is ∙ kept);
   none_taken = λ other. stays turn start now answer.status answer.session sends.sent sends.gone
@@ -69,18 +82,21 @@ takes_all turn start now answer text served opened sends = record {
 }
 
 -- a connection that came to its end, and what that says of the batches
-pub was_live : (turn : ℕ) (contest : List ℕ) (framing : Framing) (back turns : ℕ)
-    (spoken : Exchange) (start now : Intake) (answer : AnswerParts)
-    → HasAnswer contest start.primary.node framing back spoken.source spoken.left answer
+pub was_live : (turn : ℕ) (service : Service) (spoken : Exchange) (start now : Intake)
+    (answer : AnswerParts)
+    → HasAnswer service.contest.now start.primary.node service.framing service.back spoken.source
+    spoken.left answer
     → (r : Result Served EngineFault)
     → IfOk r (λ served. (text : List ℕ) × SendsLive turn start answer text served now
     × Appends spoken.written_old spoken.written_new text)
     → IfOk r (λ served. served.gone ≡ true → IsLongTurn turn start)
-    → IfOk r (λ served. ServedLive turn contest framing back turns spoken start (Ok served) now)
-was_live turn contest framing back turns spoken start now answer has (Err why) sent long = tt
-was_live turn contest framing back turns spoken start now answer has (Ok served) (text, sends, wrote) long = (
+    → IfSome answer.session (λ _. IfOk r (λ served. LosesItsToken turn start served.gone))
+    → IfOk r (λ served. ServedLive turn service.contest.now service.framing service.back
+    service.turns spoken start (Ok served) now)
+was_live turn service spoken start now answer has (Err why) sent long lost = tt
+was_live turn service spoken start now answer has (Ok served) (text, sends, wrote) long lost = (
   (answer, text, has, sends, wrote),
-  long,
   takes_all turn start now answer text served
-      (opened_at has.head contest start.primary.node framing back answer has.answers) sends,
+      (opened_at has.head service.contest.now start.primary.node service.framing service.back
+      answer has.answers) sends long lost,
 )

@@ -1,10 +1,10 @@
 -- What a primary that takes batches sends and writes on one connection.
-use Rattle.std.specs.Prelude.{◌≡◌, ◌≢◌, ◌⊎◌, ◌<◌, ℕ, Bool, true, false, List, [], ◌∷◌, ◌++◌, length, map, take, drop, Option, Some, None, Result, Ok, Err, Vec}
+use Rattle.std.specs.Prelude.{◌≡◌, ◌≢◌, ◌⊎◌, ◌<◌, ◌≤◌, ℕ, Bool, true, false, List, [], ◌∷◌, ◌++◌, length, map, take, drop, Option, Some, None, Result, Ok, Err, Vec}
 use Rattle.std.specs.Io.KnownBytes.{Appends, Consumes, IsAtEnd}
 use Rattle.feed_tables.specs.declared.change.Change.{Change}
 use Rattle.feed_node.specs.declared.commit.Commit.{Commit}
 use Rattle.feed_node.specs.declared.primary.CommitFault.{CommitFault}
-use Rattle.feed_node.specs.Log.{PrimaryState, commits, commit_fault, RefusesBatch}
+use Rattle.feed_node.specs.Log.{PrimaryState, commits, commit_fault, RefusesBatch, last_count}
 use Rattle.feed_node.specs.States.{NodeState}
 use Rattle.feed_answer.specs.declared.framing.Framing.{Framing}
 use Rattle.feed_answer.specs.Answered.{AnswerParts, AnswersTo}
@@ -13,6 +13,7 @@ use Rattle.feed_answer.specs.Served.{farewell}
 use Rattle.feed_http.specs.declared.fault.EngineFault.{EngineFault}
 use Rattle.feed_http.specs.declared.fault.EngineFault.TheVariants as fault
 use Rattle.feed_http.specs.declared.fault.Served.{Served}
+use Rattle.feed_http.specs.declared.service.Service.{Service}
 use Rattle.feed_http.specs.Device.{AppendsPrefix, HasFailed, RoseBy, RoseAtMost}
 use Rattle.feed_http.specs.Exchange.{Exchange}
 use Rattle.feed_http.specs.HeadReading.{IsReadAsNeeded, IsEnough}
@@ -54,6 +55,11 @@ pub record RefusesInTurn (turn : ℕ) (before : Intake) (fault : CommitFault) (n
 abbrev pub IsLongTurn : ℕ → Intake → Type 0
 IsLongTurn turn start =
     (start.primary.limits.history < turn) × (start.primary.limits.history < length start.batches)
+
+-- A long turn loses the token of a session: a primary has a token for each count that it can reach.
+abbrev pub LosesItsToken : ℕ → Intake → Bool → Type 0
+LosesItsToken turn start gone =
+    start.primary.count ≤ last_count → IsLongTurn turn start → gone ≡ true
 
 -- ---- what is sent
 
@@ -144,9 +150,11 @@ pub record HasAnswer (contest : List ℕ) (node : NodeState) (framing : Framing)
   pub enough : IsEnough head ⊎ IsAtEnd left
   pub answers : AnswersTo head contest node framing back answer
 
--- which batches are left after a connection: after a 200 none, unless the session's token was lost;
--- without one all of them
-pub record TakesAll (start : Intake) (served : Served) (now : Intake) : Type 0 where
+-- what came of the session's token and of the batches: after a 200 the token was lost exactly where
+-- a turn was long, and else no batch is left; without a 200 all of them are
+pub record TakesAll (turn : ℕ) (start : Intake) (served : Served) (now : Intake) : Type 0 where
+  pub only_long : served.gone ≡ true → IsLongTurn turn start
+  pub each_long : served.status ≡ 200 → LosesItsToken turn start served.gone
   pub all_taken : served.status ≡ 200 → served.gone ≡ false → now.batches ≡ []
   pub none_taken : served.status ≢ 200 → now ≡ start
 
@@ -158,8 +166,7 @@ ServedLive turn contest framing back turns spoken start (Ok served) now =
     × HasAnswer contest start.primary.node framing back spoken.source spoken.left answer
     × SendsLive turn start answer text served now
     × Appends spoken.written_old spoken.written_new text)
-    × (served.gone ≡ true → IsLongTurn turn start)
-    × TakesAll start served now
+    × TakesAll turn start served now
 ServedLive turn contest framing back turns spoken start (Err fault.Read) now =
     BrokeInHead spoken.source spoken.left spoken.written_old spoken.written_new
     × (now ≡ start)
@@ -184,10 +191,9 @@ ServedLive turn contest framing back turns spoken start (Err fault.Memory) now =
     × WroteLive turn start answer now spoken.written_old spoken.written_new)
 ServedLive turn contest framing back turns spoken start (Err (fault.Follow why)) now = ⊥
 
--- a primary was served on a connection, in at most so many reads (`turns`) of the head of a request,
--- and took batches in turns
-pub record ServesLive (turn : ℕ) (contest : List ℕ) (framing : Framing) (back turns : ℕ)
-    (spoken : Exchange) (start : Intake) (served : Result Served EngineFault) (now : Intake)
-    : Type 0 where
-  pub came : ServedLive turn contest framing back turns spoken start served now
-  pub reads : RoseAtMost spoken.reads_old spoken.reads_new turns
+-- a primary was served on a connection, and took batches in turns
+pub record ServesLive (turn : ℕ) (service : Service) (spoken : Exchange) (start : Intake)
+    (served : Result Served EngineFault) (now : Intake) : Type 0 where
+  pub came : ServedLive turn service.contest.now service.framing service.back service.turns spoken
+      start served now
+  pub reads : RoseAtMost spoken.reads_old spoken.reads_new service.turns

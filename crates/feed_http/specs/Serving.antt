@@ -9,6 +9,7 @@ use Rattle.feed_http.specs.Sessions.{Nothing_new, Lost, Commit_after, next}
 use Rattle.feed_http.specs.declared.fault.EngineFault.{EngineFault}
 use Rattle.feed_http.specs.declared.fault.EngineFault.TheVariants as fault
 use Rattle.feed_http.specs.declared.fault.Served.{Served}
+use Rattle.feed_http.specs.declared.service.Service.{Service}
 use Rattle.feed_answer.specs.declared.framing.Framing.{Framing}
 use Rattle.feed_answer.specs.Answered.{AnswerParts, AnswersTo}
 use Rattle.feed_http.specs.Device.{counted, AppendsPrefix, HasFailed, RoseBy, RoseAtMost}
@@ -123,9 +124,9 @@ ServedSo contest node framing back turns spoken (Err fault.Memory) =
 ServedSo contest node framing back turns spoken (Err (fault.Commit why)) = ⊥
 ServedSo contest node framing back turns spoken (Err (fault.Follow why)) = ⊥
 
--- a node was served on a connection, in at most so many reads (`turns`) of the head of a request;
--- a session begins so many tokens (`back`) before the one that is asked with
-pub record ServesOnce (contest : List ℕ) (node : NodeState) (framing : Framing) (back turns : ℕ)
-    (spoken : Exchange) (served : Result Served EngineFault) : Type 0 where
-  pub came : ServedSo contest node framing back turns spoken served
-  pub reads : RoseAtMost spoken.reads_old spoken.reads_new turns
+-- a node was served on a connection
+pub record ServesOnce (service : Service) (node : NodeState) (spoken : Exchange)
+    (served : Result Served EngineFault) : Type 0 where
+  pub came : ServedSo service.contest.now node service.framing service.back service.turns spoken
+      served
+  pub reads : RoseAtMost spoken.reads_old spoken.reads_new service.turns

@@ -8,34 +8,41 @@ ghost use Rattle.feed_answer.specs.RequestText as texts;
 use crate::device::FeedWrite;
 use crate::fault::EngineFault;
 use crate::serving::write_bytes;
-use feed_answer::{Place, request_text};
+use feed_answer::{Identity, Place, request_text_as};
 use feed_node::Mirror;
 use std::alloc::{AllocError, Global};
 
-/// Writes the request to a place for what a mirror lacks: what came after its token, or all. Where
-/// it fails, a prefix of the request was written.
+/// Writes the request to a place for what a mirror lacks: what came after its token, or all; and as
+/// whom it asks. Where it fails, a prefix of the request was written.
 pub fn ask<W: FeedWrite>(
     alloc: Global,
     writer: &mut W,
     place: &Place,
+    identity: &Identity,
     mirror: &Mirror,
 ) -> Result<(), EngineFault>
     ensures ok { OnOk result (Appends (W.contents writer.old) (W.contents writer.new)
-        (texts.request_text place.now mirror.now.since)) }
+        (texts.request_text_as place.now mirror.now.since identity.now)) }
     ensures prefix { OnErr result (AppendsPrefix (W.contents writer.old) (W.contents writer.new)
-        (texts.request_text place.now mirror.now.since)) }
+        (texts.request_text_as place.now mirror.now.since identity.now)) }
     ensures faults { IfErr result (λ fault. (fault ≡ Fault.Write) ⊎ (fault ≡ Fault.Memory)) }
     ensures write { IsErrOf result Fault.Write → HasFailed (W.failures writer.old)
         (W.failures writer.new) }
 {
-    let text = request_for(alloc, place, mirror)?;
+    let text = request_for(alloc, place, identity, mirror)?;
     write_bytes(writer, text.as_slice())
 }
 
-fn request_for(alloc: Global, place: &Place, mirror: &Mirror) -> Result<Vec<u8>, AllocError>
-    ensures { IfOk result (λ text. text.items ≡ texts.request_text place.now mirror.now.since) }
+fn request_for(
+    alloc: Global,
+    place: &Place,
+    identity: &Identity,
+    mirror: &Mirror,
+) -> Result<Vec<u8>, AllocError>
+    ensures { IfOk result (λ text. text.items
+        ≡ texts.request_text_as place.now mirror.now.since identity.now) }
 {
     let mut text = Vec::new(alloc);
-    request_text(place, mirror.since(), &mut text)?;
+    request_text_as(place, mirror.since(), identity, &mut text)?;
     Ok(text)
 }

@@ -10,7 +10,7 @@ use crate::fault::EngineFault;
 use feed_answer::{HEAD_BYTES, HeadRead, look_at_request};
 
 /// The most bytes of one read.
-pub(crate) const READ_BYTES: usize = 4096;
+pub const READ_BYTES: usize = 4096;
 
 /// How many bytes the next read of a request's head may ask for at most, after so many bytes of it:
 /// 1 to 4,096, not past the most that a head may have, and one byte from there on.

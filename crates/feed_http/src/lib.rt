@@ -9,6 +9,7 @@ pub mod head_reading;
 mod laws;
 mod live;
 pub mod memory;
+mod service;
 mod serving;
 mod sessions;
 pub mod stream;
@@ -17,12 +18,13 @@ pub use asking::ask;
 pub use device::{FeedRead, FeedWrite};
 pub use fault::{EngineFault, Followed, Served};
 pub use feed_answer::{
-    Answered, Framing, HEAD_BYTES, HEAD_FIELDS, HEAD_LINES, Place, PlaceFault, answer, answer_laws,
-    frame, frame_end, request_text,
+    Answered, Framing, HEAD_BYTES, HEAD_FIELDS, HEAD_LINES, Identity, IdentityFault, Place,
+    PlaceFault, answer, answer_laws, frame, frame_end, request_text, request_text_as,
 };
 pub use feed_follow::{FollowFault, Follower, Progress};
 pub use following::follow;
 pub use laws::http_laws;
 pub use live::serve_live;
 pub use memory::{MemReader, MemWriter};
+pub use service::Service;
 pub use serving::serve_node;

@@ -8,12 +8,13 @@ ghost use Rattle.feed_http.specs.declared.fault.EngineFault.{EngineFault as Faul
 ghost use Rattle.feed_http.specs.Device.{HasFailed, counted};
 ghost use Rattle.feed_http.specs.Exchange.{devices_of, exchange};
 ghost use Rattle.feed_http.specs.Serving.{commit_frames};
-ghost use Rattle.feed_http.specs.Live.{intake_of, HasSent, IsOver, SendsLive, TakesTurn, RefusesInTurn, IsLongTurn, IsCutShort, IsRefused, WroteLive, WroteRefused, ServesLive};
+ghost use Rattle.feed_http.specs.Live.{intake_of, HasSent, IsOver, SendsLive, TakesTurn, RefusesInTurn, IsLongTurn, LosesItsToken, IsCutShort, IsRefused, WroteLive, WroteRefused, ServesLive};
 ghost use Rattle.feed_http.specs.Taking.{IsHeld};
 
 use crate::device::{FeedRead, FeedWrite};
 use crate::fault::{EngineFault, Served};
 use crate::head_reading::read_head;
+use crate::service::Service;
 use crate::serving::{send_commits, send_farewell, write_bytes};
 use feed_answer::{Answered, Framing, answer};
 use feed_node::{CommitFault, Primary, Session};
@@ -67,6 +68,8 @@ fn send_live<W: FeedWrite>(
     ensures gone { IfOk result (λ told. told.1 ≡ true →
         IsHeld primary.old.node session.old →
         IsLongTurn turn (intake_of primary.old input.old.items)) }
+    ensures lost { IfOk result (λ told. LosesItsToken turn
+        (intake_of primary.old input.old.items) told.1) }
     ensures part { IfErr result (λ fault. ((why : Why) → fault ≢ Fault.Commit why) →
         (text : List ℕ) × IsCutShort turn (intake_of primary.old input.old.items) session.old
         framing (intake_of primary.new input.new.items) text
@@ -114,6 +117,8 @@ fn send_live_answer<W: FeedWrite>(
     ensures gone { IfSome answered.session (λ token. IsHeld primary.old.node token) →
         IfOk result (λ served. served.gone ≡ true →
         IsLongTurn turn (intake_of primary.old input.old.items)) }
+    ensures lost { IfSome answered.session (λ _. IfOk result (λ served. LosesItsToken turn
+        (intake_of primary.old input.old.items) served.gone)) }
     ensures part { IfErr result (λ fault. ((why : Why) → fault ≢ Fault.Commit why) →
         WroteLive turn (intake_of primary.old input.old.items)
         (parts_of answered.status answered.framing answered.bytes.items answered.session)
@@ -155,10 +160,10 @@ fn send_live_answer<W: FeedWrite>(
 /// Serves a connection as [`serve_node`](crate::serve_node) does, from a primary that takes
 /// batches meanwhile: each time that the session is up to date and `input` isn't empty, `turn`
 /// batches from its start, or all that remain, are committed, one after another, and sending goes
-/// on. Without a 200 none is taken. Where a turn has more batches than the primary keeps commits,
-/// the session's token is lost: its frames aren't sent, and the body ends without a line feed. A
-/// refused batch is taken from `input` and ends the call. What was written, what is published and
-/// what is left of `input` always belong together.
+/// on. Without a 200 none is taken. Exactly where a turn has more batches than the primary keeps
+/// commits, and so many wait, the session's token is lost: its frames aren't sent, and the body ends
+/// without a line feed. A refused batch is taken from `input` and ends the call. What was written,
+/// what is published and what is left of `input` always belong together.
 pub fn serve_live<R: FeedRead, W: FeedWrite>(
     alloc: Global,
     reader: &mut R,
@@ -166,27 +171,24 @@ pub fn serve_live<R: FeedRead, W: FeedWrite>(
     primary: &mut Primary,
     input: &mut VecDeque<Vec<Change>>,
     turn: usize,
-    contest: &str,
-    framing: Framing,
-    turns: u64,
-    back: usize,
+    service: &Service<'_>,
 ) -> Result<Served, EngineFault>
     requires { 1 ≤ turn }
     ensures { let devices = devices_of R.remaining R.reads R.failures W.contents W.failures in
-        ServesLive turn contest.now framing back turns
+        ServesLive turn service.now
         (exchange devices reader.old reader.new writer.old writer.new)
         (intake_of primary.old input.old.items) result
         (intake_of primary.new input.new.items) }
 {
-    let mut head = Vec::new(alloc);
-    read_head(reader, &mut head, turns)?;
-    let answered = answer(
-        alloc,
-        head.as_slice(),
-        primary.node(),
+    let Service {
         contest,
         framing,
         back,
-    )?;
+        turns,
+    } = *service;
+    let mut head = Vec::new(alloc);
+    read_head(reader, &mut head, turns)?;
+    let node = primary.node();
+    let answered = answer(alloc, head.as_slice(), node, contest, framing, back)?;
     send_live_answer(alloc, writer, primary, input, turn, answered)
 }

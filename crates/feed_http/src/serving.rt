@@ -15,6 +15,7 @@ ghost use Rattle.feed_http.specs.Sending.{Sent, WroteCommits, WroteSome, WroteAn
 use crate::device::{Failed, FeedRead, FeedWrite, write_all};
 use crate::fault::{EngineFault, Served};
 use crate::head_reading::read_head;
+use crate::service::Service;
 use crate::sessions::pull_next;
 use feed_answer::{Answered, Framing, answer, frame, frame_end};
 use feed_node::{Node, Pulled, Session};
@@ -202,26 +203,28 @@ fn send_answer<W: FeedWrite>(
     })
 }
 
-/// Reads a request in at most so many reads (`turns`), answers it from a node, and sends what the
-/// node has: at status 200 a frame for each commit after the session's token, a line feed in a
-/// frame unless the node lost the token, and the end of the body. It reads no further than the
-/// head takes. With a token the session begins so many tokens (`back`) before it, or at the oldest
-/// one that is held. Where a read fails or is one too many, the head was still needed and nothing
-/// was written; where a write fails, a prefix of the text was.
+/// Reads a request, answers it from a node as the service says, and sends what the node has: at
+/// status 200 a frame for each commit after the session's token, a line feed in a frame unless the
+/// node lost the token, and the end of the body. It reads no further than the head takes. Where a
+/// read fails or is one too many, the head was still needed and nothing was written; where a write
+/// fails, a prefix of the text was.
 pub fn serve_node<R: FeedRead, W: FeedWrite>(
     alloc: Global,
     reader: &mut R,
     writer: &mut W,
     node: &Node,
-    contest: &str,
-    framing: Framing,
-    turns: u64,
-    back: usize,
+    service: &Service<'_>,
 ) -> Result<Served, EngineFault>
     ensures { let devices = devices_of R.remaining R.reads R.failures W.contents W.failures in
-        ServesOnce contest.now node.now.shown framing back turns
+        ServesOnce service.now node.now.shown
         (exchange devices reader.old reader.new writer.old writer.new) result }
 {
+    let Service {
+        contest,
+        framing,
+        back,
+        turns,
+    } = *service;
     let mut head = Vec::new(alloc);
     read_head(reader, &mut head, turns)?;
     let answered = answer(alloc, head.as_slice(), node, contest, framing, back)?;

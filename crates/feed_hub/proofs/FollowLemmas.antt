@@ -4,6 +4,7 @@ use Rattle.std.specs.Prelude.{if◌then◌else◌, is_none, is_some, ◌&&◌, �
 use Rattle.std.specs.Fmt.{digits}
 use Rattle.httparse.specs.Ascii.{crlf_bytes}
 use Rattle.std.proofs.Math.Seq.{take-length}
+use Rattle.std.proofs.lemmas.Bool.Decides.{nat_tests}
 use Rattle.std.proofs.lemmas.List.{take_min, take-append-le, take-append-drop}
 use Rattle.feed_node.specs.declared.session.OpenFault.{OpenFault}
 use Rattle.feed_node.specs.declared.session.OpenFault.TheVariants.{NotYet, NotHeld, Memory}
@@ -59,7 +60,7 @@ moved_in : (limits : Limits) (log : Log) (one other : NodeState) → other ≡ o
     → IsInLog limits log other
 moved_in limits log one other same there = (there.0, there.1, same ∙ there.2)
 
-begun_in_log : (limits : Limits) (log : Log) (head contest : List ℕ) (begun : MirrorState)
+pub begun_in_log : (limits : Limits) (log : Log) (head contest : List ℕ) (begun : MirrorState)
     → HasAskedSo limits log head contest begun
     → IsInLog limits log begun.node
 begun_in_log limits log head contest begun a = (a.place, a.is_place, ap (λ o. o.before) a.asked.opening)
@@ -67,7 +68,7 @@ begun_in_log limits log head contest begun a = (a.place, a.is_place, ap (λ o. o
 -- ---- a refusal
 
 -- an answer without a session refuses
-is_refusal : (head contest : List ℕ) (node : NodeState) (framing : Framing) (answer : AnswerParts)
+pub is_refusal : (head contest : List ℕ) (node : NodeState) (framing : Framing) (answer : AnswerParts)
     → AnswersTo head contest node framing 0 answer
     → answer.session ≡ None → (refusal : Refusal) × (answer ≡ refusing refusal)
 is_refusal head contest node framing answer answers none = by answers.asked answers.answer_is
@@ -262,7 +263,7 @@ chunk_length text =
     let d = length-append (digits 16 false (length text)) crlf_bytes in
     omega (arith, a, b, d)
 
-frame_length : (framing : Framing) (text : List ℕ) → length text ≤ length (frame framing text)
+pub frame_length : (framing : Framing) (text : List ℕ) → length text ≤ length (frame framing text)
 frame_length Close text = omega arith
 frame_length Chunked [] = omega arith
 frame_length Chunked (b ∷ bytes) =
@@ -277,6 +278,17 @@ opened_fits framing opened text is fits =
     let b : length text ≡ length (feed_head framing ++ frame framing opened) = ap length is in
     let d : length opened ≤ length (frame framing opened) = frame_length framing opened in
     omega (arith, a, b, d, fits)
+
+-- how the whole stands that has the end of its body
+end_stands : WholeCarriesAll → (framing : Framing) (texts : List (List ℕ)) (n : ℕ)
+    → length (ended_text framing texts) ≤ n
+    → (ended_at framing texts n ≡ in_body (joined texts)) ⊎ (ended_at framing texts n ≡ done (joined texts))
+end_stands all Close texts n whole =
+    let none : length (ended_text Close texts) ≡ length (response_text Close texts) = ap length (append-nil (response_text Close texts)) in
+    inl (all Close texts n (omega (arith, none, whole))).1
+end_stands all Chunked texts n whole =
+    let past : nat_lt n (length (ended_text Chunked texts)) ≡ false = grind (arith, nat_tests) in
+    inr (ap (λ b. if b then standing_at Chunked texts n else done (joined texts)) past)
 
 -- ---- all of it
 
@@ -352,6 +364,35 @@ module _ (connects : ScreensAreConnections) (opens_so : SessionsOpenAsAsked)
       let b : IsBroughtBy limits log a.place c (length (joined texts)) mirror =
       subst (FollowsTo limits log a.place c begun mirror) stands follows in
       record {
+        place = brought_by limits log a.place c (length (joined texts));
+        is_place = (places limits log a.place c (length (joined texts)) is_open).0;
+        shows = b.node;
+        last = in_order.last;
+        token_is = in_order.token_is;
+        reaches = subst (λ m. HasReached (brought_by limits log a.place c m) in_order.last) (ap length (sym all_text)) (reached limits log a.place c is_open);
+      }
+
+  -- and so it is with the end of the body behind it
+  pub ended_arrives : WholeCarriesAll → AllIsReached → due ≡ before ++ frame_end answer.framing → rest ≡ []
+      → (s : Standing) (follower : FollowerState) (mirror : MirrorState)
+      → FollowsAt begun handed s follower mirror → ArrivesInLog limits log token mirror
+  ended_arrives all reached is none s follower mirror f =
+      let bytes = ended_text answer.framing texts in
+      let n = length bytes in
+      let same : handed ≡ bytes =
+      sym (append-nil handed) ∙ ap (λ r. handed ++ r) (sym none) ∙ whole ∙ is ∙ ap (λ t. t ++ frame_end answer.framing) is_response in
+      let f' : FollowsAt begun (take n bytes) s follower mirror =
+      subst (λ bs. FollowsAt begun bs s follower mirror) (same ∙ sym (take-length bytes)) f in
+      let stands = (ends answer.framing texts n follower.had_token are).only s f'.stands in
+      let follows = follow limits log a.place c begun mirror follower bytes n s is_log is_open a.asked
+      (ended_carries responses ends answer.framing texts are (sent_text log c) all_text follower.had_token) f' in
+      elim (end_stands all answer.framing texts n (omega arith)) [
+        | inl e ↦ arrived mirror (subst (FollowsTo limits log a.place c begun mirror) (stands ∙ e) follows)
+        | inr e ↦ arrived mirror (subst (FollowsTo limits log a.place c begun mirror) (stands ∙ e) follows)
+      ]
+    where
+      arrived : (mirror : MirrorState) → IsBroughtBy limits log a.place c (length (joined texts)) mirror → ArrivesInLog limits log token mirror
+      arrived mirror b = record {
         place = brought_by limits log a.place c (length (joined texts));
         is_place = (places limits log a.place c (length (joined texts)) is_open).0;
         shows = b.node;

@@ -1,2 +1,3 @@
 pub mod CommitLemmas
 pub mod FirstLemmas
+pub mod ServingLemmas

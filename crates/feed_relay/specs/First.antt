@@ -1,21 +1,19 @@
--- How the first of several places that serves is found, and followed.
+-- How the first of several servers that serves is found, and followed.
 use Rattle.std.specs.Prelude.{◌≡◌, ◌≢◌, ◌⊎◌, ℕ, ◌-◌, Bool, true, false, List, [], ◌∷◌, ◌++◌, length, Result, Ok, Err}
 use Rattle.std.specs.Prelude.{Option, Some, None, option_map, slice_get, unwrap_or}
 use Rattle.feed_node.specs.Mirroring.{MirrorState}
-use Rattle.feed_answer.specs.Place.{Place}
 use Rattle.feed_http.specs.declared.fault.EngineFault.{EngineFault}
 use Rattle.feed_http.specs.declared.fault.Followed.{Followed as End}
 use Rattle.feed_http.specs.declared.fault.Followed.TheVariants as followed
-use Rattle.feed_http.specs.Device.{counted}
-use Rattle.feed_http.specs.Exchange.{exchange}
 use Rattle.feed_relay.specs.declared.first.Attempt.{Attempt}
+use Rattle.feed_relay.specs.declared.server.Server.{Server}
 use Rattle.feed_relay.specs.declared.first.AttemptEnd.{AttemptEnd}
 use Rattle.feed_relay.specs.declared.first.AttemptEnd.TheVariants.{NoLink, Followed, Failed}
-use Rattle.feed_relay.specs.Dialing.{Dialer}
+use Rattle.feed_relay.specs.Dialing.{Dialer, OnLink, HasMissed}
 use Rattle.feed_relay.specs.Fault.{is_engine_memory}
 use Rattle.feed_relay.specs.Pulling.{PullsOnce}
 
--- a mirror, and what it connects to places with
+-- a mirror, and what it connects to servers with
 pub record Position (D : Type 0) : Type 0 where
   pub mirror : MirrorState
   pub dial : D
@@ -37,87 +35,78 @@ last_outcome attempts =
 abbrev pub ran_out : List Attempt → Bool
 ran_out attempts = unwrap_or (option_map is_want_of_memory (last_outcome attempts)) false
 
--- no further place is asked behind this: a feed was followed to its end, or memory ran out
+-- no further server is asked behind this: a feed was followed to its end, or memory ran out
 abbrev pub is_last : AttemptEnd → Bool
 is_last (Followed followed.Ended) = true
 is_last (Followed followed.Done) = true
 is_last other = is_want_of_memory other
 
 abbrev pub attempt_at : ℕ → AttemptEnd → Attempt
-attempt_at place outcome = record { place = place; outcome = outcome }
+attempt_at server outcome = record { server = server; outcome = outcome }
 
 module _ {D R W : Type 0} where
-  -- a connection to the place of this number was opened, the place was asked on it and its response
+  -- a connection to the server of this number was opened, it was asked on that and its response
   -- followed, in at most so many reads, and the connection was given back
-  pub record Pulls (dialer : Dialer D R W) (number : ℕ) (place : Place) (turns : ℕ)
-      (start : Position D) (pulled : Result End EngineFault) (end : Position D) : Type 0 where
-    pub opened : D
-    pub reader : R
-    pub left : R
-    pub writer : W
-    pub written : W
-    pub dialed : dialer.dials start.dial number opened (Some (reader, writer))
-    pub spoke : PullsOnce place turns (exchange dialer.devices reader left writer written)
-        start.mirror pulled end.mirror
-    pub closed : dialer.closes opened left written end.dial
-    pub no_miss : dialer.misses end.dial ≡ dialer.misses start.dial
-
-  -- one attempt at the place of this number; without a connection the mirror is what it was, and a
-  -- miss is counted
-  abbrev pub Attempts : Dialer D R W → ℕ → Place → ℕ → Position D → AttemptEnd → Position D → Type 0
-  Attempts dialer number place turns start NoLink end =
-      (end.mirror ≡ start.mirror)
-      × dialer.dials start.dial number end.dial None
-      × (dialer.misses end.dial ≡ counted (dialer.misses start.dial) 1)
-  Attempts dialer number place turns start (Followed followed) end =
-      Pulls dialer number place turns start (Ok followed) end
-  Attempts dialer number place turns start (Failed fault) end =
-      Pulls dialer number place turns start (Err fault) end
-
-  -- all attempts at the place of this number, and what the last one came to: there is one, or,
-  -- where the token was refused, another one
-  abbrev pub AsksPlace : Dialer D R W → ℕ → Place → ℕ → Position D → List Attempt → AttemptEnd
+  abbrev pub Pulls : Dialer D R W → ℕ → Server → ℕ → Position D → Result End EngineFault
       → Position D → Type 0
-  AsksPlace dialer number place turns start attempts outcome end =
+  Pulls dialer number server turns start pulled end =
+      OnLink (dialer number) start.dial
+      (λ spoken. PullsOnce server turns spoken start.mirror pulled end.mirror) end.dial
+
+  -- one attempt at the server of this number; without a connection the mirror is what it was, and a
+  -- miss is counted
+  abbrev pub Attempts : Dialer D R W → ℕ → Server → ℕ → Position D → AttemptEnd → Position D → Type 0
+  Attempts dialer number server turns start NoLink end =
+      (end.mirror ≡ start.mirror) × HasMissed (dialer number) start.dial end.dial
+  Attempts dialer number server turns start (Followed followed) end =
+      Pulls dialer number server turns start (Ok followed) end
+  Attempts dialer number server turns start (Failed fault) end =
+      Pulls dialer number server turns start (Err fault) end
+
+  -- all attempts at the server of this number, and what the last one came to: there is one, or,
+  -- where the token was refused, another one
+  abbrev pub AsksServer : Dialer D R W → ℕ → Server → ℕ → Position D → List Attempt → AttemptEnd
+      → Position D → Type 0
+  AsksServer dialer number server turns start attempts outcome end =
       (outcome ≢ Followed followed.TokenRefused)
       × (((attempts ≡ attempt_at number outcome ∷ [])
-      × Attempts dialer number place turns start outcome end)
+      × Attempts dialer number server turns start outcome end)
       ⊎ ((refused : Position D)
       × (attempts ≡ attempt_at number (Followed followed.TokenRefused)
       ∷ attempt_at number outcome ∷ [])
-      × Attempts dialer number place turns start (Followed followed.TokenRefused) refused
-      × Attempts dialer number place turns refused outcome end))
+      × Attempts dialer number server turns start (Followed followed.TokenRefused) refused
+      × Attempts dialer number server turns refused outcome end))
 
-  -- these places were asked, one after another, and behind each the next one is
+  -- these servers were asked, one after another, and behind each the next one is
   pub data GoesOn (dialer : Dialer D R W) (turns : ℕ) (start : Position D)
-      : List Place → List Attempt → Position D → Type 0 where
+      : List Server → List Attempt → Position D → Type 0 where
     none_asked : GoesOn dialer turns start [] [] start
-    one_asked : (before : List Place) (place : Place) (earlier attempts : List Attempt)
+    one_asked : (before : List Server) (server : Server) (earlier attempts : List Attempt)
         (outcome : AttemptEnd) (middle end : Position D)
         → GoesOn dialer turns start before earlier middle
-        → AsksPlace dialer (length before) place turns middle attempts outcome end
+        → AsksServer dialer (length before) server turns middle attempts outcome end
         → is_last outcome ≡ false
-        → GoesOn dialer turns start (before ++ place ∷ []) (earlier ++ attempts) end
+        → GoesOn dialer turns start (before ++ server ∷ []) (earlier ++ attempts) end
 
-  -- places were asked up to the one that comes behind these, and there it ended
-  pub record StopsAt (dialer : Dialer D R W) (turns : ℕ) (start : Position D) (places : List Place)
+  -- servers were asked up to the one that comes behind these, and there it ended
+  pub record StopsAt (dialer : Dialer D R W) (turns : ℕ) (start : Position D) (servers : List Server)
       (attempts : List Attempt) (end : Position D) : Type 0 where
-    pub before : List Place
-    pub place : Place
-    pub behind : List Place
-    pub split : places ≡ before ++ place ∷ behind
+    pub before : List Server
+    pub server : Server
+    pub behind : List Server
+    pub split : servers ≡ before ++ server ∷ behind
     pub earlier : List Attempt
     pub last : List Attempt
     pub outcome : AttemptEnd
     pub middle : Position D
     pub went : GoesOn dialer turns start before earlier middle
-    pub asked : AsksPlace dialer (length before) place turns middle last outcome end
+    pub asked : AsksServer dialer (length before) server turns middle last outcome end
     pub stops : is_last outcome ≡ true
     pub all : attempts ≡ earlier ++ last
 
-  -- these places were asked in their order, up to the first behind which no further one is, or all
-  abbrev pub FollowsFirst : Dialer D R W → List Place → ℕ → Position D → List Attempt
+  -- these servers were asked in their order, up to the first behind which no further one is, or all
+  abbrev pub FollowsFirst : Dialer D R W → List Server → ℕ → Position D → List Attempt
       → Position D → Type 0
-  FollowsFirst dialer places turns start attempts end =
-      GoesOn dialer turns start places attempts end
-      ⊎ StopsAt dialer turns start places attempts end
+  FollowsFirst dialer servers turns start attempts end =
+      GoesOn dialer turns start servers attempts end
+      ⊎ StopsAt dialer turns start servers attempts end

@@ -2,4 +2,4 @@ pub mod Dialing
 pub mod Fault
 pub mod First
 pub mod Pulling
-pub mod Round
+pub mod Serving

@@ -4,14 +4,14 @@ use Rattle.std.specs.Io.KnownBytes.{Appends}
 use Rattle.feed_node.specs.Mirroring.{MirrorState}
 use Rattle.feed_follow.specs.declared.fault.FollowFault.TheVariants.{Closed}
 use Rattle.feed_follow.specs.Standing.{Standing}
-use Rattle.feed_answer.specs.Place.{Place}
-use Rattle.feed_answer.specs.RequestText.{request_text}
+use Rattle.feed_answer.specs.RequestText.{request_text_as}
 use Rattle.feed_http.specs.declared.fault.EngineFault.{EngineFault}
 use Rattle.feed_http.specs.declared.fault.EngineFault.TheVariants.{Read, Write, Turns, Commit, Follow, Memory}
 use Rattle.feed_http.specs.declared.fault.Followed.{Followed}
 use Rattle.feed_http.specs.Device.{HasFailed, AppendsPrefix, RoseBy, RoseAtMost}
 use Rattle.feed_http.specs.Following.{EndsAs, WasFollowed, BrokeOff, MetFault}
 use Rattle.feed_http.specs.Exchange.{Exchange}
+use Rattle.feed_relay.specs.declared.server.Server.{Server}
 
 -- the request was written; where asking failed, a prefix of it
 abbrev pub HasAsked : List ℕ → Exchange → Result Followed EngineFault → Type 0
@@ -43,10 +43,10 @@ IsFollowed turns spoken start (Err (Follow fault)) mirror =
     (fault ≢ Closed) × MetFault spoken.source spoken.left start mirror fault
 IsFollowed turns spoken start (Err (Commit why)) mirror = ⊥
 
--- the place was asked for what a mirror lacks, and what was read of the response, in at most so
+-- the server was asked for what a mirror lacks, and what was read of the response, in at most so
 -- many reads, leaves this of the mirror
-pub record PullsOnce (place : Place) (turns : ℕ) (spoken : Exchange) (start : MirrorState)
+pub record PullsOnce (server : Server) (turns : ℕ) (spoken : Exchange) (start : MirrorState)
     (pulled : Result Followed EngineFault) (mirror : MirrorState) : Type 0 where
-  pub asked : HasAsked (request_text place start.since) spoken pulled
+  pub asked : HasAsked (request_text_as server.place start.since server.identity) spoken pulled
   pub came : IsFollowed turns spoken start pulled mirror
   pub reads : RoseAtMost spoken.reads_old spoken.reads_new turns

@@ -1,9 +1,7 @@
 //! Where connections come from: only a program opens sockets.
-ghost use Rattle.std.specs.Prelude.{◌≡◌, ℕ, List, Option};
+ghost use Rattle.std.specs.Prelude.{◌≡◌, ℕ, Option};
 ghost use Rattle.feed_relay.specs.Dialing.{misses_after};
-ghost use Rattle.feed_relay.specs.declared.first.Attempt.{Attempt as Tried};
 
-use crate::first::Attempt;
 use feed_http::{FeedRead, FeedWrite};
 
 /// What opens connections to servers.
@@ -17,16 +15,16 @@ pub trait Dial {
     // How many calls opened none. The count stays at `u64::MAX`.
     ghost misses: { Self → ℕ };
 
-    // What a call for the place of this number makes of it, and which connection that opens.
+    // What a call for the server of this number makes of it, and which connection that opens.
     ghost dials: { Self → ℕ → Self → Option (Self.Reader × Self.Writer) → Type 0 };
 
     // What it is once a connection, at these ends, was given back.
     ghost closes: { Self → Self.Reader → Self.Writer → Self → Type 0 };
 
-    /// Opens a connection to the place of this number, counted from 0.
-    fn dial(&mut self, place: usize) -> Option<(Self::Reader, Self::Writer)>
+    /// Opens a connection to the server of this number, counted from 0.
+    fn dial(&mut self, server: usize) -> Option<(Self::Reader, Self::Writer)>
         ensures misses { misses self.new ≡ misses_after (misses self.old) result }
-        ensures dialed { dials self.old place self.new result };
+        ensures dialed { dials self.old server self.new result };
 
     /// Takes a connection back that it opened, and closes it.
     fn close(&mut self, reader: Self::Reader, writer: Self::Writer)
@@ -46,15 +44,15 @@ pub trait Accept {
     ghost misses: { Self → ℕ };
 
     // What a call makes of it, and which connection that accepts.
-    ghost accepts: { Self → List Tried → Self → Option (Self.Reader × Self.Writer) → Type 0 };
+    ghost accepts: { Self → Self → Option (Self.Reader × Self.Writer) → Type 0 };
 
     // What it is once a connection, at these ends, was given back.
     ghost closes: { Self → Self.Reader → Self.Writer → Self → Type 0 };
 
-    /// Waits for the next follower. The attempts to pull before that are there to be told first.
-    fn accept(&mut self, attempts: &[Attempt]) -> Option<(Self::Reader, Self::Writer)>
+    /// Waits for the next follower.
+    fn accept(&mut self) -> Option<(Self::Reader, Self::Writer)>
         ensures misses { misses self.new ≡ misses_after (misses self.old) result }
-        ensures accepted { accepts self.old attempts.now self.new result };
+        ensures accepted { accepts self.old self.new result };
 
     /// Takes a connection back that it accepted, and closes it.
     fn close(&mut self, reader: Self::Reader, writer: Self::Writer)

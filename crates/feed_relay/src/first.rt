@@ -1,17 +1,18 @@
-//! Following the first of several places that serves.
+//! Following the first of several servers that serves.
 ghost use Rattle.std.specs.Prelude.{◌≡◌, ◌≢◌, ◌+◌, ◌≤◌, ◌++◌, List, length, None, IfOk, OnErr};
 ghost use Rattle.std.specs.Vec.{vec_capacity};
 ghost use Rattle.feed_relay.specs.declared.first.Attempt.{Attempt as Tried};
 ghost use Rattle.feed_http.specs.Exchange.{devices_of};
 ghost use Rattle.feed_relay.specs.Dialing.{dialer_of};
 ghost use Rattle.feed_relay.specs.First.{position, is_last, is_want_of_memory, ran_out};
-ghost use Rattle.feed_relay.specs.First.{Attempts, AsksPlace};
+ghost use Rattle.feed_relay.specs.First.{Attempts, AsksServer};
 ghost use Rattle.feed_relay.specs.First.{FollowsFirst};
 
 use crate::dial::Dial;
 use crate::fault::NetworkFault;
 use crate::pulling::pull_once;
-use feed_http::{EngineFault, Followed, Place};
+use crate::server::Server;
+use feed_http::{EngineFault, Followed};
 use feed_node::Mirror;
 use std::alloc::{AllocError, Global};
 
@@ -26,11 +27,11 @@ pub enum AttemptEnd {
     Failed(EngineFault),
 }
 
-/// One attempt to follow a place.
+/// One attempt to follow a server.
 #[derive(Clone, Copy, Debug, PartialEq, Eq)]
 pub struct Attempt {
-    /// The number of the place, counted from 0.
-    pub place: usize,
+    /// The number of the server, counted from 0.
+    pub server: usize,
     /// What came of it.
     pub outcome: AttemptEnd,
 }
@@ -46,7 +47,7 @@ impl AttemptEnd {
         }
     }
 
-    /// Whether no further place is asked then: a feed was followed to its end, or memory ran out.
+    /// Whether no further server is asked then: a feed was followed to its end, or memory ran out.
     pub fn is_last(self) -> bool
         ensures { result ≡ is_last self }
     {
@@ -58,7 +59,7 @@ impl AttemptEnd {
 }
 
 /// Whether memory ran out at the last of these attempts.
-pub(crate) fn has_run_out(attempts: &[Attempt]) -> bool
+pub fn has_run_out(attempts: &[Attempt]) -> bool
     ensures { result ≡ ran_out attempts.now }
 {
     match attempts.last() {
@@ -67,26 +68,26 @@ pub(crate) fn has_run_out(attempts: &[Attempt]) -> bool
     }
 }
 
-/// One attempt at the place of this number: a connection to it is opened, asked and followed on,
+/// One attempt at the server of this number: a connection to it is opened, asked and followed on,
 /// and given back.
-fn try_place<D: Dial>(
+fn try_server<D: Dial>(
     alloc: Global,
     dial: &mut D,
     number: usize,
-    place: &Place,
+    server: &Server,
     mirror: &mut Mirror,
     turns: u64,
 ) -> AttemptEnd
     ensures tried { let dialer = dialer_of (devices_of D.Reader.remaining D.Reader.reads
         D.Reader.failures D.Writer.contents D.Writer.failures) D.misses D.dials D.closes in
-        Attempts dialer number place.now turns (position mirror.old dial.old) result
+        Attempts dialer number server.now turns (position mirror.old dial.old) result
         (position mirror.new dial.new) }
     ensures cut { mirror.old.connection ≡ None → mirror.new.connection ≡ None }
 {
     let Some((mut reader, mut writer)) = dial.dial(number) else {
         return AttemptEnd::NoLink;
     };
-    let pulled = pull_once(alloc, place, mirror, turns, &mut reader, &mut writer);
+    let pulled = pull_once(alloc, server, mirror, turns, &mut reader, &mut writer);
     dial.close(reader, writer);
     match pulled {
         Ok(followed) => AttemptEnd::Followed(followed),
@@ -94,13 +95,13 @@ fn try_place<D: Dial>(
     }
 }
 
-/// All attempts at the place of this number, which are told after the earlier ones: one, or, where
+/// All attempts at the server of this number, which are told after the earlier ones: one, or, where
 /// the token was refused, another one. Answers what the last one came to.
-fn ask_place<D: Dial>(
+fn ask_server<D: Dial>(
     alloc: Global,
     dial: &mut D,
     number: usize,
-    place: &Place,
+    server: &Server,
     mirror: &mut Mirror,
     turns: u64,
     attempts: &mut Vec<Attempt>,
@@ -110,51 +111,51 @@ fn ask_place<D: Dial>(
         D.Reader.failures D.Writer.contents D.Writer.failures) D.misses D.dials D.closes in
         (tried : List Tried) × (attempts.new.items ≡ attempts.old.items ++ tried)
         × (length tried ≤ 2)
-        × AsksPlace dialer number place.now turns (position mirror.old dial.old) tried
+        × AsksServer dialer number server.now turns (position mirror.old dial.old) tried
         result (position mirror.new dial.new) }
     ensures known { result ≢ AttemptEnd.Followed Followed.TokenRefused }
     ensures capacity { vec_capacity attempts.new ≡ vec_capacity attempts.old }
     ensures cut { mirror.old.connection ≡ None → mirror.new.connection ≡ None }
 {
-    let outcome = try_place(alloc, dial, number, place, mirror, turns);
+    let outcome = try_server(alloc, dial, number, server, mirror, turns);
     attempts.push_reserved(Attempt {
-        place: number,
+        server: number,
         outcome,
     });
     if outcome != AttemptEnd::Followed(Followed::TokenRefused) {
         return outcome;
     }
-    let again = try_place(alloc, dial, number, place, mirror, turns);
+    let again = try_server(alloc, dial, number, server, mirror, turns);
     attempts.push_reserved(Attempt {
-        place: number,
+        server: number,
         outcome: again,
     });
     again
 }
 
-/// Asks these places, in their order, for what a mirror lacks, and follows the response, each on a
-/// connection that is dialed by the place's number and in at most so many reads (`turns`): up to
-/// the first whose feed was followed to its end, or at which memory ran out, or all. Where a place
+/// Asks these servers, in their order, for what a mirror lacks, and follows the response, each on a
+/// connection that is dialed by the server's number and in at most so many reads (`turns`): up to
+/// the first whose feed was followed to its end, or at which memory ran out, or all. Where a server
 /// refuses the mirror's token, it is asked once more, for everything. Tells each attempt, in order.
-/// The room for two attempts at each place is taken first; where there is none, nobody is asked.
+/// The room for two attempts at each server is taken first; where there is none, nobody is asked.
 pub fn follow_first<D: Dial>(
     alloc: Global,
     dial: &mut D,
-    places: &[Place],
+    servers: &[Server],
     mirror: &mut Mirror,
     turns: u64,
 ) -> Result<Vec<Attempt>, AllocError>
     ensures followed { let dialer = dialer_of (devices_of D.Reader.remaining D.Reader.reads
         D.Reader.failures D.Writer.contents D.Writer.failures) D.misses D.dials D.closes in
-        IfOk result (λ attempts. FollowsFirst dialer places.now turns
+        IfOk result (λ attempts. FollowsFirst dialer servers.now turns
         (position mirror.old dial.old) attempts.items (position mirror.new dial.new)) }
     ensures cut { mirror.old.connection ≡ None → mirror.new.connection ≡ None }
     ensures memory { OnErr result ((mirror.new ≡ mirror.old) × (dial.new ≡ dial.old)) }
 {
-    let room = places.len().checked_mul(2).ok_or(AllocError)?;
+    let room = servers.len().checked_mul(2).ok_or(AllocError)?;
     let mut attempts = Vec::with_capacity(alloc, room)?;
-    'places: for (number, place) in places.iter().enumerate() {
-        let outcome = ask_place(alloc, dial, number, place, mirror, turns, &mut attempts);
+    'servers: for (number, server) in servers.iter().enumerate() {
+        let outcome = ask_server(alloc, dial, number, server, mirror, turns, &mut attempts);
         if outcome.is_last() {
             return Ok(attempts);
         }

@@ -6,11 +6,13 @@ mod dial;
 mod fault;
 mod first;
 mod pulling;
-mod round;
+mod server;
+mod serving;
 
 pub use commits::{commit_all, feed_batches};
 pub use dial::{Accept, Dial};
 pub use fault::NetworkFault;
-pub use first::{Attempt, AttemptEnd, follow_first};
+pub use first::{Attempt, AttemptEnd, follow_first, has_run_out};
 pub use pulling::pull_once;
-pub use round::{ENGINE_TURNS, Round, relay_round};
+pub use server::Server;
+pub use serving::{ENGINE_TURNS, serve_live_next, serve_next};

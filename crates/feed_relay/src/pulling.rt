@@ -3,16 +3,17 @@ ghost use Rattle.std.specs.Prelude.{◌≡◌, None};
 ghost use Rattle.feed_http.specs.Exchange.{devices_of, exchange};
 ghost use Rattle.feed_relay.specs.Pulling.{PullsOnce};
 
-use feed_http::{EngineFault, FeedRead, FeedWrite, Followed, Place, ask, follow};
+use crate::server::Server;
+use feed_http::{EngineFault, FeedRead, FeedWrite, Followed, ask, follow};
 use feed_node::Mirror;
 use std::alloc::Global;
 
-/// Asks a place for what a mirror lacks, and follows the response, in at most so many reads
+/// Asks a server for what a mirror lacks, and follows the response, in at most so many reads
 /// (`turns`). Where asking fails, a prefix of the request was written, nothing was read, and the
 /// mirror is what it was.
 pub fn pull_once<R: FeedRead, W: FeedWrite>(
     alloc: Global,
-    place: &Place,
+    server: &Server,
     mirror: &mut Mirror,
     turns: u64,
     reader: &mut R,
@@ -20,10 +21,10 @@ pub fn pull_once<R: FeedRead, W: FeedWrite>(
 ) -> Result<Followed, EngineFault>
     ensures pulled { let devices =
         devices_of R.remaining R.reads R.failures W.contents W.failures in
-        PullsOnce place.now turns (exchange devices reader.old reader.new writer.old writer.new)
+        PullsOnce server.now turns (exchange devices reader.old reader.new writer.old writer.new)
         mirror.old result mirror.new }
     ensures cut { mirror.old.connection ≡ None → mirror.new.connection ≡ None }
 {
-    ask(alloc, writer, place, mirror)?;
+    ask(alloc, writer, &server.place, &server.identity, mirror)?;
     follow(alloc, reader, mirror, turns)
 }

@@ -5,7 +5,7 @@ use crate::errors::{Errors, Reporter};
 use crate::hosts::Hosts;
 use crate::sockets::Dialer;
 use feed_cli::stream::Stream;
-use feed_cli::{PullOptions, print_pulled, servers_of, start_mirror};
+use feed_cli::{Caller, PullOptions, print_pulled, servers_of, start_mirror};
 
 /// Follows the feed of the first server that serves to the end of a connection, and prints the
 /// tables.
@@ -26,17 +26,21 @@ fn pull_from(rt: &HostRuntime, options: &PullOptions<'_>, hosts: &Hosts) -> Resu
 
 /// The same, of servers whose names are as a request has them.
 fn pull_named(rt: &HostRuntime, options: &PullOptions<'_>) -> Result<(), Failure> {
-    let servers = servers_of(rt.alloc(), options)?;
+    let caller = Caller {
+        host: None,
+        user: None,
+    };
+    let servers = servers_of(rt.alloc(), options, caller)?;
     let mut mirror = match start_mirror(rt.alloc(), options, &mut Stream::new(rt.stdin())) {
         Ok(mirror) => mirror,
         Err(fault) => return Err(Failure::of_saved_tables(fault)),
     };
     let reporter = Reporter::new(rt, "pull", options.verbose);
-    let mut dialer = Dialer::new(rt, reporter, options, &servers.further);
+    let mut dialer = Dialer::new(rt, reporter, options, &servers);
     print_pulled(
         rt.alloc(),
         options,
-        &servers.places,
+        &servers,
         &mut mirror,
         &mut dialer,
         &mut Stream::new(rt.stdout()),

@@ -5,7 +5,7 @@ use crate::errors::{Errors, Reporter};
 use crate::hosts::Hosts;
 use crate::sockets::{Dialer, Port};
 use feed_cli::stream::Stream;
-use feed_cli::{PullOptions, RelayOptions, print_relayed, servers_of, start_mirror};
+use feed_cli::{Caller, PullOptions, RelayOptions, print_relayed, servers_of, start_mirror};
 
 /// Follows the feed of the first server that serves, and serves it, in turns, and prints the tables
 /// at the end.
@@ -26,18 +26,22 @@ fn relay_from(rt: &HostRuntime, options: &RelayOptions<'_>, hosts: &Hosts) -> Re
 
 /// The same, of servers whose names are as a request has them.
 fn relay_named(rt: &HostRuntime, options: &RelayOptions<'_>) -> Result<(), Failure> {
-    let servers = servers_of(rt.alloc(), &options.pull)?;
+    let caller = Caller {
+        host: None,
+        user: None,
+    };
+    let servers = servers_of(rt.alloc(), &options.pull, caller)?;
     let mut mirror = match start_mirror(rt.alloc(), &options.pull, &mut Stream::new(rt.stdin())) {
         Ok(mirror) => mirror,
         Err(fault) => return Err(Failure::of_saved_tables(fault)),
     };
     let reporter = Reporter::new(rt, "relay", options.pull.verbose);
     let mut port = Port::bind(rt, reporter, options.listen)?;
-    let mut dialer = Dialer::new(rt, reporter, &options.pull, &servers.further);
+    let mut dialer = Dialer::new(rt, reporter, &options.pull, &servers);
     print_relayed(
         rt.alloc(),
         options,
-        &servers.places,
+        &servers,
         &mut mirror,
         &mut dialer,
         &mut port,

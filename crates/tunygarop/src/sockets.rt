@@ -4,19 +4,17 @@ ghost use Rattle.std.specs.Prelude.{◌≡◌};
 use crate::connection::{Incoming, Outgoing, both_ways, linger, text_of_asked, text_of_served};
 use crate::errors::Reporter;
 use crate::hosts::without_brackets;
-use feed_cli::{Dial, Fault, Listen, NetworkFault, PullOptions};
+use feed_cli::{Accept, Dial, Fault, NetworkFault, PullOptions, Server};
 use std::io;
 use std::net::{Ipv4Addr, SocketAddr, TcpListener, TcpStream, ToSocketAddrs};
 use std::time::{Duration, Instant};
 
 /// Servers that are connected to by their addresses or names.
 #[derive(Drop)]
-pub(crate) struct Dialer<'r, 'o, 'f> {
+pub(crate) struct Dialer<'r, 's> {
     rt: &'r HostRuntime,
     reporter: Reporter<'r>,
-    host: &'o str,
-    port: u16,
-    further: &'f [(String, u16)],
+    servers: &'s [Server],
     // How long each may be silent.
     silence: Option<Duration>,
     // The server of the connection that is open.
@@ -49,66 +47,49 @@ fn connect_within(
     Err(last.into())
 }
 
-impl<'r, 'o, 'f> Dialer<'r, 'o, 'f> {
+impl<'r, 's> Dialer<'r, 's> {
     /// No connection was asked for yet. An address of IPv6 may stand in brackets.
     pub(crate) fn new(
         rt: &'r HostRuntime,
         reporter: Reporter<'r>,
-        options: &PullOptions<'o>,
-        further: &'f [(String, u16)],
-    ) -> Dialer<'r, 'o, 'f> {
+        options: &PullOptions<'_>,
+        servers: &'s [Server],
+    ) -> Dialer<'r, 's> {
         Dialer {
             rt,
             reporter,
-            host: options.host,
-            port: options.port,
-            further,
+            servers,
             silence: options.silence.map(|seconds| Duration::from_secs(seconds)),
             server: 0,
             misses: 0,
         }
     }
 
-    /// Connects to the server with this number: the first one, or one of the further ones.
+    /// Connects to the server with this number.
     fn open(&self, number: usize) -> Option<(Incoming, Outgoing)> {
-        match number.checked_sub(1) {
-            None => self.connect(self.host, self.port),
-            Some(after) => {
-                let (host, port) = self.further.get(after)?;
-                self.connect(host.as_str(), *port)
-            }
-        }
-    }
-
-    fn connect(&self, host: &str, port: u16) -> Option<(Incoming, Outgoing)> {
-        let host = without_brackets(host);
+        let server = self.servers.get(number)?;
+        let host = without_brackets(server.host.as_str());
         let connected = match self.silence {
-            Some(silence) => connect_within(self.rt, host, port, silence),
-            None => TcpStream::connect(self.rt, (host, port)),
+            Some(silence) => connect_within(self.rt, host, server.port, silence),
+            None => TcpStream::connect(self.rt, (host, server.port)),
         };
         both_ways(self.rt, connected.ok()?)
     }
 
     /// Reports what came of asking the server with this number.
     fn report(&self, number: usize, came: &str) {
-        match number.checked_sub(1) {
-            None => self.report_of(self.host, self.port, came),
-            Some(after) => {
-                if let Some((host, port)) = self.further.get(after) {
-                    self.report_of(host.as_str(), *port, came);
-                }
-            }
-        }
-    }
-
-    fn report_of(&self, host: &str, port: u16, came: &str) {
+        let Some(server) = self.servers.get(number) else {
+            return;
+        };
+        let host = server.host.as_str();
+        let port = server.port;
         if let Ok(peer) = format!(in self.rt.alloc(); "server {host}:{port}") {
             self.reporter.connection(peer.as_str(), came);
         }
     }
 }
 
-impl Dial for Dialer<'_, '_, '_> {
+impl Dial for Dialer<'_, '_> {
     type Reader = Incoming;
 
     type Writer = Outgoing;
@@ -189,7 +170,7 @@ impl<'r> Port<'r> {
     }
 }
 
-impl Listen for Port<'_> {
+impl Accept for Port<'_> {
     type Reader = Incoming;
 
     type Writer = Outgoing;

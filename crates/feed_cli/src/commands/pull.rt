@@ -1,32 +1,31 @@
 //! What the feed of the first of several servers publishes, printed.
 ghost use Rattle.std.specs.Prelude.{◌≡◌, ◌⊎◌, ◌++◌, ◌∷◌, [], false, true, map, is_some, string_bytes, IfOk, IfErr, OnOk, Ok, IsErrOf};
-ghost use Rattle.feed_cli.specs.Pull.{host_text, first_address, place_at as place_of, RefusesServer, AreFurther, RefusesFurther};
-ghost use Rattle.feed_cli.specs.Pull.{AreServers, RefusesOneOf, HasNoServers, StartsFrom, FailsToStart};
+ghost use Rattle.feed_cli.specs.Pull.{host_text, first_address, place_at as place_of, identity_of_caller as identity_of, RefusesAddress, RefusesCaller, HasServer, RefusesServer, AreFurther, RefusesFurther};
+ghost use Rattle.feed_cli.specs.Streams.{wrote_by};
+ghost use Rattle.feed_cli.specs.Pull.{asked_at, asked_of, AreServers, RefusesOneOf, HasNoServers, StartsFrom, FailsToStart};
 ghost use Rattle.feed_cli.specs.Pull.{outcome_of_attempt, outcome_of_pull, PrintedPulled, PullFails};
 ghost use Rattle.feed_http.specs.Device.{HasFailed};
 ghost use Rattle.feed_http.specs.Exchange.{devices_of};
 ghost use Rattle.feed_relay.specs.Dialing.{dialer_of};
 ghost use Rattle.feed_relay.specs.First.{position};
-ghost use Rattle.feed_answer.specs.Place.{Place as Named};
 
 use crate::fault::Fault;
 use crate::input::{INPUT_BYTES, read_all};
 use crate::snapshot::{outcome, print_snapshot};
 use crate::telling::Teller;
 use feed_http::device::{FeedRead, FeedWrite};
-use feed_http::{EngineFault, FollowFault, Followed, Place};
+use feed_http::{EngineFault, FollowFault, Followed, Identity, Place};
 use feed_node::Mirror;
-use feed_relay::{Attempt, AttemptEnd, Dial, NetworkFault, follow_first};
+use feed_relay::{Attempt, AttemptEnd, Dial, NetworkFault, Server, follow_first};
 use feed_words::{PullOptions, addresses};
 use std::alloc::{AllocError, Global};
 
-/// The servers that a command follows.
-#[derive(Drop)]
-pub struct Servers {
-    /// The addresses after the first one: of each the host and the port.
-    pub further: Vec<(String, u16)>,
-    /// What each server is asked for, that of the first one at the start.
-    pub places: Vec<Place>,
+/// Who asks: the name by which the servers are called, where it is not the host of each, and the
+/// user, as `NAME:PASSWORD`.
+#[derive(Clone, Copy)]
+pub struct Caller<'a> {
+    pub host: Option<&'a str>,
+    pub user: Option<&'a str>,
 }
 
 /// The server's host, with its port.
@@ -40,19 +39,16 @@ fn host_and_port(alloc: Global, options: &PullOptions<'_>) -> Result<String, All
 fn first_place(alloc: Global, options: &PullOptions<'_>) -> Result<Place, Fault>
     ensures ok { IfOk result (λ place.
         place_of options.now (first_address options.now) ≡ Ok place) }
-    ensures err { IfErr result (λ why. RefusesServer options.now (first_address options.now) why) }
+    ensures err { IfErr result (λ why. RefusesAddress options.now (first_address options.now) why) }
 {
     let host = host_and_port(alloc, options)?;
-    match Place::new(alloc, host.as_str(), options.base, options.contest) {
-        Ok(place) => Ok(place),
-        Err(fault) => Err(Fault::of_place(fault)),
-    }
+    Place::new(alloc, host.as_str(), options.base, options.contest).map_err(Fault::of_place)
 }
 
 /// The place that is asked for the feed at this address.
 fn place_at(alloc: Global, options: &PullOptions<'_>, host: &str, port: u16) -> Result<Place, Fault>
     ensures ok { IfOk result (λ place. place_of options.now (host.now, port) ≡ Ok place) }
-    ensures err { IfErr result (λ why. RefusesServer options.now (host.now, port) why) }
+    ensures err { IfErr result (λ why. RefusesAddress options.now (host.now, port) why) }
 {
     let here = PullOptions {
         host,
@@ -62,22 +58,38 @@ fn place_at(alloc: Global, options: &PullOptions<'_>, host: &str, port: u16) -> 
     first_place(alloc, &here)
 }
 
-/// Appends that place.
-fn push_place(
+/// As whom servers are asked.
+fn identity_for(alloc: Global, caller: Caller<'_>) -> Result<Identity, Fault>
+    ensures ok { IfOk result (λ identity. identity_of caller ≡ Ok identity) }
+    ensures err { IfErr result (λ why. RefusesCaller caller why) }
+{
+    Identity::new(alloc, caller.host, caller.user).map_err(Fault::of_identity)
+}
+
+/// Appends the server at this address.
+fn push_server(
     alloc: Global,
     options: &PullOptions<'_>,
+    caller: Caller<'_>,
     host: &str,
     port: u16,
-    places: &mut Vec<Place>,
+    servers: &mut Vec<Server>,
 ) -> Result<(), Fault>
-    ensures ok { OnOk result (map (λ place. Ok place) places.new.items
-        ≡ map (λ place. Ok place) places.old.items ++ place_of options.now (host.now, port) ∷ []) }
-    ensures made { OnOk result
-        ((place : Named) × (place_of options.now (host.now, port) ≡ Ok place)) }
-    ensures err { IfErr result (λ why. RefusesServer options.now (host.now, port) why) }
+    ensures ok { OnOk result (map asked_of servers.new.items
+        ≡ map asked_of servers.old.items ++ asked_at options.now caller (host.now, port) ∷ []) }
+    ensures made { OnOk result (HasServer options.now caller (host.now, port)) }
+    ensures err { IfErr result
+        (λ why. RefusesServer options.now caller (host.now, port) why) }
 {
     let place = place_at(alloc, options, host, port)?;
-    match places.push(place) {
+    let identity = identity_for(alloc, caller)?;
+    let server = Server {
+        host: format!(in alloc; "{host}")?,
+        port,
+        place,
+        identity,
+    };
+    match servers.push(server) {
         Ok(()) => Ok(()),
         Err(_) => Err(Fault::Memory),
     }
@@ -92,42 +104,51 @@ fn further_addresses(alloc: Global, options: &PullOptions<'_>) -> Result<Vec<(St
     let Some(text) = options.from else {
         return Ok(Vec::new(alloc));
     };
-    match addresses(alloc, text) {
-        Ok(further) => Ok(further),
-        Err(fault) => Err(Fault::of_addresses(fault)),
-    }
+    addresses(alloc, text).map_err(Fault::of_addresses)
 }
 
-/// Appends the places at these addresses.
-fn push_places(
+/// Appends the servers at these addresses.
+fn push_servers(
     alloc: Global,
     options: &PullOptions<'_>,
+    caller: Caller<'_>,
     addresses: &[(String, u16)],
-    places: &mut Vec<Place>,
+    servers: &mut Vec<Server>,
 ) -> Result<(), Fault>
     ensures ok { let asked = map (λ a. (string_bytes a.0, a.1)) addresses.now in
-        OnOk result (map (λ place. Ok place) places.new.items
-        ≡ map (λ place. Ok place) places.old.items ++ map (place_of options.now) asked) }
+        OnOk result (map asked_of servers.new.items
+        ≡ map asked_of servers.old.items ++ map (asked_at options.now caller) asked) }
     ensures err { let asked = map (λ a. (string_bytes a.0, a.1)) addresses.now in
-        IfErr result (λ why. RefusesOneOf options.now asked why) }
+        IfErr result (λ why. RefusesOneOf options.now caller asked why) }
 {
     'addresses: for (host, port) in addresses {
-        push_place(alloc, options, host.as_str(), *port, places)?;
+        push_server(alloc, options, caller, host.as_str(), *port, servers)?;
     }
     Ok(())
 }
 
-/// The servers that are asked: the one after `--host` and `--port`, and those after `--from`.
-pub fn servers_of(alloc: Global, options: &PullOptions<'_>) -> Result<Servers, Fault>
-    ensures ok { IfOk result (λ servers. AreServers options.now
-        (map (λ a. (string_bytes a.0, a.1)) servers.further.items) servers.places.items) }
-    ensures err { IfErr result (λ why. HasNoServers options.now why) }
+/// The servers that are asked: the one after `--host` and `--port`, and those after `--from`; each
+/// as this caller.
+pub fn servers_of(
+    alloc: Global,
+    options: &PullOptions<'_>,
+    caller: Caller<'_>,
+) -> Result<Vec<Server>, Fault>
+    ensures ok { IfOk result (λ servers. AreServers options.now caller servers.items) }
+    ensures err { IfErr result (λ why. HasNoServers options.now caller why) }
 {
-    let mut places = Vec::new(alloc);
-    push_place(alloc, options, options.host, options.port, &mut places)?;
+    let mut servers = Vec::new(alloc);
+    push_server(
+        alloc,
+        options,
+        caller,
+        options.host,
+        options.port,
+        &mut servers,
+    )?;
     let further = further_addresses(alloc, options)?;
-    push_places(alloc, options, &further, &mut places)?;
-    Ok(Servers { further, places })
+    push_servers(alloc, options, caller, &further, &mut servers)?;
+    Ok(servers)
 }
 
 /// A mirror with nothing published; or, where it is to resume, the one that the input, at most
@@ -183,46 +204,43 @@ pub fn pull_outcome(attempts: &[Attempt]) -> Result<(), Fault>
     }
 }
 
-/// Follows the first of these places that serves, tells why those before it failed, and prints the
-/// snapshot of what the mirror shows then, also where the last one failed. Out of memory,
-/// nothing is printed.
+/// Follows the first of these servers that serves, tells why those before it failed, and prints the
+/// snapshot of what the mirror shows then, also where the last one failed. That is told, too, where
+/// the snapshot can't be printed. Out of memory, nothing is printed.
 pub fn print_pulled<D: Dial, W: FeedWrite, E: FeedWrite>(
     alloc: Global,
     options: &PullOptions<'_>,
-    places: &[Place],
+    servers: &[Server],
     mirror: &mut Mirror,
-    server: &mut D,
+    dial: &mut D,
     out: &mut W,
     err: &mut E,
 ) -> Result<(), Fault>
     ensures ok { let dialer = dialer_of (devices_of D.Reader.remaining D.Reader.reads
         D.Reader.failures D.Writer.contents D.Writer.failures) D.misses D.dials D.closes in
-        OnOk result (PrintedPulled dialer places.now options.now.turns
-        (position mirror.old server.old) (Ok tt)
-        (position mirror.new server.new) (W.contents out.old) (W.contents out.new)) }
+        OnOk result (PrintedPulled dialer servers.now options.now.turns
+        (position mirror.old dial.old) (Ok tt) (position mirror.new dial.new)
+        (wrote_by W.contents W.failures out.old out.new)) }
     ensures some { OnOk result (is_some mirror.new.node.published ≡ true) }
+    ensures told { OnOk result (E.failures err.new ≡ E.failures err.old) }
     ensures err { let dialer = dialer_of (devices_of D.Reader.remaining D.Reader.reads
         D.Reader.failures D.Writer.contents D.Writer.failures) D.misses D.dials D.closes in
-        IfErr result (λ why. PullFails dialer places.now options.now.turns why
-        (position mirror.old server.old) (position mirror.new server.new)
-        (W.contents out.old) (W.contents out.new)) }
-
-    // Where all was printed, an attempt could not be told.
-    ensures write { let dialer = dialer_of (devices_of D.Reader.remaining D.Reader.reads
-        D.Reader.failures D.Writer.contents D.Writer.failures) D.misses D.dials D.closes in
-        IsErrOf result Fault.Write → HasFailed (W.failures out.old) (W.failures out.new)
-        ⊎ PrintedPulled dialer places.now options.now.turns
-        (position mirror.old server.old) (Ok tt)
-        (position mirror.new server.new) (W.contents out.old) (W.contents out.new) }
+        IfErr result (λ why. PullFails dialer servers.now options.now.turns why
+        (position mirror.old dial.old) (position mirror.new dial.new)
+        (wrote_by W.contents W.failures out.old out.new) (E.failures err.old)
+        (E.failures err.new)) }
 {
-    let attempts = follow_first(alloc, server, places, mirror, options.turns)?;
-    let mut teller = Teller::new("pull", err);
-    teller.tell_earlier(&attempts);
+    let attempts = follow_first(alloc, dial, servers, mirror, options.turns)?;
+    let mut teller = Teller::new("pull");
+    teller.tell_earlier(&attempts, err);
     let pulled = pull_outcome(&attempts);
     if pulled == Err(Fault::Memory) {
         return pulled;
     }
-    print_snapshot(mirror, out)?;
+    if let Err(failed) = print_snapshot(mirror, out) {
+        teller.tell_outcome(pulled, err);
+        return Err(failed);
+    }
     outcome(pulled, mirror.node().token().is_some())?;
     teller.outcome()
 }

@@ -1,17 +1,22 @@
 //! A feed, served by a primary.
-ghost use Rattle.std.specs.Prelude.{IfOk, IfErr, OnOk, IsErrOf};
-ghost use Rattle.feed_cli.specs.Serve.{Starts, StartFails, Takes, FailsTaking, EndsTaking};
+ghost use Rattle.std.specs.Prelude.{◌≡◌, ◌≤◌, IfOk, IfErr, OnOk, Result, IsErrOf};
+ghost use Rattle.feed_cli.specs.Serve.{Starts, StartFails, Takes, EndsTaking, turn_of, serve_service};
+ghost use Rattle.feed_cli.specs.Serve.{serving, ServesOn, EndsServing, ServesAll, ServingFails};
+ghost use Rattle.feed_cli.specs.Telling.{HasTold};
 ghost use Rattle.feed_http.specs.Device.{HasFailed};
+ghost use Rattle.feed_http.specs.Exchange.{devices_of};
 ghost use Rattle.feed_http.specs.Live.{intake_of};
+ghost use Rattle.feed_http.specs.declared.fault.Served.{Served as Done};
+ghost use Rattle.feed_relay.specs.Dialing.{links_of};
+ghost use Rattle.feed_relay.specs.declared.fault.NetworkFault.{NetworkFault as Failing};
 
 use crate::fault::Fault;
 use crate::input::{INPUT_BYTES, read_all};
-use crate::listen::Listen;
 use crate::telling::Teller;
+use feed_http::Service;
 use feed_http::device::{FeedRead, FeedWrite};
-use feed_http::serve_live;
 use feed_node::Primary;
-use feed_relay::{ENGINE_TURNS, NetworkFault, commit_all, feed_batches};
+use feed_relay::{Accept, ENGINE_TURNS, commit_all, feed_batches, serve_live_next};
 use feed_tables::Change;
 use feed_words::ServeOptions;
 use std::alloc::Global;
@@ -56,84 +61,96 @@ pub fn start_source<R: FeedRead>(
     Ok(Source { primary, waiting })
 }
 
-/// Serves one connection.
-fn serve_next<L: Listen>(
-    alloc: Global,
-    options: &ServeOptions<'_>,
-    source: &mut Source,
-    listener: &mut L,
-) -> Result<(), NetworkFault>
-    ensures ok { OnOk result (Takes (intake_of source.old.primary source.old.waiting.items)
-        (intake_of source.new.primary source.new.waiting.items)) }
-    ensures err { IfErr result (λ why. FailsTaking why
-        (intake_of source.old.primary source.old.waiting.items)
-        (intake_of source.new.primary source.new.waiting.items)) }
+/// How many batches a primary takes each time that its session is up to date.
+fn turn_of(options: &ServeOptions<'_>) -> usize
+    ensures turn { result ≡ turn_of options.now.turn }
+    ensures some { 1 ≤ result }
 {
-    let Some((mut reader, mut writer)) = listener.accept() else {
-        return Err(NetworkFault::Accept);
-    };
-    let served = serve_live(
-        alloc,
-        &mut reader,
-        &mut writer,
-        &mut source.primary,
-        &mut source.waiting,
-        options.turn.unwrap_or(1).max(1),
-        options.contest,
-        options.framing,
-        ENGINE_TURNS,
-        options.back,
-    );
-    listener.close(reader, writer);
-    match served {
-        Ok(_) => Ok(()),
-        Err(fault) => Err(NetworkFault::Engine(fault)),
+    options.turn.unwrap_or(1).max(1)
+}
+
+/// How each connection is served.
+fn service_of<'a>(options: &ServeOptions<'a>) -> Service<'a>
+    ensures { result ≡ serve_service options.now }
+{
+    Service {
+        contest: options.contest,
+        framing: options.framing,
+        back: options.back,
+        turns: ENGINE_TURNS,
     }
 }
 
 /// Serves one connection, and tells its fault. A fault that is more than a connection's ends the
 /// serving.
-fn serve_and_tell<L: Listen, E: FeedWrite>(
+fn serve_one<A: Accept, E: FeedWrite>(
     alloc: Global,
     options: &ServeOptions<'_>,
     source: &mut Source,
-    listener: &mut L,
-    teller: &mut Teller<'_, E>,
+    listener: &mut A,
+    teller: &mut Teller,
+    err: &mut E,
 ) -> Result<(), Fault>
-    ensures ok { OnOk result (Takes (intake_of source.old.primary source.old.waiting.items)
-        (intake_of source.new.primary source.new.waiting.items)) }
-    ensures err { IfErr result (λ why. EndsTaking why
-        (intake_of source.old.primary source.old.waiting.items)
-        (intake_of source.new.primary source.new.waiting.items)) }
+    ensures ok { let links = links_of (devices_of A.Reader.remaining A.Reader.reads
+        A.Reader.failures A.Writer.contents A.Writer.failures) A.misses A.accepts A.closes in
+        OnOk result ((served : Result Done Failing) × ServesOn links (turn_of options.now.turn)
+        (serve_service options.now)
+        (serving (intake_of source.old.primary source.old.waiting.items) listener.old) served
+        (serving (intake_of source.new.primary source.new.waiting.items) listener.new)) }
+    ensures err { let links = links_of (devices_of A.Reader.remaining A.Reader.reads
+        A.Reader.failures A.Writer.contents A.Writer.failures) A.misses A.accepts A.closes in
+        IfErr result (λ why. EndsServing links (turn_of options.now.turn)
+        (serve_service options.now)
+        (serving (intake_of source.old.primary source.old.waiting.items) listener.old) why
+        (serving (intake_of source.new.primary source.new.waiting.items) listener.new)) }
+    ensures told { HasTold (E.failures err.old) (E.failures err.new)
+        teller.old.has_failed teller.new.has_failed }
 {
-    if let Err(fault) = serve_next(alloc, options, source, listener) {
-        let fault = Fault::of_network(fault);
-        if !fault.is_of_a_connection() {
-            return Err(fault);
-        }
-        teller.tell(fault);
-    }
-    Ok(())
+    let served = serve_live_next(
+        alloc,
+        listener,
+        &mut source.primary,
+        &mut source.waiting,
+        turn_of(options),
+        &service_of(options),
+    );
+    teller.end_connection(served, err)
 }
 
 /// Serves one connection after another. A connection's fault is told, and serving goes on. What was
 /// taken of the batches, in order and each once, is what the primary committed.
-pub fn serve_all<L: Listen, E: FeedWrite>(
+pub fn serve_all<A: Accept, E: FeedWrite>(
     alloc: Global,
     options: &ServeOptions<'_>,
     source: &mut Source,
-    listener: &mut L,
+    listener: &mut A,
     err: &mut E,
 ) -> Result<(), Fault>
+    ensures served { let links = links_of (devices_of A.Reader.remaining A.Reader.reads
+        A.Reader.failures A.Writer.contents A.Writer.failures) A.misses A.accepts A.closes in
+        OnOk result (ServesAll links (turn_of options.now.turn)
+        (serve_service options.now) options.now.count
+        (serving (intake_of source.old.primary source.old.waiting.items) listener.old)
+        (serving (intake_of source.new.primary source.new.waiting.items) listener.new)) }
+    ensures told { OnOk result (E.failures err.new ≡ E.failures err.old) }
+    ensures failed { let links = links_of (devices_of A.Reader.remaining A.Reader.reads
+        A.Reader.failures A.Writer.contents A.Writer.failures) A.misses A.accepts A.closes in
+        IfErr result (λ why. ServingFails links (turn_of options.now.turn)
+        (serve_service options.now) options.now.count why
+        (serving (intake_of source.old.primary source.old.waiting.items) listener.old)
+        (serving (intake_of source.new.primary source.new.waiting.items) listener.new)
+        (E.failures err.old) (E.failures err.new)) }
+
+    // what that says of the batches
     ensures ok { OnOk result (Takes (intake_of source.old.primary source.old.waiting.items)
         (intake_of source.new.primary source.new.waiting.items)) }
     ensures err { IfErr result (λ why. EndsTaking why
         (intake_of source.old.primary source.old.waiting.items)
         (intake_of source.new.primary source.new.waiting.items)) }
 {
-    let mut teller = Teller::new("serve", err);
-    'connections: for _ in 0..options.count {
-        serve_and_tell(alloc, options, source, listener, &mut teller)?;
+    let mut teller = Teller::new("serve");
+    'connections: for _made in 0..options.count {
+        serve_one(alloc, options, source, listener, &mut teller, err)?;
     }
     teller.outcome()
 }

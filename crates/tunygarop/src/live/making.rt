@@ -13,8 +13,8 @@ use crate::live::watching::Watched;
 use crate::live::{Engine, LISTENER};
 use feed_answer::{Identity, Place};
 use feed_cli::{
-    AddressFault, Fault, LiveOptions, NetworkFault, PullOptions, UpstreamOptions, Verbosity,
-    servers_of,
+    AddressFault, Caller, Fault, LiveOptions, NetworkFault, PullOptions, UpstreamOptions,
+    Verbosity, servers_of,
 };
 use feed_live::{Devices, Live, LiveLimits, Ready, Restored, Start, restore};
 use feed_node::{Limits, Mirror};
@@ -86,19 +86,24 @@ fn servers(rt: &HostRuntime, options: &LiveOptions<'_>) -> Result<Asked, Fault> 
     };
     let asked = pull_options(options, upstream);
     let hosts = Hosts::new(rt.alloc(), &asked)?;
-    let servers = servers_of(rt.alloc(), &named(&asked, &hosts))?;
-    push(&mut addresses, address_of(rt, hosts.host(), upstream.port)?)?;
-    for (host, port) in &servers.further {
-        push(&mut addresses, address_of(rt, host.as_str(), *port)?)?;
+    let mut places = Vec::new(rt.alloc());
+    // As whom they are asked, the relay is told apart.
+    let caller = Caller {
+        host: None,
+        user: None,
+    };
+    for server in servers_of(rt.alloc(), &named(&asked, &hosts), caller)? {
+        push(
+            &mut addresses,
+            address_of(rt, server.host.as_str(), server.port)?,
+        )?;
+        push(&mut places, server.place)?;
     }
-    Ok(Asked {
-        addresses,
-        places: servers.places,
-    })
+    Ok(Asked { addresses, places })
 }
 
-fn push(addresses: &mut Vec<SocketAddr>, address: SocketAddr) -> Result<(), Fault> {
-    match addresses.push(address) {
+fn push<T: Drop>(list: &mut Vec<T>, item: T) -> Result<(), Fault> {
+    match list.push(item) {
         Ok(()) => Ok(()),
         Err(_) => Err(Fault::Memory),
     }

@@ -1,14 +1,15 @@
-use Rattle.std.proofs.Common.{◌≡◌, refl, sym, ◌∙◌, [], ◌++◌, length, arith, inr, subst, length-append, eqb-true}
+use Rattle.std.proofs.Common.{◌≡◌, refl, sym, ◌∙◌, [], ◌++◌, length, arith, inl, inr, ap, subst, length-append, eqb-true}
 use Rattle.std.proofs.KnownBytes.{Appends-nil}
 use Rattle.std.proofs.lemmas.Result.{err_from_is_err_and}
 use Rattle.feed_http.specs.Live.{intake_of, none_sent, turn_taken}
 use Rattle.feed_http.specs.Sending.{Sent, WroteCommits}
 use Rattle.feed_http.specs.Serving.{commit_frames}
 use Rattle.feed_http.proofs.LiveLemmas.{stopped, cut_short, sent_on, frames_on, all_lost, all_new, lost_late, held_on, accepts_limits, fewer_left, none_left, refused_so}
+use Rattle.feed_http.proofs.LostLemmas.{never_kept, turn_loses}
 use Rattle.feed_http.proofs.live.send_live.Goals as goal
 
 pub turns-init : goal.turns-init
-turns-init g c = record { run = ([], none_sent, refl, Appends-nil _); quiet = refl; held = λ h. inr h; limits = refl; fewer = omega arith }
+turns-init g c = record { run = ([], none_sent, refl, Appends-nil _); quiet = refl; held = λ h. inr h; lost = λ few long. inl refl; limits = refl; fewer = omega arith }
 
 pub returns-in_err-sent-clause-part : goal.returns-in_err-sent-clause-part
 returns-in_err-sent-clause-part g c =
@@ -55,6 +56,21 @@ returns-then-is_empty-clause-ok g c =
       frames_on c.args.framing sent more _ _ _ wrote appended,
     )
 
+pub returns-then-is_empty-clause-lost : goal.returns-then-is_empty-clause-lost
+returns-then-is_empty-clause-lost g c = λ few long.
+    let start = intake_of c.args.primary.now c.args.input.now.items in
+    let before = intake_of c.turns.primary c.turns.input.items in
+    let (more, sends, all, many, appended) = c.in_ok-sent.ensures.ok in
+    let node_is : c.node.result.now.shown ≡ c.turns.primary.node = c.node.ensures.node in
+    let goes_on = subst (λ n. Sent n c.turns.session more c.send_commits.new.session) node_is sends in
+    let new = all_new c.node.result.now.shown c.turns.primary.node c.send_commits.new.session c.in_ok-sent.gone node_is c.if-gone.false all in
+    let none : c.turns.input.len ≡ 0 = eqb-true c.turns.input.len 0 (sym c.is_empty.ensures ∙ c.if-is_empty.true) in
+    let empty : length c.turns.input.items ≡ 0 = sym c.turns.input.ok.0 ∙ none in
+    elim (c.turns.invariant.lost few long) [
+      | inl same ↦ (let left = ap (λ i. length i.batches) (sym same) in let gone : length before.batches ≡ 0 = ap length (none_left c.turns.primary c.turns.input.items empty) in absurd (omega (arith, long.1)))
+      | inr past ↦ absurd (never_kept start before c.turns.session c.send_commits.new.session more c.turns.invariant.limits c.node.ensures.primary c.node.ensures.consistent past goes_on new)
+    ]
+
 pub turns-preserved : goal.turns-preserved
 turns-preserved g c =
     let (sent, run, count, wrote) = c.turns.invariant.run in
@@ -77,6 +93,10 @@ turns-preserved g c =
       );
       quiet = c.in_ok-sent.ensures.quiet ∙ c.turns.invariant.quiet;
       held = λ h. held_on c.args.turn start before now c.turns.session c.send_commits.new.session more c.turns.invariant.limits c.turns.invariant.fewer c.node.ensures.consistent goes_on new takes (c.turns.invariant.held h);
+      lost = λ few long. inr (elim (c.turns.invariant.lost few long) [
+        | inl same ↦ turn_loses c.args.turn start before now c.send_commits.new.session same few c.node.ensures.primary new takes long
+        | inr past ↦ absurd (never_kept start before c.turns.session c.send_commits.new.session more c.turns.invariant.limits c.node.ensures.primary c.node.ensures.consistent past goes_on new)
+      ]);
       limits = accepts_limits c.turns.primary _ c.take_turn.new.primary takes.accepted ∙ c.turns.invariant.limits;
       fewer = omega (arith, left, c.turns.invariant.fewer);
     }

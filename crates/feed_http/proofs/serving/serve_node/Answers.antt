@@ -6,12 +6,12 @@ use Rattle.feed_http.proofs.serving.serve_node.Goals as goal
 
 pub returns-in_err-read_head : goal.returns-in_err-read_head
 returns-in_err-read_head g c =
-    serves_once _ _ _ _ _ _ c.from_residual.result (search rules) (search rules) (search rules)
+    serves_once _ _ _ c.from_residual.result (search rules) (search rules) (search rules)
     (search rules) (search rules) (search rules) (search rules)
 
 pub returns-in_err-answered : goal.returns-in_err-answered
 returns-in_err-answered g c =
-    serves_once _ _ _ _ _ _ c.from_residual-in_err-answered.result (search rules) (search rules)
+    serves_once _ _ _ c.from_residual-in_err-answered.result (search rules) (search rules)
     (search rules) (search rules) (search rules) (search rules) (search rules)
 
 pub returns : goal.returns
@@ -19,11 +19,12 @@ returns g c =
     let reader = g.R.FeedRead in
     let writer = g.W.FeedWrite in
     let spoken = exchange (devices_of reader.remaining reader.reads reader.failures writer.contents writer.failures) c.args.reader.now c.read_head.new.reader c.args.writer.now c.send_answer.new.writer in
+    let s = c.args.service.now in
     let head = c.read_head.new.bytes.items in
     let a = c.in_ok-answered.answered in
     let answer = parts_of a.status a.framing a.bytes.items a.session in
-    let answers = subst (λ h. AnswersTo h c.args.contest.now c.args.node.now.shown c.args.framing c.args.back answer) c.as_slice.ensures.value c.in_ok-answered.ensures.ok in
-    serves_once c.args.contest.now c.args.node.now.shown c.args.framing c.args.back c.args.turns spoken c.send_answer.result
-    (was_served c.args.contest.now c.args.node.now.shown c.args.framing c.args.back c.args.turns spoken head
+    let answers = subst (λ h. AnswersTo h s.contest.now c.args.node.now.shown s.framing s.back answer) c.as_slice.ensures.value c.in_ok-answered.ensures.ok in
+    serves_once s c.args.node.now.shown spoken c.send_answer.result
+    (was_served s c.args.node.now.shown spoken head
     answer c.in_ok-read_head.ensures.given c.read_head.ensures.needed c.in_ok-read_head.ensures.enough answers c.send_answer.result c.send_answer.ensures.ok)
     (search rules) (search rules) (search rules) (search rules) (search rules) (search rules)

@@ -6,8 +6,8 @@ use Rattle.feed_relay.specs.Dialing.{dialer_of}
 use Rattle.feed_relay.proofs.FirstLemmas.{goes_on, stops_at}
 use Rattle.feed_relay.proofs.first.follow_first.Goals as goal
 
-pub places-init : goal.places-init
-places-init g c =
+pub servers-init : goal.servers-init
+servers-init g c =
     let dial = g.D.Dial in
     let reader = g.D.Reader.FeedRead in
     let writer = g.D.Writer.FeedWrite in
@@ -21,23 +21,23 @@ places-init g c =
 
 pub returns-then-is_last-clause-followed : goal.returns-then-is_last-clause-followed
 returns-then-is_last-clause-followed g c =
-    let asked = c.ask_place-outcome.ensures.asked in
-    let lt : c.places.number < length c.args.places.now = c.places-test.true in
-    inr (stops_at _ c.args.turns c.places.number _ _ _ c.args.places.now c.index-places-number.result _ asked.0 _ _ c.places.invariant.goes
-    (length-take-le c.places.number c.args.places.now (omega (arith, lt)))
-    (take_more c.args.places.now c.places.number _ lt ∙ ap (λ p. take c.places.number c.args.places.now ++ p ∷ []) (sym c.index-places-number.is))
+    let asked = c.ask_server-outcome.ensures.asked in
+    let lt : c.servers.number < length c.args.servers.now = c.servers-test.true in
+    inr (stops_at _ c.args.turns c.servers.number _ _ _ c.args.servers.now c.index-servers-number.result _ asked.0 _ _ c.servers.invariant.goes
+    (length-take-le c.servers.number c.args.servers.now (omega (arith, lt)))
+    (take_more c.args.servers.now c.servers.number _ lt ∙ ap (λ p. take c.servers.number c.args.servers.now ++ p ∷ []) (sym c.index-servers-number.is))
     asked.3 (sym c.is_last.ensures ∙ c.if-is_last.true) asked.1)
 
-pub places-preserved : goal.places-preserved
-places-preserved g c =
-    let asked = c.ask_place-outcome.ensures.asked in
-    let lt : c.places.number < length c.args.places.now = c.places-test.true in
+pub servers-preserved : goal.servers-preserved
+servers-preserved g c =
+    let asked = c.ask_server-outcome.ensures.asked in
+    let lt : c.servers.number < length c.args.servers.now = c.servers-test.true in
     record {
-      goes = goes_on _ c.args.turns c.places.number _ _ _ c.args.places.now c.index-places-number.result _ asked.0 _ _ c.places.invariant.goes
-          (length-take-le c.places.number c.args.places.now (omega (arith, lt)))
-          (take_more c.args.places.now c.places.number _ lt ∙ ap (λ p. take c.places.number c.args.places.now ++ p ∷ []) (sym c.index-places-number.is))
+      goes = goes_on _ c.args.turns c.servers.number _ _ _ c.args.servers.now c.index-servers-number.result _ asked.0 _ _ c.servers.invariant.goes
+          (length-take-le c.servers.number c.args.servers.now (omega (arith, lt)))
+          (take_more c.args.servers.now c.servers.number _ lt ∙ ap (λ p. take c.servers.number c.args.servers.now ++ p ∷ []) (sym c.index-servers-number.is))
           asked.3 (sym c.is_last.ensures ∙ c.if-is_last.false) asked.1;
-      few = let a = c.places.invariant.few in let b = ap length asked.1 ∙ length-append c.places.attempts.items asked.0 in let d = asked.2 in omega (arith, a, b, d);
-      room = let a = c.places.invariant.room in let b = c.ask_place-outcome.ensures.capacity in omega (arith, a, b);
-      cut = λ none. c.ask_place-outcome.ensures.cut (c.places.invariant.cut none);
+      few = let a = c.servers.invariant.few in let b = ap length asked.1 ∙ length-append c.servers.attempts.items asked.0 in let d = asked.2 in omega (arith, a, b, d);
+      room = let a = c.servers.invariant.room in let b = c.ask_server-outcome.ensures.capacity in omega (arith, a, b);
+      cut = λ none. c.ask_server-outcome.ensures.cut (c.servers.invariant.cut none);
     }

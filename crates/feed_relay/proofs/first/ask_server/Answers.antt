@@ -4,7 +4,7 @@ use Rattle.feed_http.specs.Exchange.{devices_of}
 use Rattle.feed_relay.specs.Dialing.{dialer_of}
 use Rattle.feed_relay.specs.First.{position, attempt_at, Attempts}
 use Rattle.feed_relay.specs.declared.first.AttemptEnd.TheVariants.{Followed}
-use Rattle.feed_relay.proofs.first.ask_place.Goals as goal
+use Rattle.feed_relay.proofs.first.ask_server.Goals as goal
 
 pub returns-clause-asked : goal.returns-clause-asked
 returns-clause-asked g c =
@@ -12,11 +12,11 @@ returns-clause-asked g c =
     let reader = g.D.Reader.FeedRead in
     let writer = g.D.Writer.FeedWrite in
     let dialer = dialer_of (devices_of reader.remaining reader.reads reader.failures writer.contents writer.failures) dial.misses dial.dials dial.closes in
-    let first = attempt_at c.args.number c.try_place-outcome.result in
-    let again = attempt_at c.args.number c.try_place-again.result in
+    let first = attempt_at c.args.number c.try_server-outcome.result in
+    let again = attempt_at c.args.number c.try_server-again.result in
     let start = position c.args.mirror.now c.args.dial.now in
-    let middle = position c.try_place-outcome.new.mirror c.try_place-outcome.new.dial in
-    let is : c.try_place-outcome.result ≡ Followed TokenRefused = search rules in (
+    let middle = position c.try_server-outcome.new.mirror c.try_server-outcome.new.dial in
+    let is : c.try_server-outcome.result ≡ Followed TokenRefused = search rules in (
       first ∷ again ∷ [],
       c.push_reserved-2.ensures.items ∙ ap (λ l. l ++ again ∷ []) c.push_reserved.ensures.items ∙ append_assoc c.args.attempts.now.items (first ∷ []) (again ∷ []),
       omega arith,
@@ -25,8 +25,8 @@ returns-clause-asked g c =
         inr (
           middle,
           ap (λ o. attempt_at c.args.number o ∷ again ∷ []) is,
-          subst (λ o. Attempts dialer c.args.number c.args.place.now c.args.turns start o middle) is c.try_place-outcome.ensures.tried,
-          c.try_place-again.ensures.tried,
+          subst (λ o. Attempts dialer c.args.number c.args.server.now c.args.turns start o middle) is c.try_server-outcome.ensures.tried,
+          c.try_server-again.ensures.tried,
         ),
       ),
     )

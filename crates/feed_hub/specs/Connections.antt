@@ -1,0 +1,60 @@
+-- THE PROMISE on one connection: what a mirror makes of what was written for its request, by a node,
+-- or by a primary that took batches meanwhile (CLICS Contest API 2023-06, event feed and
+-- reconnection; RFC 9112).
+use Rattle.std.specs.Prelude.{◌≡◌, ℕ, ◌<◌, ◌^◌, Bool, false, List, ◌++◌, length, Some}
+use Rattle.feed_node.specs.declared.commit.Commit.{Commit}
+use Rattle.feed_node.specs.Limits.{Limits}
+use Rattle.feed_node.specs.Mirroring.{MirrorState}
+use Rattle.feed_node.specs.States.{NodeState, published_token}
+use Rattle.feed_follow.specs.Follower.{FollowerState, FollowsAt}
+use Rattle.feed_follow.specs.Standing.{Standing}
+use Rattle.feed_answer.specs.declared.framing.Framing.{Framing}
+use Rattle.feed_answer.specs.Answered.{AnswerParts, AnswersTo}
+use Rattle.feed_http.specs.declared.fault.Served.{Served}
+use Rattle.feed_http.specs.Live.{Intake, HasSent, SendsLive}
+use Rattle.feed_http.specs.Serving.{Serves}
+use Rattle.feed_world.specs.Log.{Log, IsLog}
+use Rattle.feed_hub.specs.Follows.{HasAskedSo, FollowsInLog, ArrivesInLog}
+use Rattle.feed_hub.specs.Laws.{IsInLog}
+
+-- Whatever prefix of the text came to the mirror, in any pieces, it shows nothing or a state of the
+-- log at its token. With all of it, after a 200 whose session kept its token, it is as far as the
+-- node then was.
+pub record FollowsServed (limits : Limits) (log : Log) (begun : MirrorState) (text : List ℕ)
+    (served : Served) (last : NodeState) : Type 0 where
+  pub answer : AnswerParts
+  pub status_is : served.status ≡ answer.status
+  pub follows : FollowsInLog limits log answer begun text
+  pub arrives : (token : List ℕ) (standing : Standing) (follower : FollowerState)
+      (mirror : MirrorState) → served.status ≡ 200 → served.gone ≡ false
+      → published_token last ≡ Some token → FollowsAt begun text standing follower mirror
+      → ArrivesInLog limits log token mirror
+
+-- A mirror asked with this head, and a node at a place of the log wrote this text, as `serve_node`
+-- does with no tokens `back`.
+abbrev pub NodesAreFollowed : Type 0
+NodesAreFollowed =
+    (limits : Limits) (log : Log) (node : NodeState) (head contest : List ℕ) (framing : Framing)
+    (text : List ℕ) (served : Served) (begun : MirrorState)
+    → IsLog limits log → IsInLog limits log node → HasAskedSo limits log head contest begun
+    → Serves head contest node framing 0 text served → length text < 2 ^ 64
+    → FollowsServed limits log begun text served node
+
+-- each state of the primary that a session met, which opened at this token, is in the log
+abbrev pub MeetsLog : Limits → Log → ℕ → Intake → List ℕ → Type 0
+MeetsLog limits log turn start opened =
+    (sent : List Commit) (now : Intake) (token : List ℕ) → HasSent turn start opened sent now token
+    → IsInLog limits log now.primary.node
+
+-- The same of a primary that took batches in turns, as `serve_live` does.
+abbrev pub PrimariesAreFollowed : Type 0
+PrimariesAreFollowed =
+    (limits : Limits) (log : Log) (turn : ℕ) (start now : Intake) (head contest : List ℕ)
+    (framing : Framing) (answer : AnswerParts) (text : List ℕ) (served : Served)
+    (begun : MirrorState)
+    → IsLog limits log → IsInLog limits log start.primary.node
+    → ((opened : List ℕ) → answer.session ≡ Some opened → MeetsLog limits log turn start opened)
+    → HasAskedSo limits log head contest begun
+    → AnswersTo head contest start.primary.node framing 0 answer
+    → SendsLive turn start answer text served now → length text < 2 ^ 64
+    → FollowsServed limits log begun text served now.primary.node

@@ -1,0 +1,19 @@
+//! What a mirror makes of what was written for its request on one connection.
+
+ghost use Rattle.feed_hub.specs.Connections.{NodesAreFollowed, PrimariesAreFollowed};
+
+use crate::laws::hub_laws;
+use feed_answer::followed_laws;
+use feed_world::following_laws;
+
+/// What a node, or a primary that takes batches meanwhile, writes on a connection is followed in any
+/// pieces: after each byte the mirror shows a state that the log has at its token, and after all of
+/// them it is as far as the server.
+pub fn connection_laws()
+    ensures nodes { NodesAreFollowed }
+    ensures primaries { PrimariesAreFollowed }
+{
+    hub_laws();
+    following_laws();
+    followed_laws();
+}
