@@ -434,6 +434,9 @@ no_batches : (found : List Batch) → has_none found ≡ true → found ≡ []
 no_batches [] e = refl
 no_batches (b ∷ bs) e = absurd (true≢false (sym e))
 
+is_some_published : (p : Published) → Some p ≡ None → ⊥
+is_some_published p e = cc
+
 module _ (limits : Limits) (log : Log) (own : Position) (notes : List Line) (mirror : MirrorState) (bytes : List ℕ)
     (bounds : mirror.limits ≡ limits) (stands : StandsAt first_opening bytes notes mirror) (same : mirror.node ≡ node_at log own) where
   abbrev shown : NodeState
@@ -450,8 +453,7 @@ module _ (limits : Limits) (log : Log) (own : Position) (notes : List Line) (mir
       by true e =
           let empty : batches notes ≡ [] = no_batches (batches notes) e in
           let nothing : shown.published ≡ None = ap (λ bs. (shows first_opening (unskipped mirror.limits.history first_opening bs)).published) empty in
-          let no : Some (record { tables = state_after log own.at; token = token_after own.at }) ≡ None = there ∙ nothing in
-          absurd (cc)
+          absurd (is_some_published (record { tables = state_after log own.at; token = token_after own.at }) (there ∙ nothing))
       by false e =
           ap (λ m. is_none m.since) stands.state
           ∙ ap (λ b. is_none (if b then None else published_token shown)) e
