@@ -1,5 +1,5 @@
 -- What a mirror makes of a file.
-use Rattle.std.proofs.Common.{◌≡◌, refl, sym, ap, ◌∙◌, subst, ℕ, ◌≤◌, true, false, List, [], ◌++◌, length, Option, Some, None, append_assoc, append-nil}
+use Rattle.std.proofs.Common.{◌≡◌, refl, sym, ap, ◌∙◌, subst, ℕ, ◌≤◌, Bool, true, false, List, [], ◌++◌, length, Option, Some, None, append_assoc, append-nil}
 use Rattle.feed_note.specs.Publishing.{Published}
 use Rattle.feed_note.specs.Texts.{snapshot_text}
 use Rattle.feed_note.specs.declared.line.Line.{Line}
@@ -15,77 +15,90 @@ use Rattle.feed_answer.specs.FrameLaws.{joined}
 use Rattle.feed_world.specs.Laws.{opened_text}
 use Rattle.feed_world.specs.Log.{Log, IsLog, state_after}
 use Rattle.feed_world.specs.Position.{Position, IsPlace, node_where}
+use Rattle.feed_world.specs.Reading.{opening_at}
 use Rattle.feed_hub.specs.declared.record.Record.{Record}
 use Rattle.feed_hub.specs.Told.{Told}
 use Rattle.feed_hub.specs.Record.{IsRecorded}
 use Rattle.feed_hub.specs.Laws.{IsInLog, AreInLog, ShowsState, ReachesState, ScreensShowStates, ScreensReach}
-use Rattle.feed_hub.specs.Files.{RestoresInLog, FilesRestore, FilesReach}
+use Rattle.feed_hub.specs.Files.{RestoresInLog, ReadsOnInLog, FilesRestore, FilesReach}
 
 -- ---- bytes of which each prefix shows a state of the log
 
-module _ (one : ReadingIsOne) (limits : Limits) (log : Log) (bytes : List ℕ)
-    (shown : (prefix behind : List ℕ) → prefix ++ behind ≡ bytes → ShowsState limits log None true prefix) where
+module _ (one : ReadingIsOne) (limits : Limits) (log : Log) (place : Option Position) (fresh : Bool) (bytes : List ℕ)
+    (shown : (prefix behind : List ℕ) → prefix ++ behind ≡ bytes → ShowsState limits log place fresh prefix) where
   reads_in_log : (prefix behind : List ℕ) (notes : List Line) → prefix ++ behind ≡ bytes
-      → Reads limits first_opening prefix notes
-      → IsInLog limits log (keep_latest limits.history (reads limits.history first_opening notes))
+      → Reads limits (opening_at log place fresh) prefix notes
+      → IsInLog limits log (keep_latest limits.history (reads limits.history (opening_at log place fresh) notes))
   reads_in_log prefix behind notes whole good =
       let s = shown prefix behind whole in
-      let same : s.notes ≡ notes = one.notes limits first_opening prefix s.notes notes s.nothing_bad good in
-      (s.at, s.is_place, ap (λ ns. keep_latest limits.history (reads limits.history first_opening ns)) (sym same) ∙ s.shows)
+      let same : s.notes ≡ notes = one.notes limits (opening_at log place fresh) prefix s.notes notes s.nothing_bad good in
+      (s.at, s.is_place, ap (λ ns. keep_latest limits.history (reads limits.history (opening_at log place fresh) ns)) (sym same) ∙ s.shows)
 
   fed_in_log : (notes : List Line) (mirror : MirrorState) → mirror.limits ≡ limits
-      → StandsAt first_opening bytes notes mirror → IsInLog limits log mirror.node
+      → StandsAt (opening_at log place fresh) bytes notes mirror → IsInLog limits log mirror.node
   fed_in_log notes mirror bounds stands =
-      let good = subst (λ l. Reads l first_opening bytes notes) bounds stands.nothing_bad in
+      let good = subst (λ l. Reads l (opening_at log place fresh) bytes notes) bounds stands.nothing_bad in
       let there = reads_in_log bytes [] notes (append-nil bytes) good in (
         there.0,
         there.1,
-        ap (λ m. m.node) stands.state ∙ ap (λ l. keep_latest l.history (reads l.history first_opening notes)) bounds ∙ there.2,
+        ap (λ m. m.node) stands.state ∙ ap (λ l. keep_latest l.history (reads l.history (opening_at log place fresh) notes)) bounds ∙ there.2,
       )
 
   cut_in_log : (before piece : List ℕ) (old new : MirrorState) → before ++ piece ≡ bytes → old.limits ≡ limits
-      → HasLost first_opening before piece old new → IsInLog limits log new.node
+      → HasLost (opening_at log place fresh) before piece old new → IsInLog limits log new.node
   cut_in_log before piece old new whole bounds lost =
       let ends : (before ++ lost.counted) ++ lost.uncounted ≡ bytes =
       append_assoc before lost.counted lost.uncounted ∙ ap (λ p. before ++ p) lost.whole ∙ whole in
-      let good = subst (λ l. Reads l first_opening (before ++ lost.counted) lost.notes) bounds lost.nothing_bad in
+      let good = subst (λ l. Reads l (opening_at log place fresh) (before ++ lost.counted) lost.notes) bounds lost.nothing_bad in
       let there = reads_in_log (before ++ lost.counted) lost.uncounted lost.notes ends good in (
         there.0,
         there.1,
-        ap (λ m. m.node) lost.state ∙ ap (λ l. keep_latest l.history (reads l.history first_opening lost.notes)) bounds ∙ there.2,
+        ap (λ m. m.node) lost.state ∙ ap (λ l. keep_latest l.history (reads l.history (opening_at log place fresh) lost.notes)) bounds ∙ there.2,
       )
 
   none_stops : (before piece : List ℕ) (notes : List Line) (old new : MirrorState) (fault : FeedFault)
       → before ++ piece ≡ bytes → old.limits ≡ limits
-      → HasStopped first_opening (before ++ piece) notes fault old new → ⊥
+      → HasStopped (opening_at log place fresh) (before ++ piece) notes fault old new → ⊥
   none_stops before piece notes old new fault whole bounds stopped =
       let s = shown bytes [] (append-nil bytes) in
-      one.faultless limits first_opening bytes s.notes notes fault s.nothing_bad
-      (subst (λ bs. FaultsAt limits first_opening bs notes fault) whole
-      (subst (λ l. FaultsAt l first_opening (before ++ piece) notes fault) bounds stopped.first))
+      one.faultless limits (opening_at log place fresh) bytes s.notes notes fault s.nothing_bad
+      (subst (λ bs. FaultsAt limits (opening_at log place fresh) bs notes fault) whole
+      (subst (λ l. FaultsAt l (opening_at log place fresh) (before ++ piece) notes fault) bounds stopped.first))
 
   fails_in_log : (before piece : List ℕ) (old new : MirrorState) (fault : FeedFault)
       → before ++ piece ≡ bytes → old.limits ≡ limits
-      → Faulted first_opening before piece old new fault → (fault ≡ Memory) × IsInLog limits log new.node
+      → Faulted (opening_at log place fresh) before piece old new fault → (fault ≡ Memory) × IsInLog limits log new.node
   fails_in_log before piece old new Memory whole bounds lost = (refl, cut_in_log before piece old new whole bounds lost)
   fails_in_log before piece old new NotOpen whole bounds f = absurd (none_stops before piece f.0 old new NotOpen whole bounds f.1)
   fails_in_log before piece old new LongLine whole bounds f = absurd (none_stops before piece f.0 old new LongLine whole bounds f.1)
   fails_in_log before piece old new (BadLine fault) whole bounds f = absurd (none_stops before piece f.0 old new (BadLine fault) whole bounds f.1)
   fails_in_log before piece old new StageFull whole bounds f = absurd (none_stops before piece f.0 old new StageFull whole bounds f.1)
 
+module _ (one : ReadingIsOne) (limits : Limits) (log : Log) (bytes : List ℕ)
+    (shown : (prefix behind : List ℕ) → prefix ++ behind ≡ bytes → ShowsState limits log None true prefix) where
   restored_in_log : (mirror : MirrorState) → IsRestored limits bytes mirror → IsInLog limits log mirror.node
   restored_in_log mirror restored =
-      let there = reads_in_log bytes [] restored.notes (append-nil bytes) restored.nothing_bad in
+      let there = reads_in_log one limits log None true bytes shown bytes [] restored.notes (append-nil bytes) restored.nothing_bad in
       (there.0, there.1, ap (λ m. m.node) restored.state ∙ there.2)
 
   pub restores_in_log : RestoresInLog limits log bytes
   restores_in_log =
       record {
         reads = shown bytes [] (append-nil bytes);
-        fed = fed_in_log;
-        fails = fails_in_log;
+        fed = fed_in_log one limits log None true bytes shown;
+        fails = fails_in_log one limits log None true bytes shown;
         restored = restored_in_log;
       }
+
+-- so it is with a mirror that reads on from a position
+pub reads_on_in_log : ReadingIsOne → (limits : Limits) (log : Log) (own : Position) (bytes : List ℕ)
+    → ((prefix behind : List ℕ) → prefix ++ behind ≡ bytes → ShowsState limits log (Some own) false prefix) → ReadsOnInLog limits log own bytes
+reads_on_in_log one limits log own bytes shown =
+    record {
+      reads = shown bytes [] (append-nil bytes);
+      fed = fed_in_log one limits log (Some own) false bytes shown;
+      fails = fails_in_log one limits log (Some own) false bytes shown;
+    }
 
 -- ---- what a record has is that
 
@@ -100,7 +113,7 @@ begins_at limits log (Some q) p is_place e =
 
 module _ (limits : Limits) (log : Log) (nodes : List NodeState) (written : List ℕ) (r : Record)
     (is_log : IsLog limits log) (in_log : AreInLog limits log nodes) (recorded : IsRecorded nodes written r) where
-  begun : (k : ℕ) × (k ≤ length log) × (recorded.snapshot ≡ record { tables = state_after log k; token = token_after k })
+  pub begun : (k : ℕ) × (k ≤ length log) × (recorded.snapshot ≡ record { tables = state_after log k; token = token_after k })
   begun =
       let node = in_log recorded.first recorded.among in
       begins_at limits log node.0 recorded.snapshot node.1 (ap (λ n. n.published) (sym node.2) ∙ recorded.published)

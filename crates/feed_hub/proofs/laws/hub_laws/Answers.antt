@@ -1,6 +1,7 @@
 use Rattle.feed_hub.proofs.LawLemmas.{screens_connect, screens_show, screens_reach, screens_follow}
 use Rattle.feed_hub.proofs.OpeningLemmas.{due_is_response, served_grows}
 use Rattle.feed_hub.proofs.FileLemmas.{files_restore, files_reach}
+use Rattle.feed_hub.proofs.TwoFiles.{Given, files_follow, files_follow_on}
 use Rattle.feed_hub.proofs.FollowLemmas.{screens_are_safe, screens_arrive}
 use Rattle.feed_hub.proofs.laws.hub_laws.Goals as goal
 
@@ -39,3 +40,43 @@ returns-clause-live_arrives c =
     screens_arrive (screens_connect c.sending_laws.ensures.commits c.sending_laws.ensures.order) c.following_laws.ensures.opens
     c.followed_laws.ensures.responses c.followed_laws.ensures.ends c.following_laws.ensures.places c.following_laws.ensures.follow c.following_laws.ensures.fails
     c.followed_laws.ensures.whole c.following_laws.ensures.reached
+
+pub returns-clause-files_follow : goal.returns-clause-files_follow
+returns-clause-files_follow c =
+    files_follow (record {
+      read = c.node_laws.ensures.read;
+      good = c.node_laws.ensures.good;
+      goes_on = c.reading_laws.ensures.goes_on;
+      batches = c.reading_laws.ensures.batches;
+      sized = c.table_laws.ensures.sized;
+      listed = c.table_laws.ensures.within;
+      stand = c.node_laws.ensures.held;
+      prefixes = c.world_laws.ensures.prefixes;
+      tokens = c.world_laws.ensures.tokens;
+      shows = screens_show c.sending_laws.ensures.commits c.sending_laws.ensures.order c.world_laws.ensures.prefixes c.following_laws.ensures.places;
+      one = c.reading_laws.ensures.one;
+      sends = c.sending_laws.ensures.commits;
+      order = c.sending_laws.ensures.order;
+      stays = c.following_laws.ensures.places;
+      reached = c.following_laws.ensures.reached;
+    })
+
+pub returns-clause-files_follow_on : goal.returns-clause-files_follow_on
+returns-clause-files_follow_on c =
+    files_follow_on (record {
+      read = c.node_laws.ensures.read;
+      good = c.node_laws.ensures.good;
+      goes_on = c.reading_laws.ensures.goes_on;
+      batches = c.reading_laws.ensures.batches;
+      sized = c.table_laws.ensures.sized;
+      listed = c.table_laws.ensures.within;
+      stand = c.node_laws.ensures.held;
+      prefixes = c.world_laws.ensures.prefixes;
+      tokens = c.world_laws.ensures.tokens;
+      shows = screens_show c.sending_laws.ensures.commits c.sending_laws.ensures.order c.world_laws.ensures.prefixes c.following_laws.ensures.places;
+      one = c.reading_laws.ensures.one;
+      sends = c.sending_laws.ensures.commits;
+      order = c.sending_laws.ensures.order;
+      stays = c.following_laws.ensures.places;
+      reached = c.following_laws.ensures.reached;
+    })
