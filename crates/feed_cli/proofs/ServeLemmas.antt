@@ -208,7 +208,6 @@ ends_later (fault.Survey why) start mid now before after = absurd after
 ends_later (fault.Play why) start mid now before after = absurd after
 ends_later fault.Unpublished start mid now before after = absurd after
 ends_later (fault.Remote (remote.Place why)) start mid now before after = absurd after
-ends_later (fault.Remote (remote.Identity why)) start mid now before after = absurd after
 ends_later (fault.Remote (remote.Address why)) start mid now before after = absurd after
 ends_later (fault.Remote (remote.Batch why)) start mid now before after = absurd after
 ends_later (fault.Remote (remote.Commit why)) start mid now before after = absurd after

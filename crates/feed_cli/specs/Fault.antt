@@ -1,7 +1,5 @@
 -- Why a command fails, for the fault of what it calls, and the statuses that the program ends with.
 use Rattle.std.specs.Prelude.{◌≡◌, ◌⊎◌, ℕ, Bool, true, false, max, Option, Result, Ok, Err, if◌then◌else◌}
-use Rattle.feed_answer.specs.declared.identity.IdentityFault.{IdentityFault}
-use Rattle.feed_answer.specs.declared.identity.IdentityFault.TheVariants as identity
 use Rattle.feed_answer.specs.declared.place.PlaceFault.{PlaceFault}
 use Rattle.feed_answer.specs.declared.place.PlaceFault.TheVariants as place
 use Rattle.feed_http.specs.Device.{HasFailed}
@@ -49,10 +47,6 @@ abbrev pub fault_of_place : PlaceFault → Fault
 fault_of_place place.Memory = fault.Memory
 fault_of_place why = fault.Remote (remote.Place why)
 
-abbrev pub fault_of_identity : IdentityFault → Fault
-fault_of_identity identity.Memory = fault.Memory
-fault_of_identity why = fault.Remote (remote.Identity why)
-
 abbrev pub fault_of_addresses : AddressFault → Fault
 fault_of_addresses address.Memory = fault.Memory
 fault_of_addresses why = fault.Remote (remote.Address why)
@@ -82,7 +76,6 @@ status_of_network why = 4
 -- 1 for servers that can't be named so, 2 for a faulty input or response, 4 for a device's fault
 abbrev pub status_of_remote : RemoteFault → ℕ
 status_of_remote (remote.Place why) = 1
-status_of_remote (remote.Identity why) = 1
 status_of_remote (remote.Address why) = 1
 status_of_remote (remote.Batch why) = 2
 status_of_remote (remote.Commit why) = 2

@@ -2,15 +2,13 @@
 use Rattle.std.specs.Prelude.{◌≡◌, ◌⊎◌, ℕ, Bool, true, false, List, [], ◌∷◌, ◌++◌, map, Option, Some, None, Result, Ok, Err}
 use Rattle.std.specs.Prelude.{codes, decimal, string_bytes, Contains, IsSomeAnd, option_map, unwrap_or}
 use Rattle.std.specs.Borrow.{Bor}
-use Rattle.std.specs.Option.{option_copied}
 use Rattle.std.specs.Io.KnownBytes.{Appends, Keeps}
 use Rattle.feed_note.specs.Texts.{published_text}
 use Rattle.feed_node.specs.Limits.{Limits}
 use Rattle.feed_node.specs.Mirroring.{MirrorState, IsRestored, FailsToRestore, new_mirror}
 use Rattle.feed_answer.specs.Place.{Place, RefusesPlace, place_of}
 use Rattle.feed_answer.specs.declared.place.PlaceFault.{PlaceFault}
-use Rattle.feed_answer.specs.Identity.{Identity, identity_of, RefusesIdentity}
-use Rattle.feed_answer.specs.declared.identity.IdentityFault.{IdentityFault}
+use Rattle.feed_answer.specs.Identity.{Identity}
 use Rattle.feed_follow.specs.declared.fault.FollowFault.TheVariants.{BadHead}
 use Rattle.feed_http.specs.Device.{HasFailed, AppendsPrefix}
 use Rattle.feed_http.specs.declared.fault.EngineFault.TheVariants.{Follow}
@@ -26,7 +24,6 @@ use Rattle.feed_words.specs.Addresses.{IsListOf, RefusesList}
 use Rattle.feed_cli.specs.Check.{IsWhole, InputTooLong}
 use Rattle.feed_cli.specs.Fault.{fault_of_network}
 use Rattle.feed_cli.specs.Streams.{Wrote}
-use Rattle.feed_cli.specs.declared.commands.pull.Caller.{Caller}
 use Rattle.feed_cli.specs.declared.fault.Fault.{Fault}
 use Rattle.feed_cli.specs.declared.fault.Fault.TheVariants as fault
 use Rattle.feed_cli.specs.declared.fault.RemoteFault.TheVariants as remote
@@ -47,34 +44,11 @@ abbrev pub place_at : PullOptions → List ℕ × ℕ → Result Place PlaceFaul
 place_at options address = place_of (server_text address) options.base.now options.contest.now
 
 -- why there is none
-abbrev pub RefusesAddress : PullOptions → List ℕ × ℕ → Fault → Type 0
-RefusesAddress options address fault.Memory = Unit {0}
-RefusesAddress options address (fault.Remote (remote.Place why)) =
+abbrev pub RefusesServer : PullOptions → List ℕ × ℕ → Fault → Type 0
+RefusesServer options address fault.Memory = Unit {0}
+RefusesServer options address (fault.Remote (remote.Place why)) =
     RefusesPlace (server_text address) options.base.now options.contest.now why
-RefusesAddress options address why = ⊥
-
--- as whom a server is asked
-abbrev pub identity_of_caller : Caller → Result Identity IdentityFault
-identity_of_caller caller = identity_of (option_copied caller.host) (option_copied caller.user)
-
--- why nobody can ask so
-abbrev pub RefusesCaller : Caller → Fault → Type 0
-RefusesCaller caller fault.Memory = Unit {0}
-RefusesCaller caller (fault.Remote (remote.Identity why)) =
-    RefusesIdentity (option_copied caller.host) (option_copied caller.user) why
-RefusesCaller caller why = ⊥
-
--- the server at this address can be asked by this caller
-abbrev pub HasServer : PullOptions → Caller → List ℕ × ℕ → Type 0
-HasServer options caller address =
-    ((place : Place) × (place_at options address ≡ Ok place))
-    × ((identity : Identity) × (identity_of_caller caller ≡ Ok identity))
-
--- why it can't: the address is refused, or the caller
-abbrev pub RefusesServer : PullOptions → Caller → List ℕ × ℕ → Fault → Type 0
-RefusesServer options caller address why =
-    RefusesAddress options address why
-    ⊎ (((place : Place) × (place_at options address ≡ Ok place)) × RefusesCaller caller why)
+RefusesServer options address why = ⊥
 
 -- the first address
 abbrev pub first_address : PullOptions → List ℕ × ℕ
@@ -94,38 +68,37 @@ RefusesFurther from why = ⊥
 
 -- an address, the place that is asked there, and as whom
 abbrev pub Asked : Type 0
-Asked = (List ℕ × ℕ) × (Result Place PlaceFault × Result Identity IdentityFault)
+Asked = (List ℕ × ℕ) × (Result Place PlaceFault × Identity)
 
-abbrev pub asked_at : PullOptions → Caller → List ℕ × ℕ → Asked
-asked_at options caller address =
-    (address, (place_at options address, identity_of_caller caller))
+abbrev pub asked_at : PullOptions → Identity → List ℕ × ℕ → Asked
+asked_at options identity address = (address, (place_at options address, identity))
 
 abbrev pub asked_of : Server → Asked
-asked_of server =
-    ((string_bytes server.host, server.port), (Ok server.place, Ok server.identity))
+asked_of server = ((string_bytes server.host, server.port), (Ok server.place, server.identity.now))
 
 -- the servers are those at the first address and the further ones, each with the place there, and
--- are asked by this caller
-pub record AreServers (options : PullOptions) (caller : Caller) (servers : List Server) : Type 0 where
+-- are asked as this identity
+pub record AreServers (options : PullOptions) (identity : Identity) (servers : List Server)
+    : Type 0 where
   pub further : List (List ℕ × ℕ)
   pub listed : AreFurther options.from further
   pub asked : map asked_of servers
-      ≡ map (asked_at options caller) (first_address options ∷ further)
+      ≡ map (asked_at options identity) (first_address options ∷ further)
 
 -- one of these addresses is refused
-abbrev pub RefusesOneOf : PullOptions → Caller → List (List ℕ × ℕ) → Fault → Type 0
-RefusesOneOf options caller addresses why =
-    (address : List ℕ × ℕ) × Contains addresses address × RefusesServer options caller address why
+abbrev pub RefusesOneOf : PullOptions → List (List ℕ × ℕ) → Fault → Type 0
+RefusesOneOf options addresses why =
+    (address : List ℕ × ℕ) × Contains addresses address × RefusesServer options address why
 
 -- why there are no such servers: the first address is refused; or it is not, but the list of the
 -- further ones, or one of those
-abbrev pub HasNoServers : PullOptions → Caller → Fault → Type 0
-HasNoServers options caller why =
-    RefusesServer options caller (first_address options) why
-    ⊎ (HasServer options caller (first_address options)
+abbrev pub HasNoServers : PullOptions → Fault → Type 0
+HasNoServers options why =
+    RefusesServer options (first_address options) why
+    ⊎ ((place : Place) × (place_at options (first_address options) ≡ Ok place)
     × (RefusesFurther options.from why
     ⊎ ((further : List (List ℕ × ℕ)) × AreFurther options.from further
-    × RefusesOneOf options caller further why)))
+    × RefusesOneOf options further why)))
 
 -- the mirror is new; or, where it resumes, the whole input was read, and restores it
 abbrev pub StartsFrom : Bool → Limits → Option (List ℕ) → Option (List ℕ) → MirrorState → Type 0

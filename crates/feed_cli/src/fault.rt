@@ -2,7 +2,7 @@
 ghost use Rattle.std.specs.Prelude.{◌≡◌};
 
 use crate::input::InputFault;
-use feed_http::{EngineFault, IdentityFault, PlaceFault};
+use feed_http::{EngineFault, PlaceFault};
 use feed_node::{CommitFault, FeedFault};
 use feed_note::{LineStop, SurveyFault};
 use feed_play::PlayFault;
@@ -61,9 +61,6 @@ pub enum RemoteFault {
     /// The server that is to be followed can't be named like this.
     #[error("{0}")]
     Place(PlaceFault),
-    /// Nobody can ask so.
-    #[error("{0}")]
-    Identity(IdentityFault),
     /// The further servers that are to be followed can't be addressed like this.
     #[error("{0}")]
     Address(AddressFault),
@@ -86,7 +83,7 @@ impl RemoteFault {
         ensures { result ≡ status_of_remote self }
     {
         match self {
-            RemoteFault::Place(_) | RemoteFault::Identity(_) | RemoteFault::Address(_) => 1,
+            RemoteFault::Place(_) | RemoteFault::Address(_) => 1,
             RemoteFault::Batch(_) | RemoteFault::Commit(_) => 2,
             RemoteFault::Network(NetworkFault::Engine(fault)) => match fault {
                 EngineFault::Commit(_) | EngineFault::Follow(_) => 2,
@@ -113,7 +110,7 @@ impl RemoteFault {
 
 impl Fault {
     ghost use Rattle.feed_cli.specs.Fault.{status_of, fault_of_input, fault_of_feed, fault_of_survey};
-    ghost use Rattle.feed_cli.specs.Fault.{fault_of_place, fault_of_identity, fault_of_addresses, fault_of_batches, fault_of_commit, fault_of_network, is_one_connections};
+    ghost use Rattle.feed_cli.specs.Fault.{fault_of_place, fault_of_addresses, fault_of_batches, fault_of_commit, fault_of_network, is_one_connections};
 
     /// The status that a program with this fault ends with.
     pub fn status(self) -> u8
@@ -177,16 +174,6 @@ impl Fault {
         match fault {
             PlaceFault::Memory => Fault::Memory,
             _ => Fault::Remote(RemoteFault::Place(fault)),
-        }
-    }
-
-    /// The fault of a command that can't ask as this caller.
-    pub fn of_identity(fault: IdentityFault) -> Fault
-        ensures { result ≡ fault_of_identity fault }
-    {
-        match fault {
-            IdentityFault::Memory => Fault::Memory,
-            _ => Fault::Remote(RemoteFault::Identity(fault)),
         }
     }
 

@@ -8,7 +8,7 @@ mod printing;
 mod snapshot;
 mod telling;
 
-pub use commands::pull::{Caller, print_pulled, pull_outcome, servers_of, start_mirror};
+pub use commands::pull::{print_pulled, pull_outcome, servers_of, start_mirror};
 pub use commands::relay::print_relayed;
 pub use commands::serve::{Source, serve_all, start_source};
 pub use commands::{answer_words, perform, run};

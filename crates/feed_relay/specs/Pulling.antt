@@ -47,6 +47,6 @@ IsFollowed turns spoken start (Err (Commit why)) mirror = ⊥
 -- many reads, leaves this of the mirror
 pub record PullsOnce (server : Server) (turns : ℕ) (spoken : Exchange) (start : MirrorState)
     (pulled : Result Followed EngineFault) (mirror : MirrorState) : Type 0 where
-  pub asked : HasAsked (request_text_as server.place start.since server.identity) spoken pulled
+  pub asked : HasAsked (request_text_as server.place start.since server.identity.now) spoken pulled
   pub came : IsFollowed turns spoken start pulled mirror
   pub reads : RoseAtMost spoken.reads_old spoken.reads_new turns

@@ -74,7 +74,7 @@ fn try_server<D: Dial>(
     alloc: Global,
     dial: &mut D,
     number: usize,
-    server: &Server,
+    server: &Server<'_>,
     mirror: &mut Mirror,
     turns: u64,
 ) -> AttemptEnd
@@ -101,7 +101,7 @@ fn ask_server<D: Dial>(
     alloc: Global,
     dial: &mut D,
     number: usize,
-    server: &Server,
+    server: &Server<'_>,
     mirror: &mut Mirror,
     turns: u64,
     attempts: &mut Vec<Attempt>,
@@ -141,7 +141,7 @@ fn ask_server<D: Dial>(
 pub fn follow_first<D: Dial>(
     alloc: Global,
     dial: &mut D,
-    servers: &[Server],
+    servers: &[Server<'_>],
     mirror: &mut Mirror,
     turns: u64,
 ) -> Result<Vec<Attempt>, AllocError>

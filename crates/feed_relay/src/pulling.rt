@@ -13,7 +13,7 @@ use std::alloc::Global;
 /// mirror is what it was.
 pub fn pull_once<R: FeedRead, W: FeedWrite>(
     alloc: Global,
-    server: &Server,
+    server: &Server<'_>,
     mirror: &mut Mirror,
     turns: u64,
     reader: &mut R,
@@ -25,6 +25,6 @@ pub fn pull_once<R: FeedRead, W: FeedWrite>(
         mirror.old result mirror.new }
     ensures cut { mirror.old.connection ≡ None → mirror.new.connection ≡ None }
 {
-    ask(alloc, writer, &server.place, &server.identity, mirror)?;
+    ask(alloc, writer, &server.place, server.identity, mirror)?;
     follow(alloc, reader, mirror, turns)
 }

@@ -4,7 +4,7 @@ use feed_http::{Identity, Place};
 
 /// A server: where it is, what it is asked for, and as whom.
 #[derive(Drop)]
-pub struct Server {
+pub struct Server<'i> {
     /// Its name or address.
     pub host: String,
     /// Its port.
@@ -12,5 +12,5 @@ pub struct Server {
     /// The feed that it is asked for.
     pub place: Place,
     /// As whom it is asked.
-    pub identity: Identity,
+    pub identity: &'i Identity,
 }

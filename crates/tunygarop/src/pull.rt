@@ -30,7 +30,7 @@ fn pull_named(rt: &HostRuntime, options: &PullOptions<'_>) -> Result<(), Failure
         host: None,
         user: None,
     };
-    let servers = servers_of(rt.alloc(), options, caller)?;
+    let servers = servers_of(rt.alloc(), options, &caller)?;
     let mut mirror = match start_mirror(rt.alloc(), options, &mut Stream::new(rt.stdin())) {
         Ok(mirror) => mirror,
         Err(fault) => return Err(Failure::of_saved_tables(fault)),

@@ -30,7 +30,7 @@ fn relay_named(rt: &HostRuntime, options: &RelayOptions<'_>) -> Result<(), Failu
         host: None,
         user: None,
     };
-    let servers = servers_of(rt.alloc(), &options.pull, caller)?;
+    let servers = servers_of(rt.alloc(), &options.pull, &caller)?;
     let mut mirror = match start_mirror(rt.alloc(), &options.pull, &mut Stream::new(rt.stdin())) {
         Ok(mirror) => mirror,
         Err(fault) => return Err(Failure::of_saved_tables(fault)),

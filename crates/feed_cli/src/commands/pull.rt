@@ -1,12 +1,13 @@
 //! What the feed of the first of several servers publishes, printed.
 ghost use Rattle.std.specs.Prelude.{◌≡◌, ◌⊎◌, ◌++◌, ◌∷◌, [], false, true, map, is_some, string_bytes, IfOk, IfErr, OnOk, Ok, IsErrOf};
-ghost use Rattle.feed_cli.specs.Pull.{host_text, first_address, place_at as place_of, identity_of_caller as identity_of, RefusesAddress, RefusesCaller, HasServer, RefusesServer, AreFurther, RefusesFurther};
+ghost use Rattle.feed_cli.specs.Pull.{host_text, first_address, place_at as place_of, RefusesServer, AreFurther, RefusesFurther};
 ghost use Rattle.feed_cli.specs.Streams.{wrote_by};
 ghost use Rattle.feed_cli.specs.Pull.{asked_at, asked_of, AreServers, RefusesOneOf, HasNoServers, StartsFrom, FailsToStart};
 ghost use Rattle.feed_cli.specs.Pull.{outcome_of_attempt, outcome_of_pull, PrintedPulled, PullFails};
 ghost use Rattle.feed_http.specs.Device.{HasFailed};
 ghost use Rattle.feed_http.specs.Exchange.{devices_of};
 ghost use Rattle.feed_relay.specs.Dialing.{dialer_of};
+ghost use Rattle.feed_answer.specs.Place.{Place as Named};
 ghost use Rattle.feed_relay.specs.First.{position};
 
 use crate::fault::Fault;
@@ -20,14 +21,6 @@ use feed_relay::{Attempt, AttemptEnd, Dial, NetworkFault, Server, follow_first};
 use feed_words::{PullOptions, addresses};
 use std::alloc::{AllocError, Global};
 
-/// Who asks: the name by which the servers are called, where it is not the host of each, and the
-/// user, as `NAME:PASSWORD`.
-#[derive(Clone, Copy)]
-pub struct Caller<'a> {
-    pub host: Option<&'a str>,
-    pub user: Option<&'a str>,
-}
-
 /// The server's host, with its port.
 fn host_and_port(alloc: Global, options: &PullOptions<'_>) -> Result<String, AllocError>
     ensures { IfOk result (λ text. string_bytes text ≡ host_text options.now) }
@@ -39,16 +32,19 @@ fn host_and_port(alloc: Global, options: &PullOptions<'_>) -> Result<String, All
 fn first_place(alloc: Global, options: &PullOptions<'_>) -> Result<Place, Fault>
     ensures ok { IfOk result (λ place.
         place_of options.now (first_address options.now) ≡ Ok place) }
-    ensures err { IfErr result (λ why. RefusesAddress options.now (first_address options.now) why) }
+    ensures err { IfErr result (λ why. RefusesServer options.now (first_address options.now) why) }
 {
     let host = host_and_port(alloc, options)?;
-    Place::new(alloc, host.as_str(), options.base, options.contest).map_err(Fault::of_place)
+    match Place::new(alloc, host.as_str(), options.base, options.contest) {
+        Ok(place) => Ok(place),
+        Err(fault) => Err(Fault::of_place(fault)),
+    }
 }
 
 /// The place that is asked for the feed at this address.
 fn place_at(alloc: Global, options: &PullOptions<'_>, host: &str, port: u16) -> Result<Place, Fault>
     ensures ok { IfOk result (λ place. place_of options.now (host.now, port) ≡ Ok place) }
-    ensures err { IfErr result (λ why. RefusesAddress options.now (host.now, port) why) }
+    ensures err { IfErr result (λ why. RefusesServer options.now (host.now, port) why) }
 {
     let here = PullOptions {
         host,
@@ -58,35 +54,25 @@ fn place_at(alloc: Global, options: &PullOptions<'_>, host: &str, port: u16) -> 
     first_place(alloc, &here)
 }
 
-/// As whom servers are asked.
-fn identity_for(alloc: Global, caller: Caller<'_>) -> Result<Identity, Fault>
-    ensures ok { IfOk result (λ identity. identity_of caller ≡ Ok identity) }
-    ensures err { IfErr result (λ why. RefusesCaller caller why) }
-{
-    Identity::new(alloc, caller.host, caller.user).map_err(Fault::of_identity)
-}
-
 /// Appends the server at this address.
-fn push_server(
+fn push_server<'i>(
     alloc: Global,
     options: &PullOptions<'_>,
-    caller: Caller<'_>,
+    identity: &'i Identity,
     host: &str,
     port: u16,
-    servers: &mut Vec<Server>,
+    servers: &mut Vec<Server<'i>>,
 ) -> Result<(), Fault>
-    ensures ok { OnOk result (map asked_of servers.new.items
-        ≡ map asked_of servers.old.items ++ asked_at options.now caller (host.now, port) ∷ []) }
-    ensures made { OnOk result (HasServer options.now caller (host.now, port)) }
-    ensures err { IfErr result
-        (λ why. RefusesServer options.now caller (host.now, port) why) }
+    ensures ok { OnOk result (map asked_of servers.new.items ≡ map asked_of servers.old.items
+        ++ asked_at options.now identity.now (host.now, port) ∷ []) }
+    ensures made { OnOk result
+        ((place : Named) × (place_of options.now (host.now, port) ≡ Ok place)) }
+    ensures err { IfErr result (λ why. RefusesServer options.now (host.now, port) why) }
 {
-    let place = place_at(alloc, options, host, port)?;
-    let identity = identity_for(alloc, caller)?;
     let server = Server {
+        place: place_at(alloc, options, host, port)?,
         host: format!(in alloc; "{host}")?,
         port,
-        place,
         identity,
     };
     match servers.push(server) {
@@ -104,50 +90,53 @@ fn further_addresses(alloc: Global, options: &PullOptions<'_>) -> Result<Vec<(St
     let Some(text) = options.from else {
         return Ok(Vec::new(alloc));
     };
-    addresses(alloc, text).map_err(Fault::of_addresses)
+    match addresses(alloc, text) {
+        Ok(further) => Ok(further),
+        Err(fault) => Err(Fault::of_addresses(fault)),
+    }
 }
 
 /// Appends the servers at these addresses.
-fn push_servers(
+fn push_servers<'i>(
     alloc: Global,
     options: &PullOptions<'_>,
-    caller: Caller<'_>,
+    identity: &'i Identity,
     addresses: &[(String, u16)],
-    servers: &mut Vec<Server>,
+    servers: &mut Vec<Server<'i>>,
 ) -> Result<(), Fault>
     ensures ok { let asked = map (λ a. (string_bytes a.0, a.1)) addresses.now in
         OnOk result (map asked_of servers.new.items
-        ≡ map asked_of servers.old.items ++ map (asked_at options.now caller) asked) }
+        ≡ map asked_of servers.old.items ++ map (asked_at options.now identity.now) asked) }
     ensures err { let asked = map (λ a. (string_bytes a.0, a.1)) addresses.now in
-        IfErr result (λ why. RefusesOneOf options.now caller asked why) }
+        IfErr result (λ why. RefusesOneOf options.now asked why) }
 {
     'addresses: for (host, port) in addresses {
-        push_server(alloc, options, caller, host.as_str(), *port, servers)?;
+        push_server(alloc, options, identity, host.as_str(), *port, servers)?;
     }
     Ok(())
 }
 
 /// The servers that are asked: the one after `--host` and `--port`, and those after `--from`; each
-/// as this caller.
-pub fn servers_of(
+/// as this identity.
+pub fn servers_of<'i>(
     alloc: Global,
     options: &PullOptions<'_>,
-    caller: Caller<'_>,
-) -> Result<Vec<Server>, Fault>
-    ensures ok { IfOk result (λ servers. AreServers options.now caller servers.items) }
-    ensures err { IfErr result (λ why. HasNoServers options.now caller why) }
+    identity: &'i Identity,
+) -> Result<Vec<Server<'i>>, Fault>
+    ensures ok { IfOk result (λ servers. AreServers options.now identity.now servers.items) }
+    ensures err { IfErr result (λ why. HasNoServers options.now why) }
 {
     let mut servers = Vec::new(alloc);
     push_server(
         alloc,
         options,
-        caller,
+        identity,
         options.host,
         options.port,
         &mut servers,
     )?;
     let further = further_addresses(alloc, options)?;
-    push_servers(alloc, options, caller, &further, &mut servers)?;
+    push_servers(alloc, options, identity, &further, &mut servers)?;
     Ok(servers)
 }
 
@@ -210,7 +199,7 @@ pub fn pull_outcome(attempts: &[Attempt]) -> Result<(), Fault>
 pub fn print_pulled<D: Dial, W: FeedWrite, E: FeedWrite>(
     alloc: Global,
     options: &PullOptions<'_>,
-    servers: &[Server],
+    servers: &[Server<'_>],
     mirror: &mut Mirror,
     dial: &mut D,
     out: &mut W,

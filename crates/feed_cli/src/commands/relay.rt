@@ -35,7 +35,7 @@ fn service_of<'a>(options: &RelayOptions<'a>) -> Service<'a>
 fn make_round<D: Dial, A: Accept, E: FeedWrite>(
     alloc: Global,
     options: &RelayOptions<'_>,
-    servers: &[Server],
+    servers: &[Server<'_>],
     mirror: &mut Mirror,
     dial: &mut D,
     listener: &mut A,
@@ -77,7 +77,7 @@ fn make_round<D: Dial, A: Accept, E: FeedWrite>(
 pub fn print_relayed<D: Dial, A: Accept, W: FeedWrite, E: FeedWrite>(
     alloc: Global,
     options: &RelayOptions<'_>,
-    servers: &[Server],
+    servers: &[Server<'_>],
     mirror: &mut Mirror,
     dial: &mut D,
     listener: &mut A,
