@@ -2,7 +2,7 @@
 use Rattle.std.proofs.Common.{◌≡◌, ◌≢◌, ◌⊎◌, inl, inr, refl, sym, ap, ◌∙◌, subst, Bool, true, false, IfErr, OnErr, [], append-nil, List, ℕ, Option, None, Some, Result, Ok, Err, is_some}
 use Rattle.std.specs.Prelude.{if◌then◌else◌, option_map, unwrap_or}
 use Rattle.std.specs.Io.KnownBytes.{Appends, Keeps}
-use Rattle.feed_http.specs.Device.{AppendsPrefix}
+use Rattle.feed_http.specs.Device.{HasFailed, AppendsPrefix}
 use Rattle.feed_note.specs.Publishing.{Published}
 use Rattle.feed_note.specs.Texts.{published_text}
 use Rattle.feed_node.specs.States.{token_of}
@@ -60,9 +60,9 @@ nothing_where : (shown : Option Published) → is_some (token_of shown) ≡ fals
 nothing_where None e = refl
 nothing_where (Some pair) e = absurd (cc)
 
-pub same_position : {D : Type 0} (mirror now : MirrorState) (dial then : D) → now ≡ mirror → then ≡ dial
-    → position now then ≡ position mirror dial
-same_position mirror now dial then e f = cc
+pub same_position : {D : Type 0} (mirror now : MirrorState) (dial later : D) → now ≡ mirror → later ≡ dial
+    → position now later ≡ position mirror dial
+same_position mirror now dial later e f = cc
 
 -- where a pull came to a want of memory, that ran out at its last attempt
 attempt_out : (end : AttemptEnd) → outcome_of_attempt end ≡ Err fault.Memory
@@ -134,3 +134,13 @@ module _ {D R W : Type 0} (dialer : Dialer D R W) (servers : List Server) (turns
     (outcome_of_pull attempts, record { attempts = attempts; follows = follows; came = refl }),
     cut,
   )
+
+  -- all was printed, but a fault could not be told
+  pub untold : (attempts : List Attempt) → FollowsFirst dialer servers turns start attempts end
+      → (has_failed : Bool) → (has_failed ≡ true → HasFailed untold_old untold_new)
+      → Appends out.old out.new (published_text end.mirror.node.published)
+      → (r : Result (Unit {0}) Fault) → IfErr r (λ why. (why ≡ fault.Write) × (has_failed ≡ true))
+      → IfErr r FailsBy
+  untold attempts follows has_failed told printed (Ok all) is = tt
+  untold attempts follows has_failed told printed (Err why) (is, failed) =
+      cut_short attempts follows (inr (told failed, printed)) why is

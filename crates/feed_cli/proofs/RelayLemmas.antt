@@ -1,5 +1,5 @@
 -- Lemmas on rounds that are made one after another.
-use Rattle.std.proofs.Common.{◌≡◌, inl, inr, refl, sym, ap, ◌∙◌, subst, ◌<◌, Bool, true, false, IfErr, OnOk, List, ℕ, Result, Ok, Err, length}
+use Rattle.std.proofs.Common.{◌≡◌, inl, inr, refl, sym, ap, ◌∙◌, subst, ◌<◌, Bool, true, false, IfErr, OnOk, List, ℕ, Option, None, Some, Result, Ok, Err, length}
 use Rattle.std.specs.Io.KnownBytes.{Appends, Keeps}
 use Rattle.feed_note.specs.Texts.{published_text}
 use Rattle.feed_node.specs.Mirroring.{MirrorState}
@@ -17,14 +17,19 @@ use Rattle.feed_cli.specs.Telling.{FailsAs}
 use Rattle.feed_cli.specs.declared.fault.Fault.{Fault}
 use Rattle.feed_cli.specs.declared.fault.Fault.TheVariants as fault
 
+-- what was not written to stays as it was
+pub keeps_same : (bytes : Option (List ℕ)) → Keeps bytes bytes
+keeps_same None = tt
+keeps_same (Some xs) = refl
+
 module _ {D R W A S T : Type 0} (dialer : Dialer D R W) (links : Links A S T)
     (servers : List Server) (turns : ℕ) (service : Service) where
   -- where there is no room for the attempts, nothing has changed
-  pub no_room : (mirror now : MirrorState) (dial then : D) (listener : A) → now ≡ mirror → then ≡ dial
+  pub no_room : (mirror now : MirrorState) (dial later : D) (listener : A) → now ≡ mirror → later ≡ dial
       → EndsRounds dialer links servers turns service (relaying (position mirror dial) listener)
-      fault.Memory (relaying (position now then) listener)
-  no_room mirror now dial then listener e f =
-      let same : relaying (position now then) listener ≡ relaying (position mirror dial) listener = cc in
+      fault.Memory (relaying (position now later) listener)
+  no_room mirror now dial later listener e f =
+      let same : relaying (position now later) listener ≡ relaying (position mirror dial) listener = cc in
       subst (EndsRounds dialer links servers turns service (relaying (position mirror dial) listener) fault.Memory)
       (sym same) has_no_room
 
@@ -34,7 +39,7 @@ module _ {D R W A S T : Type 0} (dialer : Dialer D R W) (links : Links A S T)
       → MakesRound dialer links servers turns service start served end
       → OnOk r (goes_on served ≡ true)
       → OnOk r ((came : Result Served NetworkFault) × MakesRoundOn dialer links servers turns service start came end)
-  round_on (Ok all) start served end makes on = (served, makes, on)
+  round_on (Ok all) start served end makes on = (served, (makes, on))
   round_on (Err why) start served end makes on = tt
 
   -- the last round

@@ -1,6 +1,6 @@
 -- Lemmas on what the command `serve` commits.
 use Rattle.std.proofs.Common.{◌≡◌, ◌⊎◌, inl, inr, refl, sym, ap, ◌∙◌, subst, Bool, true, false, List, [], ◌∷◌, ◌++◌, append_assoc, append-nil, take-append-drop, true≢false, map, ℕ, Ok, Err, Result, take, drop, length, Option, Some, None}
-use Rattle.std.specs.Prelude.{Vec}
+use Rattle.std.specs.Prelude.{◌<◌, Vec, OnOk, IfErr}
 use Rattle.feed_tables.specs.declared.change.Change.{Change}
 use Rattle.feed_node.specs.Log.{PrimaryState, new_primary}
 use Rattle.feed_node.specs.declared.commit.Commit.{Commit}
@@ -24,7 +24,7 @@ use Rattle.feed_cli.specs.Check.{IsWhole}
 use Rattle.feed_cli.specs.Fault.{fault_of_network, fault_of_commit, is_one_connections, goes_on}
 use Rattle.feed_cli.specs.InTurn.{InTurn, none_done, one_done}
 use Rattle.feed_cli.specs.Telling.{FailsAs}
-use Rattle.feed_cli.specs.Serve.{new_source, RefusedAtStart, StartFails, Takes, TakesAndDrops, EndsTaking, Serving, ServesOne, ServesOn, ServesAll, StopsServing}
+use Rattle.feed_cli.specs.Serve.{new_source, RefusedAtStart, StartFails, Takes, TakesAndDrops, EndsTaking, Serving, ServesOne, ServesOn, ServesAll, EndsServing, StopsServing}
 use Rattle.feed_cli.specs.declared.fault.Fault.{Fault}
 use Rattle.feed_cli.specs.declared.fault.Fault.TheVariants as fault
 use Rattle.feed_cli.specs.declared.fault.RemoteFault.TheVariants as remote
@@ -275,6 +275,26 @@ module _ {A R W : Type 0} (links : Links A R W) (turn : ℕ) (service : Service)
       ends_later why start.intake stops.middle.intake end.intake
       (takes_all stops.served start stops.middle stops.before)
       (takes_last stops.middle why served end one off told)
+
+  -- fewer connections were served, and then the last one
+  pub stopped_at : (count made : ℕ) (start middle : Serving A) (why : Fault) (end : Serving A)
+      → made < count → ServesAll links turn service made start middle
+      → EndsServing links turn service middle why end
+      → StopsServing links turn service count start why end
+  stopped_at count made start middle why end fewer before last =
+      record { served = made; fewer = fewer; middle = middle; before = before; last = last }
+
+pub on_ok : {X E : Type 0} (r : Result X E) (P : Type 0) → P → OnOk r P
+on_ok (Ok x) P h = h
+on_ok (Err e) P h = tt
+
+-- all were served, but a fault was not told
+pub taken_untold : (r : Result (Unit {0}) Fault) (X : Type 0) (start now : Intake)
+    → IfErr r (λ why. (why ≡ fault.Write) × X) → Takes start now
+    → IfErr r (λ why. EndsTaking why start now)
+taken_untold (Ok all) X start now is takes = tt
+taken_untold (Err why) X start now (is, _) takes =
+    subst (λ w. EndsTaking w start now) (sym is) takes
 
 -- a batch was refused at the start, before anything was served
 module _ {A : Type 0} where

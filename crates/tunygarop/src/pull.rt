@@ -3,9 +3,10 @@
 use crate::ending::Failure;
 use crate::errors::{Errors, Reporter};
 use crate::hosts::Hosts;
+use crate::identity::identity_of;
 use crate::sockets::Dialer;
 use feed_cli::stream::Stream;
-use feed_cli::{Caller, PullOptions, print_pulled, servers_of, start_mirror};
+use feed_cli::{PullOptions, print_pulled, servers_of, start_mirror};
 
 /// Follows the feed of the first server that serves to the end of a connection, and prints the
 /// tables.
@@ -26,11 +27,8 @@ fn pull_from(rt: &HostRuntime, options: &PullOptions<'_>, hosts: &Hosts) -> Resu
 
 /// The same, of servers whose names are as a request has them.
 fn pull_named(rt: &HostRuntime, options: &PullOptions<'_>) -> Result<(), Failure> {
-    let caller = Caller {
-        host: None,
-        user: None,
-    };
-    let servers = servers_of(rt.alloc(), options, &caller)?;
+    let identity = identity_of(rt, options.host_header, options.user_file)?;
+    let servers = servers_of(rt.alloc(), options, &identity)?;
     let mut mirror = match start_mirror(rt.alloc(), options, &mut Stream::new(rt.stdin())) {
         Ok(mirror) => mirror,
         Err(fault) => return Err(Failure::of_saved_tables(fault)),

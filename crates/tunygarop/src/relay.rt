@@ -3,9 +3,10 @@
 use crate::ending::Failure;
 use crate::errors::{Errors, Reporter};
 use crate::hosts::Hosts;
+use crate::identity::identity_of;
 use crate::sockets::{Dialer, Port};
 use feed_cli::stream::Stream;
-use feed_cli::{Caller, PullOptions, RelayOptions, print_relayed, servers_of, start_mirror};
+use feed_cli::{PullOptions, RelayOptions, print_relayed, servers_of, start_mirror};
 
 /// Follows the feed of the first server that serves, and serves it, in turns, and prints the tables
 /// at the end.
@@ -26,11 +27,9 @@ fn relay_from(rt: &HostRuntime, options: &RelayOptions<'_>, hosts: &Hosts) -> Re
 
 /// The same, of servers whose names are as a request has them.
 fn relay_named(rt: &HostRuntime, options: &RelayOptions<'_>) -> Result<(), Failure> {
-    let caller = Caller {
-        host: None,
-        user: None,
-    };
-    let servers = servers_of(rt.alloc(), &options.pull, &caller)?;
+    let pull = &options.pull;
+    let identity = identity_of(rt, pull.host_header, pull.user_file)?;
+    let servers = servers_of(rt.alloc(), pull, &identity)?;
     let mut mirror = match start_mirror(rt.alloc(), &options.pull, &mut Stream::new(rt.stdin())) {
         Ok(mirror) => mirror,
         Err(fault) => return Err(Failure::of_saved_tables(fault)),

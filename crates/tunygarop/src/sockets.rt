@@ -14,7 +14,7 @@ use std::time::{Duration, Instant};
 pub(crate) struct Dialer<'r, 's> {
     rt: &'r HostRuntime,
     reporter: Reporter<'r>,
-    servers: &'s [Server],
+    servers: &'s [Server<'s>],
     // How long each may be silent.
     silence: Option<Duration>,
     // The server of the connection that is open.
@@ -53,7 +53,7 @@ impl<'r, 's> Dialer<'r, 's> {
         rt: &'r HostRuntime,
         reporter: Reporter<'r>,
         options: &PullOptions<'_>,
-        servers: &'s [Server],
+        servers: &'s [Server<'s>],
     ) -> Dialer<'r, 's> {
         Dialer {
             rt,

@@ -13,7 +13,7 @@ use crate::live::watching::Watched;
 use crate::live::{Engine, LISTENER};
 use feed_answer::{Identity, Place};
 use feed_cli::{
-    AddressFault, Caller, Fault, LiveOptions, NetworkFault, PullOptions, UpstreamOptions,
+    AddressFault, Fault, LiveOptions, NetworkFault, PullOptions, Server, UpstreamOptions,
     Verbosity, servers_of,
 };
 use feed_live::{Devices, Live, LiveLimits, Ready, Restored, Start, restore};
@@ -76,7 +76,11 @@ struct Asked {
 }
 
 /// The servers that are asked: none where the feed is the input.
-fn servers(rt: &HostRuntime, options: &LiveOptions<'_>) -> Result<Asked, Fault> {
+fn servers(
+    rt: &HostRuntime,
+    options: &LiveOptions<'_>,
+    identity: &Identity,
+) -> Result<Asked, Fault> {
     let mut addresses = Vec::new(rt.alloc());
     let Some(upstream) = &options.upstream else {
         return Ok(Asked {
@@ -87,17 +91,15 @@ fn servers(rt: &HostRuntime, options: &LiveOptions<'_>) -> Result<Asked, Fault> 
     let asked = pull_options(options, upstream);
     let hosts = Hosts::new(rt.alloc(), &asked)?;
     let mut places = Vec::new(rt.alloc());
-    // As whom they are asked, the relay is told apart.
-    let caller = Caller {
-        host: None,
-        user: None,
-    };
-    for server in servers_of(rt.alloc(), &named(&asked, &hosts), caller)? {
-        push(
-            &mut addresses,
-            address_of(rt, server.host.as_str(), server.port)?,
-        )?;
-        push(&mut places, server.place)?;
+    for server in servers_of(rt.alloc(), &named(&asked, &hosts), identity)? {
+        let Server {
+            host,
+            port,
+            place,
+            ..
+        } = server;
+        push(&mut addresses, address_of(rt, host.as_str(), port)?)?;
+        push(&mut places, place)?;
     }
     Ok(Asked { addresses, places })
 }
@@ -306,8 +308,8 @@ fn identity(rt: &HostRuntime, options: &LiveOptions<'_>) -> Result<Identity, Fai
 fn make_plan(rt: &HostRuntime, options: &LiveOptions<'_>) -> Result<Plan, Failure> {
     let names = names_of(rt, options)?;
     let contest = needs_memory(String::from_str(rt.alloc(), options.contest))?;
-    let Asked { addresses, places } = servers(rt, options)?;
     let identity = identity(rt, options)?;
+    let Asked { addresses, places } = servers(rt, options, &identity)?;
     let start = start_of(rt, options, names.as_ref(), places, identity)?;
     Ok(Plan {
         start,
