@@ -3,10 +3,14 @@ use Rattle.std.proofs.Common.{◌≡◌, inl, inr, refl, sym, ap, ◌∙◌, sub
 use Rattle.std.specs.Io.KnownBytes.{Appends, Keeps}
 use Rattle.feed_note.specs.Texts.{published_text}
 use Rattle.feed_node.specs.Mirroring.{MirrorState}
+use Rattle.feed_node.specs.States.{NodeState}
+use Rattle.feed_http.specs.Serving.{ServesOnce}
 use Rattle.feed_http.specs.declared.fault.Served.{Served}
 use Rattle.feed_http.specs.declared.service.Service.{Service}
 use Rattle.feed_relay.specs.Dialing.{Dialer, Links}
-use Rattle.feed_relay.specs.First.{Position, position}
+use Rattle.feed_relay.specs.First.{Position, position, FollowsFirst, ran_out}
+use Rattle.feed_relay.specs.Serving.{ServesNext}
+use Rattle.feed_relay.specs.declared.first.Attempt.{Attempt}
 use Rattle.feed_relay.specs.declared.fault.NetworkFault.{NetworkFault}
 use Rattle.feed_relay.specs.declared.server.Server.{Server}
 use Rattle.feed_cli.specs.Fault.{goes_on}
@@ -32,6 +36,22 @@ module _ {D R W A S T : Type 0} (dialer : Dialer D R W) (links : Links A S T)
       let same : relaying (position now later) listener ≡ relaying (position mirror dial) listener = cc in
       subst (EndsRounds dialer links servers turns service (relaying (position mirror dial) listener) fault.Memory)
       (sym same) has_no_room
+
+  -- a follower was served so by what the mirror shows
+  pub makes_round : (start end : Position D) (attempts : List Attempt) (called : Service)
+      (node : NodeState) (old new : A) (served : Result Served NetworkFault)
+      → FollowsFirst dialer servers turns start attempts end → ran_out attempts ≡ false
+      → called ≡ service → node ≡ end.mirror.node
+      → ServesNext links (λ spoken came. ServesOnce called node spoken came) old served new
+      → MakesRound dialer links servers turns service (relaying start old) served (relaying end new)
+  makes_round start end attempts called node old new served follows memory same shown serves =
+      record {
+        attempts = attempts;
+        follows = follows;
+        in_memory = memory;
+        serves = subst (λ s. ServesNext links (λ spoken came. ServesOnce s end.mirror.node spoken came) old served new) same
+            (subst (λ n. ServesNext links (λ spoken came. ServesOnce called n spoken came) old served new) shown serves);
+      }
 
   -- a round after which another one can be made
   pub round_on : (r : Result (Unit {0}) Fault) (start : Relaying D A)
