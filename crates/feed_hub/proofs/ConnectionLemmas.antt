@@ -238,54 +238,54 @@ module _ (connects : ScreensAreConnections) (opens_so : SessionsOpenAsAsked)
 
   pub nodes_followed : NodesAreFollowed
   nodes_followed limits log node head contest framing text served begun is_log node_in a serves fits =
-      by answer.session refl sends.sends
+      by answer.session refl run_of.sends
     where
       answer : AnswerParts
       answer = serves.answer
 
-      sends : SendsAnswer node answer text served
-      sends = serves.sends
+      run_of : SendsAnswer node answer text served
+      run_of = serves.sends
 
       is_text : (session : Option (List ℕ)) → answer.session ≡ session
-          → text ≡ answer.text ++ written_behind session answer.framing sends.sent sends.gone
+          → text ≡ answer.text ++ written_behind session answer.framing run_of.sent run_of.gone
       is_text session e =
-          sends.text_is ∙ ap (λ s. answer.text ++ written_behind s answer.framing sends.sent sends.gone) e
+          run_of.text_is ∙ ap (λ s. answer.text ++ written_behind s answer.framing run_of.sent run_of.gone) e
 
       by : (session : Option (List ℕ)) → answer.session ≡ session
-          → SendsTo node session sends.sent sends.gone
+          → SendsTo node session run_of.sent run_of.gone
           → FollowsServed limits log begun text served node
       by None e (_, _) =
           refused limits log is_log node node node_in head contest framing answer begun a serves.answers text
-          served sends.tells.status e (is_text None e)
+          served run_of.tells.status e (is_text None e)
       by (Some opened) e run =
-          let (token, told, has) = told_by node opened opened [] sends.sent sends.gone told_none run in
+          let (token, told, has) = told_by node opened opened [] run_of.sent run_of.gone told_none run in
           accepted limits log is_log node node node_in head contest framing answer begun a serves.answers
-          text served sends.tells.status (node ∷ []) opened token sends.sent sends.gone
+          text served run_of.tells.status (node ∷ []) opened token run_of.sent run_of.gone
           (all_more limits log node [] node_in (none_in limits log)) e told
-          (λ keeps. subst (HasAll node token) (sym sends.tells.gone_is ∙ keeps) has)
+          (λ keeps. subst (HasAll node token) (sym run_of.tells.gone_is ∙ keeps) has)
           (is_text (Some opened) e) fits
 
   pub primaries_followed : PrimariesAreFollowed
-  primaries_followed limits log turn start now head contest framing answer text served begun is_log node_in meets a answers sends fits =
-      by answer.session refl sends.sends
+  primaries_followed limits log turn start now head contest framing answer text served begun is_log node_in meets a answers run_of fits =
+      by answer.session refl run_of.sends
     where
       is_text : (session : Option (List ℕ)) → answer.session ≡ session
-          → text ≡ answer.text ++ written_behind session answer.framing sends.sent sends.gone
+          → text ≡ answer.text ++ written_behind session answer.framing run_of.sent run_of.gone
       is_text session e =
-          sends.text_is ∙ ap (λ s. answer.text ++ written_behind s answer.framing sends.sent sends.gone) e
+          run_of.text_is ∙ ap (λ s. answer.text ++ written_behind s answer.framing run_of.sent run_of.gone) e
 
-      new : (token : List ℕ) → IsOver now token sends.gone → served.gone ≡ false
+      new : (token : List ℕ) → IsOver now token run_of.gone → served.gone ≡ false
           → next now.primary.node token ≡ Nothing_new
-      new token over keeps = (subst (IsOver now token) (sym sends.tells.gone_is ∙ keeps) over).0
+      new token over keeps = (subst (IsOver now token) (sym run_of.tells.gone_is ∙ keeps) over).0
 
       by : (session : Option (List ℕ)) → answer.session ≡ session
-          → SendsLiveTo turn start session sends.sent sends.gone now
+          → SendsLiveTo turn start session run_of.sent run_of.gone now
           → FollowsServed limits log begun text served now.primary.node
       by None e (_, _, _) =
           refused limits log is_log start.primary.node now.primary.node node_in head contest framing answer
-          begun a answers text served sends.tells.status e (is_text None e)
+          begun a answers text served run_of.tells.status e (is_text None e)
       by (Some opened) e (token, run, over) =
-          let (nodes, all, told) = told_live limits log turn start opened (meets opened e) sends.sent now token run in
+          let (nodes, all, told) = told_live limits log turn start opened (meets opened e) run_of.sent now token run in
           accepted limits log is_log start.primary.node now.primary.node node_in head contest framing answer
-          begun a answers text served sends.tells.status nodes opened token sends.sent sends.gone all e told
+          begun a answers text served run_of.tells.status nodes opened token run_of.sent run_of.gone all e told
           (new token over) (is_text (Some opened) e) fits
