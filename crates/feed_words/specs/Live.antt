@@ -92,10 +92,14 @@ with_server command = with_rule (with_rule command host) port
 abbrev pub with_identity : App → App
 with_identity command = with_rule (with_rule command host_header) user_file
 
--- a command with the options that say what is followed, and until when
+-- a command with the options that say which feed is followed
+abbrev pub with_feed : App → App
+with_feed command =
+    with_rule (with_rule (with_server (with_rule command options.contest)) base) from
+
+-- a command with the options that say what is followed, as whom, and until when
 abbrev pub with_upstream : App → App
-with_upstream command = with_rule (with_identity
-    (with_rule (with_rule (with_server (with_rule command options.contest)) base) from)) until_eof
+with_upstream command = with_rule (with_identity (with_feed command)) until_eof
 
 -- a command with the options that say to whom it is served
 abbrev pub with_listener : App → App
@@ -114,10 +118,13 @@ with_screens command = with_rule (with_rule (with_rule (with_guard (with_listene
 abbrev pub with_state : App → App
 with_state command = with_limits (with_rule command state)
 
--- a command with the options that say who may watch it, and what it reports
+-- a command with the options that say where it is watched
+abbrev pub with_status : App → App
+with_status command = with_rule (with_rule command status) status_address
+
+-- a command with the options that say where it is watched, and what it reports
 abbrev pub with_watching : App → App
-with_watching command =
-    with_rule (with_rule (with_rule (with_rule command status) status_address) verbose) quiet
+with_watching command = with_rule (with_rule (with_status command) verbose) quiet
 
 abbrev pub live : App
 live = with_watching (with_state (with_screens (with_upstream (new_app (codes "live")))))

@@ -45,15 +45,16 @@ number_of (V6 number) = number
 abbrev pub first_bits : ℕ → ℕ → ℕ → ℕ
 first_bits all bits number = number / 2 ^ (all - bits)
 
--- the origin is in the network: it is of the same family, and begins with the same bits
-abbrev pub is_within : Network → Origin → Bool
-is_within network origin = is_alike network.base network.bits origin
-
+-- numbers of one family that begin with the same bits
 abbrev pub is_alike : Origin → ℕ → Origin → Bool
 is_alike (V4 base) bits (V4 number) = first_bits 32 bits base == first_bits 32 bits number
 is_alike (V6 base) bits (V6 number) = first_bits 128 bits base == first_bits 128 bits number
 is_alike (V4 base) bits (V6 number) = false
 is_alike (V6 base) bits (V4 number) = false
+
+-- the origin is in the network
+abbrev pub is_within : Network → Origin → Bool
+is_within network origin = is_alike network.base network.bits origin
 
 -- the first so many bits of an address, as it is written, make the network; the bits after them are 0
 pub record IsNetworkOf (address : IpAddr) (written : ℕ) (network : Network) : Type 0 where

@@ -226,15 +226,21 @@ fn with_identity<'a>(alloc: Global, command: Command<'a>) -> Result<Command<'a>,
     add_option(named, user_file(alloc)?)
 }
 
-/// A command with the options that say what is followed.
+/// A command with the options that say which feed is followed.
+fn with_feed<'a>(alloc: Global, command: Command<'a>) -> Result<Command<'a>, AllocError>
+    ensures { IfOk result (λ c. app_of c ≡ live.with_feed (app_of command.entry)) }
+{
+    let followed = add_option(command, options::contest(alloc))?;
+    let followed = with_server(alloc, followed)?;
+    let followed = add_option(followed, base(alloc)?)?;
+    add_option(followed, from(alloc)?)
+}
+
+/// A command with the options that say what is followed, as whom, and until when.
 fn with_upstream<'a>(alloc: Global, command: Command<'a>) -> Result<Command<'a>, AllocError>
     ensures { IfOk result (λ c. app_of c ≡ live.with_upstream (app_of command.entry)) }
 {
-    let followed = under(command, "Upstream");
-    let followed = add_option(followed, options::contest(alloc))?;
-    let followed = with_server(alloc, followed)?;
-    let followed = add_option(followed, base(alloc)?)?;
-    let followed = add_option(followed, from(alloc)?)?;
+    let followed = with_feed(alloc, under(command, "Upstream"))?;
     let followed = with_identity(alloc, followed)?;
     add_option(followed, until_eof(alloc))
 }
@@ -277,13 +283,19 @@ fn with_state<'a>(alloc: Global, command: Command<'a>) -> Result<Command<'a>, Al
     with_limits(alloc, kept)
 }
 
-/// A command with the options that say who may watch it, and what it reports.
+/// A command with the options that say where it is watched.
+fn with_status<'a>(alloc: Global, command: Command<'a>) -> Result<Command<'a>, AllocError>
+    ensures { IfOk result (λ c. app_of c ≡ live.with_status (app_of command.entry)) }
+{
+    let watched = add_option(command, status(alloc))?;
+    add_option(watched, status_address(alloc)?)
+}
+
+/// A command with the options that say where it is watched, and what it reports.
 fn with_watching<'a>(alloc: Global, command: Command<'a>) -> Result<Command<'a>, AllocError>
     ensures { IfOk result (λ c. app_of c ≡ live.with_watching (app_of command.entry)) }
 {
-    let watched = under(command, "Watching");
-    let watched = add_option(watched, status(alloc))?;
-    let watched = add_option(watched, status_address(alloc)?)?;
+    let watched = with_status(alloc, under(command, "Watching"))?;
     let watched = add_option(watched, verbose(alloc)?)?;
     add_option(watched, quiet(alloc))
 }
