@@ -19,23 +19,25 @@ impl Guard {
         }
     }
 
-    /// Whether somebody may connect of whom so many connections are there.
-    fn admits(&self, origin: Origin, count: u64) -> bool {
-        let is_within = match &self.networks {
-            Some(networks) => is_in_any(networks.as_slice(), origin),
-            None => true,
-        };
-        let has_room = match self.per_address {
+    /// Whether somebody may have one more than so many connections.
+    pub(crate) fn has_room(&self, count: u64) -> bool {
+        match self.per_address {
             Some(most) => count < most,
             None => true,
-        };
-        is_within && has_room
+        }
+    }
+
+    fn is_within(&self, origin: Origin) -> bool {
+        match &self.networks {
+            Some(networks) => is_in_any(networks.as_slice(), origin),
+            None => true,
+        }
     }
 
     /// Whether who comes from an address stays, of whom so many connections are there; the others
     /// are counted.
     pub(crate) fn lets_in(&mut self, origin: Origin, count: u64) -> bool {
-        let stays = self.admits(origin, count);
+        let stays = self.is_within(origin) && self.has_room(count);
         if !stays {
             self.refused = self.refused.saturating_add(1);
         }

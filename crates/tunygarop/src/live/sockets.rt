@@ -20,6 +20,10 @@ pub(crate) const FIRST_SCREEN: usize = 16;
 struct Peer {
     stream: TcpStream,
     origin: Origin,
+    // It sends no more: mostly it went away.
+    has_ended: bool,
+    // It made room for another one, and is sent nothing more.
+    is_gone: bool,
 }
 
 /// A port that screens connect to, who may connect, and their sockets, each at its number.
@@ -105,11 +109,38 @@ impl Port {
     fn count_of(&self, origin: Origin) -> u64 {
         let mut count = 0u64;
         for peer in &self.peers {
-            if peer.as_ref().is_some_and(|peer| peer.origin == origin) {
+            if peer
+                .as_ref()
+                .is_some_and(|peer| peer.origin == origin && !peer.is_gone)
+            {
                 count = count.saturating_add(1);
             }
         }
         count
+    }
+
+    /// Takes leave of a connection of somebody, if there is one that has ended what it sends. That it
+    /// went away would only be found when it is written to for the second time.
+    fn make_room(&mut self, origin: Origin) {
+        for place in &mut self.peers {
+            let Some(peer) = place else {
+                continue;
+            };
+            if peer.origin == origin && peer.has_ended && !peer.is_gone {
+                peer.is_gone = true;
+                let _ = peer.stream.shutdown(Shutdown::Both);
+                return;
+            }
+        }
+    }
+
+    /// Whether who connects stays.
+    fn lets_in(&mut self, origin: Origin) -> bool {
+        if !self.guard.has_room(self.count_of(origin)) {
+            self.make_room(origin);
+        }
+        let count = self.count_of(origin);
+        self.guard.lets_in(origin, count)
     }
 
     /// Keeps a socket at its number, and has events of it told.
@@ -122,7 +153,12 @@ impl Port {
         }
         self.registry.register(&mut stream, token, interests)?;
         if let Some(place) = self.peers.get_mut(at) {
-            *place = Some(Peer { stream, origin });
+            *place = Some(Peer {
+                stream,
+                origin,
+                has_ended: false,
+                is_gone: false,
+            });
         }
         Ok(())
     }
@@ -138,9 +174,8 @@ impl Sockets for Port {
             Err(error) => return Err(stop_of(&error)),
         };
         let origin = Origin::of(peer.ip());
-        let count = self.count_of(origin);
         // Who may not connect is closed here, with its socket.
-        if !self.guard.lets_in(origin, count) {
+        if !self.lets_in(origin) {
             return Err(Stop::Gone);
         }
         match self.keep(at, origin, stream) {
@@ -150,10 +185,12 @@ impl Sockets for Port {
     }
 
     fn read(&mut self, at: usize, buf: &mut [u8]) -> Result<usize, Stop> {
-        match self.stream(at) {
-            Some(stream) => read_once(stream, buf),
-            None => Err(Stop::Failed),
-        }
+        let Some(Some(peer)) = self.peers.get_mut(at) else {
+            return Err(Stop::Failed);
+        };
+        let count = read_once(&mut peer.stream, buf)?;
+        peer.has_ended = peer.has_ended || count == 0;
+        Ok(count)
     }
 
     fn write(&mut self, at: usize, bytes: &[u8]) -> Result<usize, Stop> {
