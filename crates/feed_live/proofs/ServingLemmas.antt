@@ -1,6 +1,6 @@
 -- How sockets stand, step by step.
 use Rattle.std.proofs.Common.{◌≡◌, ◌≢◌, refl, sym, ap, ◌∙◌, subst, ℕ, ◌⊎◌, true, false, List, [], ◌++◌, Option, Some, None, inl, inr, ◌<◌, ◌≤◌, arith, take, append-nil, suc, zero}
-use Rattle.std.specs.Prelude.{◌==◌, Contains, Result, Ok, Err, IfOk, OnOk, OnErr}
+use Rattle.std.specs.Prelude.{Bool, ◌==◌, Contains, Result, Ok, Err, IfOk, OnOk, OnErr}
 use Rattle.std.proofs.lemmas.Bool.Decides.{eqb_tells}
 use Rattle.slab.specs.Slab.{Slab, get, Updates}
 use Rattle.feed_node.specs.States.{NodeState}
@@ -21,6 +21,7 @@ use Rattle.feed_hub.specs.Steps.{taken}
 use Rattle.feed_live.specs.declared.conn.Conn.{Conn}
 use Rattle.feed_live.specs.declared.screens.Screens.{Screens}
 use Rattle.feed_live.specs.Sockets.{Socket, Closed, Opened, AllSockets, IsSocket, with_more, written_more, IsWrite, SameSockets, OtherSockets}
+use Rattle.feed_live.specs.Held.{answerer}
 use Rattle.feed_live.specs.Serving.{IsGiven, WasServed, IsFaithful, nothing, refused, served, IsSent, Sits, asks, watches, cut, key_of, key_at, Stands, Serving, SameKeys, Leaves, keyless, IsGreeted, SameSeating, full_text}
 
 -- ---- numbers and keys
@@ -487,3 +488,9 @@ refused_sent nodes contest before after (Ok count) writes is =
     }
 refused_sent nodes contest before after (Err _) writes is =
     record { bytes = []; socket_is = subst (λ s. IsSocket s (Opened [])) (sym writes) is; faithful = nothing }
+
+-- ---- what requests are answered with
+
+pub answerer_among : (nodes : List NodeState) (is_held : Bool) (shown blank : NodeState) → Contains nodes shown → Contains nodes blank → Contains nodes (answerer is_held shown blank)
+answerer_among nodes false shown blank among among_blank = among
+answerer_among nodes true shown blank among among_blank = among_blank

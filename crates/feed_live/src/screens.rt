@@ -381,9 +381,7 @@ impl Screens {
             (S.socket sockets.old) (S.socket sockets.new) }
         ensures mirrors { SameMirrors answers.old answers.new }
     {
-        if self.may_read(shown, at, now) {
-            self.read(alloc, sockets, told, answers, shown, at, now);
-        }
+        self.read(alloc, sockets, told, answers, shown, at, now);
         self.drain(alloc, sockets, told, answers.shown.node(), at, now);
         if self.has_more_at(shown, at, now) {
             self.has_more = true;
@@ -456,6 +454,7 @@ impl Screens {
         self.may_read(shown, at, now) || self.conns.get(at).is_some_and(|conn| conn.has_more)
     }
 
+    /// Reads once, where there may be something to read that is to be read now.
     fn read<S: Sockets>(
         &mut self,
         alloc: Global,
@@ -473,6 +472,9 @@ impl Screens {
             (S.socket sockets.old) (S.socket sockets.new) }
         ensures mirrors { SameMirrors answers.old answers.new }
     {
+        if !self.may_read(shown, at, now) {
+            return;
+        }
         let mut buf = [0u8; PIECE];
         match sockets.read(at, &mut buf) {
             Ok(0) => self.end_of_input(sockets, told, at, now),
@@ -566,12 +568,11 @@ impl Screens {
             → StillServing nodes shown.now.contest.now self.old self.new sockets sockets }
         ensures mirrors { SameMirrors answers.old answers.new }
     {
-        let answering = if shown.is_held {
-            &mut answers.blank
-        } else {
-            &mut answers.shown
-        };
-        self.hear(alloc, answering, shown.contest, key, at, piece, now)
+        let contest = shown.contest;
+        if shown.is_held {
+            return self.hear(alloc, &mut answers.blank, contest, key, at, piece, now);
+        }
+        self.hear(alloc, &mut answers.shown, contest, key, at, piece, now)
     }
 
     /// The key of the connection at a place whose request comes.
