@@ -1,5 +1,7 @@
 //! One screen's connection, as the turn keeps it beside its socket.
 
+ghost use Rattle.std.specs.Prelude.{◌≡◌, None};
+
 use feed_hub::Key;
 use std::net::SocketAddr;
 
@@ -43,7 +45,9 @@ pub(crate) struct Conn {
 
 impl Conn {
     /// A connection that came just now.
-    pub(crate) fn new(peer: SocketAddr, now: u64) -> Conn {
+    pub(crate) fn new(peer: SocketAddr, now: u64) -> Conn
+        ensures { result.key ≡ None }
+    {
         Conn {
             key: None,
             stage: Stage::Asks,
@@ -60,7 +64,9 @@ impl Conn {
     }
 
     /// Its socket became ready.
-    pub(crate) fn wake(&mut self, is_readable: bool, is_writable: bool) {
+    pub(crate) fn wake(&mut self, is_readable: bool, is_writable: bool)
+        ensures { self.new.key ≡ self.old.key }
+    {
         if is_readable {
             self.has_input = true;
         }
@@ -70,7 +76,9 @@ impl Conn {
     }
 
     /// All was sent.
-    pub(crate) fn linger(&mut self, now: u64) {
+    pub(crate) fn linger(&mut self, now: u64)
+        ensures { self.new.key ≡ None }
+    {
         self.key = None;
         self.has_more = false;
         self.stage = Stage::Lingers {
@@ -80,7 +88,9 @@ impl Conn {
     }
 
     /// So many bytes were read and forgotten. Whether the connection is to be closed.
-    pub(crate) fn forget(&mut self, count: usize) -> bool {
+    pub(crate) fn forget(&mut self, count: usize) -> bool
+        ensures { self.new.key ≡ self.old.key }
+    {
         let Stage::Lingers { until, left } = self.stage else {
             return false;
         };

@@ -1,7 +1,8 @@
 //! What a turn reads from and writes to, by what a contract can say of it.
 
-ghost use Rattle.std.specs.Prelude.{◌≡◌, ◌≢◌, ◌<◌, ◌≤◌, ℕ, List, [], Option, None, Some, length, take, IfOk, OnOk};
+ghost use Rattle.std.specs.Prelude.{◌≡◌, ◌≢◌, ◌<◌, ◌≤◌, ℕ, List, [], Option, None, Some, length, take, IfOk, OnOk, OnErr};
 ghost use Rattle.std.specs.Io.KnownBytes.{Keeps, WriteAppends};
+ghost use Rattle.feed_live.specs.Sockets.{Socket, Closed, Opened, IsSocket, IsWrite, SameSockets, OtherSockets};
 
 use std::alloc::AllocError;
 use std::net::SocketAddr;
@@ -26,32 +27,36 @@ impl From<AllocError> for Stop {
 
 /// The sockets of screens, each at a number that is given to it.
 pub trait Sockets {
-    // The bytes that were written to the socket at a number, where they are known.
-    ghost written: { Self → ℕ → Option (List ℕ) } = { λ _ _. None };
+    // The socket at a number, where it is known.
+    ghost socket: { Self → ℕ → Option Socket } = { λ _ _. None };
 
     /// Takes the connection that has waited longest, and answers who it is. It never waits.
-    fn accept(&mut self, at: usize) -> Result<SocketAddr, Stop>;
+    fn accept(&mut self, at: usize) -> Result<SocketAddr, Stop>
+        ensures ok { OnOk result (IsSocket (socket self.new at) (Opened [])) }
+        ensures err { OnErr result (socket self.new at ≡ socket self.old at) }
+        ensures others { OtherSockets (socket self.old) (socket self.new) at };
 
     /// Reads some bytes to the start of `buf`, and answers how many: none where no more come.
     fn read(&mut self, at: usize, buf: &mut [u8]) -> Result<usize, Stop>
         requires { 0 < length buf.old }
         ensures same { length buf.new ≡ length buf.old }
         ensures bound { IfOk result (λ n. n ≤ length buf.new) }
-        ensures written { (other : ℕ) → Keeps (written self.old other) (written self.new other) };
+        ensures sockets { SameSockets (socket self.old) (socket self.new) };
 
     /// Writes some of the bytes, from the first on, and answers how many.
     fn write(&mut self, at: usize, bytes: &[u8]) -> Result<usize, Stop>
         ensures bound { IfOk result (λ n. n ≤ length bytes.now) }
-        ensures bytes { WriteAppends (written self.old at) (written self.new at) result bytes.now }
-        ensures others { (other : ℕ) → other ≢ at
-            → Keeps (written self.old other) (written self.new other) };
+        ensures bytes { IsWrite (socket self.old at) (socket self.new at) result bytes.now }
+        ensures others { OtherSockets (socket self.old) (socket self.new) at };
 
     /// Ends what is sent; what comes may still be read.
     fn shut(&mut self, at: usize)
-        ensures written { (other : ℕ) → Keeps (written self.old other) (written self.new other) };
+        ensures sockets { SameSockets (socket self.old) (socket self.new) };
 
     /// Closes the connection, where there is one.
-    fn close(&mut self, at: usize);
+    fn close(&mut self, at: usize)
+        ensures closed { IsSocket (socket self.new at) Closed }
+        ensures others { OtherSockets (socket self.old) (socket self.new) at };
 }
 
 /// The connection to one server of several.

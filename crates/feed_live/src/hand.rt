@@ -1,10 +1,12 @@
 //! The one place where a screen is sent anything of the hub's.
 
-ghost use Rattle.std.specs.Prelude.{◌≡◌, ◌≢◌, ◌≤◌, ◌++◌, List, ℕ, IfOk, OnErr, length, take};
-ghost use Rattle.std.specs.Io.KnownBytes.{Keeps, WriteAppends};
+ghost use Rattle.std.specs.Prelude.{◌≡◌, ◌≤◌, ◌++◌, List, ℕ, IfOk, OnErr, length, take};
 ghost use Rattle.feed_node.specs.States.{NodeState};
 ghost use Rattle.feed_answer.specs.Answered.{AnswerParts};
 ghost use Rattle.feed_hub.specs.Hub.{IsSeated, ChangesOnly, prefix_at};
+ghost use Rattle.feed_hub.specs.Seats.{seat_at, Watched};
+ghost use Rattle.feed_hub.specs.Steps.{taken};
+ghost use Rattle.feed_live.specs.Sockets.{IsWrite, OtherSockets};
 
 use crate::device::{Sockets, Stop};
 use feed_hub::{Hub, Key};
@@ -19,7 +21,7 @@ pub(crate) fn hand<S: Sockets>(
     now: u64,
 ) -> Result<usize, Stop>
     // what the socket was given is what the hub was told of, at the same key
-    ensures bytes { WriteAppends (S.written sockets.old at) (S.written sockets.new at) result
+    ensures bytes { IsWrite (S.socket sockets.old at) (S.socket sockets.new at) result
         (prefix_at hub.old key) }
     ensures bound { IfOk result (λ count. count ≤ length (prefix_at hub.old key)) }
     ensures served { (nodes : List NodeState) (answer : AnswerParts) (handed : List ℕ)
@@ -28,8 +30,9 @@ pub(crate) fn hand<S: Sockets>(
         (handed ++ take count (prefix_at hub.old key))) }
 
     // and nothing else changes
-    ensures sockets { (other : ℕ) → other ≢ at
-        → Keeps (S.written sockets.old other) (S.written sockets.new other) }
+    ensures exact { IfOk result (λ count. Watched (λ s t. t ≡ taken count now s)
+        (seat_at hub.old.seats.slab key) (seat_at hub.new.seats.slab key)) }
+    ensures others { OtherSockets (S.socket sockets.old) (S.socket sockets.new) at }
     ensures rest { IfOk result (λ _. ChangesOnly hub.old hub.new key) }
     ensures err { OnErr result (hub.new ≡ hub.old) }
 {

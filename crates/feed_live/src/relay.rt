@@ -1,5 +1,10 @@
 //! What the node has more is said to all screens.
 
+ghost use Rattle.std.specs.Prelude.{◌≡◌, ℕ, List, Contains};
+ghost use Rattle.feed_node.specs.States.{NodeState};
+ghost use Rattle.feed_live.specs.Sockets.{AllSockets};
+ghost use Rattle.feed_live.specs.Serving.{StillServing, SameSeating};
+
 use crate::device::Sockets;
 use crate::screens::{Counts, Screens};
 use crate::told::{Telling, Told};
@@ -47,7 +52,9 @@ impl Saying {
 
 impl Screens {
     /// A turn begins. Whether somebody had more to read or to write in the last one.
-    pub(crate) fn begin_turn(&mut self) -> bool {
+    pub(crate) fn begin_turn(&mut self) -> bool
+        ensures { SameSeating self.old self.new }
+    {
         self.saying.is_trimmed = false;
         let had_more = self.has_more;
         self.has_more = false;
@@ -86,7 +93,9 @@ impl Screens {
     }
 
     /// How many screens there are, where some came or went since that was told.
-    pub(crate) fn report(&mut self) -> Option<Told> {
+    pub(crate) fn report(&mut self) -> Option<Told>
+        ensures { SameSeating self.old self.new }
+    {
         self.is_full = false;
         self.is_stuck = false;
         let counts = self.counts;
@@ -119,7 +128,10 @@ impl Screens {
 
     /// Cuts who is too far behind, once a turn and only where there is something to say: so each
     /// has the time from one commit to the next, however long they are.
-    fn trim(&mut self) {
+    fn trim(&mut self)
+        ensures serving { (nodes : List NodeState) (contest : List ℕ) (sockets : AllSockets)
+            → StillServing nodes contest self.old self.new sockets sockets }
+    {
         if !self.saying.is_trimmed {
             self.hub.trim();
             self.saying.is_trimmed = true;
@@ -127,7 +139,11 @@ impl Screens {
     }
 
     /// Says what the node has more. Whether it published since that was called last.
-    pub(crate) fn relay(&mut self, alloc: Global, node: &Node, now: u64) -> bool {
+    pub(crate) fn relay(&mut self, alloc: Global, node: &Node, now: u64) -> bool
+        ensures serving { (nodes : List NodeState) (contest : List ℕ) (sockets : AllSockets)
+            → Contains nodes node.now.shown
+            → StillServing nodes contest self.old self.new sockets sockets }
+    {
         if self.is_at(node) {
             self.saying.waits = None;
             return false;
@@ -142,7 +158,11 @@ impl Screens {
     }
 
     /// Says the next commit. Whether there may be more that can be said now.
-    fn say_one(&mut self, alloc: Global, node: &Node, now: u64) -> bool {
+    fn say_one(&mut self, alloc: Global, node: &Node, now: u64) -> bool
+        ensures serving { (nodes : List NodeState) (contest : List ℕ) (sockets : AllSockets)
+            → Contains nodes node.now.shown
+            → StillServing nodes contest self.old self.new sockets sockets }
+    {
         self.saying.waits = None;
         self.saying.is_short = false;
         match self.hub.say_next(alloc, node) {
@@ -167,13 +187,18 @@ impl Screens {
         }
     }
 
-    fn spoke(&mut self, now: u64) {
+    fn spoke(&mut self, now: u64)
+        ensures { SameSeating self.old self.new }
+    {
         self.saying.is_due = true;
         self.saying.spoke = now;
     }
 
     /// Ends the bodies of all who follow the log.
-    pub(crate) fn end_feeds(&mut self, alloc: Global, now: u64) {
+    pub(crate) fn end_feeds(&mut self, alloc: Global, now: u64)
+        ensures serving { (nodes : List NodeState) (contest : List ℕ) (sockets : AllSockets)
+            → StillServing nodes contest self.old self.new sockets sockets }
+    {
         // Who there was no memory for is cut.
         let _ = self.hub.end_all(alloc, now);
         self.spoke(now);
@@ -187,7 +212,12 @@ impl Screens {
         told: &mut Telling,
         node: &Node,
         now: u64,
-    ) {
+    )
+        ensures serving { (nodes : List NodeState) (contest : List ℕ)
+            → Contains nodes node.now.shown
+            → StillServing nodes contest self.old self.new
+            (S.socket sockets.old) (S.socket sockets.new) }
+    {
         if !self.saying.is_due {
             return;
         }
@@ -202,21 +232,38 @@ impl Screens {
     }
 
     /// Says a line feed to all, after silence.
-    pub(crate) fn idle(&mut self, alloc: Global, now: u64) {
+    pub(crate) fn idle(&mut self, alloc: Global, now: u64)
+        ensures serving { (nodes : List NodeState) (contest : List ℕ) (sockets : AllSockets)
+            → StillServing nodes contest self.old self.new sockets sockets }
+    {
         if now < self.idles_at() {
             return;
         }
         let _ = self.hub.say_idle(alloc);
         for at in 0..self.conns.capacity() {
-            if let Some(key) = self.conns.get(at).and_then(|conn| conn.key) {
-                let _ = self.hub.idle(alloc, key, now);
-            }
+            self.idle_at(alloc, at, now);
         }
         self.spoke(now);
     }
 
+    /// Keeps the connection at a place alive, where that has a key.
+    fn idle_at(&mut self, alloc: Global, at: usize, now: u64)
+        ensures serving { (nodes : List NodeState) (contest : List ℕ) (sockets : AllSockets)
+            → StillServing nodes contest self.old self.new sockets sockets }
+    {
+        let Some(conn) = self.conns.get(at) else {
+            return;
+        };
+        if let Some(key) = conn.key {
+            let _ = self.hub.idle(alloc, key, now);
+        }
+    }
+
     /// Cuts requests that are late, and screens that took nothing for too long.
-    pub(crate) fn cut_late(&mut self, now: u64) {
+    pub(crate) fn cut_late(&mut self, now: u64)
+        ensures serving { (nodes : List NodeState) (contest : List ℕ) (sockets : AllSockets)
+            → StillServing nodes contest self.old self.new sockets sockets }
+    {
         self.hub.cut_late(now, STALL);
     }
 }

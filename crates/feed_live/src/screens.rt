@@ -1,5 +1,11 @@
 //! The screens: each has a socket, a connection at the same place, and a seat in the hub.
 
+ghost use Rattle.std.specs.Prelude.{◌≡◌, ◌+◌, [], ℕ, List, None, Contains, min};
+ghost use Rattle.feed_node.specs.States.{NodeState};
+ghost use Rattle.feed_live.specs.Sockets.{Closed, Opened, AllSockets, IsSocket, OtherSockets};
+ghost use Rattle.feed_live.specs.Serving.{StillServing, SameSeating, Leaves, IsSent, key_at, IsGreeted};
+ghost use Rattle.feed_live.specs.Held.{answerer, is_over, SameMirrors};
+
 mod sending;
 
 use crate::conn::{Conn, Stage};
@@ -10,8 +16,9 @@ use crate::relay::Saying;
 use crate::told::{How, Telling, Told};
 use feed_hub::{Answering, Hub, Key};
 use slab::Slab;
-use std::alloc::Global;
+use std::alloc::{AllocError, Global};
 use std::mem;
+use std::net::SocketAddr;
 
 /// How long a request's head may take, in milliseconds.
 const HEAD_TIME: u64 = 30_000;
@@ -66,10 +73,16 @@ impl Counts {
 
 /// What requests are answered with, and what those who were answered are sent.
 #[derive(Drop)]
+pub(crate) struct Answers {
+    /// What the relay shows.
+    pub(crate) shown: Answering,
+    /// A mirror that has published nothing.
+    pub(crate) blank: Answering,
+}
+
+/// What is asked for, and whether that can be answered.
+#[derive(Clone, Copy)]
 pub(crate) struct Shown<'a> {
-    pub(crate) answering: &'a mut Answering,
-    /// One that has published nothing.
-    pub(crate) blank: &'a mut Answering,
     /// Requests wait until a server was heard.
     pub(crate) is_held: bool,
     pub(crate) contest: &'a str,
@@ -77,17 +90,19 @@ pub(crate) struct Shown<'a> {
 
 impl Shown<'_> {
     /// Whether a request is answered that came at a time.
-    fn is_answering(&self, since: u64, now: u64) -> bool {
+    fn is_answering(&self, since: u64, now: u64) -> bool
+        ensures { result ≡ is_over self.now.is_held (min (since + HOLD_TIME) u64.MAX) now }
+    {
         !self.is_held || since.saturating_add(HOLD_TIME) <= now
     }
+}
 
-    /// What it is answered with then.
-    fn answers(&mut self) -> &mut Answering {
-        if self.is_held {
-            self.blank
-        } else {
-            self.answering
-        }
+/// The seat at a key is given back, where there is one.
+fn leave(hub: &mut Hub, key: Option<Key>)
+    ensures { Leaves key hub.old hub.new }
+{
+    if let Some(key) = key {
+        hub.leave(key);
     }
 }
 
@@ -137,15 +152,20 @@ impl Screens {
         at: usize,
         how: How,
         now: u64,
-    ) {
+    )
+        ensures serving { (nodes : List NodeState) (contest : List ℕ)
+            → StillServing nodes contest self.old self.new
+            (S.socket sockets.old) (S.socket sockets.new) }
+        // its number is free then, and its socket closed
+        ensures free { key_at self.new.conns at ≡ None }
+        ensures closed { IsSocket (S.socket sockets.new at) Closed }
+    {
         sockets.close(at);
         self.pay(at);
         let Some(conn) = self.conns.try_remove(at) else {
             return;
         };
-        if let Some(key) = conn.key {
-            self.hub.leave(key);
-        }
+        leave(&mut self.hub, conn.key);
         self.count(how);
         if self.limits.is_verbose {
             told.tell(Told::Screen {
@@ -158,7 +178,9 @@ impl Screens {
         }
     }
 
-    fn count(&mut self, how: How) {
+    fn count(&mut self, how: How)
+        ensures { SameSeating self.old self.new }
+    {
         match how {
             How::Cut => {
                 self.counts.cut = self.counts.cut.saturating_add(1);
@@ -180,7 +202,11 @@ impl Screens {
     }
 
     /// Closes the sockets of those that the hub cut. To be called before a seat is given again.
-    pub(crate) fn sweep<S: Sockets>(&mut self, sockets: &mut S, told: &mut Telling, now: u64) {
+    pub(crate) fn sweep<S: Sockets>(&mut self, sockets: &mut S, told: &mut Telling, now: u64)
+        ensures serving { (nodes : List NodeState) (contest : List ℕ)
+            → StillServing nodes contest self.old self.new
+            (S.socket sockets.old) (S.socket sockets.new) }
+    {
         for at in 0..self.conns.capacity() {
             if self.is_cut(at) {
                 self.end(sockets, told, at, How::Cut, now);
@@ -188,10 +214,21 @@ impl Screens {
         }
     }
 
+    fn is_past(&self, at: usize, now: u64) -> bool {
+        match self.conns.get(at) {
+            Some(conn) => conn.is_past(now),
+            None => false,
+        }
+    }
+
     /// Closes who has lingered for long enough.
-    pub(crate) fn close_past<S: Sockets>(&mut self, sockets: &mut S, told: &mut Telling, now: u64) {
+    pub(crate) fn close_past<S: Sockets>(&mut self, sockets: &mut S, told: &mut Telling, now: u64)
+        ensures serving { (nodes : List NodeState) (contest : List ℕ)
+            → StillServing nodes contest self.old self.new
+            (S.socket sockets.old) (S.socket sockets.new) }
+    {
         for at in 0..self.conns.capacity() {
-            if self.conns.get(at).is_some_and(|conn| conn.is_past(now)) {
+            if self.is_past(at, now) {
                 self.end(sockets, told, at, How::Done, now);
             }
         }
@@ -206,7 +243,11 @@ impl Screens {
         sockets: &mut S,
         told: &mut Telling,
         now: u64,
-    ) {
+    )
+        ensures serving { (nodes : List NodeState) (contest : List ℕ)
+            → StillServing nodes contest self.old self.new
+            (S.socket sockets.old) (S.socket sockets.new) }
+    {
         if !self.is_waited_for || now < self.accept_at {
             return;
         }
@@ -231,7 +272,9 @@ impl Screens {
     }
 
     /// No connection is taken for a while.
-    fn stick(&mut self, told: &mut Telling, now: u64) {
+    fn stick(&mut self, told: &mut Telling, now: u64)
+        ensures { SameSeating self.old self.new }
+    {
         self.accept_at = now.saturating_add(ACCEPT_PAUSE);
         if !self.is_stuck {
             told.tell(Told::NoAccept);
@@ -245,34 +288,64 @@ impl Screens {
         sockets: &mut S,
         told: &mut Telling,
         now: u64,
-    ) -> Result<(), Stop> {
+    ) -> Result<(), Stop>
+        ensures serving { (nodes : List NodeState) (contest : List ℕ)
+            → StillServing nodes contest self.old self.new
+            (S.socket sockets.old) (S.socket sockets.new) }
+    {
         if self.conns.reserve(1).is_err() {
             return Err(Stop::Failed);
         }
         let at = self.conns.vacant_key();
         let peer = sockets.accept(at)?;
-        let mut conn = Conn::new(peer, now);
+        let conn = self.greet(alloc, sockets, told, at, peer, now);
+        let _at = self.conns.insert_reserved(conn);
+        self.totals.open(self.conns.len());
+        Ok(())
+    }
+
+    /// A connection that came just now gets a seat, or is refused.
+    fn greet<S: Sockets>(
+        &mut self,
+        alloc: Global,
+        sockets: &mut S,
+        told: &mut Telling,
+        at: usize,
+        peer: SocketAddr,
+        now: u64,
+    ) -> Conn
+        ensures greeted { (nodes : List NodeState) (contest : List ℕ)
+            → IsSocket (S.socket sockets.old at) (Opened [])
+            → IsGreeted nodes contest self.old.hub self.new.hub result.key
+            (S.socket sockets.new at) }
+        ensures conns { self.new.conns ≡ self.old.conns }
+        ensures others { OtherSockets (S.socket sockets.old) (S.socket sockets.new) at }
+    {
         self.counts.came = self.counts.came.saturating_add(1);
+        let mut conn = Conn::new(peer, now);
         match self.hub.open(alloc, now.saturating_add(HEAD_TIME)) {
             Ok(key) => conn.key = Some(key),
             Err(_) => {
                 self.refuse(sockets, told, at);
                 conn.status = 503;
-                self.totals.answer(503);
                 conn.linger(now);
             }
         }
-        if self.conns.insert(conn).is_err() {
-            sockets.close(at);
-        }
-        self.totals.open(self.conns.len());
-        Ok(())
+        conn
     }
 
     /// One more than there may be is told so.
-    fn refuse<S: Sockets>(&mut self, sockets: &mut S, told: &mut Telling, at: usize) {
+    fn refuse<S: Sockets>(&mut self, sockets: &mut S, told: &mut Telling, at: usize)
+        ensures sent { (nodes : List NodeState) (contest : List ℕ)
+            → IsSocket (S.socket sockets.old at) (Opened [])
+            → IsSent nodes contest (S.socket sockets.new at) }
+        ensures others { OtherSockets (S.socket sockets.old) (S.socket sockets.new) at }
+        ensures hub { self.new.hub ≡ self.old.hub }
+        ensures conns { self.new.conns ≡ self.old.conns }
+    {
         let _ = sockets.write(at, FULL);
         sockets.shut(at);
+        self.totals.answer(503);
         if !self.is_full {
             told.tell(Told::Full);
         }
@@ -282,7 +355,9 @@ impl Screens {
     // ---- what they ask
 
     /// An event came for the connection at a place.
-    pub(crate) fn wake(&mut self, at: usize, is_readable: bool, is_writable: bool) {
+    pub(crate) fn wake(&mut self, at: usize, is_readable: bool, is_writable: bool)
+        ensures { SameSeating self.old self.new }
+    {
         if let Some(conn) = self.conns.get_mut(at) {
             conn.wake(is_readable, is_writable);
         }
@@ -294,21 +369,27 @@ impl Screens {
         alloc: Global,
         sockets: &mut S,
         told: &mut Telling,
-        shown: &mut Shown<'_>,
+        answers: &mut Answers,
+        shown: &Shown<'_>,
         at: usize,
         now: u64,
-    ) {
-        if self.may_read(shown, at, now) {
-            self.read(alloc, sockets, told, shown, at, now);
-        }
-        self.drain(alloc, sockets, told, shown.answering.node(), at, now);
+    )
+        ensures serving { (nodes : List NodeState)
+            → Contains nodes answers.old.shown.mirror.node
+            → Contains nodes answers.old.blank.mirror.node
+            → StillServing nodes shown.now.contest.now self.old self.new
+            (S.socket sockets.old) (S.socket sockets.new) }
+        ensures mirrors { SameMirrors answers.old answers.new }
+    {
+        self.read(alloc, sockets, told, answers, shown, at, now);
+        self.drain(alloc, sockets, told, answers.shown.node(), at, now);
         if self.has_more_at(shown, at, now) {
             self.has_more = true;
         }
     }
 
     /// Whether there may be something to read at a place that is to be read now.
-    fn may_read(&self, shown: &mut Shown<'_>, at: usize, now: u64) -> bool {
+    fn may_read(&self, shown: &Shown<'_>, at: usize, now: u64) -> bool {
         let Some(conn) = self.conns.get(at) else {
             return false;
         };
@@ -319,13 +400,15 @@ impl Screens {
     }
 
     /// Whether a request that came at a time can be answered now.
-    fn may_answer(&self, shown: &mut Shown<'_>, since: u64, now: u64) -> bool {
+    fn may_answer(&self, shown: &Shown<'_>, since: u64, now: u64) -> bool {
         self.owed < MOST_OWED && shown.is_answering(since, now)
     }
 
     /// So many bytes are kept for the connection at a place, of a text with a number where others
     /// share it: that counts once.
-    fn owe(&mut self, at: usize, bytes: usize, text: Option<u64>) {
+    fn owe(&mut self, at: usize, bytes: usize, text: Option<u64>)
+        ensures { SameSeating self.old self.new }
+    {
         let is_counted = self.is_kept(text);
         if let Some(conn) = self.conns.get_mut(at) {
             conn.owes = bytes;
@@ -350,7 +433,9 @@ impl Screens {
     }
 
     /// Nothing is kept for it any more. Requests that waited for that are looked at.
-    fn pay(&mut self, at: usize) {
+    fn pay(&mut self, at: usize)
+        ensures { SameSeating self.old self.new }
+    {
         let Some(conn) = self.conns.get_mut(at) else {
             return;
         };
@@ -365,30 +450,44 @@ impl Screens {
     }
 
     /// Whether the connection at a place has more to read or to write.
-    fn has_more_at(&self, shown: &mut Shown<'_>, at: usize, now: u64) -> bool {
+    fn has_more_at(&self, shown: &Shown<'_>, at: usize, now: u64) -> bool {
         self.may_read(shown, at, now) || self.conns.get(at).is_some_and(|conn| conn.has_more)
     }
 
+    /// Reads once, where there may be something to read that is to be read now.
     fn read<S: Sockets>(
         &mut self,
         alloc: Global,
         sockets: &mut S,
         told: &mut Telling,
-        shown: &mut Shown<'_>,
+        answers: &mut Answers,
+        shown: &Shown<'_>,
         at: usize,
         now: u64,
-    ) {
+    )
+        ensures serving { (nodes : List NodeState)
+            → Contains nodes (answerer shown.now.is_held answers.old.shown.mirror.node
+            answers.old.blank.mirror.node)
+            → StillServing nodes shown.now.contest.now self.old self.new
+            (S.socket sockets.old) (S.socket sockets.new) }
+        ensures mirrors { SameMirrors answers.old answers.new }
+    {
+        if !self.may_read(shown, at, now) {
+            return;
+        }
         let mut buf = [0u8; PIECE];
         match sockets.read(at, &mut buf) {
             Ok(0) => self.end_of_input(sockets, told, at, now),
-            Ok(count) => self.take(alloc, sockets, told, shown, at, &buf[..count], now),
+            Ok(count) => self.take(alloc, sockets, told, answers, shown, at, &buf[..count], now),
             Err(Stop::Waits) => self.is_read(at),
             Err(_) => self.end(sockets, told, at, How::Left, now),
         }
     }
 
     /// There is nothing more to read for now.
-    fn is_read(&mut self, at: usize) {
+    fn is_read(&mut self, at: usize)
+        ensures { SameSeating self.old self.new }
+    {
         if let Some(conn) = self.conns.get_mut(at) {
             conn.has_input = false;
         }
@@ -401,12 +500,23 @@ impl Screens {
         told: &mut Telling,
         at: usize,
         now: u64,
-    ) {
+    )
+        ensures serving { (nodes : List NodeState) (contest : List ℕ)
+            → StillServing nodes contest self.old self.new
+            (S.socket sockets.old) (S.socket sockets.new) }
+    {
         self.is_read(at);
-        match self.conns.get(at).map(|conn| conn.stage) {
+        match self.stage(at) {
             Some(Stage::Asks) => self.end(sockets, told, at, How::Left, now),
             Some(Stage::Lingers { .. }) => self.end(sockets, told, at, How::Done, now),
             _ => {}
+        }
+    }
+
+    fn stage(&self, at: usize) -> Option<Stage> {
+        match self.conns.get(at) {
+            Some(conn) => Some(conn.stage),
+            None => None,
         }
     }
 
@@ -416,26 +526,71 @@ impl Screens {
         alloc: Global,
         sockets: &mut S,
         told: &mut Telling,
-        shown: &mut Shown<'_>,
+        answers: &mut Answers,
+        shown: &Shown<'_>,
         at: usize,
         piece: &[u8],
         now: u64,
-    ) {
-        let Some(conn) = self.conns.get_mut(at) else {
+    )
+        ensures serving { (nodes : List NodeState)
+            → Contains nodes (answerer shown.now.is_held answers.old.shown.mirror.node
+            answers.old.blank.mirror.node)
+            → StillServing nodes shown.now.contest.now self.old self.new
+            (S.socket sockets.old) (S.socket sockets.new) }
+        ensures mirrors { SameMirrors answers.old answers.new }
+    {
+        let Some(key) = self.asking(at) else {
+            if self.forget(at, piece.len()) {
+                self.end(sockets, told, at, How::Done, now);
+            }
             return;
         };
-        match (conn.stage, conn.key) {
-            (Stage::Asks, Some(key)) => {
-                let contest = shown.contest;
-                if !self.hear(alloc, shown.answers(), contest, key, at, piece, now) {
-                    self.end(sockets, told, at, How::Memory, now);
-                }
-            }
-            _ => {
-                if conn.forget(piece.len()) {
-                    self.end(sockets, told, at, How::Done, now);
-                }
-            }
+        if !self.hear_of(alloc, answers, shown, key, at, piece, now) {
+            self.end(sockets, told, at, How::Memory, now);
+        }
+    }
+
+    /// Hands bytes of a request to the hub, which answers it as one does that shows nothing where
+    /// requests are held. Whether there was memory for them.
+    fn hear_of(
+        &mut self,
+        alloc: Global,
+        answers: &mut Answers,
+        shown: &Shown<'_>,
+        key: Key,
+        at: usize,
+        piece: &[u8],
+        now: u64,
+    ) -> bool
+        ensures serving { (nodes : List NodeState) (sockets : AllSockets)
+            → Contains nodes (answerer shown.now.is_held answers.old.shown.mirror.node
+            answers.old.blank.mirror.node)
+            → StillServing nodes shown.now.contest.now self.old self.new sockets sockets }
+        ensures mirrors { SameMirrors answers.old answers.new }
+    {
+        let contest = shown.contest;
+        if shown.is_held {
+            return self.hear(alloc, &mut answers.blank, contest, key, at, piece, now);
+        }
+        self.hear(alloc, &mut answers.shown, contest, key, at, piece, now)
+    }
+
+    /// The key of the connection at a place whose request comes.
+    fn asking(&self, at: usize) -> Option<Key> {
+        let conn = self.conns.get(at)?;
+        if conn.stage != Stage::Asks {
+            return None;
+        }
+        conn.key
+    }
+
+    /// So many bytes that came are forgotten. Whether the connection is to be closed.
+    fn forget(&mut self, at: usize, count: usize) -> bool
+        ensures { SameSeating self.old self.new }
+    {
+        match self.conns.get_mut(at) {
+            Some(conn) => conn.forget(count),
+            None => false,
         }
     }
 
@@ -449,32 +604,53 @@ impl Screens {
         at: usize,
         piece: &[u8],
         now: u64,
-    ) -> bool {
+    ) -> bool
+        ensures serving { (nodes : List NodeState) (sockets : AllSockets)
+            → Contains nodes answering.old.mirror.node
+            → StillServing nodes contest.now self.old self.new sockets sockets }
+        ensures mirror { answering.new.mirror ≡ answering.old.mirror }
+    {
         let mut rest = piece;
         for _ in 0..piece.len() {
-            let Ok(heard) = self.hub.hear(alloc, answering, contest, key, rest, now) else {
-                return false;
-            };
-            if let Some(status) = heard.status {
-                self.is_answered(at, status);
-                let kept = self.hub.prefix(key).len();
-                let text = if heard.is_shared {
-                    Some(answering.made())
-                } else {
-                    None
-                };
-                self.owe(at, kept, text);
-                break;
+            match self.hear_once(alloc, answering, contest, key, at, rest, now) {
+                Ok(0) => return true,
+                Ok(taken) => rest = rest.get(taken..).unwrap_or(&[]),
+                Err(_) => return false,
             }
-            if heard.taken == 0 {
-                break;
-            }
-            rest = rest.get(heard.taken..).unwrap_or(&[]);
         }
         true
     }
 
-    fn is_answered(&mut self, at: usize, status: u16) {
+    /// Hands some bytes of a request to the hub. How many it took, and none where it takes no more.
+    fn hear_once(
+        &mut self,
+        alloc: Global,
+        answering: &mut Answering,
+        contest: &str,
+        key: Key,
+        at: usize,
+        piece: &[u8],
+        now: u64,
+    ) -> Result<usize, AllocError>
+        ensures serving { (nodes : List NodeState) (sockets : AllSockets)
+            → Contains nodes answering.old.mirror.node
+            → StillServing nodes contest.now self.old self.new sockets sockets }
+        ensures mirror { answering.new.mirror ≡ answering.old.mirror }
+    {
+        let heard = self.hub.hear(alloc, answering, contest, key, piece, now)?;
+        let Some(status) = heard.status else {
+            return Ok(heard.taken);
+        };
+        self.is_answered(at, status);
+        let kept = self.hub.prefix(key).len();
+        let text = heard.is_shared.then_some(answering.made());
+        self.owe(at, kept, text);
+        Ok(0)
+    }
+
+    fn is_answered(&mut self, at: usize, status: u16)
+        ensures { SameSeating self.old self.new }
+    {
         self.totals.answer(status);
         if let Some(conn) = self.conns.get_mut(at) {
             conn.stage = Stage::Watches;
@@ -488,12 +664,20 @@ impl Screens {
         alloc: Global,
         sockets: &mut S,
         told: &mut Telling,
-        shown: &mut Shown<'_>,
+        answers: &mut Answers,
+        shown: &Shown<'_>,
         now: u64,
-    ) {
+    )
+        ensures serving { (nodes : List NodeState)
+            → Contains nodes answers.old.shown.mirror.node
+            → Contains nodes answers.old.blank.mirror.node
+            → StillServing nodes shown.now.contest.now self.old self.new
+            (S.socket sockets.old) (S.socket sockets.new) }
+        ensures mirrors { SameMirrors answers.old answers.new }
+    {
         for at in 0..self.conns.capacity() {
             if self.has_more_at(shown, at, now) {
-                self.serve(alloc, sockets, told, shown, at, now);
+                self.serve(alloc, sockets, told, answers, shown, at, now);
             }
         }
     }

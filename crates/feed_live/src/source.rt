@@ -4,7 +4,7 @@ mod input;
 
 use crate::device::{Link, Stop};
 use crate::figures::{FeedFigures, Following};
-use crate::screens::{Screens, Shown};
+use crate::screens::{Answers, Screens};
 use crate::told::{Telling, Told, Why};
 use feed_answer::{Framing, Identity, Place, request_text_as};
 use feed_follow::{FollowFault, Progress};
@@ -43,9 +43,7 @@ pub(crate) struct Source {
     places: Vec<Place>,
     identity: Identity,
     upstream: Upstream,
-    answering: Answering,
-    /// A mirror that has published nothing.
-    blank: Answering,
+    pub(crate) answers: Answers,
     reach: Reach,
     request: Vec<u8>,
     /// Since when a response has a good head; and whether that was told.
@@ -80,8 +78,10 @@ impl Source {
             upstream: Upstream::new(places.len().max(1), now),
             places,
             identity,
-            answering: Answering::new(mirror, framing),
-            blank: Answering::new(blank, framing),
+            answers: Answers {
+                shown: Answering::new(mirror, framing),
+                blank: Answering::new(blank, framing),
+            },
             reach: Reach::Away,
             request: Vec::new(alloc),
             body_since: None,
@@ -96,22 +96,12 @@ impl Source {
     }
 
     pub(crate) fn node(&self) -> &Node {
-        self.answering.node()
-    }
-
-    /// What requests are answered with.
-    pub(crate) fn shown<'a>(&'a mut self, contest: &'a str) -> Shown<'a> {
-        Shown {
-            answering: &mut self.answering,
-            blank: &mut self.blank,
-            is_held: !self.is_heard,
-            contest,
-        }
+        self.answers.shown.node()
     }
 
     /// Forgets the text of the snapshot, where no screen has any of it.
     pub(crate) fn tidy(&mut self) {
-        self.answering.tidy();
+        self.answers.shown.tidy();
     }
 
     pub(crate) fn is_heard(&self) -> bool {
@@ -201,8 +191,8 @@ impl Source {
             self.lost(link, told, Why::Refuses, now);
             return;
         }
-        self.is_fresh = self.answering.mirror().since().is_none();
-        self.upstream.opened(self.answering.mirror(), now);
+        self.is_fresh = self.answers.shown.mirror().since().is_none();
+        self.upstream.opened(self.answers.shown.mirror(), now);
         self.figures.ask(self.upstream.place(), now);
         self.reach = Reach::Connects(now);
     }
@@ -212,7 +202,7 @@ impl Source {
         if let Some(place) = self.places.get(self.upstream.place()) {
             request_text_as(
                 place,
-                self.answering.mirror().since(),
+                self.answers.shown.mirror().since(),
                 &self.identity,
                 &mut text,
             )?;
@@ -230,7 +220,7 @@ impl Source {
         }
         self.leave(link, now);
         self.figures.lose(now);
-        self.upstream.lost(self.answering.change(), now);
+        self.upstream.lost(self.answers.shown.change(), now);
         let pause = self.upstream.due(0).saturating_sub(now);
         told.tell(Told::Lost { server, why, pause });
     }
@@ -391,7 +381,7 @@ impl Source {
         line: &[u8],
         now: u64,
     ) -> bool {
-        let mirror = self.answering.change();
+        let mirror = self.answers.shown.change();
         match self.upstream.take(alloc, mirror, line, now) {
             Ok(Progress::Head) => true,
             Ok(Progress::Body) => {
@@ -424,7 +414,7 @@ impl Source {
         });
         self.leave(link, now);
         self.figures.change(Following::Away, now);
-        self.upstream.refused(self.answering.change(), now);
+        self.upstream.refused(self.answers.shown.change(), now);
     }
 
     /// The server answers with the feed.
@@ -443,12 +433,12 @@ impl Source {
     /// Says what was published. Where a connection published afresh, no screen goes on from what
     /// it has.
     fn say(&mut self, alloc: Global, screens: &mut Screens, now: u64) {
-        if self.is_fresh && self.answering.mirror().since().is_some() {
+        if self.is_fresh && self.answers.shown.mirror().since().is_some() {
             self.is_fresh = false;
             self.epoch = self.epoch.saturating_add(1);
             screens.end_feeds(alloc, now);
         }
-        if screens.relay(alloc, self.answering.node(), now) {
+        if screens.relay(alloc, self.answers.shown.node(), now) {
             self.is_heard = true;
             self.figures.publish();
             self.upstream.published();
@@ -457,7 +447,7 @@ impl Source {
 
     /// Says what had to wait.
     pub(crate) fn say_more(&mut self, alloc: Global, screens: &mut Screens, now: u64) {
-        screens.relay(alloc, self.answering.node(), now);
+        screens.relay(alloc, self.answers.shown.node(), now);
     }
 }
 

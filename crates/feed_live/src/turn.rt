@@ -3,7 +3,7 @@
 use crate::device::{Devices, Link, Ready, Sockets, Store};
 use crate::options::{LiveLimits, Start};
 use crate::saved::{Restored, Saved};
-use crate::screens::{HOLD_TIME, Screens};
+use crate::screens::{HOLD_TIME, Screens, Shown};
 use crate::source::Source;
 use crate::told::{Telling, Told};
 use feed_node::Node;
@@ -269,15 +269,19 @@ impl Live {
         had_more: bool,
         now: u64,
     ) {
-        let mut shown = self.source.shown(self.contest.as_str());
+        let shown = Shown {
+            is_held: !self.source.is_heard(),
+            contest: self.contest.as_str(),
+        };
+        let answers = &mut self.source.answers;
         if had_more {
             self.screens
-                .serve_more(alloc, sockets, &mut self.telling, &mut shown, now);
+                .serve_more(alloc, sockets, &mut self.telling, answers, &shown, now);
         }
         for event in events {
             if let Ready::Screen { at, .. } = *event {
                 self.screens
-                    .serve(alloc, sockets, &mut self.telling, &mut shown, at, now);
+                    .serve(alloc, sockets, &mut self.telling, answers, &shown, at, now);
             }
         }
     }

@@ -1,5 +1,10 @@
 //! What screens are sent: each writes once when it has its turn.
 
+ghost use Rattle.std.specs.Prelude.{◌≡◌, ◌≢◌, ℕ, List, Some, Contains, IsTrue, IfSome};
+ghost use Rattle.feed_node.specs.States.{NodeState};
+ghost use Rattle.feed_live.specs.Sockets.{AllSockets};
+ghost use Rattle.feed_live.specs.Serving.{StillServing, SameSeating, key_at, keyless};
+
 use crate::conn::Stage;
 use crate::device::{Sockets, Stop};
 use crate::hand::hand;
@@ -7,11 +12,14 @@ use crate::screens::Screens;
 use crate::told::{How, Telling};
 use feed_hub::Key;
 use feed_node::Node;
-use std::alloc::Global;
+use std::alloc::{AllocError, Global};
 
 impl Screens {
     /// The seat of the connection at a place, where that can be written to now.
-    fn writable(&mut self, at: usize) -> Option<Key> {
+    fn writable(&mut self, at: usize) -> Option<Key>
+        ensures key { IfSome result (λ key. key_at self.old.conns at ≡ Some (Some key)) }
+        ensures same { SameSeating self.old self.new }
+    {
         let conn = self.conns.get_mut(at)?;
         conn.has_more = false;
         if conn.is_blocked || conn.stage != Stage::Watches {
@@ -29,22 +37,51 @@ impl Screens {
         node: &Node,
         at: usize,
         now: u64,
-    ) {
+    )
+        ensures serving { (nodes : List NodeState) (contest : List ℕ)
+            → Contains nodes node.now.shown
+            → StillServing nodes contest self.old self.new
+            (S.socket sockets.old) (S.socket sockets.new) }
+    {
         let Some(key) = self.writable(at) else {
             return;
         };
-        if !self.fill(alloc, sockets, told, node, at, key, now) {
-            return;
+        if self.fill(alloc, sockets, told, node, at, key, now) {
+            self.write(alloc, sockets, told, node, at, key, now);
         }
-        match self.write(sockets, at, key, now) {
+    }
+
+    /// Writes to the connection at a place what is pending there, and gets what comes next.
+    fn write<S: Sockets>(
+        &mut self,
+        alloc: Global,
+        sockets: &mut S,
+        told: &mut Telling,
+        node: &Node,
+        at: usize,
+        key: Key,
+        now: u64,
+    )
+        ensures serving { (nodes : List NodeState) (contest : List ℕ)
+            → Contains nodes node.now.shown → key_at self.old.conns at ≡ Some (Some key)
+            → StillServing nodes contest self.old self.new
+            (S.socket sockets.old) (S.socket sockets.new) }
+    {
+        match self.write_once(sockets, at, key, now) {
             Ok(true) => {
                 let has_more = self.fill(alloc, sockets, told, node, at, key, now);
-                if let Some(conn) = self.conns.get_mut(at) {
-                    conn.has_more = has_more;
-                }
+                self.has_more_to_write(at, has_more);
             }
             Ok(false) => {}
             Err(_) => self.end(sockets, told, at, How::Left, now),
+        }
+    }
+
+    fn has_more_to_write(&mut self, at: usize, has_more: bool)
+        ensures { SameSeating self.old self.new }
+    {
+        if let Some(conn) = self.conns.get_mut(at) {
+            conn.has_more = has_more;
         }
     }
 
@@ -59,12 +96,18 @@ impl Screens {
         at: usize,
         key: Key,
         now: u64,
-    ) -> bool {
+    ) -> bool
+        ensures serving { (nodes : List NodeState) (contest : List ℕ)
+            → Contains nodes node.now.shown → key_at self.old.conns at ≡ Some (Some key)
+            → StillServing nodes contest self.old self.new
+            (S.socket sockets.old) (S.socket sockets.new) }
+        ensures stays { IsTrue result → key_at self.new.conns at ≡ key_at self.old.conns at }
+    {
         if !self.hub.prefix(key).is_empty() {
             return true;
         }
         self.pay(at);
-        if self.hub.refill(alloc, node, key, now).is_err() {
+        if self.refill(alloc, node, key, now).is_err() {
             self.end(sockets, told, at, How::Memory, now);
             return false;
         }
@@ -77,23 +120,60 @@ impl Screens {
         false
     }
 
+    /// Gets what comes next for a screen.
+    fn refill(
+        &mut self,
+        alloc: Global,
+        node: &Node,
+        key: Key,
+        now: u64,
+    ) -> Result<(), AllocError>
+        ensures serving { (nodes : List NodeState) (contest : List ℕ) (sockets : AllSockets)
+            → Contains nodes node.now.shown
+            → StillServing nodes contest self.old self.new sockets sockets }
+        ensures keys { self.new.conns ≡ self.old.conns }
+    {
+        self.hub.refill(alloc, node, key, now)
+    }
+
     /// All was sent: what still comes is read for a while.
-    fn finish<S: Sockets>(&mut self, sockets: &mut S, at: usize, key: Key, now: u64) {
+    fn finish<S: Sockets>(&mut self, sockets: &mut S, at: usize, key: Key, now: u64)
+        ensures serving { (nodes : List NodeState) (contest : List ℕ)
+            → key_at self.old.conns at ≡ Some (Some key)
+            → StillServing nodes contest self.old self.new
+            (S.socket sockets.old) (S.socket sockets.new) }
+    {
         self.hub.leave(key);
         sockets.shut(at);
+        self.linger(at, now);
+    }
+
+    /// The connection at a place has no key from here on.
+    fn linger(&mut self, at: usize, now: u64)
+        ensures key { key_at self.new.conns at ≡ keyless (key_at self.old.conns at) }
+        ensures others { (other : ℕ) → other ≢ at
+            → key_at self.new.conns other ≡ key_at self.old.conns other }
+        ensures hub { self.new.hub ≡ self.old.hub }
+    {
         if let Some(conn) = self.conns.get_mut(at) {
             conn.linger(now);
         }
     }
 
     /// One write of what is pending. Whether the socket took all of it.
-    fn write<S: Sockets>(
+    fn write_once<S: Sockets>(
         &mut self,
         sockets: &mut S,
         at: usize,
         key: Key,
         now: u64,
-    ) -> Result<bool, Stop> {
+    ) -> Result<bool, Stop>
+        ensures serving { (nodes : List NodeState) (contest : List ℕ)
+            → key_at self.old.conns at ≡ Some (Some key)
+            → StillServing nodes contest self.old self.new
+            (S.socket sockets.old) (S.socket sockets.new) }
+        ensures keys { key_at self.new.conns at ≡ key_at self.old.conns at }
+    {
         let length = self.hub.prefix(key).len();
         let count = match hand(&mut self.hub, sockets, at, key, now) {
             Ok(0) => return Err(Stop::Failed),
@@ -101,12 +181,19 @@ impl Screens {
             Err(Stop::Waits) => 0,
             Err(stop) => return Err(stop),
         };
+        self.is_handed(at, count, count < length);
+        Ok(count == length)
+    }
+
+    /// The connection at a place took so many bytes, and is blocked or not.
+    fn is_handed(&mut self, at: usize, count: usize, is_blocked: bool)
+        ensures { SameSeating self.old self.new }
+    {
         if let Some(conn) = self.conns.get_mut(at) {
-            conn.is_blocked = count < length;
+            conn.is_blocked = is_blocked;
             conn.bytes = conn.bytes.saturating_add(count as u64);
         }
         self.totals.hand(count);
-        Ok(count == length)
     }
 
     /// Writes to all, after something was said.
@@ -117,7 +204,12 @@ impl Screens {
         told: &mut Telling,
         node: &Node,
         now: u64,
-    ) {
+    )
+        ensures serving { (nodes : List NodeState) (contest : List ℕ)
+            → Contains nodes node.now.shown
+            → StillServing nodes contest self.old self.new
+            (S.socket sockets.old) (S.socket sockets.new) }
+    {
         for at in 0..self.conns.capacity() {
             self.drain(alloc, sockets, told, node, at, now);
             if self.conns.get(at).is_some_and(|conn| conn.has_more) {

@@ -1,0 +1,496 @@
+-- How sockets stand, step by step.
+use Rattle.std.proofs.Common.{◌≡◌, ◌≢◌, refl, sym, ap, ◌∙◌, subst, ℕ, ◌⊎◌, true, false, List, [], ◌++◌, Option, Some, None, inl, inr, ◌<◌, ◌≤◌, arith, take, append-nil, suc, zero}
+use Rattle.std.specs.Prelude.{Bool, ◌==◌, Contains, Result, Ok, Err, IfOk, OnOk, OnErr}
+use Rattle.std.proofs.lemmas.Bool.Decides.{eqb_tells}
+use Rattle.slab.specs.Slab.{Slab, get, Updates}
+use Rattle.feed_node.specs.States.{NodeState}
+use Rattle.feed_answer.specs.Answered.{AnswerParts, AnswersTo}
+use Rattle.feed_hub.specs.declared.asking.Asking.{Asking}
+use Rattle.feed_hub.specs.declared.hub.Hub.{Hub}
+use Rattle.feed_hub.specs.declared.screen.Screen.{Screen}
+use Rattle.feed_hub.specs.declared.seats.Key.{Key}
+use Rattle.feed_hub.specs.declared.seats.Seat.{Seat}
+use Rattle.feed_hub.specs.declared.seats.Seat.TheVariants.{Asks, Watches}
+use Rattle.feed_hub.specs.Broadcast.{IsServedBy}
+use Rattle.feed_hub.specs.declared.hub.Heard.{Heard}
+use Rattle.feed_hub.specs.Hub.{IsSeated, IsStillSeated, ChangesOnly, prefix_of, prefix_at, IsAnsweredBy, HearsAt, HearsOf}
+use Rattle.feed_hub.specs.Screen.{IsServed}
+use Rattle.feed_hub.specs.Log.{Log}
+use Rattle.feed_hub.specs.Seats.{seat_at, Watched, KeepsThose, Ends}
+use Rattle.feed_hub.specs.Steps.{taken}
+use Rattle.feed_live.specs.declared.conn.Conn.{Conn}
+use Rattle.feed_live.specs.declared.screens.Screens.{Screens}
+use Rattle.feed_live.specs.Sockets.{Socket, Closed, Opened, AllSockets, IsSocket, with_more, written_more, IsWrite, SameSockets, OtherSockets}
+use Rattle.feed_live.specs.Held.{answerer}
+use Rattle.feed_live.specs.Serving.{IsGiven, WasServed, IsFaithful, nothing, refused, served, IsSent, Sits, asks, watches, cut, key_of, key_at, Stands, Serving, SameKeys, Leaves, keyless, IsGreeted, SameSeating, full_text}
+
+-- ---- numbers and keys
+
+pub number_tells : (a b : ℕ) → (a ≡ b) ⊎ (a ≢ b)
+number_tells a b = by (eqb_tells a b)
+  where
+    by : (((a == b) ≡ true) × (a ≡ b)) ⊎ (((a == b) ≡ false) × (a ≢ b)) → (a ≡ b) ⊎ (a ≢ b)
+    by (inl (_, same)) = inl same
+    by (inr (_, differ)) = inr differ
+
+pub key_tells : (a b : Key) → (a ≡ b) ⊎ (a ≢ b)
+key_tells a b = by (number_tells a.index b.index) (number_tells a.generation b.generation)
+  where
+    by : (a.index ≡ b.index) ⊎ (a.index ≢ b.index) → (a.generation ≡ b.generation) ⊎ (a.generation ≢ b.generation) → (a ≡ b) ⊎ (a ≢ b)
+    by (inr differ) _ = inr (λ e. differ (ap (λ k. k.index) e))
+    by (inl _) (inr differ) = inr (λ e. differ (ap (λ k. k.generation) e))
+    by (inl i) (inl g) = inl (ap (λ x. record { index = x; generation = a.generation }) i ∙ ap (λ x. record { index = b.index; generation = x }) g)
+
+-- ---- one socket
+
+pub was_served : {nodes : List NodeState} {contest : List ℕ} (hub : Hub) (key : Key) (answer : AnswerParts) (handed : List ℕ)
+    → IsGiven nodes contest answer → IsSeated nodes hub key answer handed → WasServed nodes contest handed
+was_served hub key answer handed given seated =
+    record {
+      answer = answer;
+      given = given;
+      common = hub.broadcast.framing;
+      lines = hub.broadcast.log;
+      told = hub.broadcast.told;
+      screen = seated.0;
+      served = seated.2;
+    }
+
+-- whatever sits there, what was written is faithful
+pub sent_of : {nodes : List NodeState} {contest : List ℕ} {hub : Hub} {key : Key} {socket : Option Socket} → Sits nodes contest hub key socket → IsSent nodes contest socket
+sent_of (asks asking sits socket_is) = record { bytes = []; socket_is = socket_is; faithful = nothing }
+sent_of {hub = hub} {key = key} (watches answer handed given seated socket_is) =
+    record { bytes = handed; socket_is = socket_is; faithful = served handed (was_served hub key answer handed given seated) }
+sent_of (cut none sent) = sent
+
+-- the connection at this key stands as before, whatever socket it has
+abbrev pub StillSits : List NodeState → List ℕ → Hub → Hub → Key → Type 0
+StillSits nodes contest old new key = (socket : Option Socket) → Sits nodes contest old key socket → Sits nodes contest new key socket
+
+-- what sits there stays, and is served as before, or is cut
+pub record Stays (nodes : List NodeState) (old new : Hub) (key : Key) : Type 0 where
+  pub gone : seat_at old.seats.slab key ≡ None → seat_at new.seats.slab key ≡ None
+  pub asked : (asking : Asking) → seat_at old.seats.slab key ≡ Some (Asks asking) → (seat_at new.seats.slab key ≡ Some (Asks asking)) ⊎ (seat_at new.seats.slab key ≡ None)
+  pub watched : (answer : AnswerParts) (handed : List ℕ) → IsSeated nodes old key answer handed → IsSeated nodes new key answer handed ⊎ (seat_at new.seats.slab key ≡ None)
+
+pub still_sits : {nodes : List NodeState} (contest : List ℕ) {old new : Hub} {key : Key} → Stays nodes old new key → StillSits nodes contest old new key
+still_sits {nodes} contest {old} {new} {key} stays socket (asks asking sits socket_is) = by (stays.asked asking sits)
+  where
+    by : (seat_at new.seats.slab key ≡ Some (Asks asking)) ⊎ (seat_at new.seats.slab key ≡ None) → Sits nodes contest new key socket
+    by (inl sits_on) = asks asking sits_on socket_is
+    by (inr none) = cut none (record { bytes = []; socket_is = socket_is; faithful = nothing })
+still_sits {nodes} contest {old} {new} {key} stays socket (watches answer handed given seated socket_is) = by (stays.watched answer handed seated)
+  where
+    by : IsSeated nodes new key answer handed ⊎ (seat_at new.seats.slab key ≡ None) → Sits nodes contest new key socket
+    by (inl seated_on) = watches answer handed given seated_on socket_is
+    by (inr none) = cut none (record { bytes = handed; socket_is = socket_is; faithful = served handed (was_served old key answer handed given seated) })
+still_sits contest stays socket (cut none sent) = cut (stays.gone none) sent
+
+-- nothing changed at a key
+pub same_stays : (nodes : List NodeState) (old new : Hub) (key : Key) → seat_at new.seats.slab key ≡ seat_at old.seats.slab key → new.broadcast ≡ old.broadcast → Stays nodes old new key
+same_stays nodes old new key seat broadcast =
+    record {
+      gone = λ none. seat ∙ none;
+      asked = λ asking sits. inl (seat ∙ sits);
+      watched = λ answer handed seated. inl (seated.0, seat ∙ seated.1, subst (λ b. IsServedBy nodes b answer handed seated.0) (sym broadcast) seated.2);
+    }
+
+-- so it is for each key but the one that changed
+pub others_stay : (nodes : List NodeState) (old new : Hub) (key other : Key) → ChangesOnly old new key → other ≢ key → Stays nodes old new other
+others_stay nodes old new key other changes differ = same_stays nodes old new other (changes.others other differ) changes.broadcast
+
+-- and for each one, where what sat at that one stays
+pub each_stays : (nodes : List NodeState) (old new : Hub) (key : Key) → ChangesOnly old new key → Stays nodes old new key → (other : Key) → Stays nodes old new other
+each_stays nodes old new key changes stays other = by (key_tells other key)
+  where
+    by : (other ≡ key) ⊎ (other ≢ key) → Stays nodes old new other
+    by (inl same) = subst (λ k. Stays nodes old new k) (sym same) stays
+    by (inr differ) = others_stay nodes old new key other changes differ
+
+-- ---- what the calls of the hub do
+
+watched_gone : (Becomes : Screen → Screen → Type 0) (old new : Option Seat) → Watched Becomes old new → old ≡ None → new ≡ None
+watched_gone Becomes old new w none = subst (λ o. Watched Becomes o new) none w
+
+watched_asked : (Becomes : Screen → Screen → Type 0) (old new : Option Seat) (asking : Asking) → Watched Becomes old new → old ≡ Some (Asks asking) → new ≡ Some (Asks asking)
+watched_asked Becomes old new asking w sits = subst (λ o. Watched Becomes o new) sits w
+
+-- a screen became another, which is served as it was
+pub watched_stays : (nodes : List NodeState) (old new : Hub) (key : Key) (Becomes : Screen → Screen → Type 0) → Watched Becomes (seat_at old.seats.slab key) (seat_at new.seats.slab key)
+    → IsStillSeated nodes old new key → Stays nodes old new key
+watched_stays nodes old new key Becomes w still =
+    record {
+      gone = λ none. watched_gone Becomes _ _ w none;
+      asked = λ asking sits. inl (watched_asked Becomes _ _ asking w sits);
+      watched = λ answer handed seated. inl (still answer handed seated);
+    }
+
+-- what sat there was cut
+pub cut_stays : (nodes : List NodeState) (old new : Hub) (key : Key) → seat_at new.seats.slab key ≡ None → Stays nodes old new key
+cut_stays nodes old new key none = record { gone = λ _. none; asked = λ _ _. inr none; watched = λ _ _ _. inr none }
+
+-- ---- all numbers
+
+stands_on : (nodes : List NodeState) (contest : List ℕ) (old new : Hub) (held : Option (Option Key)) (socket : Option Socket)
+    → ((key : Key) → held ≡ Some (Some key) → StillSits nodes contest old new key) → Stands nodes contest old held socket → Stands nodes contest new held socket
+stands_on nodes contest old new None socket still s = s
+stands_on nodes contest old new (Some None) socket still s = s
+stands_on nodes contest old new (Some (Some key)) socket still s = still key refl socket s
+
+-- each connection stands as before
+pub serving_on : {nodes : List NodeState} {contest : List ℕ} {old new : Hub} {conns : Slab Conn} {sockets : AllSockets}
+    → ((key : Key) → StillSits nodes contest old new key) → old.seats.next ≤ new.seats.next → Serving nodes contest old conns sockets → Serving nodes contest new conns sockets
+serving_on {nodes} {contest} {old} {new} {conns} {sockets} still next serving =
+    record {
+      each = λ at. stands_on nodes contest old new (key_at conns at) (sockets at) (λ key _. still key) (serving.each at);
+      one = serving.one;
+      below = λ at key is. let under = serving.below at key is in omega arith;
+    }
+
+-- nothing changed that the sockets' bytes hang on
+pub serving_same : {nodes : List NodeState} {contest : List ℕ} {old new : Hub} {conns conns_new : Slab Conn} {sockets sockets_new : AllSockets}
+    → new ≡ old → SameKeys conns conns_new → SameSockets sockets sockets_new
+    → Serving nodes contest old conns sockets → Serving nodes contest new conns_new sockets_new
+serving_same {nodes} {contest} {old} {new} {conns} {conns_new} {sockets} {sockets_new} hub keys same serving =
+    subst (λ h. Serving nodes contest h conns_new sockets_new) (sym hub)
+    (record {
+      each = λ at. subst (λ k. Stands nodes contest old k (sockets_new at)) (sym (keys at))
+          (subst (λ s. Stands nodes contest old (key_at conns at) s) (sym (same at)) (serving.each at));
+      one = λ at other key is is_too. serving.one at other key (sym (keys at) ∙ is) (sym (keys other) ∙ is_too);
+      below = λ at key is. serving.below at key (sym (keys at) ∙ is);
+    })
+
+-- One number changes: what stands there is given, and the others stand as before. A key that it
+-- has now is nobody else's.
+pub serving_at : {nodes : List NodeState} {contest : List ℕ} {old new : Hub} {conns conns_new : Slab Conn} {sockets sockets_new : AllSockets} (at : ℕ)
+    → ((other : ℕ) → other ≢ at → key_at conns_new other ≡ key_at conns other) → OtherSockets sockets sockets_new at
+    → ((other : ℕ) (key : Key) → other ≢ at → key_at conns other ≡ Some (Some key) → Stays nodes old new key)
+    → old.seats.next ≤ new.seats.next
+    → Stands nodes contest new (key_at conns_new at) (sockets_new at)
+    → ((key : Key) → key_at conns_new at ≡ Some (Some key) → (key.generation < new.seats.next) × ((other : ℕ) → other ≢ at → key_at conns other ≢ Some (Some key)))
+    → Serving nodes contest old conns sockets → Serving nodes contest new conns_new sockets_new
+serving_at {nodes} {contest} {old} {new} {conns} {conns_new} {sockets} {sockets_new} at keys same stays next stands own serving =
+    record { each = λ other. each_at other (number_tells other at); one = λ a b key is is_too. one_at a b key is is_too (number_tells a at) (number_tells b at); below = λ other key is. below_at other key is (number_tells other at) }
+  where
+    each_at : (other : ℕ) → (other ≡ at) ⊎ (other ≢ at) → Stands nodes contest new (key_at conns_new other) (sockets_new other)
+    each_at other (inl here) = subst (λ n. Stands nodes contest new (key_at conns_new n) (sockets_new n)) (sym here) stands
+    each_at other (inr away) =
+        subst (λ k. Stands nodes contest new k (sockets_new other)) (sym (keys other away))
+        (subst (λ s. Stands nodes contest new (key_at conns other) s) (sym (same other away))
+        (stands_on nodes contest old new (key_at conns other) (sockets other) (λ key is. still_sits contest (stays other key away is)) (serving.each other)))
+
+    one_at : (a b : ℕ) (key : Key) → key_at conns_new a ≡ Some (Some key) → key_at conns_new b ≡ Some (Some key) → (a ≡ at) ⊎ (a ≢ at) → (b ≡ at) ⊎ (b ≢ at) → a ≡ b
+    one_at a b key is is_too (inl here) (inl here_too) = here ∙ sym here_too
+    one_at a b key is is_too (inl here) (inr away) = absurd ((own key (subst (λ n. key_at conns_new n ≡ Some (Some key)) here is)).1 b away (sym (keys b away) ∙ is_too))
+    one_at a b key is is_too (inr away) (inl here) = absurd ((own key (subst (λ n. key_at conns_new n ≡ Some (Some key)) here is_too)).1 a away (sym (keys a away) ∙ is))
+    one_at a b key is is_too (inr away) (inr away_too) = serving.one a b key (sym (keys a away) ∙ is) (sym (keys b away_too) ∙ is_too)
+
+    below_at : (other : ℕ) (key : Key) → key_at conns_new other ≡ Some (Some key) → (other ≡ at) ⊎ (other ≢ at) → key.generation < new.seats.next
+    below_at other key is (inl here) = (own key (subst (λ n. key_at conns_new n ≡ Some (Some key)) here is)).0
+    below_at other key is (inr away) = let under = serving.below other key (sym (keys other away) ∙ is) in omega arith
+
+-- another number's key is another key
+pub apart : {nodes : List NodeState} {contest : List ℕ} {hub : Hub} {conns : Slab Conn} {sockets : AllSockets} → Serving nodes contest hub conns sockets
+    → (at other : ℕ) (key other_key : Key) → key_at conns at ≡ Some (Some key) → other ≢ at → key_at conns other ≡ Some (Some other_key) → other_key ≢ key
+apart {conns = conns} serving at other key other_key is away is_too = λ same. away (serving.one other at key (subst (λ k. key_at conns other ≡ Some (Some k)) same is_too) is)
+
+-- ---- bytes that are written
+
+take_none : (count : ℕ) → let none : List ℕ = [] in take count none ≡ none
+take_none zero = refl
+take_none (suc n) = refl
+
+more_socket : (socket : Option Socket) (written bytes : List ℕ) → IsSocket socket (Opened written) → IsSocket (written_more socket bytes) (Opened (written ++ bytes))
+more_socket None written bytes is = tt
+more_socket (Some known) written bytes is = ap (with_more bytes) is
+
+-- where there is nothing to write, nothing is written
+nothing_more : (before after : Option Socket) (count : ℕ) (prefix written : List ℕ) → prefix ≡ [] → after ≡ written_more before (take count prefix) → IsSocket before (Opened written) → IsSocket after (Opened written)
+nothing_more before after count prefix written none after_is is =
+    subst (λ s. IsSocket s (Opened written)) (sym after_is)
+    (subst (λ p. IsSocket (written_more before (take count p)) (Opened written)) (sym none)
+    (subst (λ t. IsSocket (written_more before t) (Opened written)) (sym (take_none count))
+    (subst (λ t. IsSocket (written_more before []) (Opened t)) (append-nil written) (more_socket before written [] is))))
+
+-- the hub was told of what the socket took
+pub sent_sits : {nodes : List NodeState} {contest : List ℕ} (old new : Hub) (key : Key) (now count : ℕ) (before after : Option Socket)
+    → Watched (λ s t. t ≡ taken count now s) (seat_at old.seats.slab key) (seat_at new.seats.slab key)
+    → ((answer : AnswerParts) (handed : List ℕ) → IsSeated nodes old key answer handed → IsSeated nodes new key answer (handed ++ take count (prefix_at old key)))
+    → after ≡ written_more before (take count (prefix_at old key))
+    → Sits nodes contest old key before → Sits nodes contest new key after
+sent_sits old new key now count before after exact serves after_is (asks asking sits is) =
+    asks asking (watched_asked _ _ _ asking exact sits)
+    (nothing_more before after count (prefix_at old key) [] (ap (prefix_of old.broadcast.log) sits) after_is is)
+sent_sits old new key now count before after exact serves after_is (watches answer handed given seated is) =
+    let bytes = take count (prefix_at old key) in
+    watches answer (handed ++ bytes) given (serves answer handed seated)
+    (subst (λ s. IsSocket s (Opened (handed ++ bytes))) (sym after_is) (more_socket before handed bytes is))
+sent_sits old new key now count before after exact serves after_is (cut none sent) =
+    cut (watched_gone _ _ _ exact none)
+    (record {
+      bytes = sent.bytes;
+      socket_is = nothing_more before after count (prefix_at old key) sent.bytes (ap (prefix_of old.broadcast.log) none) after_is sent.socket_is;
+      faithful = sent.faithful;
+    })
+
+-- what a number has now is its own, where it has what it had
+own_still : {nodes : List NodeState} {contest : List ℕ} {hub : Hub} {conns : Slab Conn} {sockets : AllSockets} → Serving nodes contest hub conns sockets
+    → (at : ℕ) (key : Key) → key_at conns at ≡ Some (Some key) → (other : ℕ) → other ≢ at → key_at conns other ≢ Some (Some key)
+own_still serving at key is other away is_too = away (serving.one other at key is_too is)
+
+same_next : (a b : ℕ) → b ≡ a → a ≤ b
+same_next a b e = omega arith
+
+pub serving_sent : {nodes : List NodeState} {contest : List ℕ} (old new : Hub) (conns : Slab Conn) (before after : AllSockets) (at : ℕ) (key : Key) (now count : ℕ)
+    → key_at conns at ≡ Some (Some key)
+    → Watched (λ s t. t ≡ taken count now s) (seat_at old.seats.slab key) (seat_at new.seats.slab key)
+    → ((answer : AnswerParts) (handed : List ℕ) → IsSeated nodes old key answer handed → IsSeated nodes new key answer (handed ++ take count (prefix_at old key)))
+    → ChangesOnly old new key
+    → after at ≡ written_more (before at) (take count (prefix_at old key)) → OtherSockets before after at
+    → Serving nodes contest old conns before → Serving nodes contest new conns after
+serving_sent {nodes} {contest} old new conns before after at key now count keyed exact serves changes after_is others serving =
+    serving_at at (λ other _. refl) others
+    (λ other k away is. others_stay nodes old new key k changes (apart serving at other key k keyed away is))
+    (same_next _ _ changes.next)
+    (subst (λ k. Stands nodes contest new k (after at)) (sym keyed)
+    (sent_sits old new key now count (before at) (after at) exact serves after_is
+    (subst (λ k. Stands nodes contest old k (before at)) keyed (serving.each at))))
+    (λ k is. (subst (λ n. k.generation < n) (sym changes.next) (serving.below at k is), own_still serving at k is))
+    serving
+
+-- ---- connections that end
+
+-- what left the hub, where a number had this
+abbrev pub LeavesAt : Option (Option Key) → Hub → Hub → Type 0
+LeavesAt None old new = new ≡ old
+LeavesAt (Some held) old new = Leaves held old new
+
+pub hub_stays : (nodes : List NodeState) (old new : Hub) (key : Key) → new ≡ old → Stays nodes old new key
+hub_stays nodes old new key same = same_stays nodes old new key (ap (λ h. seat_at h.seats.slab key) same) (ap (λ h. h.broadcast) same)
+
+left_stays : (nodes : List NodeState) (old new : Hub) (held : Option (Option Key)) (key : Key) → LeavesAt held old new → ((gone : Key) → held ≡ Some (Some gone) → key ≢ gone) → Stays nodes old new key
+left_stays nodes old new None key left differ = hub_stays nodes old new key left
+left_stays nodes old new (Some None) key left differ = hub_stays nodes old new key left
+left_stays nodes old new (Some (Some gone)) key left differ = others_stay nodes old new gone key left.1 (differ gone refl)
+
+left_next : (old new : Hub) (held : Option (Option Key)) → LeavesAt held old new → new.seats.next ≡ old.seats.next
+left_next old new None left = ap (λ h. h.seats.next) left
+left_next old new (Some None) left = ap (λ h. h.seats.next) left
+left_next old new (Some (Some gone)) left = left.1.next
+
+-- the connection at a number is gone, and its socket is closed
+pub serving_ended : {nodes : List NodeState} {contest : List ℕ} (old new : Hub) (conns conns_new : Slab Conn) (before after : AllSockets) (at : ℕ)
+    → ((other : ℕ) → other ≢ at → key_at conns_new other ≡ key_at conns other) → key_at conns_new at ≡ None
+    → LeavesAt (key_at conns at) old new → IsSocket (after at) Closed → OtherSockets before after at
+    → Serving nodes contest old conns before → Serving nodes contest new conns_new after
+serving_ended {nodes} {contest} old new conns conns_new before after at keys free left closed others serving =
+    serving_at at keys others
+    (λ other k away is. left_stays nodes old new (key_at conns at) k left (λ gone was. apart serving at other gone k was away is))
+    (same_next _ _ (left_next old new (key_at conns at) left))
+    (subst (λ k. Stands nodes contest new k (after at)) (sym free) closed)
+    (λ k is. let no : None ≡ Some (Some k) = sym free ∙ is in absurd (cc))
+    serving
+
+-- the connection at a number has no key any more, and its socket stays as it is
+pub serving_finished : {nodes : List NodeState} {contest : List ℕ} (old new : Hub) (conns conns_new : Slab Conn) (before after : AllSockets) (at : ℕ) (key : Key)
+    → key_at conns at ≡ Some (Some key)
+    → ((other : ℕ) → other ≢ at → key_at conns_new other ≡ key_at conns other) → key_at conns_new at ≡ keyless (key_at conns at)
+    → ChangesOnly old new key → SameSockets before after
+    → Serving nodes contest old conns before → Serving nodes contest new conns_new after
+serving_finished {nodes} {contest} old new conns conns_new before after at key keyed keys without changes same serving =
+    let free : key_at conns_new at ≡ Some None = without ∙ ap keyless keyed in
+    let sits : Sits nodes contest old key (before at) = subst (λ k. Stands nodes contest old k (before at)) keyed (serving.each at) in
+    serving_at at keys (λ other _. same other)
+    (λ other k away is. others_stay nodes old new key k changes (apart serving at other key k keyed away is))
+    (same_next _ _ changes.next)
+    (subst (λ k. Stands nodes contest new k (after at)) (sym free) (subst (λ s. IsSent nodes contest s) (sym (same at)) (sent_of sits)))
+    (λ k is. let no : Some None ≡ Some (Some k) = sym free ∙ is in absurd (cc))
+    serving
+
+-- ---- connections that come
+
+pub serving_accepted : {nodes : List NodeState} {contest : List ℕ} (old new : Hub) (conns conns_new : Slab Conn) (before after : AllSockets) (at : ℕ) (held : Option Key)
+    → ((other : ℕ) → other ≢ at → key_at conns_new other ≡ key_at conns other) → key_at conns_new at ≡ Some held
+    → IsGreeted nodes contest old new held (after at) → OtherSockets before after at
+    → Serving nodes contest old conns before → Serving nodes contest new conns_new after
+serving_accepted {nodes} {contest} old new conns conns_new before after at held keys keyed greeted others serving =
+    serving_at at keys others
+    (λ other k away is. same_stays nodes old new k (greeted.others k (serving.below other k is)) greeted.broadcast)
+    greeted.kept
+    (subst (λ k. Stands nodes contest new k (after at)) (sym keyed) greeted.stands)
+    (λ k is. let mine : held ≡ Some k = of_some (sym keyed ∙ is) in
+      (greeted.next k mine, λ other away is_too. let below = serving.below other k is_too in let same = greeted.is_new k mine in absurd (omega arith)))
+    serving
+  where
+    of_some : {k : Key} → Some held ≡ Some (Some k) → held ≡ Some k
+    of_some e = cc
+
+-- ---- what the calls of the hub do to all
+
+-- those stay of whom something holds
+kept_gone : {Holds : Seat → Type 0} (old new : Hub) (key : Key) (now : Option Seat) → KeepsThose Holds old.seats.slab new.seats.slab → seat_at new.seats.slab key ≡ now → seat_at old.seats.slab key ≡ None → now ≡ None
+kept_gone old new key None keeps is none = refl
+kept_gone old new key (Some seat) keeps is none = let was = (keeps.kept key seat is).0 in let no : Some seat ≡ None = sym was ∙ none in absurd (cc)
+
+kept_was : {Holds : Seat → Type 0} (old new : Hub) (key : Key) (now : Option Seat) → KeepsThose Holds old.seats.slab new.seats.slab → seat_at new.seats.slab key ≡ now → (now ≡ seat_at old.seats.slab key) ⊎ (now ≡ None)
+kept_was old new key None keeps is = inr refl
+kept_was old new key (Some seat) keeps is = inl (sym (keeps.kept key seat is).0)
+
+pub kept_stays : {Holds : Seat → Type 0} (nodes : List NodeState) (old new : Hub) (key : Key) → KeepsThose Holds old.seats.slab new.seats.slab
+    → (IsStillSeated nodes old new key ⊎ (seat_at new.seats.slab key ≡ None)) → Stays nodes old new key
+kept_stays nodes old new key keeps (inr none) = cut_stays nodes old new key none
+kept_stays nodes old new key keeps (inl still) =
+    record {
+      gone = λ none. kept_gone old new key (seat_at new.seats.slab key) keeps refl none;
+      asked = λ asking sits. by asking sits (kept_was old new key (seat_at new.seats.slab key) keeps refl);
+      watched = λ answer handed seated. inl (still answer handed seated);
+    }
+  where
+    by : (asking : Asking) → seat_at old.seats.slab key ≡ Some (Asks asking) → (seat_at new.seats.slab key ≡ seat_at old.seats.slab key) ⊎ (seat_at new.seats.slab key ≡ None)
+        → (seat_at new.seats.slab key ≡ Some (Asks asking)) ⊎ (seat_at new.seats.slab key ≡ None)
+    by asking sits (inl same) = inl (same ∙ sits)
+    by asking sits (inr none) = inr none
+
+-- where what all are sent stays, too
+pub late_stays : {Holds : Seat → Type 0} (nodes : List NodeState) (old new : Hub) (key : Key) → KeepsThose Holds old.seats.slab new.seats.slab → new.broadcast ≡ old.broadcast → Stays nodes old new key
+late_stays nodes old new key keeps broadcast = by (kept_was old new key (seat_at new.seats.slab key) keeps refl)
+  where
+    by : (seat_at new.seats.slab key ≡ seat_at old.seats.slab key) ⊎ (seat_at new.seats.slab key ≡ None) → Stays nodes old new key
+    by (inl same) = same_stays nodes old new key same broadcast
+    by (inr none) = cut_stays nodes old new key none
+
+pub ended_stays : (nodes : List NodeState) (old new : Hub) (key : Key) (log : Log) (now : ℕ)
+    → (Ends log now (seat_at old.seats.slab key) (seat_at new.seats.slab key) ⊎ (seat_at new.seats.slab key ≡ None))
+    → (IsStillSeated nodes old new key ⊎ (seat_at new.seats.slab key ≡ None)) → Stays nodes old new key
+ended_stays nodes old new key log now (inl ends) (inl still) = watched_stays nodes old new key _ ends still
+ended_stays nodes old new key log now (inl ends) (inr none) = cut_stays nodes old new key none
+ended_stays nodes old new key log now (inr none) still = cut_stays nodes old new key none
+
+-- the seats stay
+pub said_stays : (nodes : List NodeState) (old new : Hub) (key : Key) → new.seats ≡ old.seats → IsStillSeated nodes old new key → Stays nodes old new key
+said_stays nodes old new key seats still =
+    let seat : seat_at new.seats.slab key ≡ seat_at old.seats.slab key = ap (λ s. seat_at s.slab key) seats in
+    record {
+      gone = λ none. seat ∙ none;
+      asked = λ asking sits. inl (seat ∙ sits);
+      watched = λ answer handed seated. inl (still answer handed seated);
+    }
+
+-- ---- what is heard
+
+module _ {nodes : List NodeState} (contest : List ℕ) (old new : Hub) (key : Key) (node : NodeState) (now : ℕ) (piece : List ℕ) (heard : Heard) (among : Contains nodes node)
+    (hears : HearsAt old.broadcast contest node now piece heard (seat_at old.seats.slab key) (seat_at new.seats.slab key))
+    (answered : (asking : Asking) (s : Screen) → seat_at old.seats.slab key ≡ Some (Asks asking) → seat_at new.seats.slab key ≡ Some (Watches s)
+        → IsAnsweredBy node contest old.broadcast.framing (asking.head.items ++ take heard.taken piece) (λ answer. IsSeated nodes new key answer []))
+    (broadcast : new.broadcast ≡ old.broadcast) where
+  heard_at : (asking : Asking) (seat : Seat) (socket : Option Socket) → seat_at old.seats.slab key ≡ Some (Asks asking) → seat_at new.seats.slab key ≡ Some seat → IsSocket socket (Opened []) → Sits nodes contest new key socket
+  heard_at asking (Asks more) socket was sits is = asks more sits is
+  heard_at asking (Watches s) socket was sits is =
+      let (answer, answers, seated) = answered asking s was sits in
+      watches answer [] (record { node = node; among = among; head = asking.head.items ++ take heard.taken piece; framing = old.broadcast.framing; answers = answers }) seated is
+
+  pub heard_sits : StillSits nodes contest old new key
+  heard_sits socket (asks asking sits is) =
+      let h = subst (λ o. HearsAt old.broadcast contest node now piece heard o (seat_at new.seats.slab key)) sits hears in
+      heard_at asking h.1.0 socket sits h.1.1 is
+  heard_sits socket (watches answer handed given seated is) =
+      let h = subst (λ o. HearsAt old.broadcast contest node now piece heard o (seat_at new.seats.slab key)) seated.1 hears in
+      still_sits contest (same_stays nodes old new key (h.0 ∙ sym seated.1) broadcast) socket (watches answer handed given seated is)
+  heard_sits socket (cut none sent) =
+      let h = subst (λ o. HearsAt old.broadcast contest node now piece heard o (seat_at new.seats.slab key)) none hears in
+      cut h.0 sent
+
+-- so it is for each key, where nothing else changed
+pub each_sits : {nodes : List NodeState} (contest : List ℕ) (old new : Hub) (key : Key) → ChangesOnly old new key → StillSits nodes contest old new key → (other : Key) → StillSits nodes contest old new other
+each_sits {nodes} contest old new key changes still other = by (key_tells other key)
+  where
+    by : (other ≡ key) ⊎ (other ≢ key) → StillSits nodes contest old new other
+    by (inl same) = subst (λ k. StillSits nodes contest old new k) (sym same) still
+    by (inr differ) = still_sits contest (others_stay nodes old new key other changes differ)
+
+-- ---- whole calls
+
+-- the seats stay, and whoever is served still is
+pub serving_said : {nodes : List NodeState} {contest : List ℕ} {old new : Hub} {conns : Slab Conn} {sockets : AllSockets} → new.seats ≡ old.seats → ((key : Key) → IsStillSeated nodes old new key)
+    → Serving nodes contest old conns sockets → Serving nodes contest new conns sockets
+serving_said {nodes} {contest} {old} {new} seats still serving =
+    serving_on (λ key. still_sits contest (said_stays nodes old new key seats (still key))) (same_next _ _ (ap (λ s. s.next) seats)) serving
+
+-- one key changes, and what sat there stays
+pub serving_changed : {nodes : List NodeState} {contest : List ℕ} {old new : Hub} {conns : Slab Conn} {sockets : AllSockets} (key : Key) → ChangesOnly old new key → StillSits nodes contest old new key
+    → Serving nodes contest old conns sockets → Serving nodes contest new conns sockets
+serving_changed {nodes} {contest} {old} {new} key changes still serving =
+    serving_on (each_sits contest old new key changes still) (same_next _ _ changes.next) serving
+
+-- a line feed for a screen, or it was cut
+pub idled_stays : {E : Type 0} (nodes : List NodeState) (old new : Hub) (key : Key) (Becomes : Screen → Screen → Type 0) (Waiting : Type 0) (result : Result (Unit {0}) E)
+    → OnOk result (Watched Becomes (seat_at old.seats.slab key) (seat_at new.seats.slab key)) → OnOk result (IsStillSeated nodes old new key)
+    → OnErr result ((seat_at new.seats.slab key ≡ None) × Waiting) → Stays nodes old new key
+idled_stays nodes old new key Becomes Waiting (Ok _) became still failed = watched_stays nodes old new key Becomes became still
+idled_stays nodes old new key Becomes Waiting (Err _) became still failed = cut_stays nodes old new key failed.0
+
+-- nothing changed that a socket's bytes hang on
+pub serving_seated : {nodes : List NodeState} {contest : List ℕ} {old new : Screens} {sockets sockets_new : AllSockets} → SameSeating old new → SameSockets sockets sockets_new
+    → Serving nodes contest old.hub old.conns sockets → Serving nodes contest new.hub new.conns sockets_new
+serving_seated {nodes} {contest} {old} {new} same sockets serving = serving_same {conns = old.conns} {conns_new = new.conns} same.hub same.keys sockets serving
+
+-- the same, where no socket is touched
+pub serving_noted : {nodes : List NodeState} {contest : List ℕ} {old new : Screens} {sockets : AllSockets} → SameSeating old new
+    → Serving nodes contest old.hub old.conns sockets → Serving nodes contest new.hub new.conns sockets
+serving_noted {nodes} {contest} {old} {new} same serving = serving_seated same (λ _. refl) serving
+
+same_sockets : (before after : AllSockets) (at : ℕ) → after at ≡ before at → OtherSockets before after at → SameSockets before after
+same_sockets before after at here others other = by (number_tells other at)
+  where
+    by : (other ≡ at) ⊎ (other ≢ at) → after other ≡ before other
+    by (inl same) = subst (λ n. after n ≡ before n) (sym same) here
+    by (inr away) = others other away
+
+-- what was handed to a socket
+pub serving_handed : {nodes : List NodeState} {contest : List ℕ} {E : Type 0} (old new : Hub) (conns : Slab Conn) (before after : AllSockets) (at : ℕ) (key : Key) (now : ℕ) (result : Result ℕ E)
+    → key_at conns at ≡ Some (Some key)
+    → IsWrite (before at) (after at) result (prefix_at old key)
+    → ((among : List NodeState) (answer : AnswerParts) (handed : List ℕ) → IsSeated among old key answer handed → IfOk result (λ count. IsSeated among new key answer (handed ++ take count (prefix_at old key))))
+    → IfOk result (λ count. Watched (λ s t. t ≡ taken count now s) (seat_at old.seats.slab key) (seat_at new.seats.slab key))
+    → OtherSockets before after at → IfOk result (λ _. ChangesOnly old new key) → OnErr result (new ≡ old)
+    → Serving nodes contest old conns before → Serving nodes contest new conns after
+serving_handed {nodes} old new conns before after at key now (Ok count) keyed bytes serves exact others changes same serving =
+    serving_sent old new conns before after at key now count keyed exact (serves nodes) changes bytes others serving
+serving_handed {nodes} {contest} old new conns before after at key now (Err _) keyed bytes serves exact others changes same serving =
+    serving_same {conns = conns} {conns_new = conns} same (λ _. refl) (same_sockets before after at bytes others) serving
+
+-- the connection at a number was taken out, and its socket is closed
+pub serving_removed : {nodes : List NodeState} {contest : List ℕ} (old new : Hub) (conns conns_new : Slab Conn) (before after : AllSockets) (at : ℕ) (conn : Conn)
+    → get conns at ≡ Some conn → Updates conns conns_new at None → Leaves conn.key old new → IsSocket (after at) Closed → OtherSockets before after at
+    → Serving nodes contest old conns before → Serving nodes contest new conns_new after
+serving_removed old new conns conns_new before after at conn was updates leaves closed others serving =
+    serving_ended old new conns conns_new before after at (λ other away. ap key_of (updates.others other away)) (ap key_of updates.changed)
+    (subst (λ k. LeavesAt k old new) (sym (ap key_of was)) leaves) closed others serving
+
+-- a connection was put in at a number
+pub serving_inserted : {nodes : List NodeState} {contest : List ℕ} (old new : Hub) (conns reserved conns_new : Slab Conn) (before mid after : AllSockets) (at place : ℕ) (conn : Conn)
+    → ((other : ℕ) → get reserved other ≡ get conns other) → place ≡ at → Updates reserved conns_new place (Some conn)
+    → OtherSockets before mid at → OtherSockets mid after at → IsGreeted nodes contest old new conn.key (after at)
+    → Serving nodes contest old conns before → Serving nodes contest new conns_new after
+serving_inserted {nodes} {contest} old new conns reserved conns_new before mid after at place conn same here updates others more greeted serving =
+    serving_accepted old new conns conns_new before after at conn.key
+    (λ other away. ap key_of (updates.others other (λ e. away (e ∙ here))) ∙ ap key_of (same other))
+    (subst (λ n. key_at conns_new n ≡ Some conn.key) here (ap key_of updates.changed))
+    greeted (λ other away. more other away ∙ others other away) serving
+
+-- what is written to one more than there may be
+pub refused_sent : {E : Type 0} (nodes : List NodeState) (contest : List ℕ) (before after : Option Socket) (result : Result ℕ E) → IsWrite before after result full_text → IsSocket before (Opened []) → IsSent nodes contest after
+refused_sent nodes contest before after (Ok count) writes is =
+    record {
+      bytes = take count full_text;
+      socket_is = subst (λ s. IsSocket s (Opened (take count full_text))) (sym writes) (more_socket before [] (take count full_text) is);
+      faithful = refused count;
+    }
+refused_sent nodes contest before after (Err _) writes is =
+    record { bytes = []; socket_is = subst (λ s. IsSocket s (Opened [])) (sym writes) is; faithful = nothing }
+
+-- ---- what requests are answered with
+
+pub answerer_among : (nodes : List NodeState) (is_held : Bool) (shown blank : NodeState) → Contains nodes shown → Contains nodes blank → Contains nodes (answerer is_held shown blank)
+answerer_among nodes false shown blank among among_blank = among
+answerer_among nodes true shown blank among among_blank = among_blank

@@ -1,0 +1,11 @@
+use Rattle.std.proofs.Common.{arith}
+use Rattle.feed_live.proofs.ServingLemmas.{serving_on, serving_noted, still_sits, ended_stays}
+use Rattle.feed_live.proofs.screens.Screens.end_feeds.Goals as goal
+
+pub returns : goal.returns
+returns c =
+    record {
+      serving = λ nodes contest sockets serving.
+          serving_noted c.spoke.ensures
+          (serving_on (λ key. still_sits contest (ended_stays nodes _ _ key _ _ (c.end_all.ensures.left key) (c.end_all.ensures.served nodes key))) (omega (arith, c.end_all.ensures.next)) serving);
+    }

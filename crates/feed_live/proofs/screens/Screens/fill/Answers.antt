@@ -1,0 +1,26 @@
+use Rattle.std.proofs.Common.{◌∙◌, ap}
+use Rattle.feed_live.specs.Serving.{key_at}
+use Rattle.feed_live.proofs.ServingLemmas.{serving_noted}
+use Rattle.feed_live.proofs.screens.Screens.fill.Goals as goal
+
+pub returns-then-is_err-clause-serving : goal.returns-then-is_err-clause-serving
+returns-then-is_err-clause-serving g c =
+    λ nodes contest among keyed serving.
+    c.end.ensures.serving nodes contest
+    (c.refill.ensures.serving nodes contest (g.S.Sockets.socket c.args.sockets.now) among (serving_noted c.pay.ensures serving))
+
+pub returns-then-not-is_empty-2-clause-serving : goal.returns-then-not-is_empty-2-clause-serving
+returns-then-not-is_empty-2-clause-serving g c =
+    λ nodes contest among keyed serving.
+    (c.refill.ensures.serving nodes contest (g.S.Sockets.socket c.args.sockets.now) among (serving_noted c.pay.ensures serving))
+
+pub returns-then-is_over-clause-serving : goal.returns-then-is_over-clause-serving
+returns-then-is_over-clause-serving g c =
+    λ nodes contest among keyed serving.
+    c.finish.ensures.serving nodes contest (ap (λ s. key_at s c.args.at) c.refill.ensures.keys ∙ c.pay.ensures.keys c.args.at ∙ keyed)
+    (c.refill.ensures.serving nodes contest (g.S.Sockets.socket c.args.sockets.now) among (serving_noted c.pay.ensures serving))
+
+pub returns-else-is_over-clause-serving : goal.returns-else-is_over-clause-serving
+returns-else-is_over-clause-serving g c =
+    λ nodes contest among keyed serving.
+    (c.refill.ensures.serving nodes contest (g.S.Sockets.socket c.args.sockets.now) among (serving_noted c.pay.ensures serving))

@@ -1,0 +1,3 @@
+pub mod Sockets
+pub mod Serving
+pub mod Held

@@ -1,0 +1,131 @@
+-- THE PROMISE, up to each socket: what is written to it is what the hub was told at the key of its
+-- connection, and so a prefix of what is due to the answer that one of the nodes gave.
+use Rattle.std.specs.Prelude.{◌≡◌, ℕ, ◌<◌, ◌≤◌, List, [], take, Option, Some, None, Contains}
+use Rattle.slab.specs.Slab.{Slab, get}
+use Rattle.feed_node.specs.States.{NodeState}
+use Rattle.feed_answer.specs.declared.framing.Framing.{Framing}
+use Rattle.feed_answer.specs.Answered.{AnswerParts, AnswersTo}
+use Rattle.feed_hub.specs.declared.asking.Asking.{Asking}
+use Rattle.feed_hub.specs.declared.hub.Hub.{Hub}
+use Rattle.feed_hub.specs.declared.screen.Screen.{Screen}
+use Rattle.feed_hub.specs.declared.seats.Key.{Key}
+use Rattle.feed_hub.specs.declared.seats.Seat.TheVariants.{Asks}
+use Rattle.feed_hub.specs.Hub.{IsSeated, ChangesOnly}
+use Rattle.feed_hub.specs.Log.{Log}
+use Rattle.feed_hub.specs.Screen.{IsServed}
+use Rattle.feed_hub.specs.Seats.{seat_at}
+use Rattle.feed_live.specs.declared.conn.Conn.{Conn}
+use Rattle.feed_live.specs.declared.screens.Screens.{Screens}
+use Rattle.feed_live.specs.declared.screens.TheConstants.{FULL}
+use Rattle.feed_live.specs.Sockets.{Socket, Closed, Opened, AllSockets, IsSocket}
+
+-- one of these nodes gave this answer to a request for the feed of the contest
+pub record IsGiven (nodes : List NodeState) (contest : List ℕ) (answer : AnswerParts) : Type 0 where
+  pub node : NodeState
+  pub among : Contains nodes node
+  pub head : List ℕ
+  pub framing : Framing
+  pub answers : AnswersTo head contest node framing 0 answer
+
+-- a screen with such an answer was handed these bytes, and nothing else
+pub record WasServed (nodes : List NodeState) (contest handed : List ℕ) : Type 0 where
+  pub answer : AnswerParts
+  pub given : IsGiven nodes contest answer
+  pub common : Framing
+  pub lines : Log
+  pub told : Option (List ℕ)
+  pub screen : Screen
+  pub served : IsServed nodes common lines told answer handed screen
+
+-- what is written where there are as many screens as there may be
+unfoldable pub full_text : List ℕ
+full_text = FULL.now
+
+-- All that is ever written to a socket: nothing; what a screen is handed; or a prefix of the text for
+-- those who are too many.
+pub data IsFaithful (nodes : List NodeState) (contest : List ℕ) : List ℕ → Type 0 where
+  nothing : IsFaithful nodes contest []
+  refused : (count : ℕ) → IsFaithful nodes contest (take count full_text)
+  served : (handed : List ℕ) → WasServed nodes contest handed → IsFaithful nodes contest handed
+
+-- so it is for a socket that is open
+pub record IsSent (nodes : List NodeState) (contest : List ℕ) (socket : Option Socket)
+    : Type 0 where
+  pub bytes : List ℕ
+  pub socket_is : IsSocket socket (Opened bytes)
+  pub faithful : IsFaithful nodes contest bytes
+
+-- The socket of the connection with this key. Its request comes, and nothing was written; or it is
+-- served, and what was written is what the hub was told of; or the hub cut it.
+pub data Sits (nodes : List NodeState) (contest : List ℕ) (hub : Hub) (key : Key)
+    (socket : Option Socket) : Type 0 where
+  asks : (asking : Asking) → seat_at hub.seats.slab key ≡ Some (Asks asking)
+      → IsSocket socket (Opened []) → Sits nodes contest hub key socket
+  watches : (answer : AnswerParts) (handed : List ℕ) → IsGiven nodes contest answer
+      → IsSeated nodes hub key answer handed → IsSocket socket (Opened handed)
+      → Sits nodes contest hub key socket
+  cut : seat_at hub.seats.slab key ≡ None → IsSent nodes contest socket
+      → Sits nodes contest hub key socket
+
+-- the key of the connection at a number, where there is one and it has one
+abbrev pub key_of : Option Conn → Option (Option Key)
+key_of None = None
+key_of (Some conn) = Some conn.key
+
+abbrev pub key_at : Slab Conn → ℕ → Option (Option Key)
+key_at conns at = key_of (get conns at)
+
+-- How the socket at a number stands. Where there is no connection it is closed. A connection without
+-- a key is sent no more.
+abbrev pub Stands : List NodeState → List ℕ → Hub → Option (Option Key) → Option Socket
+    → Type 0
+Stands nodes contest hub None socket = IsSocket socket Closed
+Stands nodes contest hub (Some None) socket = IsSent nodes contest socket
+Stands nodes contest hub (Some (Some key)) socket = Sits nodes contest hub key socket
+
+-- So it is at each number. No two have the same key, and a key that the hub gives next is nobody's.
+pub record Serving (nodes : List NodeState) (contest : List ℕ) (hub : Hub) (conns : Slab Conn)
+    (sockets : AllSockets) : Type 0 where
+  pub each : (at : ℕ) → Stands nodes contest hub (key_at conns at) (sockets at)
+  pub one : (at other : ℕ) (key : Key) → key_at conns at ≡ Some (Some key)
+      → key_at conns other ≡ Some (Some key) → at ≡ other
+  pub below : (at : ℕ) (key : Key) → key_at conns at ≡ Some (Some key)
+      → key.generation < hub.seats.next
+
+-- it was so, and still is
+abbrev pub StillServing : List NodeState → List ℕ → Screens → Screens → AllSockets
+    → AllSockets → Type 0
+StillServing nodes contest old new before after =
+    Serving nodes contest old.hub old.conns before
+    → Serving nodes contest new.hub new.conns after
+
+-- each number has the key that it had
+abbrev pub SameKeys : Slab Conn → Slab Conn → Type 0
+SameKeys old new = (at : ℕ) → key_at new at ≡ key_at old at
+
+-- nothing changed that a socket's bytes hang on
+pub record SameSeating (old new : Screens) : Type 0 where
+  pub hub : new.hub ≡ old.hub
+  pub keys : SameKeys old.conns new.conns
+
+-- what sat at the key is gone, and nothing else changed; where there was no key, nothing did
+abbrev pub Leaves : Option Key → Hub → Hub → Type 0
+Leaves None old new = new ≡ old
+Leaves (Some key) old new = (seat_at new.seats.slab key ≡ None) × ChangesOnly old new key
+
+-- a connection that was there has no key any more
+abbrev pub keyless : Option (Option Key) → Option (Option Key)
+keyless None = None
+keyless (Some held) = Some None
+
+-- A connection with this key, or with none, came to a socket: it stands as it should, its key is new,
+-- and whoever has a key that was given before stays.
+pub record IsGreeted (nodes : List NodeState) (contest : List ℕ) (old new : Hub) (held : Option Key)
+    (socket : Option Socket) : Type 0 where
+  pub stands : Stands nodes contest new (Some held) socket
+  pub is_new : (key : Key) → held ≡ Some key → key.generation ≡ old.seats.next
+  pub next : (key : Key) → held ≡ Some key → key.generation < new.seats.next
+  pub kept : old.seats.next ≤ new.seats.next
+  pub broadcast : new.broadcast ≡ old.broadcast
+  pub others : (key : Key) → key.generation < old.seats.next
+      → seat_at new.seats.slab key ≡ seat_at old.seats.slab key
