@@ -8,7 +8,9 @@ use crate::figures::ScreenTotals;
 use crate::options::LiveLimits;
 use crate::relay::Saying;
 use crate::told::{How, Telling, Told};
+use feed_answer::Framing;
 use feed_hub::{Answering, Hub, Key};
+use feed_node::Mirror;
 use slab::Slab;
 use std::alloc::Global;
 use std::mem;
@@ -66,28 +68,28 @@ impl Counts {
 
 /// What requests are answered with, and what those who were answered are sent.
 #[derive(Drop)]
-pub(crate) struct Shown<'a> {
-    pub(crate) answering: &'a mut Answering,
+pub(crate) struct Shown {
+    pub(crate) answering: Answering,
     /// One that has published nothing.
-    pub(crate) blank: &'a mut Answering,
+    pub(crate) blank: Answering,
     /// Requests wait until a server was heard.
     pub(crate) is_held: bool,
-    pub(crate) contest: &'a str,
+    pub(crate) contest: String,
 }
 
-impl Shown<'_> {
+impl Shown {
+    pub(crate) fn new(mirror: Mirror, blank: Mirror, framing: Framing, contest: String) -> Shown {
+        Shown {
+            answering: Answering::new(mirror, framing),
+            blank: Answering::new(blank, framing),
+            is_held: false,
+            contest,
+        }
+    }
+
     /// Whether a request is answered that came at a time.
     fn is_answering(&self, since: u64, now: u64) -> bool {
         !self.is_held || since.saturating_add(HOLD_TIME) <= now
-    }
-
-    /// What it is answered with then.
-    fn answers(&mut self) -> &mut Answering {
-        if self.is_held {
-            self.blank
-        } else {
-            self.answering
-        }
     }
 }
 
@@ -294,7 +296,7 @@ impl Screens {
         alloc: Global,
         sockets: &mut S,
         told: &mut Telling,
-        shown: &mut Shown<'_>,
+        shown: &mut Shown,
         at: usize,
         now: u64,
     ) {
@@ -308,7 +310,7 @@ impl Screens {
     }
 
     /// Whether there may be something to read at a place that is to be read now.
-    fn may_read(&self, shown: &mut Shown<'_>, at: usize, now: u64) -> bool {
+    fn may_read(&self, shown: &mut Shown, at: usize, now: u64) -> bool {
         let Some(conn) = self.conns.get(at) else {
             return false;
         };
@@ -319,7 +321,7 @@ impl Screens {
     }
 
     /// Whether a request that came at a time can be answered now.
-    fn may_answer(&self, shown: &mut Shown<'_>, since: u64, now: u64) -> bool {
+    fn may_answer(&self, shown: &mut Shown, since: u64, now: u64) -> bool {
         self.owed < MOST_OWED && shown.is_answering(since, now)
     }
 
@@ -365,7 +367,7 @@ impl Screens {
     }
 
     /// Whether the connection at a place has more to read or to write.
-    fn has_more_at(&self, shown: &mut Shown<'_>, at: usize, now: u64) -> bool {
+    fn has_more_at(&self, shown: &mut Shown, at: usize, now: u64) -> bool {
         self.may_read(shown, at, now) || self.conns.get(at).is_some_and(|conn| conn.has_more)
     }
 
@@ -374,7 +376,7 @@ impl Screens {
         alloc: Global,
         sockets: &mut S,
         told: &mut Telling,
-        shown: &mut Shown<'_>,
+        shown: &mut Shown,
         at: usize,
         now: u64,
     ) {
@@ -416,7 +418,7 @@ impl Screens {
         alloc: Global,
         sockets: &mut S,
         told: &mut Telling,
-        shown: &mut Shown<'_>,
+        shown: &mut Shown,
         at: usize,
         piece: &[u8],
         now: u64,
@@ -426,8 +428,7 @@ impl Screens {
         };
         match (conn.stage, conn.key) {
             (Stage::Asks, Some(key)) => {
-                let contest = shown.contest;
-                if !self.hear(alloc, shown.answers(), contest, key, at, piece, now) {
+                if !self.hear(alloc, shown, key, at, piece, now) {
                     self.end(sockets, told, at, How::Memory, now);
                 }
             }
@@ -443,8 +444,7 @@ impl Screens {
     fn hear(
         &mut self,
         alloc: Global,
-        answering: &mut Answering,
-        contest: &str,
+        shown: &mut Shown,
         key: Key,
         at: usize,
         piece: &[u8],
@@ -452,14 +452,22 @@ impl Screens {
     ) -> bool {
         let mut rest = piece;
         for _ in 0..piece.len() {
-            let Ok(heard) = self.hub.hear(alloc, answering, contest, key, rest, now) else {
+            let contest = shown.contest.as_str();
+            let heard = if shown.is_held {
+                self.hub
+                    .hear(alloc, &mut shown.blank, contest, key, rest, now)
+            } else {
+                self.hub
+                    .hear(alloc, &mut shown.answering, contest, key, rest, now)
+            };
+            let Ok(heard) = heard else {
                 return false;
             };
             if let Some(status) = heard.status {
                 self.is_answered(at, status);
                 let kept = self.hub.prefix(key).len();
                 let text = if heard.is_shared {
-                    Some(answering.made())
+                    Some(shown.answering.made())
                 } else {
                     None
                 };
@@ -488,7 +496,7 @@ impl Screens {
         alloc: Global,
         sockets: &mut S,
         told: &mut Telling,
-        shown: &mut Shown<'_>,
+        shown: &mut Shown,
         now: u64,
     ) {
         for at in 0..self.conns.capacity() {

@@ -6,10 +6,10 @@ use crate::device::{Link, Stop};
 use crate::figures::{FeedFigures, Following};
 use crate::screens::{Screens, Shown};
 use crate::told::{Telling, Told, Why};
-use feed_answer::{Framing, Identity, Place, request_text_as};
+use feed_answer::{Identity, Place, request_text_as};
 use feed_follow::{FollowFault, Progress};
-use feed_hub::{Answering, Upstream};
-use feed_node::{Mirror, Node};
+use feed_hub::Upstream;
+use feed_node::Node;
 use memchr::memchr;
 use std::alloc::{AllocError, Global};
 use std::mem;
@@ -43,9 +43,7 @@ pub(crate) struct Source {
     places: Vec<Place>,
     identity: Identity,
     upstream: Upstream,
-    answering: Answering,
-    /// A mirror that has published nothing.
-    blank: Answering,
+    pub(crate) shown: Shown,
     reach: Reach,
     request: Vec<u8>,
     /// Since when a response has a good head; and whether that was told.
@@ -69,19 +67,16 @@ impl Source {
         alloc: Global,
         places: Vec<Place>,
         identity: Identity,
-        mirror: Mirror,
-        blank: Mirror,
-        framing: Framing,
+        shown: Shown,
         now: u64,
     ) -> Source {
         // A relay without a state has nothing old to show, nor has one whose feed is the input.
-        let is_heard = mirror.node().token().is_none() || places.is_empty();
+        let is_heard = shown.answering.node().token().is_none() || places.is_empty();
         Source {
             upstream: Upstream::new(places.len().max(1), now),
             places,
             identity,
-            answering: Answering::new(mirror, framing),
-            blank: Answering::new(blank, framing),
+            shown,
             reach: Reach::Away,
             request: Vec::new(alloc),
             body_since: None,
@@ -96,22 +91,12 @@ impl Source {
     }
 
     pub(crate) fn node(&self) -> &Node {
-        self.answering.node()
-    }
-
-    /// What requests are answered with.
-    pub(crate) fn shown<'a>(&'a mut self, contest: &'a str) -> Shown<'a> {
-        Shown {
-            answering: &mut self.answering,
-            blank: &mut self.blank,
-            is_held: !self.is_heard,
-            contest,
-        }
+        self.shown.answering.node()
     }
 
     /// Forgets the text of the snapshot, where no screen has any of it.
     pub(crate) fn tidy(&mut self) {
-        self.answering.tidy();
+        self.shown.answering.tidy();
     }
 
     pub(crate) fn is_heard(&self) -> bool {
@@ -201,8 +186,8 @@ impl Source {
             self.lost(link, told, Why::Refuses, now);
             return;
         }
-        self.is_fresh = self.answering.mirror().since().is_none();
-        self.upstream.opened(self.answering.mirror(), now);
+        self.is_fresh = self.shown.answering.mirror().since().is_none();
+        self.upstream.opened(self.shown.answering.mirror(), now);
         self.figures.ask(self.upstream.place(), now);
         self.reach = Reach::Connects(now);
     }
@@ -212,7 +197,7 @@ impl Source {
         if let Some(place) = self.places.get(self.upstream.place()) {
             request_text_as(
                 place,
-                self.answering.mirror().since(),
+                self.shown.answering.mirror().since(),
                 &self.identity,
                 &mut text,
             )?;
@@ -230,7 +215,7 @@ impl Source {
         }
         self.leave(link, now);
         self.figures.lose(now);
-        self.upstream.lost(self.answering.change(), now);
+        self.upstream.lost(self.shown.answering.change(), now);
         let pause = self.upstream.due(0).saturating_sub(now);
         told.tell(Told::Lost { server, why, pause });
     }
@@ -391,7 +376,7 @@ impl Source {
         line: &[u8],
         now: u64,
     ) -> bool {
-        let mirror = self.answering.change();
+        let mirror = self.shown.answering.change();
         match self.upstream.take(alloc, mirror, line, now) {
             Ok(Progress::Head) => true,
             Ok(Progress::Body) => {
@@ -424,7 +409,7 @@ impl Source {
         });
         self.leave(link, now);
         self.figures.change(Following::Away, now);
-        self.upstream.refused(self.answering.change(), now);
+        self.upstream.refused(self.shown.answering.change(), now);
     }
 
     /// The server answers with the feed.
@@ -443,12 +428,12 @@ impl Source {
     /// Says what was published. Where a connection published afresh, no screen goes on from what
     /// it has.
     fn say(&mut self, alloc: Global, screens: &mut Screens, now: u64) {
-        if self.is_fresh && self.answering.mirror().since().is_some() {
+        if self.is_fresh && self.shown.answering.mirror().since().is_some() {
             self.is_fresh = false;
             self.epoch = self.epoch.saturating_add(1);
             screens.end_feeds(alloc, now);
         }
-        if screens.relay(alloc, self.answering.node(), now) {
+        if screens.relay(alloc, self.shown.answering.node(), now) {
             self.is_heard = true;
             self.figures.publish();
             self.upstream.published();
@@ -457,7 +442,7 @@ impl Source {
 
     /// Says what had to wait.
     pub(crate) fn say_more(&mut self, alloc: Global, screens: &mut Screens, now: u64) {
-        screens.relay(alloc, self.answering.node(), now);
+        screens.relay(alloc, self.shown.answering.node(), now);
     }
 }
 

@@ -3,7 +3,7 @@
 use crate::device::{Devices, Link, Ready, Sockets, Store};
 use crate::options::{LiveLimits, Start};
 use crate::saved::{Restored, Saved};
-use crate::screens::{HOLD_TIME, Screens};
+use crate::screens::{HOLD_TIME, Screens, Shown};
 use crate::source::Source;
 use crate::told::{Telling, Told};
 use feed_node::Node;
@@ -40,7 +40,6 @@ pub struct Turn {
 /// A relay.
 #[derive(Drop)]
 pub struct Live {
-    contest: String,
     limits: LiveLimits,
     pub(crate) source: Source,
     pub(crate) screens: Screens,
@@ -80,7 +79,8 @@ impl Live {
             None
         };
         let feeds = places.is_empty();
-        let mut source = Source::new(alloc, places, identity, mirror, blank, limits.framing, now);
+        let shown = Shown::new(mirror, blank, limits.framing, contest);
+        let mut source = Source::new(alloc, places, identity, shown, now);
         if feeds {
             source.begin_input(now);
         }
@@ -88,7 +88,6 @@ impl Live {
         let mut screens = Screens::new(alloc, limits);
         screens.relay(alloc, source.node(), now);
         Live {
-            contest,
             limits,
             source,
             screens,
@@ -269,15 +268,26 @@ impl Live {
         had_more: bool,
         now: u64,
     ) {
-        let mut shown = self.source.shown(self.contest.as_str());
+        self.source.shown.is_held = !self.source.is_heard();
         if had_more {
-            self.screens
-                .serve_more(alloc, sockets, &mut self.telling, &mut shown, now);
+            self.screens.serve_more(
+                alloc,
+                sockets,
+                &mut self.telling,
+                &mut self.source.shown,
+                now,
+            );
         }
         for event in events {
             if let Ready::Screen { at, .. } = *event {
-                self.screens
-                    .serve(alloc, sockets, &mut self.telling, &mut shown, at, now);
+                self.screens.serve(
+                    alloc,
+                    sockets,
+                    &mut self.telling,
+                    &mut self.source.shown,
+                    at,
+                    now,
+                );
             }
         }
     }

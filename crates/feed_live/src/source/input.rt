@@ -10,7 +10,7 @@ use std::alloc::Global;
 impl Source {
     /// The input is a feed from here on.
     pub(crate) fn begin_input(&mut self, now: u64) {
-        self.answering.change().begin();
+        self.shown.answering.change().begin();
         self.figures.change(Following::Input, now);
     }
 
@@ -60,8 +60,8 @@ impl Source {
             }
             let (line, next) = split_line(rest);
             rest = next;
-            self.answering.change().feed(alloc, line)?;
-            if screens.relay(alloc, self.answering.node(), now) {
+            self.shown.answering.change().feed(alloc, line)?;
+            if screens.relay(alloc, self.shown.answering.node(), now) {
                 self.figures.publish();
             }
         }
