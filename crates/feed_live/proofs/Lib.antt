@@ -1,1 +1,2 @@
+pub mod Filed
 pub mod ServingLemmas

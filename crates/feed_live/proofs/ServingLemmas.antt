@@ -319,7 +319,7 @@ serving_accepted {nodes} {contest} old new conns conns_new before after at held 
     greeted.kept
     (subst (λ k. Stands nodes contest new k (after at)) (sym keyed) greeted.stands)
     (λ k is. let mine : held ≡ Some k = of_some (sym keyed ∙ is) in
-      (greeted.next k mine, λ other away is_too. let below = serving.below other k is_too in let same = greeted.is_new k mine in absurd (omega arith)))
+    (greeted.next k mine, λ other away is_too. let below = serving.below other k is_too in let same = greeted.is_new k mine in absurd (omega arith)))
     serving
   where
     of_some : {k : Key} → Some held ≡ Some (Some k) → held ≡ Some k
@@ -381,7 +381,7 @@ said_stays nodes old new key seats still =
 module _ {nodes : List NodeState} (contest : List ℕ) (old new : Hub) (key : Key) (node : NodeState) (now : ℕ) (piece : List ℕ) (heard : Heard) (among : Contains nodes node)
     (hears : HearsAt old.broadcast contest node now piece heard (seat_at old.seats.slab key) (seat_at new.seats.slab key))
     (answered : (asking : Asking) (s : Screen) → seat_at old.seats.slab key ≡ Some (Asks asking) → seat_at new.seats.slab key ≡ Some (Watches s)
-        → IsAnsweredBy node contest old.broadcast.framing (asking.head.items ++ take heard.taken piece) (λ answer. IsSeated nodes new key answer []))
+    → IsAnsweredBy node contest old.broadcast.framing (asking.head.items ++ take heard.taken piece) (λ answer. IsSeated nodes new key answer []))
     (broadcast : new.broadcast ≡ old.broadcast) where
   heard_at : (asking : Asking) (seat : Seat) (socket : Option Socket) → seat_at old.seats.slab key ≡ Some (Asks asking) → seat_at new.seats.slab key ≡ Some seat → IsSocket socket (Opened []) → Sits nodes contest new key socket
   heard_at asking (Asks more) socket was sits is = asks more sits is

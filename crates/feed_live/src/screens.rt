@@ -494,13 +494,7 @@ impl Screens {
     }
 
     /// The peer sends no more; it may still read.
-    fn end_of_input<S: Sockets>(
-        &mut self,
-        sockets: &mut S,
-        told: &mut Telling,
-        at: usize,
-        now: u64,
-    )
+    fn end_of_input<S: Sockets>(&mut self, sockets: &mut S, told: &mut Telling, at: usize, now: u64)
         ensures serving { (nodes : List NodeState) (contest : List ℕ)
             → StillServing nodes contest self.old self.new
             (S.socket sockets.old) (S.socket sockets.new) }

@@ -280,8 +280,7 @@ impl Live {
         }
         for event in events {
             if let Ready::Screen { at, .. } = *event {
-                self.screens
-                    .serve(alloc, sockets, &mut self.telling, answers, &shown, at, now);
+                self.screens.serve(alloc, sockets, &mut self.telling, answers, &shown, at, now);
             }
         }
     }

@@ -121,13 +121,7 @@ impl Screens {
     }
 
     /// Gets what comes next for a screen.
-    fn refill(
-        &mut self,
-        alloc: Global,
-        node: &Node,
-        key: Key,
-        now: u64,
-    ) -> Result<(), AllocError>
+    fn refill(&mut self, alloc: Global, node: &Node, key: Key, now: u64) -> Result<(), AllocError>
         ensures serving { (nodes : List NodeState) (contest : List ℕ) (sockets : AllSockets)
             → Contains nodes node.now.shown
             → StillServing nodes contest self.old self.new sockets sockets }
