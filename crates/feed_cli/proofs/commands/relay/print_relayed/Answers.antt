@@ -10,7 +10,7 @@ rounds-init g c = record { made = done_none _ _; told = inl (refl, c.new-teller.
 
 pub returns-in_err-make_round-clause-err : goal.returns-in_err-make_round-clause-err
 returns-in_err-make_round-clause-err g c =
-    let p = err_from_is_err_and c.from_residual-in_err-make_round.result c.from_residual-in_err-make_round.ensures.1 in
+    let p = err_from_is_err_and c.from_residual.result c.from_residual.ensures.1 in
     rw (p.1, p.2) (broke_off _ _ _ _ _ _ _ _ _ _ _ c.rounds._made _ _ c.rounds-test.true
     c.rounds.invariant.made c.in_err-make_round.ensures.err (keeps_same _))
 
