@@ -22,6 +22,7 @@ use Rattle.feed_live.specs.declared.conn.Conn.{Conn}
 use Rattle.feed_live.specs.declared.screens.Screens.{Screens}
 use Rattle.feed_live.specs.Sockets.{Socket, Closed, Opened, AllSockets, IsSocket, with_more, written_more, IsWrite, SameSockets, OtherSockets}
 use Rattle.feed_live.specs.Held.{answerer}
+use Rattle.feed_live.specs.Laws.{SocketsAreFaithful}
 use Rattle.feed_live.specs.Serving.{IsGiven, WasServed, IsFaithful, nothing, refused, served, IsSent, Sits, asks, watches, cut, key_of, key_at, Stands, Serving, SameKeys, Leaves, keyless, IsGreeted, SameSeating, full_text}
 
 -- ---- numbers and keys
@@ -494,3 +495,31 @@ refused_sent nodes contest before after (Err _) writes is =
 pub answerer_among : (nodes : List NodeState) (is_held : Bool) (shown blank : NodeState) → Contains nodes shown → Contains nodes blank → Contains nodes (answerer is_held shown blank)
 answerer_among nodes false shown blank among among_blank = among
 answerer_among nodes true shown blank among among_blank = among_blank
+
+-- ---- at the start, and at each moment
+
+-- no connection, and no socket that is open
+pub serving_none : {nodes : List NodeState} {contest : List ℕ} (hub : Hub) (conns : Slab Conn) (sockets : AllSockets) → ((at : ℕ) → get conns at ≡ None) → ((at : ℕ) → IsSocket (sockets at) Closed) → Serving nodes contest hub conns sockets
+serving_none {nodes} {contest} hub conns sockets empty closed =
+    record {
+      each = λ at. subst (λ k. Stands nodes contest hub k (sockets at)) (sym (ap key_of (empty at))) (closed at);
+      one = λ at other key is _. let no : None ≡ Some (Some key) = sym (ap key_of (empty at)) ∙ is in absurd (cc);
+      below = λ at key is. let no : None ≡ Some (Some key) = sym (ap key_of (empty at)) ∙ is in absurd (cc);
+    }
+
+sent_is_faithful : (nodes : List NodeState) (contest : List ℕ) (socket : Option Socket) (bytes : List ℕ) → IsSent nodes contest socket → socket ≡ Some (Opened bytes) → IsFaithful nodes contest bytes
+sent_is_faithful nodes contest socket bytes sent is =
+    let opened : Opened bytes ≡ Opened sent.bytes = subst (λ s. IsSocket s (Opened sent.bytes)) is sent.socket_is in
+    subst (IsFaithful nodes contest) (same_bytes opened) sent.faithful
+  where
+    same_bytes : {a b : List ℕ} → Opened a ≡ Opened b → b ≡ a
+    same_bytes e = cc
+
+stands_faithful : (nodes : List NodeState) (contest : List ℕ) (hub : Hub) (held : Option (Option Key)) (socket : Option Socket) (bytes : List ℕ) → Stands nodes contest hub held socket → socket ≡ Some (Opened bytes) → IsFaithful nodes contest bytes
+stands_faithful nodes contest hub None socket bytes stands is =
+    let no : Opened bytes ≡ Closed = subst (λ s. IsSocket s Closed) is stands in absurd (cc)
+stands_faithful nodes contest hub (Some None) socket bytes stands is = sent_is_faithful nodes contest socket bytes stands is
+stands_faithful nodes contest hub (Some (Some key)) socket bytes stands is = sent_is_faithful nodes contest socket bytes (sent_of stands) is
+
+pub sockets_are_faithful : SocketsAreFaithful
+sockets_are_faithful nodes contest hub conns sockets at bytes serving is = stands_faithful nodes contest hub (key_at conns at) (sockets at) bytes (serving.each at) is

@@ -1,3 +1,4 @@
 pub mod Sockets
 pub mod Serving
 pub mod Held
+pub mod Laws

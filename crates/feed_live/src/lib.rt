@@ -15,6 +15,7 @@ mod conn;
 mod device;
 mod figures;
 mod hand;
+mod laws;
 mod options;
 mod relay;
 mod saved;
@@ -25,6 +26,7 @@ mod turn;
 
 pub use device::{Before, Devices, Link, Ready, Sockets, Stop, Store};
 pub use figures::{FeedFigures, Following, ScreenFigures, ScreenTotals};
+pub use laws::live_laws;
 pub use options::{LiveLimits, Start};
 pub use saved::{Restored, restore};
 pub use told::{How, Told, Why};

@@ -3,7 +3,7 @@
 ghost use Rattle.std.specs.Prelude.{◌≡◌, ◌+◌, [], ℕ, List, None, Contains, min};
 ghost use Rattle.feed_node.specs.States.{NodeState};
 ghost use Rattle.feed_live.specs.Sockets.{Closed, Opened, AllSockets, IsSocket, OtherSockets};
-ghost use Rattle.feed_live.specs.Serving.{StillServing, SameSeating, Leaves, IsSent, key_at, IsGreeted};
+ghost use Rattle.feed_live.specs.Serving.{Serving, StillServing, SameSeating, Leaves, IsSent, key_at, IsGreeted};
 ghost use Rattle.feed_live.specs.Held.{answerer, is_over, SameMirrors};
 
 mod sending;
@@ -127,7 +127,11 @@ pub(crate) struct Screens {
 }
 
 impl Screens {
-    pub(crate) fn new(alloc: Global, limits: LiveLimits) -> Screens {
+    pub(crate) fn new(alloc: Global, limits: LiveLimits) -> Screens
+        ensures serving { (nodes : List NodeState) (contest : List ℕ) (sockets : AllSockets)
+            → ((at : ℕ) → IsSocket (sockets at) Closed)
+            → Serving nodes contest result.hub result.conns sockets }
+    {
         Screens {
             hub: Hub::new(alloc, limits.framing, limits.window, limits.screens),
             conns: Slab::new(alloc),

@@ -1,0 +1,31 @@
+-- What the sockets of screens were written, and what mirrors make of that.
+use Rattle.std.specs.Prelude.{◌≡◌, ℕ, List, Some}
+use Rattle.slab.specs.Slab.{Slab}
+use Rattle.feed_node.specs.Limits.{Limits}
+use Rattle.feed_node.specs.Mirroring.{MirrorState}
+use Rattle.feed_node.specs.States.{NodeState}
+use Rattle.feed_world.specs.Log.{Log, IsLog}
+use Rattle.feed_hub.specs.declared.hub.Hub.{Hub}
+use Rattle.feed_hub.specs.Follows.{HasAskedSo, FollowsInLog}
+use Rattle.feed_hub.specs.Laws.{AreInLog}
+use Rattle.feed_live.specs.declared.conn.Conn.{Conn}
+use Rattle.feed_live.specs.Serving.{WasServed, IsFaithful, Serving}
+use Rattle.feed_live.specs.Sockets.{Opened, AllSockets}
+
+-- what was written to any socket that is open is faithful
+abbrev pub SocketsAreFaithful : Type 0
+SocketsAreFaithful =
+    (nodes : List NodeState) (contest : List ℕ) (hub : Hub) (conns : Slab Conn)
+    (sockets : AllSockets) (at : ℕ) (bytes : List ℕ)
+    → Serving nodes contest hub conns sockets → sockets at ≡ Some (Opened bytes)
+    → IsFaithful nodes contest bytes
+
+-- Where the nodes are at places of a log, and a mirror at a place of it asked with the head that was
+-- answered, any prefix of what a screen was handed leaves the mirror at a place of that log.
+abbrev pub HandedIsFollowed : Type 0
+HandedIsFollowed =
+    (limits : Limits) (log : Log) (nodes : List NodeState) (contest handed : List ℕ)
+    (begun : MirrorState) (was : WasServed nodes contest handed)
+    → IsLog limits log → AreInLog limits log nodes
+    → HasAskedSo limits log was.given.head contest begun
+    → FollowsInLog limits log was.answer begun handed
