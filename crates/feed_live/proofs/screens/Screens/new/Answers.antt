@@ -1,7 +1,12 @@
-use Rattle.std.proofs.Common.{◌≡◌, ℕ, None, subst, sym, refl}
-use Rattle.slab.specs.Slab.{get}
+use Rattle.std.proofs.Common.{◌≡◌, ℕ, None, ap, List}
+use Rattle.std.specs.Prelude.{Option, slice_index_or}
+use Rattle.feed_live.specs.declared.conn.Conn.{Conn}
 use Rattle.feed_live.proofs.ServingLemmas.{serving_none}
 use Rattle.feed_live.proofs.screens.Screens.new.Goals as goal
 
 pub returns : goal.returns
-returns c = ?
+returns c =
+    record {
+      serving = λ nodes contest sockets closed.
+          serving_none _ c.new-2.result sockets (λ at. ap (λ (slots : List (Option Conn)). slice_index_or slots at None) c.new-2.ensures.empty) closed;
+    }
