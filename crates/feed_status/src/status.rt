@@ -136,6 +136,7 @@ pub struct Status<'a> {
     pub token: Option<&'a str>,
     /// How many commits were published since the start.
     pub commits: u64,
+    /// Types, and objects of collections.
     pub objects: u64,
     /// How many bytes came from upstream.
     pub bytes: u64,
