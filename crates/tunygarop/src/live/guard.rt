@@ -1,6 +1,7 @@
 //! Who may connect.
 
 use feed_words::{Network, Origin, is_in_any};
+
 /// The networks that may connect, and how many connections of one address there may be.
 #[derive(Drop)]
 pub(crate) struct Guard {

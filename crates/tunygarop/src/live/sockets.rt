@@ -26,6 +26,18 @@ struct Peer {
     is_gone: bool,
 }
 
+impl Peer {
+    /// Reads once.
+    fn read(&mut self, buf: &mut [u8]) -> Result<usize, Stop>
+        ensures same { length buf.new ≡ length buf.old }
+        ensures bound { IfOk result (λ n. n ≤ length buf.new) }
+    {
+        let count = read_once(&mut self.stream, buf)?;
+        self.has_ended = self.has_ended || count == 0;
+        Ok(count)
+    }
+}
+
 /// A port that screens connect to, who may connect, and their sockets, each at its number.
 #[derive(Drop)]
 pub(crate) struct Port {
@@ -101,6 +113,13 @@ impl Port {
     fn stream(&mut self, at: usize) -> Option<&mut TcpStream> {
         match self.peers.get_mut(at)? {
             Some(peer) => Some(&mut peer.stream),
+            None => None,
+        }
+    }
+
+    fn peer(&mut self, at: usize) -> Option<&mut Peer> {
+        match self.peers.get_mut(at)? {
+            Some(peer) => Some(peer),
             None => None,
         }
     }
@@ -185,12 +204,10 @@ impl Sockets for Port {
     }
 
     fn read(&mut self, at: usize, buf: &mut [u8]) -> Result<usize, Stop> {
-        let Some(Some(peer)) = self.peers.get_mut(at) else {
-            return Err(Stop::Failed);
-        };
-        let count = read_once(&mut peer.stream, buf)?;
-        peer.has_ended = peer.has_ended || count == 0;
-        Ok(count)
+        match self.peer(at) {
+            Some(peer) => peer.read(buf),
+            None => Err(Stop::Failed),
+        }
     }
 
     fn write(&mut self, at: usize, bytes: &[u8]) -> Result<usize, Stop> {
