@@ -151,7 +151,12 @@ impl fmt::Display for Feed<'_> {
         write!(
             f,
             "{}",
-            gauge("objects", "Objects that are published.", self.0.objects)
+            gauge("types", "Types that are published.", self.0.types)
+        )?;
+        write!(
+            f,
+            "{}",
+            gauge("objects", "Objects of their collections.", self.0.objects)
         )
     }
 }

@@ -86,6 +86,7 @@ fn of_feed(alloc: Global, status: &Status<'_>, to: &mut Vec<Row>) -> Result<(), 
         String::from_str(alloc, status.token.unwrap_or("none")),
     )?)?;
     to.push(number(alloc, "Commits", status.commits)?)?;
+    to.push(number(alloc, "Types", status.types)?)?;
     to.push(number(alloc, "Objects", status.objects)?)?;
     to.push(number(alloc, "Bytes in", status.bytes)?)?;
     Ok(())

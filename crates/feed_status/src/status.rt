@@ -136,7 +136,9 @@ pub struct Status<'a> {
     pub token: Option<&'a str>,
     /// How many commits were published since the start.
     pub commits: u64,
-    /// Types, and objects of collections.
+    /// How many types are published. One that has one object and no collection is counted here alone.
+    pub types: u64,
+    /// How many objects their collections have.
     pub objects: u64,
     /// How many bytes came from upstream.
     pub bytes: u64,

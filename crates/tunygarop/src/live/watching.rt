@@ -39,6 +39,12 @@ impl Watched {
     ) -> Status<'a> {
         let feed = live.feed_figures();
         let node = live.node();
+        // The size counts one for each type, and one for each object of a collection.
+        let size = node.published().map(|tables| tables.size()).unwrap_or(0);
+        let types = node
+            .published()
+            .map(|tables| tables.count_types())
+            .unwrap_or(0);
         Status {
             version: VERSION,
             contest: self.contest.as_str(),
@@ -47,7 +53,8 @@ impl Watched {
             upstream: upstream_of(&feed, name, now),
             token: node.token().map(|token| token.text()),
             commits: feed.commits,
-            objects: node.published().map(|tables| tables.size()).unwrap_or(0) as u64,
+            types: types as u64,
+            objects: size.saturating_sub(types) as u64,
             bytes: feed.bytes,
             refused_by_address: refused,
             screens: screens_of(&live.screen_figures()),
