@@ -26,7 +26,7 @@ use Rattle.feed_answer.specs.FollowLaws.{WholeCarriesAll, ResponsesAreFollowed, 
 use Rattle.feed_answer.specs.Served.{farewell, behind_opening}
 use Rattle.feed_http.specs.declared.fault.Served.{Served}
 use Rattle.feed_http.specs.Live.{Intake, HasSent, none_sent, commit_sent, turn_taken, IsOver, SendsLiveTo, SendsLive, WroteLive, WroteRefused, BeginsNext}
-use Rattle.feed_http.specs.Serving.{Sends, up_to_date, lost, sends, HasAll, SendsTo, SendsAnswer, Serves, Tells, answered_text, written_behind}
+use Rattle.feed_http.specs.Serving.{commit_frames, Sends, up_to_date, lost, sends, HasAll, SendsTo, SendsAnswer, Serves, Tells, answered_text, written_behind}
 use Rattle.feed_http.specs.Sessions.{Nothing_new, Lost, Commit_after, next, or_lost}
 use Rattle.feed_world.specs.Following.{SessionsOpenAsAsked, PlacesStay, AllIsReached, MirrorsFollow, FailsKeepStates, RefusalsKeepNodes}
 use Rattle.feed_world.specs.Log.{Log, IsLog}
@@ -372,28 +372,20 @@ module _ (connects : ScreensAreConnections) (opens_so : SessionsOpenAsAsked)
   broken_off_followed limits log turn start now head contest framing answer text begun is_log node_in meets a answers broken opening_fits fits next_fits =
       by broken
     where
-      frames_of : List Commit → List ℕ
-      frames_of sent = flat_map (frame answer.framing) (map commit_text sent)
-
       fit_of : (sent : List Commit) (begun_last : List ℕ)
-          → text ≡ answer.text ++ (frames_of sent ++ begun_last) → AreTexts (map commit_text sent)
-      unfolding frames_of
+          → text ≡ answer.text ++ (commit_frames answer.framing sent ++ begun_last) → AreTexts (map commit_text sent)
       fit_of sent begun_last is =
-          let all = ap length is ∙ length-append answer.text (frames_of sent ++ begun_last) in
-          let both = length-append (frames_of sent) begun_last in
+          let all = ap length is ∙ length-append answer.text (commit_frames answer.framing sent ++ begun_last) in
+          let both = length-append (commit_frames answer.framing sent) begun_last in
           texts_fit answer.framing (map commit_text sent) (length text) (omega (arith, all, both)) fits
-
-      FollowsIt : Type 0
-      FollowsIt = FollowsInLog limits log answer begun text
 
       next_part : (opened : List ℕ) → answer.session ≡ Some opened → (sent : List Commit)
           (token last : List ℕ) → HasSent turn start opened sent now token
-          → text ≡ answer.text ++ (frames_of sent ++ last)
-          → BeginsNext answer.framing now token last → FollowsIt
-      unfolding FollowsIt, frames_of
+          → text ≡ answer.text ++ (commit_frames answer.framing sent ++ last)
+          → BeginsNext answer.framing now token last → FollowsInLog limits log answer begun text
       next_part opened session sent token last run is (inl (inl none)) =
           let (nodes, all, told) = told_live limits log turn start opened (meets opened session) sent now token run in
-          let same : frames_of sent ++ last ≡ frames_of sent = ap (λ l. frames_of sent ++ l) none ∙ append-nil (frames_of sent) in
+          let same : commit_frames answer.framing sent ++ last ≡ commit_frames answer.framing sent = ap (λ l. commit_frames answer.framing sent ++ l) none ∙ append-nil (commit_frames answer.framing sent) in
           frames_part limits log is_log start.primary.node node_in head contest framing answer begun a answers text
           nodes opened token sent all session told opening_fits (fit_of sent last is)
           (is ∙ ap (λ l. answer.text ++ l) same)
@@ -410,7 +402,7 @@ module _ (connects : ScreensAreConnections) (opens_so : SessionsOpenAsAsked)
           opening_fits (texts_and texts (commit_text commit) (fit_of sent last is) (next_fits token commit e))
           (rest ++ end)
           (ap (λ t. t ++ end) (told_one answer texts (commit_text commit))
-          ∙ ends_at answer.text (frames_of sent) (frame answer.framing (commit_text commit)) end last (rest ++ end)
+          ∙ ends_at answer.text (commit_frames answer.framing sent) (frame answer.framing (commit_text commit)) end last (rest ++ end)
           (ap (λ t. t ++ end) split ∙ append_assoc last rest end)
           ∙ ap (λ t. t ++ (rest ++ end)) (sym is))
       next_part opened session sent token last run is (inr (true, rest, over, split)) =
@@ -419,8 +411,8 @@ module _ (connects : ScreensAreConnections) (opens_so : SessionsOpenAsAsked)
           let end = frame_end answer.framing in
           going_part limits log is_log start.primary.node node_in head contest framing answer begun a answers text
           nodes opened token texts all session told opening_fits (fit_of sent last is) rest
-          (ap (λ l. (answer.text ++ l) ++ end) (sym (append-nil (frames_of sent)))
-          ∙ ends_at answer.text (frames_of sent) [] end last rest split ∙ ap (λ t. t ++ rest) (sym is))
+          (ap (λ l. (answer.text ++ l) ++ end) (sym (append-nil (commit_frames answer.framing sent)))
+          ∙ ends_at answer.text (commit_frames answer.framing sent) [] end last rest split ∙ ap (λ t. t ++ rest) (sym is))
       next_part opened session sent token last run is (inr (false, rest, over, split)) =
           let (nodes, all, told) = told_live limits log turn start opened (meets opened session) sent now token run in
           let texts = map commit_text sent in
@@ -430,13 +422,12 @@ module _ (connects : ScreensAreConnections) (opens_so : SessionsOpenAsAsked)
           nodes opened token (texts ++ line ∷ []) all session (told_line_feed texts token told) opening_fits
           (texts_and texts line (fit_of sent last is) (omega arith)) rest
           (ap (λ t. t ++ end) (told_one answer texts line)
-          ∙ ends_at answer.text (frames_of sent) (frame answer.framing line) end last rest split
+          ∙ ends_at answer.text (commit_frames answer.framing sent) (frame answer.framing line) end last rest split
           ∙ ap (λ t. t ++ rest) (sym is))
 
       by : WroteLive turn start answer now (Some []) (Some text)
           ⊎ ((why : CommitFault) × WroteRefused turn start answer why now (Some []) (Some text))
-          → FollowsIt
-      unfolding FollowsIt, frames_of
+          → FollowsInLog limits log answer begun text
       by (inl (inl ((prefix, rest, split, wrote), same))) =
           answer_part limits log is_log start.primary.node node_in head contest framing answer begun a answers text
           opening_fits rest (split ∙ ap (λ p. p ++ rest) (sym wrote)) answer.session refl
@@ -448,4 +439,4 @@ module _ (connects : ScreensAreConnections) (opens_so : SessionsOpenAsAsked)
           let is = wrote ∙ ap (λ t. answer.text ++ t) refused.text_is in
           frames_part limits log is_log start.primary.node node_in head contest framing answer begun a answers text
           nodes opened refused.token refused.sent all session told opening_fits
-          (fit_of refused.sent [] (is ∙ ap (λ l. answer.text ++ l) (sym (append-nil (frames_of refused.sent))))) is
+          (fit_of refused.sent [] (is ∙ ap (λ l. answer.text ++ l) (sym (append-nil (commit_frames answer.framing refused.sent))))) is
