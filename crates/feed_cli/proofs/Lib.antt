@@ -1,5 +1,6 @@
 mod CheckLemmas
 mod CommandLemmas
+mod InputLemmas
 mod InTurnLemmas
 mod MappedLemmas
 mod PlayLemmas

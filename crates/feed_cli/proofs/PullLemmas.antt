@@ -25,19 +25,17 @@ use Rattle.feed_cli.specs.Streams.{Wrote}
 use Rattle.feed_cli.specs.Tables.{outcome_of}
 use Rattle.feed_cli.specs.declared.fault.Fault.{Fault}
 use Rattle.feed_cli.specs.declared.fault.Fault.TheVariants as fault
-use Rattle.feed_cli.specs.declared.fault.RemoteFault.{RemoteFault}
-use Rattle.feed_cli.specs.declared.fault.RemoteFault.TheVariants as remote
 
 -- the fault of a connection is a want of memory, or is told as it is
 abbrev IsOfNetwork : Fault → Type 0
-IsOfNetwork why = (why ≡ fault.Memory) ⊎ ((r : RemoteFault) × (why ≡ fault.Remote r))
+IsOfNetwork why = (why ≡ fault.Memory) ⊎ ((w : NetworkFault) × (why ≡ fault.Network w))
 
 of_network : (w : NetworkFault) → IsOfNetwork (fault_of_network w)
 of_network w = go (is_memory w)
   where
-    go : (b : Bool) → IsOfNetwork (if b then fault.Memory else fault.Remote (remote.Network w))
+    go : (b : Bool) → IsOfNetwork (if b then fault.Memory else fault.Network w)
     go true = inl refl
-    go false = inr (remote.Network w, refl)
+    go false = inr (w, refl)
 
 err_of : Result (Unit {0}) Fault → Fault
 err_of (Err why) = why
@@ -74,7 +72,7 @@ attempt_out (Followed followed.Done) e = absurd (cc)
 attempt_out (Followed followed.TokenRefused) e = absurd (cc)
 attempt_out (Failed why) e = go (is_engine_memory why) e
   where
-    go : (b : Bool) → ◌≡◌ {A = Result (Unit {0}) Fault} (Err (if b then fault.Memory else fault.Remote (remote.Network (network.Engine why)))) (Err fault.Memory) → b ≡ true
+    go : (b : Bool) → ◌≡◌ {A = Result (Unit {0}) Fault} (Err (if b then fault.Memory else fault.Network (network.Engine why))) (Err fault.Memory) → b ≡ true
     go true f = refl
     go false f = absurd (cc)
 

@@ -27,7 +27,6 @@ use Rattle.feed_cli.specs.Telling.{FailsAs}
 use Rattle.feed_cli.specs.Serve.{new_source, RefusedAtStart, StartFails, Takes, TakesAndDrops, EndsTaking, Serving, ServesOne, ServesOn, ServesAll, EndsServing, StopsServing}
 use Rattle.feed_cli.specs.declared.fault.Fault.{Fault}
 use Rattle.feed_cli.specs.declared.fault.Fault.TheVariants as fault
-use Rattle.feed_cli.specs.declared.fault.RemoteFault.TheVariants as remote
 
 -- batches, and then more
 accepts_more : (first : PrimaryState) (earlier : List (List Change)) (mid : PrimaryState)
@@ -207,21 +206,20 @@ ends_later (fault.Feed why) start mid now before after = absurd after
 ends_later (fault.Survey why) start mid now before after = absurd after
 ends_later (fault.Play why) start mid now before after = absurd after
 ends_later fault.Unpublished start mid now before after = absurd after
-ends_later (fault.Remote (remote.Place why)) start mid now before after = absurd after
-ends_later (fault.Remote (remote.Address why)) start mid now before after = absurd after
-ends_later (fault.Remote (remote.Batch why)) start mid now before after = absurd after
-ends_later (fault.Remote (remote.Commit why)) start mid now before after = absurd after
-ends_later (fault.Remote (remote.Network network.Accept)) start mid now before after =
+ends_later (fault.Place why) start mid now before after = absurd after
+ends_later (fault.Address why) start mid now before after = absurd after
+ends_later (fault.Commit why) start mid now before after = absurd after
+ends_later (fault.Network network.Accept) start mid now before after =
     takes_more start mid now before after
-ends_later (fault.Remote (remote.Network network.Connect)) start mid now before after = absurd after
-ends_later (fault.Remote (remote.Network network.Bind)) start mid now before after = absurd after
-ends_later (fault.Remote (remote.Network (network.Engine (engine.Commit why)))) start mid now before after =
+ends_later (fault.Network network.Connect) start mid now before after = absurd after
+ends_later (fault.Network network.Bind) start mid now before after = absurd after
+ends_later (fault.Network (network.Engine (engine.Commit why))) start mid now before after =
     drops_later start mid why now before after
-ends_later (fault.Remote (remote.Network (network.Engine engine.Memory))) start mid now before after = absurd after
-ends_later (fault.Remote (remote.Network (network.Engine engine.Read))) start mid now before after = absurd after
-ends_later (fault.Remote (remote.Network (network.Engine engine.Write))) start mid now before after = absurd after
-ends_later (fault.Remote (remote.Network (network.Engine engine.Turns))) start mid now before after = absurd after
-ends_later (fault.Remote (remote.Network (network.Engine (engine.Follow why)))) start mid now before after = absurd after
+ends_later (fault.Network (network.Engine engine.Memory)) start mid now before after = absurd after
+ends_later (fault.Network (network.Engine engine.Read)) start mid now before after = absurd after
+ends_later (fault.Network (network.Engine engine.Write)) start mid now before after = absurd after
+ends_later (fault.Network (network.Engine engine.Turns)) start mid now before after = absurd after
+ends_later (fault.Network (network.Engine (engine.Follow why))) start mid now before after = absurd after
 
 -- ---- connection by connection
 

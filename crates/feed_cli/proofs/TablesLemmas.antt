@@ -180,7 +180,10 @@ err_by limits s (Err fault.TooLong) d = absurd d.whole.fed
 err_by limits s (Err (fault.Survey why)) d = absurd d.whole.fed
 err_by limits s (Err (fault.Play why)) d = absurd d.whole.fed
 err_by limits s (Err fault.Unpublished) d = absurd d.whole.fed
-err_by limits s (Err (fault.Remote why)) d = absurd d.whole.fed
+err_by limits s (Err (fault.Place why)) d = absurd d.whole.fed
+err_by limits s (Err (fault.Address why)) d = absurd d.whole.fed
+err_by limits s (Err (fault.Commit why)) d = absurd d.whole.fed
+err_by limits s (Err (fault.Network why)) d = absurd d.whole.fed
 
 done_by : (limits : Limits) (s : Streams) (text all : List ℕ) (ended : Result (Unit {0}) Fault) (shown : Option Published) (is_published : Bool)
     → IsFed limits ended s.input_old s.input_new shown → text ≡ all → all ≡ published_text shown → Appends s.out_old s.out_new text → is_published ≡ is_some (token_of shown) → IsDone limits ended s

@@ -48,18 +48,17 @@ pub record InputTooLong (old new : Option (List ℕ)) : Type 0 where
   pub read : Consumes old new bytes
   pub long : input_bytes < length bytes
 
+-- what was read where the input is not read whole
+abbrev pub InputFails : Fault → Option (List ℕ) → Option (List ℕ) → Type 0
+InputFails fault.Memory old new = Unit {0}
+InputFails fault.Read old new = Unit {0}
+InputFails fault.TooLong old new = InputTooLong old new
+InputFails why old new = ⊥
+
 -- what was read where the input can't be counted
 abbrev pub CountFails : Fault → Option (List ℕ) → Option (List ℕ) → Type 0
-CountFails fault.Memory old new = Unit {0}
-CountFails fault.Read old new = Unit {0}
-CountFails fault.TooLong old new = InputTooLong old new
 CountFails (fault.Survey why) old new = InputStops old new why
-CountFails fault.Write old new = ⊥
-CountFails fault.Turns old new = ⊥
-CountFails (fault.Feed why) old new = ⊥
-CountFails (fault.Play why) old new = ⊥
-CountFails fault.Unpublished old new = ⊥
-CountFails (fault.Remote why) old new = ⊥
+CountFails why old new = InputFails why old new
 
 -- the input was counted, and the counts were printed
 pub record CountsPrinted (s : Streams) : Type 0 where

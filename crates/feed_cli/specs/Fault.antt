@@ -19,17 +19,8 @@ use Rattle.feed_relay.specs.declared.fault.NetworkFault.{NetworkFault}
 use Rattle.feed_relay.specs.declared.fault.NetworkFault.TheVariants as network
 use Rattle.feed_words.specs.declared.address.AddressFault.{AddressFault}
 use Rattle.feed_words.specs.declared.address.AddressFault.TheVariants as address
-use Rattle.feed_cli.specs.declared.fault.RemoteFault.{RemoteFault}
-use Rattle.feed_cli.specs.declared.fault.RemoteFault.TheVariants as remote
 use Rattle.feed_cli.specs.declared.fault.Fault.{Fault}
 use Rattle.feed_cli.specs.declared.fault.Fault.TheVariants as fault
-use Rattle.feed_cli.specs.declared.input.InputFault.{InputFault}
-use Rattle.feed_cli.specs.declared.input.InputFault.TheVariants as input
-
-abbrev pub fault_of_input : InputFault → Fault
-fault_of_input input.Read = fault.Read
-fault_of_input input.TooLong = fault.TooLong
-fault_of_input input.Memory = fault.Memory
 
 -- at this line, where it is to be told
 abbrev pub fault_of_feed : FeedFault → Option ℕ → Fault
@@ -45,23 +36,19 @@ fault_of_survey why = fault_at why.stop why
 
 abbrev pub fault_of_place : PlaceFault → Fault
 fault_of_place place.Memory = fault.Memory
-fault_of_place why = fault.Remote (remote.Place why)
+fault_of_place why = fault.Place why
 
 abbrev pub fault_of_addresses : AddressFault → Fault
 fault_of_addresses address.Memory = fault.Memory
-fault_of_addresses why = fault.Remote (remote.Address why)
-
-abbrev pub fault_of_batches : LineStop → Fault
-fault_of_batches stop.Memory = fault.Memory
-fault_of_batches why = fault.Remote (remote.Batch why)
+fault_of_addresses why = fault.Address why
 
 abbrev pub fault_of_commit : CommitFault → Fault
 fault_of_commit commit.Memory = fault.Memory
-fault_of_commit why = fault.Remote (remote.Commit why)
+fault_of_commit why = fault.Commit why
 
 abbrev pub fault_of_network : NetworkFault → Fault
 fault_of_network why =
-    if is_network_memory why then fault.Memory else fault.Remote (remote.Network why)
+    if is_network_memory why then fault.Memory else fault.Network why
 
 -- a refused batch and a faulty response are faults of what came in, all else is a device's
 abbrev pub status_of_engine : EngineFault → ℕ
@@ -73,27 +60,15 @@ abbrev pub status_of_network : NetworkFault → ℕ
 status_of_network (network.Engine why) = status_of_engine why
 status_of_network why = 4
 
--- 1 for servers that can't be named so, 2 for a faulty input or response, 4 for a device's fault
-abbrev pub status_of_remote : RemoteFault → ℕ
-status_of_remote (remote.Place why) = 1
-status_of_remote (remote.Address why) = 1
-status_of_remote (remote.Batch why) = 2
-status_of_remote (remote.Commit why) = 2
-status_of_remote (remote.Network why) = status_of_network why
-
 -- only a refused batch is more than one connection's fault
 abbrev pub is_engine_connections : EngineFault → Bool
 is_engine_connections (engine.Commit why) = false
 is_engine_connections why = true
 
 -- a fault of one connection, after which others can be made
-abbrev pub is_of_a_connection : RemoteFault → Bool
-is_of_a_connection (remote.Network network.Connect) = true
-is_of_a_connection (remote.Network (network.Engine why)) = is_engine_connections why
-is_of_a_connection why = false
-
 abbrev pub is_one_connections : Fault → Bool
-is_one_connections (fault.Remote why) = is_of_a_connection why
+is_one_connections (fault.Network network.Connect) = true
+is_one_connections (fault.Network (network.Engine why)) = is_engine_connections why
 is_one_connections why = false
 
 -- another connection can be served after one that came to this
@@ -101,7 +76,8 @@ abbrev pub goes_on : Result Served NetworkFault → Bool
 goes_on (Ok served) = true
 goes_on (Err why) = is_one_connections (fault_of_network why)
 
--- 5 for want of memory, 4 for a device's fault, 2 for a faulty input, 3 where nothing is published
+-- 5 for want of memory, 4 for a device's fault, 2 for a faulty input or response, 3 where nothing is
+-- published, 1 for servers that can't be named so
 abbrev pub status_of : Fault → ℕ
 status_of fault.Memory = 5
 status_of fault.Read = 4
@@ -112,7 +88,10 @@ status_of (fault.Feed why) = 2
 status_of (fault.Survey why) = 2
 status_of (fault.Play why) = if is_memory why.cause then 5 else 2
 status_of fault.Unpublished = 3
-status_of (fault.Remote why) = status_of_remote why
+status_of (fault.Place why) = 1
+status_of (fault.Address why) = 1
+status_of (fault.Commit why) = 2
+status_of (fault.Network why) = status_of_network why
 
 -- the status after a fault was told; where the device failed, between these counts of its failures,
 -- it tells of that, too

@@ -7,7 +7,7 @@ use Rattle.feed_play.specs.Fault.{is_memory}
 use Rattle.feed_play.specs.Lines.{IsLineFrom}
 use Rattle.feed_play.specs.Player.{Plays, Stops}
 use Rattle.feed_play.specs.declared.fault.PlayFault.{PlayFault}
-use Rattle.feed_cli.specs.Check.{IsWhole, InputTooLong}
+use Rattle.feed_cli.specs.Check.{IsWhole, InputFails}
 use Rattle.feed_cli.specs.Streams.{Streams}
 use Rattle.feed_cli.specs.declared.fault.Fault.{Fault}
 use Rattle.feed_cli.specs.declared.fault.Fault.TheVariants as fault
@@ -56,13 +56,6 @@ pub record Stopped (why : PlayFault) (s : Streams) : Type 0 where
 
 -- what was read and printed where the command fails
 abbrev pub PlayFails : Fault → Streams → Type 0
-PlayFails fault.Memory s = Keeps s.out_old s.out_new
-PlayFails fault.Read s = Keeps s.out_old s.out_new
 PlayFails fault.Write s = PlayedPrefix s
-PlayFails fault.TooLong s = InputTooLong s.input_old s.input_new × Keeps s.out_old s.out_new
 PlayFails (fault.Play why) s = Stopped why s
-PlayFails fault.Turns s = ⊥
-PlayFails (fault.Feed why) s = ⊥
-PlayFails (fault.Survey why) s = ⊥
-PlayFails fault.Unpublished s = ⊥
-PlayFails (fault.Remote why) s = ⊥
+PlayFails why s = InputFails why s.input_old s.input_new × Keeps s.out_old s.out_new

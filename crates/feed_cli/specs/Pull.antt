@@ -21,12 +21,11 @@ use Rattle.feed_relay.specs.declared.first.AttemptEnd.{AttemptEnd}
 use Rattle.feed_relay.specs.declared.first.AttemptEnd.TheVariants.{NoLink, Followed, Failed}
 use Rattle.feed_relay.specs.declared.server.Server.{Server}
 use Rattle.feed_words.specs.Addresses.{IsListOf, RefusesList}
-use Rattle.feed_cli.specs.Check.{IsWhole, InputTooLong}
+use Rattle.feed_cli.specs.Check.{IsWhole, InputFails}
 use Rattle.feed_cli.specs.Fault.{fault_of_network}
 use Rattle.feed_cli.specs.Streams.{Wrote}
 use Rattle.feed_cli.specs.declared.fault.Fault.{Fault}
 use Rattle.feed_cli.specs.declared.fault.Fault.TheVariants as fault
-use Rattle.feed_cli.specs.declared.fault.RemoteFault.TheVariants as remote
 use Rattle.feed_words.specs.declared.request.PullOptions.{PullOptions}
 
 -- ---- what it asks, and starts from
@@ -46,7 +45,7 @@ place_at options address = place_of (server_text address) options.base.now optio
 -- why there is none
 abbrev pub RefusesServer : PullOptions → List ℕ × ℕ → Fault → Type 0
 RefusesServer options address fault.Memory = Unit {0}
-RefusesServer options address (fault.Remote (remote.Place why)) =
+RefusesServer options address (fault.Place why) =
     RefusesPlace (server_text address) options.base.now options.contest.now why
 RefusesServer options address why = ⊥
 
@@ -62,7 +61,7 @@ AreFurther (Some text) further = IsListOf text.now further
 -- why there are none
 abbrev pub RefusesFurther : Option (Bor (List ℕ)) → Fault → Type 0
 RefusesFurther from fault.Memory = Unit {0}
-RefusesFurther from (fault.Remote (remote.Address why)) =
+RefusesFurther from (fault.Address why) =
     IsSomeAnd from (λ text. RefusesList text.now why)
 RefusesFurther from why = ⊥
 
@@ -108,13 +107,10 @@ StartsFrom true limits old new mirror =
 
 -- what was read where no mirror can be started
 abbrev pub FailsToStart : Limits → Fault → Option (List ℕ) → Option (List ℕ) → Type 0
-FailsToStart limits fault.Memory old new = Unit {0}
-FailsToStart limits fault.Read old new = Unit {0}
-FailsToStart limits fault.TooLong old new = InputTooLong old new
 FailsToStart limits (fault.Feed why) old new =
     (why.line ≡ None)
     × ((saved : List ℕ) × IsWhole old new saved × FailsToRestore limits saved why.fault)
-FailsToStart limits why old new = ⊥
+FailsToStart limits why old new = InputFails why old new
 
 -- ---- what is printed
 
@@ -173,6 +169,6 @@ module _ {D R W : Type 0} where
   PullFails dialer servers turns fault.Unpublished start end out untold_old untold_new =
       PrintedPulled dialer servers turns start (Ok tt) end out
       × (end.mirror.node.published ≡ None)
-  PullFails dialer servers turns (fault.Remote why) start end out untold_old untold_new =
-      PrintedPulled dialer servers turns start (Err (fault.Remote why)) end out
+  PullFails dialer servers turns (fault.Network why) start end out untold_old untold_new =
+      PrintedPulled dialer servers turns start (Err (fault.Network why)) end out
   PullFails dialer servers turns why start end out untold_old untold_new = ⊥

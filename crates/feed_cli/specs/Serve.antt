@@ -1,9 +1,8 @@
 -- What the command `serve` starts from, and what it commits.
 use Rattle.std.specs.Prelude.{◌≡◌, ◌⊎◌, ◌<◌, ℕ, max, true, false, List, [], ◌∷◌, ◌++◌, length, Option, Some, None, unwrap_or, Result}
 use Rattle.feed_note.specs.Batches.{batch_changes}
-use Rattle.feed_note.specs.Counts.{AreRead, StopsAt}
+use Rattle.feed_note.specs.Counts.{AreRead}
 use Rattle.feed_note.specs.declared.line.Line.{Line}
-use Rattle.feed_note.specs.declared.stop.LineStop.{LineStop}
 use Rattle.feed_tables.specs.declared.change.Change.{Change}
 use Rattle.feed_node.specs.Limits.{Limits}
 use Rattle.feed_node.specs.Log.{new_primary, RefusesBatch}
@@ -19,13 +18,12 @@ use Rattle.feed_relay.specs.Serving.{ServesLiveNext, engine_turns}
 use Rattle.feed_relay.specs.declared.fault.NetworkFault.{NetworkFault}
 use Rattle.feed_relay.specs.declared.fault.NetworkFault.TheVariants as network
 use Rattle.feed_words.specs.declared.request.ServeOptions.{ServeOptions}
-use Rattle.feed_cli.specs.Check.{IsWhole, InputTooLong}
+use Rattle.feed_cli.specs.Check.{IsWhole, InputStops, InputFails}
 use Rattle.feed_cli.specs.Fault.{goes_on}
 use Rattle.feed_cli.specs.InTurn.{InTurn}
 use Rattle.feed_cli.specs.Telling.{FailsAs}
 use Rattle.feed_cli.specs.declared.fault.Fault.{Fault}
 use Rattle.feed_cli.specs.declared.fault.Fault.TheVariants as fault
-use Rattle.feed_cli.specs.declared.fault.RemoteFault.TheVariants as remote
 
 -- a new primary, for which these batches wait
 abbrev pub new_source : Limits → List (List Change) → Intake
@@ -67,8 +65,8 @@ pub record TakesAndDrops (start : Intake) (why : CommitFault) (now : Intake) : T
 abbrev pub EndsTaking : Fault → Intake → Intake → Type 0
 EndsTaking fault.Memory start now = Takes start now ⊎ TakesAndDrops start commit.Memory now
 EndsTaking fault.Write start now = Takes start now
-EndsTaking (fault.Remote (remote.Network network.Accept)) start now = Takes start now
-EndsTaking (fault.Remote (remote.Network (network.Engine (engine.Commit why)))) start now =
+EndsTaking (fault.Network network.Accept) start now = Takes start now
+EndsTaking (fault.Network (network.Engine (engine.Commit why))) start now =
     TakesAndDrops start why now
 EndsTaking why start now = ⊥
 
@@ -134,13 +132,6 @@ module _ {A R W : Type 0} (links : Links A R W) (turn : ℕ) (service : Service)
 
 -- ---- where it can't start
 
--- the whole input was read, and this is the fault of one of its lines
-pub record BatchesStop (old new : Option (List ℕ)) (stop : LineStop) : Type 0 where
-  pub bytes : List ℕ
-  pub line : ℕ
-  pub whole : IsWhole old new bytes
-  pub stops : StopsAt bytes line stop
-
 -- the whole input was read, its batches are committed at once, and one of them is refused
 pub record RefusedAtStart (turn : Option ℕ) (limits : Limits) (old new : Option (List ℕ))
     (why : CommitFault) : Type 0 where
@@ -154,10 +145,6 @@ pub record RefusedAtStart (turn : Option ℕ) (limits : Limits) (old new : Optio
 
 -- why there is no primary to serve
 abbrev pub StartFails : Option ℕ → Limits → Fault → Option (List ℕ) → Option (List ℕ) → Type 0
-StartFails turn limits fault.Memory old new = Unit {0}
-StartFails turn limits fault.Read old new = Unit {0}
-StartFails turn limits fault.TooLong old new = InputTooLong old new
-StartFails turn limits (fault.Remote (remote.Batch stop)) old new = BatchesStop old new stop
-StartFails turn limits (fault.Remote (remote.Commit why)) old new =
-    RefusedAtStart turn limits old new why
-StartFails turn limits why old new = ⊥
+StartFails turn limits (fault.Survey why) old new = InputStops old new why
+StartFails turn limits (fault.Commit why) old new = RefusedAtStart turn limits old new why
+StartFails turn limits why old new = InputFails why old new

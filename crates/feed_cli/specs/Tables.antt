@@ -69,13 +69,7 @@ IsFed limits (Ok all) old new shown = HasRead limits old new shown × IsAtEnd ne
 IsFed limits (Err fault.Read) old new shown = HasRead limits old new shown
 IsFed limits (Err fault.Turns) old new shown = HasReadOn limits old new shown
 IsFed limits (Err (fault.Feed why)) old new shown = HasFaulted limits why old new shown
-IsFed limits (Err fault.Memory) old new shown = ⊥
-IsFed limits (Err fault.Write) old new shown = ⊥
-IsFed limits (Err fault.TooLong) old new shown = ⊥
-IsFed limits (Err (fault.Survey why)) old new shown = ⊥
-IsFed limits (Err (fault.Play why)) old new shown = ⊥
-IsFed limits (Err fault.Unpublished) old new shown = ⊥
-IsFed limits (Err (fault.Remote why)) old new shown = ⊥
+IsFed limits (Err why) old new shown = ⊥
 
 -- the input was read like that, and the snapshot of what is published was printed
 pub record Printed (limits : Limits) (ended : Result (Unit {0}) Fault) (s : Streams) : Type 0 where
@@ -114,7 +108,4 @@ TablesFail limits fault.Turns s = Printed limits (Err fault.Turns) s
 TablesFail limits fault.Write s = PrintedPrefix limits s
 TablesFail limits (fault.Feed why) s = Printed limits (Err (fault.Feed why)) s
 TablesFail limits fault.Unpublished s = PrintedNone limits s
-TablesFail limits fault.TooLong s = ⊥
-TablesFail limits (fault.Survey why) s = ⊥
-TablesFail limits (fault.Play why) s = ⊥
-TablesFail limits (fault.Remote why) s = ⊥
+TablesFail limits why s = ⊥

@@ -12,7 +12,7 @@ pub use commands::pull::{print_pulled, pull_outcome, servers_of, start_mirror};
 pub use commands::relay::print_relayed;
 pub use commands::serve::{Source, serve_all, start_source};
 pub use commands::{answer_words, perform, run};
-pub use fault::{Fault, FeedStop, RemoteFault};
+pub use fault::{Fault, FeedStop};
 pub use feed_http::{device, memory, stream};
 pub use feed_play::{PlayCause, PlayFault, play};
 pub use feed_relay::{Accept, Dial, NetworkFault, Server};
@@ -20,4 +20,4 @@ pub use feed_words::{
     AddressFault, LiveOptions, Local, NoCommand, PROGRAM, PullOptions, RelayOptions, Request,
     ServeOptions, TablesOptions, UpstreamOptions, VERSION, Verbosity, addresses, parse_words,
 };
-pub use telling::tell;
+pub use telling::{tell, tell_about};

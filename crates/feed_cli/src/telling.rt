@@ -9,17 +9,24 @@ use crate::fault::{Fault, FeedStop};
 use arrayvec::ArrayString;
 use feed_http::Served;
 use feed_http::device::{Failed, FeedWrite, write_all};
-use feed_relay::{Attempt, NetworkFault};
+use feed_relay::{Attempt, AttemptEnd, NetworkFault, Server};
 use std::fmt::Write;
 
-/// The most bytes of what is told of one fault. The longest text has less than half as many.
+/// The most bytes of what is told of one fault. The longest text names a server, of at most 255
+/// bytes, and has far fewer.
 const ROOM: usize = 512;
 
-/// What is told of a fault: its text, and on a second line where in the feed it is, where that was
-/// asked for.
-fn text_of(name: &str, fault: Fault) -> ArrayString<ROOM> {
+/// A host and a port.
+type Address<'h> = (&'h str, u16);
+
+/// What is told of a fault: its text, with the address that it is about where there is one, and on a
+/// second line where in the feed it is, where that was asked for.
+fn text_of(name: &str, fault: Fault, address: Option<Address<'_>>) -> ArrayString<ROOM> {
     let mut text = ArrayString::new();
-    let _ = write!(text, "{name}: {fault}\n");
+    let _ = match address {
+        Some((host, port)) => write!(text, "{name}: {fault}: {host}:{port}\n"),
+        None => write!(text, "{name}: {fault}\n"),
+    };
     if let Fault::Feed(
         FeedStop {
             line: Some(line),
@@ -33,11 +40,16 @@ fn text_of(name: &str, fault: Fault) -> ArrayString<ROOM> {
 }
 
 /// Prints a fault of the command of this name.
-fn print_fault<E: FeedWrite>(name: &str, fault: Fault, err: &mut E) -> Result<(), Failed>
+fn print_fault<E: FeedWrite>(
+    name: &str,
+    fault: Fault,
+    address: Option<Address<'_>>,
+    err: &mut E,
+) -> Result<(), Failed>
     ensures quiet { OnOk result (E.failures err.new ≡ E.failures err.old) }
     ensures once { OnErr result (E.failures err.new ≡ counted (E.failures err.old) 1) }
 {
-    let text = text_of(name, fault);
+    let text = text_of(name, fault, address);
     write_all(err, text.as_bytes())
 }
 
@@ -46,9 +58,29 @@ fn print_fault<E: FeedWrite>(name: &str, fault: Fault, err: &mut E) -> Result<()
 pub fn tell<E: FeedWrite>(name: &str, fault: Fault, err: &mut E) -> u8
     ensures { IsToldStatus fault (E.failures err.old) (E.failures err.new) result }
 {
-    match print_fault(name, fault, err) {
+    tell_about(name, fault, None, err)
+}
+
+/// The same of a fault that is about an address, a host and a port, which is told with it.
+pub fn tell_about<E: FeedWrite>(
+    name: &str,
+    fault: Fault,
+    address: Option<(&str, u16)>,
+    err: &mut E,
+) -> u8
+    ensures { IsToldStatus fault (E.failures err.old) (E.failures err.new) result }
+{
+    match print_fault(name, fault, address, err) {
         Ok(()) => fault.status(),
         Err(Failed) => fault.status().max(Fault::Write.status()),
+    }
+}
+
+/// The address of the server that an attempt did not reach.
+fn address_of<'s>(servers: &'s [Server<'_>], attempt: &Attempt) -> Option<Address<'s>> {
+    match attempt.outcome {
+        AttemptEnd::NoLink => servers.get(attempt.server).map(|it| (it.host.as_str(), it.port)),
+        _ => None,
     }
 }
 
@@ -70,43 +102,74 @@ impl Teller {
         }
     }
 
-    /// Tells a fault. Where it can't be told, the command goes on all the same.
-    pub(crate) fn tell<E: FeedWrite>(&mut self, fault: Fault, err: &mut E)
+    /// Tells a fault, with the address that it is about where there is one. Where it can't be told,
+    /// the command goes on all the same.
+    fn tell<E: FeedWrite>(&mut self, fault: Fault, address: Option<Address<'_>>, err: &mut E)
         ensures { HasTold (E.failures err.old) (E.failures err.new)
             self.old.has_failed self.new.has_failed }
     {
-        if print_fault(self.name, fault, err).is_err() {
+        if print_fault(self.name, fault, address, err).is_err() {
             self.has_failed = true;
         }
     }
 
-    /// Tells the fault that this came to, where there is one.
-    pub(crate) fn tell_outcome<E: FeedWrite>(&mut self, outcome: Result<(), Fault>, err: &mut E)
+    /// Tells why an attempt at one of these servers failed, where it did.
+    fn tell_attempt<E: FeedWrite>(
+        &mut self,
+        servers: &[Server<'_>],
+        attempt: &Attempt,
+        err: &mut E,
+    )
         ensures { HasTold (E.failures err.old) (E.failures err.new)
             self.old.has_failed self.new.has_failed }
     {
-        if let Err(fault) = outcome {
-            self.tell(fault, err);
+        if let Err(fault) = attempt_outcome(attempt.outcome) {
+            self.tell(fault, address_of(servers, attempt), err);
         }
     }
 
     /// Tells why these attempts failed.
-    pub(crate) fn tell_attempts<E: FeedWrite>(&mut self, attempts: &[Attempt], err: &mut E)
+    pub(crate) fn tell_attempts<E: FeedWrite>(
+        &mut self,
+        servers: &[Server<'_>],
+        attempts: &[Attempt],
+        err: &mut E,
+    )
         ensures { HasTold (E.failures err.old) (E.failures err.new)
             self.old.has_failed self.new.has_failed }
     {
         'attempts: for attempt in attempts {
-            self.tell_outcome(attempt_outcome(attempt.outcome), err);
+            self.tell_attempt(servers, attempt, err);
         }
     }
 
     /// The same of all but the last one.
-    pub(crate) fn tell_earlier<E: FeedWrite>(&mut self, attempts: &[Attempt], err: &mut E)
+    pub(crate) fn tell_earlier<E: FeedWrite>(
+        &mut self,
+        servers: &[Server<'_>],
+        attempts: &[Attempt],
+        err: &mut E,
+    )
         ensures { HasTold (E.failures err.old) (E.failures err.new)
             self.old.has_failed self.new.has_failed }
     {
         if let Some((_, earlier)) = attempts.split_last() {
-            self.tell_attempts(earlier, err);
+            self.tell_attempts(servers, earlier, err);
+        }
+    }
+
+    /// The same of the last one alone.
+    pub(crate) fn tell_last<E: FeedWrite>(
+        &mut self,
+        servers: &[Server<'_>],
+        attempts: &[Attempt],
+        err: &mut E,
+    )
+        ensures { HasTold (E.failures err.old) (E.failures err.new)
+            self.old.has_failed self.new.has_failed }
+    {
+        if let Some(attempt) = attempts.last() {
+            self.tell_attempt(servers, attempt, err);
         }
     }
 
@@ -125,11 +188,11 @@ impl Teller {
         let Err(fault) = served else {
             return Ok(());
         };
-        let fault = Fault::of_network(fault);
+        let fault = Fault::from(fault);
         if !fault.is_of_a_connection() {
             return Err(fault);
         }
-        self.tell(fault, err);
+        self.tell(fault, None, err);
         Ok(())
     }
 

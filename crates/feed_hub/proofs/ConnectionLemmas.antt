@@ -8,6 +8,7 @@ use Rattle.std.proofs.lemmas.List.{map-append}
 use Rattle.std.proofs.lemmas.Slice.Eq.{bytes_eq-Decides}
 use Rattle.httparse.specs.Ascii.{line_feed}
 use Rattle.feed_node.specs.declared.commit.Commit.{Commit}
+use Rattle.feed_node.specs.declared.primary.CommitFault.{CommitFault}
 use Rattle.feed_node.specs.Limits.{Limits}
 use Rattle.feed_node.specs.Mirroring.{MirrorState}
 use Rattle.feed_node.specs.Serving.{commit_after, commit_text, is_published}
@@ -24,12 +25,12 @@ use Rattle.feed_answer.specs.FrameLaws.{AreTexts}
 use Rattle.feed_answer.specs.FollowLaws.{WholeCarriesAll, ResponsesAreFollowed, EndsAreFollowed, RefusalsAreFollowed}
 use Rattle.feed_answer.specs.Served.{farewell, behind_opening}
 use Rattle.feed_http.specs.declared.fault.Served.{Served}
-use Rattle.feed_http.specs.Live.{Intake, HasSent, none_sent, commit_sent, turn_taken, IsOver, SendsLiveTo, SendsLive}
-use Rattle.feed_http.specs.Serving.{Sends, up_to_date, lost, sends, HasAll, SendsTo, SendsAnswer, Serves, Tells, answered_text, written_behind}
+use Rattle.feed_http.specs.Live.{Intake, HasSent, none_sent, commit_sent, turn_taken, IsOver, SendsLiveTo, SendsLive, WroteLive, WroteRefused, BeginsNext}
+use Rattle.feed_http.specs.Serving.{commit_frames, Sends, up_to_date, lost, sends, HasAll, SendsTo, SendsAnswer, Serves, Tells, answered_text, written_behind}
 use Rattle.feed_http.specs.Sessions.{Nothing_new, Lost, Commit_after, next, or_lost}
 use Rattle.feed_world.specs.Following.{SessionsOpenAsAsked, PlacesStay, AllIsReached, MirrorsFollow, FailsKeepStates, RefusalsKeepNodes}
 use Rattle.feed_world.specs.Log.{Log, IsLog}
-use Rattle.feed_hub.specs.Connections.{FollowsServed, NodesAreFollowed, MeetsLog, PrimariesAreFollowed}
+use Rattle.feed_hub.specs.Connections.{FollowsServed, NodesAreFollowed, MeetsLog, PrimariesAreFollowed, BrokenOffIsFollowed}
 use Rattle.feed_hub.specs.Follows.{HasAskedSo, FollowsInLog, ArrivesInLog}
 use Rattle.feed_hub.specs.Laws.{IsInLog, AreInLog, ScreensAreConnections}
 use Rattle.feed_hub.specs.Told.{Told, told_none, told_commit, told_line_feed, told_text, IsGoing}
@@ -189,6 +190,29 @@ not_200 OtherPath e = absurd (omega arith)
 not_200 NothingPublished e = absurd (omega arith)
 not_200 TokenNotHeld e = absurd (omega arith)
 
+-- ---- where writing broke off
+
+-- a text and one behind it, of which only a prefix was written
+ends_at : (opening frames last tail begun rest : List ℕ) → last ++ tail ≡ begun ++ rest
+    → (opening ++ (frames ++ last)) ++ tail ≡ (opening ++ (frames ++ begun)) ++ rest
+ends_at opening frames last tail begun rest split =
+    append_assoc opening (frames ++ last) tail
+    ∙ ap (λ t. opening ++ t) (append_assoc frames last tail ∙ ap (λ t. frames ++ t) split
+    ∙ sym (append_assoc frames begun rest))
+    ∙ sym (append_assoc opening (frames ++ begun) rest)
+
+texts_and : (texts : List (List ℕ)) (text : List ℕ) → AreTexts texts → length text < 2 ^ 64
+    → AreTexts (texts ++ text ∷ [])
+texts_and [] text fit one = (one, tt)
+texts_and (first ∷ texts) text (here, fit) one = (here, texts_and texts text fit one)
+
+told_one : (answer : AnswerParts) (texts : List (List ℕ)) (text : List ℕ)
+    → told_text answer (texts ++ text ∷ [])
+    ≡ answer.text ++ (flat_map (frame answer.framing) texts ++ frame answer.framing text)
+told_one answer texts text =
+    ap (λ l. answer.text ++ l) (flat_map-append (frame answer.framing) texts (text ∷ [])
+    ∙ ap (λ l. flat_map (frame answer.framing) texts ++ l) (append-nil (frame answer.framing text)))
+
 -- ---- all of it
 
 module _ (connects : ScreensAreConnections) (opens_so : SessionsOpenAsAsked)
@@ -235,6 +259,60 @@ module _ (connects : ScreensAreConnections) (opens_so : SessionsOpenAsAsked)
               head contest framing answer begun text [] text is_log all node_in a answers (append-nil text)
               token before g whole reached e refl standing follower mirror at);
         }
+
+  module _ (limits : Limits) (log : Log) (is_log : IsLog limits log) (node : NodeState)
+      (node_in : IsInLog limits log node) (head contest : List ℕ) (framing : Framing)
+      (answer : AnswerParts) (begun : MirrorState) (a : HasAskedSo limits log head contest begun)
+      (answers : AnswersTo head contest node framing 0 answer) (text : List ℕ) where
+    -- a prefix of a refusal
+    refused_part : answer.session ≡ None → (rest : List ℕ) → answer.text ≡ text ++ rest
+        → FollowsInLog limits log answer begun text
+    refused_part none rest is =
+        let refusal = is_refusal head contest node framing answer answers none in
+        refusal_follows refusals kept limits log begun answer refusal.0 refusal.1 text rest
+        (sym is ∙ ap (λ x. x.text) refusal.1) (begun_in_log limits log head contest begun a)
+
+    -- a prefix of an answer, of what its session was told, and of the end
+    going_part : (nodes : List NodeState) (opened token : List ℕ) (texts : List (List ℕ))
+        → AreInLog limits log nodes → answer.session ≡ Some opened → Told nodes opened texts token
+        → length answer.text < 2 ^ 64 → AreTexts texts → (rest : List ℕ)
+        → told_text answer texts ++ frame_end answer.framing ≡ text ++ rest
+        → FollowsInLog limits log answer begun text
+    going_part nodes opened token texts all session told opening_fits fit rest e =
+        ended_follows connects opens_so responses ends places follow keep limits log nodes node
+        head contest framing answer begun text rest (told_text answer texts ++ frame_end answer.framing)
+        is_log all node_in a answers (sym e) token (told_text answer texts)
+        (record {
+          opened = opened;
+          session = session;
+          texts = texts;
+          told = told;
+          due_is = refl;
+          opening_fits = opening_fits;
+          fit = fit;
+        }) refl
+
+    -- a prefix of the answer
+    answer_part : length answer.text < 2 ^ 64 → (rest : List ℕ) → answer.text ≡ text ++ rest
+        → (session : Option (List ℕ)) → answer.session ≡ session
+        → FollowsInLog limits log answer begun text
+    answer_part opening_fits rest is None e = refused_part e rest is
+    answer_part opening_fits rest is (Some opened) e =
+        going_part [] opened opened [] (none_in limits log) e told_none opening_fits tt
+        (rest ++ frame_end answer.framing)
+        (ap (λ t. t ++ frame_end answer.framing) (append-nil answer.text ∙ is)
+        ∙ append_assoc text rest (frame_end answer.framing))
+
+    -- the answer, the frames of the commits that its session was sent, and no more
+    frames_part : (nodes : List NodeState) (opened token : List ℕ) (sent : List Commit)
+        → AreInLog limits log nodes → answer.session ≡ Some opened
+        → Told nodes opened (map commit_text sent) token → length answer.text < 2 ^ 64
+        → AreTexts (map commit_text sent)
+        → text ≡ answer.text ++ flat_map (frame answer.framing) (map commit_text sent)
+        → FollowsInLog limits log answer begun text
+    frames_part nodes opened token sent all session told opening_fits fit is =
+        going_part nodes opened token (map commit_text sent) all session told opening_fits fit
+        (frame_end answer.framing) (ap (λ t. t ++ frame_end answer.framing) (sym is))
 
   pub nodes_followed : NodesAreFollowed
   nodes_followed limits log node head contest framing text served begun is_log node_in a serves fits =
@@ -289,3 +367,76 @@ module _ (connects : ScreensAreConnections) (opens_so : SessionsOpenAsAsked)
           accepted limits log is_log start.primary.node now.primary.node node_in head contest framing answer
           begun a answers text served run_of.tells.status nodes opened token run_of.sent run_of.gone all e told
           (new token over) (is_text (Some opened) e) fits
+
+  pub broken_off_followed : BrokenOffIsFollowed
+  broken_off_followed limits log turn start now head contest framing answer text begun is_log node_in meets a answers broken opening_fits fits next_fits =
+      by broken
+    where
+      fit_of : (sent : List Commit) (begun_last : List ℕ)
+          → text ≡ answer.text ++ (commit_frames answer.framing sent ++ begun_last) → AreTexts (map commit_text sent)
+      fit_of sent begun_last is =
+          let all = ap length is ∙ length-append answer.text (commit_frames answer.framing sent ++ begun_last) in
+          let both = length-append (commit_frames answer.framing sent) begun_last in
+          texts_fit answer.framing (map commit_text sent) (length text) (omega (arith, all, both)) fits
+
+      next_part : (opened : List ℕ) → answer.session ≡ Some opened → (sent : List Commit)
+          (token last : List ℕ) → HasSent turn start opened sent now token
+          → text ≡ answer.text ++ (commit_frames answer.framing sent ++ last)
+          → BeginsNext answer.framing now token last → FollowsInLog limits log answer begun text
+      next_part opened session sent token last run is (inl (inl none)) =
+          let (nodes, all, told) = told_live limits log turn start opened (meets opened session) sent now token run in
+          let same : commit_frames answer.framing sent ++ last ≡ commit_frames answer.framing sent = ap (λ l. commit_frames answer.framing sent ++ l) none ∙ append-nil (commit_frames answer.framing sent) in
+          frames_part limits log is_log start.primary.node node_in head contest framing answer begun a answers text
+          nodes opened token sent all session told opening_fits (fit_of sent last is)
+          (is ∙ ap (λ l. answer.text ++ l) same)
+      next_part opened session sent token last run is (inl (inr (commit, rest, e, split))) =
+          let (nodes, all, told) = told_live limits log turn start opened (meets opened session) sent now token run in
+          let node = now.primary.node in
+          let texts = map commit_text sent in
+          let end = frame_end answer.framing in
+          going_part limits log is_log start.primary.node node_in head contest framing answer begun a answers text
+          (node ∷ nodes) opened commit.token (texts ++ commit_text commit ∷ [])
+          (all_more limits log node nodes (meets opened session sent now token run) all) session
+          (told_commit texts token node commit (told_cons node nodes opened texts token told)
+          (head_of node nodes) (commit_is node token commit e))
+          opening_fits (texts_and texts (commit_text commit) (fit_of sent last is) (next_fits token commit e))
+          (rest ++ end)
+          (ap (λ t. t ++ end) (told_one answer texts (commit_text commit))
+          ∙ ends_at answer.text (commit_frames answer.framing sent) (frame answer.framing (commit_text commit)) end last (rest ++ end)
+          (ap (λ t. t ++ end) split ∙ append_assoc last rest end)
+          ∙ ap (λ t. t ++ (rest ++ end)) (sym is))
+      next_part opened session sent token last run is (inr (true, rest, over, split)) =
+          let (nodes, all, told) = told_live limits log turn start opened (meets opened session) sent now token run in
+          let texts = map commit_text sent in
+          let end = frame_end answer.framing in
+          going_part limits log is_log start.primary.node node_in head contest framing answer begun a answers text
+          nodes opened token texts all session told opening_fits (fit_of sent last is) rest
+          (ap (λ l. (answer.text ++ l) ++ end) (sym (append-nil (commit_frames answer.framing sent)))
+          ∙ ends_at answer.text (commit_frames answer.framing sent) [] end last rest split ∙ ap (λ t. t ++ rest) (sym is))
+      next_part opened session sent token last run is (inr (false, rest, over, split)) =
+          let (nodes, all, told) = told_live limits log turn start opened (meets opened session) sent now token run in
+          let texts = map commit_text sent in
+          let end = frame_end answer.framing in
+          let line = line_feed ∷ [] in
+          going_part limits log is_log start.primary.node node_in head contest framing answer begun a answers text
+          nodes opened token (texts ++ line ∷ []) all session (told_line_feed texts token told) opening_fits
+          (texts_and texts line (fit_of sent last is) (omega arith)) rest
+          (ap (λ t. t ++ end) (told_one answer texts line)
+          ∙ ends_at answer.text (commit_frames answer.framing sent) (frame answer.framing line) end last rest split
+          ∙ ap (λ t. t ++ rest) (sym is))
+
+      by : WroteLive turn start answer now (Some []) (Some text)
+          ⊎ ((why : CommitFault) × WroteRefused turn start answer why now (Some []) (Some text))
+          → FollowsInLog limits log answer begun text
+      by (inl (inl ((prefix, rest, split, wrote), same))) =
+          answer_part limits log is_log start.primary.node node_in head contest framing answer begun a answers text
+          opening_fits rest (split ∙ ap (λ p. p ++ rest) (sym wrote)) answer.session refl
+      by (inl (inr (opened, cut, session, short, wrote))) =
+          next_part opened session short.sent short.token short.begun short.has_sent
+          (wrote ∙ ap (λ t. answer.text ++ t) short.text_is) short.begins
+      by (inr (why, (opened, cut, session, refused, wrote))) =
+          let (nodes, all, told) = told_live limits log turn start opened (meets opened session) refused.sent refused.before refused.token refused.has_sent in
+          let is = wrote ∙ ap (λ t. answer.text ++ t) refused.text_is in
+          frames_part limits log is_log start.primary.node node_in head contest framing answer begun a answers text
+          nodes opened refused.token refused.sent all session told opening_fits
+          (fit_of refused.sent [] (is ∙ ap (λ l. answer.text ++ l) (sym (append-nil (commit_frames answer.framing refused.sent))))) is

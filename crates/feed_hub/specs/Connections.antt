@@ -1,18 +1,21 @@
 -- THE PROMISE on one connection: what a mirror makes of what was written for its request, by a node,
 -- or by a primary that took batches meanwhile (CLICS Contest API 2023-06, event feed and
 -- reconnection; RFC 9112).
-use Rattle.std.specs.Prelude.{◌≡◌, ℕ, ◌<◌, ◌^◌, Bool, false, List, ◌++◌, length, Some}
+use Rattle.std.specs.Prelude.{◌≡◌, ◌⊎◌, ℕ, ◌<◌, ◌^◌, Bool, false, List, [], ◌++◌, length, Some}
 use Rattle.feed_node.specs.declared.commit.Commit.{Commit}
+use Rattle.feed_node.specs.declared.primary.CommitFault.{CommitFault}
 use Rattle.feed_node.specs.Limits.{Limits}
 use Rattle.feed_node.specs.Mirroring.{MirrorState}
+use Rattle.feed_node.specs.Serving.{commit_text}
 use Rattle.feed_node.specs.States.{NodeState, published_token}
 use Rattle.feed_follow.specs.Follower.{FollowerState, FollowsAt}
 use Rattle.feed_follow.specs.Standing.{Standing}
 use Rattle.feed_answer.specs.declared.framing.Framing.{Framing}
 use Rattle.feed_answer.specs.Answered.{AnswerParts, AnswersTo}
 use Rattle.feed_http.specs.declared.fault.Served.{Served}
-use Rattle.feed_http.specs.Live.{Intake, HasSent, SendsLive}
+use Rattle.feed_http.specs.Live.{Intake, HasSent, SendsLive, WroteLive, WroteRefused}
 use Rattle.feed_http.specs.Serving.{Serves}
+use Rattle.feed_http.specs.Sessions.{Commit_after, next}
 use Rattle.feed_world.specs.Log.{Log, IsLog}
 use Rattle.feed_hub.specs.Follows.{HasAskedSo, FollowsInLog, ArrivesInLog}
 use Rattle.feed_hub.specs.Laws.{IsInLog}
@@ -58,3 +61,32 @@ PrimariesAreFollowed =
     → AnswersTo head contest start.primary.node framing 0 answer
     → SendsLive turn start answer text served now → length text < 2 ^ 64
     → FollowsServed limits log begun text served now.primary.node
+
+-- ---- where it broke off
+
+-- This text was written where a write failed or memory ran out, or up to a batch that was refused:
+-- a part of what `serve_live` writes with this answer.
+abbrev pub IsBrokenOff : ℕ → Intake → AnswerParts → Intake → List ℕ → Type 0
+IsBrokenOff turn start answer now text =
+    WroteLive turn start answer now (Some []) (Some text)
+    ⊎ ((why : CommitFault) × WroteRefused turn start answer why now (Some []) (Some text))
+
+-- the commit that comes next in a session of this node fits into memory
+abbrev pub NextFits : NodeState → Type 0
+NextFits node =
+    (token : List ℕ) (commit : Commit) → next node token ≡ Commit_after commit
+    → length (commit_text commit) < 2 ^ 64
+
+-- Whatever prefix of that came to the mirror, in any pieces, it shows nothing or a state of the log
+-- at its token.
+abbrev pub BrokenOffIsFollowed : Type 0
+BrokenOffIsFollowed =
+    (limits : Limits) (log : Log) (turn : ℕ) (start now : Intake) (head contest : List ℕ)
+    (framing : Framing) (answer : AnswerParts) (text : List ℕ) (begun : MirrorState)
+    → IsLog limits log → IsInLog limits log start.primary.node
+    → ((opened : List ℕ) → answer.session ≡ Some opened → MeetsLog limits log turn start opened)
+    → HasAskedSo limits log head contest begun
+    → AnswersTo head contest start.primary.node framing 0 answer
+    → IsBrokenOff turn start answer now text
+    → length answer.text < 2 ^ 64 → length text < 2 ^ 64 → NextFits now.primary.node
+    → FollowsInLog limits log answer begun text

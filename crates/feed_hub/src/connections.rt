@@ -1,6 +1,6 @@
 //! What a mirror makes of what was written for its request on one connection.
 
-ghost use Rattle.feed_hub.specs.Connections.{NodesAreFollowed, PrimariesAreFollowed};
+ghost use Rattle.feed_hub.specs.Connections.{NodesAreFollowed, PrimariesAreFollowed, BrokenOffIsFollowed};
 
 use crate::laws::hub_laws;
 use feed_answer::followed_laws;
@@ -8,10 +8,11 @@ use feed_world::following_laws;
 
 /// What a node, or a primary that takes batches meanwhile, writes on a connection is followed in any
 /// pieces: after each byte the mirror shows a state that the log has at its token, and after all of
-/// them it is as far as the server.
+/// them it is as far as the server. The first holds of what a primary wrote until it broke off, too.
 pub fn connection_laws()
     ensures nodes { NodesAreFollowed }
     ensures primaries { PrimariesAreFollowed }
+    ensures broken { BrokenOffIsFollowed }
 {
     hub_laws();
     following_laws();

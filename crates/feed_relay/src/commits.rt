@@ -1,27 +1,48 @@
 //! The batches of a feed, and a primary that commits them.
-ghost use Rattle.std.specs.Prelude.{◌≡◌, ◌≢◌, ℕ, List, [], length, map, IfOk, IfErr, OnOk};
+ghost use Rattle.std.specs.Prelude.{◌≡◌, ◌≢◌, List, [], length, map, IfOk, IfErr, OnOk};
 ghost use Rattle.feed_note.specs.Batches.{batch_changes};
 ghost use Rattle.feed_note.specs.Counts.{AreRead, StopsAt};
 ghost use Rattle.feed_note.specs.declared.line.Line.{Line as Note};
 ghost use Rattle.feed_http.specs.Live.{Accepts, RefusesInTurn, intake_of};
 
 use feed_node::{CommitFault, Primary};
-use feed_note::{LineStop, batches};
+use feed_note::{LineStop, SurveyFault, batches, survey};
 use feed_tables::{Change, Changes};
 use std::alloc::{AllocError, Global};
 use std::collections::VecDeque;
 
 /// The batches of a feed, each as its changes, the first one first. The lines after the last
-/// token belong to no batch. The fault is that of the first line that can't be read.
-pub fn feed_batches(alloc: Global, bytes: &[u8]) -> Result<VecDeque<Vec<Change>>, LineStop>
+/// token belong to no batch. The fault is that of the first line that can't be read, with its number.
+pub fn feed_batches(alloc: Global, bytes: &[u8]) -> Result<VecDeque<Vec<Change>>, SurveyFault>
     ensures ok { IfOk result (λ all. (notes : List Note) × AreRead bytes.now notes
         × (map (λ batch. batch.items) all.items ≡ batch_changes notes)) }
-    ensures err { IfErr result (λ stop.
-        stop ≢ LineStop.Memory → (line : ℕ) × StopsAt bytes.now line stop) }
+    ensures err { IfErr result (λ fault.
+        fault.stop ≢ LineStop.Memory → StopsAt bytes.now fault.line fault.stop) }
 {
-    let all = batches(alloc, bytes)?;
-    let queue = queue_of(alloc, all)?;
-    Ok(queue)
+    match batches(alloc, bytes) {
+        Ok(all) => queue_of(alloc, all).map_err(|_| OUT_OF_MEMORY),
+        Err(stop) => Err(located(alloc, bytes, stop)),
+    }
+}
+
+/// Memory ran out, which is no line's fault.
+const OUT_OF_MEMORY: SurveyFault = SurveyFault {
+    line: 0,
+    stop: LineStop::Memory,
+};
+
+/// The same stop, with the number of its line, which takes a second reading.
+fn located(alloc: Global, bytes: &[u8], stop: LineStop) -> SurveyFault
+    ensures { result.stop ≢ LineStop.Memory → StopsAt bytes.now result.line result.stop }
+{
+    if stop == LineStop::Memory {
+        return OUT_OF_MEMORY;
+    }
+    match survey(alloc, bytes) {
+        Err(fault) => fault,
+        // Where one reading stopped, the other does, too.
+        Ok(_) => OUT_OF_MEMORY,
+    }
 }
 
 /// These batches, the first one before.

@@ -1,6 +1,7 @@
 //! A connection over TCP: what is read from it and written to it, and how it ends.
 
 use feed_cli::device::{Failed, FeedRead, FeedWrite};
+use feed_http::head_reading::READ_BYTES;
 use std::alloc::{AllocError, Global};
 use std::io::{Read, Write};
 use std::net::{Shutdown, TcpStream};
@@ -11,9 +12,6 @@ use std::{io, str};
 const LINGER_SECONDS: u64 = 2;
 
 const LINGER_BYTES: usize = 65_536;
-
-/// The most bytes of one of these reads.
-const PIECE: usize = 4_096;
 
 /// The bytes of an answer's first line up to the end of its status, `HTTP/1.1 200`, and where the
 /// status begins.
@@ -179,9 +177,8 @@ pub(crate) fn linger(rt: &HostRuntime, incoming: Incoming, outgoing: &Outgoing) 
     let _ = read_on(rt, incoming.stream);
 }
 
-fn read_on(rt: &HostRuntime, stream: TcpStream) -> io::Result<()> {
-    let mut stream = stream;
-    let mut piece = [0u8; PIECE];
+fn read_on(rt: &HostRuntime, mut stream: TcpStream) -> io::Result<()> {
+    let mut piece = [0u8; READ_BYTES];
     let start = Instant::now(rt)?;
     let most = Duration::from_secs(LINGER_SECONDS);
     let mut rest = LINGER_BYTES;

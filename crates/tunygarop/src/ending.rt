@@ -1,7 +1,9 @@
 //! How a command ends.
 
 use crate::errors::{Errors, Reporter};
-use feed_cli::{Fault, tell};
+use feed_cli::{Fault, NetworkFault, Server, tell, tell_about};
+use std::alloc::AllocError;
+use std::net::Ipv4Addr;
 
 /// What a second line says of tables that can't be resumed.
 const SAVED_TABLES: &str = "standard input has no tables to resume from";
@@ -12,10 +14,12 @@ const REFUSED: u8 = 1;
 const UNTOLD: u8 = 4;
 
 /// Why a command failed.
-#[derive(Clone, Copy)]
+#[derive(Drop)]
 enum Why {
     /// For a fault; a second line may say more.
     Fault(Fault, Option<&'static str>),
+    /// For a fault at this host and port.
+    At(Fault, String, u16),
     /// Its options can't be taken: this text says which.
     Refused(&'static str),
 }
@@ -39,6 +43,34 @@ impl Failure {
     pub(crate) fn with_more(fault: Fault, more: &'static str) -> Failure {
         Failure {
             why: Why::Fault(fault, Some(more)),
+        }
+    }
+
+    /// A fault at a host and a port; where there is no memory to name them, the fault alone.
+    fn at(fault: Fault, host: Result<String, AllocError>, port: u16) -> Failure {
+        match host {
+            Ok(host) => Failure {
+                why: Why::At(fault, host, port),
+            },
+            Err(_) => Failure::from(fault),
+        }
+    }
+
+    /// This port of 127.0.0.1 can't be listened at.
+    pub(crate) fn at_port(rt: &HostRuntime, fault: Fault, port: u16) -> Failure {
+        let host = format!(in rt.alloc(); "{}", Ipv4Addr::LOCALHOST);
+        Failure::at(fault, host, port)
+    }
+
+    /// A fault of following these servers. Where there was no connection, that is about the last one:
+    /// each before it was asked in vain.
+    pub(crate) fn of_servers(rt: &HostRuntime, fault: Fault, servers: &[Server<'_>]) -> Failure {
+        match (fault, servers.last()) {
+            (Fault::Network(NetworkFault::Connect), Some(server)) => {
+                let host = String::from_str(rt.alloc(), server.host.as_str());
+                Failure::at(fault, host, server.port)
+            }
+            _ => Failure::from(fault),
         }
     }
 
@@ -75,6 +107,10 @@ pub(crate) fn ended(rt: &HostRuntime, name: &'static str, outcome: Result<(), Fa
     };
     match failure.why {
         Why::Fault(fault, more) => tell_fault(rt, name, fault, more),
+        Why::At(fault, host, port) => {
+            let address = Some((host.as_str(), port));
+            tell_about(name, fault, address, &mut Errors::new(rt))
+        }
         Why::Refused(text) => {
             if Reporter::new(rt, name, false).line(text) {
                 REFUSED

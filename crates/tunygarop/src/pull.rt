@@ -35,7 +35,7 @@ fn pull_named(rt: &HostRuntime, options: &PullOptions<'_>) -> Result<(), Failure
     };
     let reporter = Reporter::new(rt, "pull", options.verbose);
     let mut dialer = Dialer::new(rt, reporter, options, &servers);
-    print_pulled(
+    let pulled = print_pulled(
         rt.alloc(),
         options,
         &servers,
@@ -43,6 +43,6 @@ fn pull_named(rt: &HostRuntime, options: &PullOptions<'_>) -> Result<(), Failure
         &mut dialer,
         &mut Stream::new(rt.stdout()),
         &mut Errors::new(rt),
-    )?;
-    Ok(())
+    );
+    pulled.map_err(|fault| Failure::of_servers(rt, fault, &servers))
 }

@@ -35,7 +35,10 @@ fn relay_named(rt: &HostRuntime, options: &RelayOptions<'_>) -> Result<(), Failu
         Err(fault) => return Err(Failure::of_saved_tables(fault)),
     };
     let reporter = Reporter::new(rt, "relay", options.pull.verbose);
-    let mut port = Port::bind(rt, reporter, options.listen)?;
+    let mut port = match Port::bind(rt, reporter, options.listen) {
+        Ok(port) => port,
+        Err(fault) => return Err(Failure::at_port(rt, fault, options.listen)),
+    };
     let mut dialer = Dialer::new(rt, reporter, &options.pull, &servers);
     print_relayed(
         rt.alloc(),

@@ -26,7 +26,10 @@ pub(crate) fn serve_feed(rt: &HostRuntime, options: &ServeOptions<'_>) -> Result
     let alloc = rt.alloc();
     let mut source = start_source(alloc, options, &mut Stream::new(rt.stdin()))?;
     let reporter = Reporter::new(rt, "serve", options.verbose);
-    let mut port = Port::bind(rt, reporter, options.port)?;
+    let mut port = match Port::bind(rt, reporter, options.port) {
+        Ok(port) => port,
+        Err(fault) => return Err(Failure::at_port(rt, fault, options.port)),
+    };
     if !can_be_named(alloc, options.contest, options.limits)? {
         reporter.line("no request can name this contest");
     }

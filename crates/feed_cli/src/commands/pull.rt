@@ -11,7 +11,7 @@ ghost use Rattle.feed_answer.specs.Place.{Place as Named};
 ghost use Rattle.feed_relay.specs.First.{position};
 
 use crate::fault::Fault;
-use crate::input::{INPUT_BYTES, read_all};
+use crate::input::read_input;
 use crate::snapshot::{outcome, print_snapshot};
 use crate::telling::Teller;
 use feed_http::device::{FeedRead, FeedWrite};
@@ -35,10 +35,7 @@ fn first_place(alloc: Global, options: &PullOptions<'_>) -> Result<Place, Fault>
     ensures err { IfErr result (λ why. RefusesServer options.now (first_address options.now) why) }
 {
     let host = host_and_port(alloc, options)?;
-    match Place::new(alloc, host.as_str(), options.base, options.contest) {
-        Ok(place) => Ok(place),
-        Err(fault) => Err(Fault::of_place(fault)),
-    }
+    Ok(Place::new(alloc, host.as_str(), options.base, options.contest)?)
 }
 
 /// The place that is asked for the feed at this address.
@@ -75,10 +72,8 @@ fn push_server<'i>(
         port,
         identity,
     };
-    match servers.push(server) {
-        Ok(()) => Ok(()),
-        Err(_) => Err(Fault::Memory),
-    }
+    servers.push(server)?;
+    Ok(())
 }
 
 /// The addresses after the first one.
@@ -87,12 +82,9 @@ fn further_addresses(alloc: Global, options: &PullOptions<'_>) -> Result<Vec<(St
         (map (λ a. (string_bytes a.0, a.1)) further.items)) }
     ensures err { IfErr result (λ why. RefusesFurther options.now.from why) }
 {
-    let Some(text) = options.from else {
-        return Ok(Vec::new(alloc));
-    };
-    match addresses(alloc, text) {
-        Ok(further) => Ok(further),
-        Err(fault) => Err(Fault::of_addresses(fault)),
+    match options.from {
+        Some(text) => Ok(addresses(alloc, text)?),
+        None => Ok(Vec::new(alloc)),
     }
 }
 
@@ -158,14 +150,8 @@ pub fn start_mirror<R: FeedRead>(
     if !options.resume {
         return Ok(Mirror::new(alloc, options.limits)?);
     }
-    let mut saved = Vec::new(alloc);
-    if let Err(fault) = read_all(input, &mut saved, INPUT_BYTES) {
-        return Err(Fault::of_input(fault));
-    }
-    match Mirror::restore(alloc, options.limits, saved.as_slice()) {
-        Ok(mirror) => Ok(mirror),
-        Err(fault) => Err(Fault::of_feed(fault, None)),
-    }
+    let saved = read_input(alloc, input)?;
+    Ok(Mirror::restore(alloc, options.limits, saved.as_slice())?)
 }
 
 /// The fault that an attempt came to: that there was no connection, and a response that ended in
@@ -174,12 +160,13 @@ pub(crate) fn attempt_outcome(outcome: AttemptEnd) -> Result<(), Fault>
     ensures { result ≡ outcome_of_attempt outcome }
 {
     match outcome {
-        AttemptEnd::NoLink => Err(Fault::of_network(NetworkFault::Connect)),
-        AttemptEnd::Followed(Followed::Early) => Err(Fault::of_network(NetworkFault::Engine(
-            EngineFault::Follow(FollowFault::BadHead),
-        ))),
+        AttemptEnd::NoLink => Err(Fault::from(NetworkFault::Connect)),
+        AttemptEnd::Followed(Followed::Early) => {
+            let fault = EngineFault::Follow(FollowFault::BadHead);
+            Err(Fault::from(NetworkFault::Engine(fault)))
+        }
         AttemptEnd::Followed(_) => Ok(()),
-        AttemptEnd::Failed(fault) => Err(Fault::of_network(NetworkFault::Engine(fault))),
+        AttemptEnd::Failed(fault) => Err(Fault::from(NetworkFault::Engine(fault))),
     }
 }
 
@@ -221,13 +208,13 @@ pub fn print_pulled<D: Dial, W: FeedWrite, E: FeedWrite>(
 {
     let attempts = follow_first(alloc, dial, servers, mirror, options.turns)?;
     let mut teller = Teller::new("pull");
-    teller.tell_earlier(&attempts, err);
+    teller.tell_earlier(servers, &attempts, err);
     let pulled = pull_outcome(&attempts);
     if pulled == Err(Fault::Memory) {
         return pulled;
     }
     if let Err(failed) = print_snapshot(mirror, out) {
-        teller.tell_outcome(pulled, err);
+        teller.tell_last(servers, &attempts, err);
         return Err(failed);
     }
     outcome(pulled, mirror.node().token().is_some())?;

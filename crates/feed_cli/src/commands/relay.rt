@@ -63,10 +63,10 @@ fn make_round<D: Dial, A: Accept, E: FeedWrite>(
 {
     let attempts = follow_first(alloc, dial, servers, mirror, options.pull.turns)?;
     if has_run_out(&attempts) {
-        teller.tell_earlier(&attempts, err);
+        teller.tell_earlier(servers, &attempts, err);
         return Err(Fault::Memory);
     }
-    teller.tell_attempts(&attempts, err);
+    teller.tell_attempts(servers, &attempts, err);
     let served = serve_next(alloc, listener, mirror.node(), &service_of(options));
     teller.end_connection(served, err)
 }

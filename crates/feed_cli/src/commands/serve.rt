@@ -11,7 +11,7 @@ ghost use Rattle.feed_relay.specs.Dialing.{links_of};
 ghost use Rattle.feed_relay.specs.declared.fault.NetworkFault.{NetworkFault as Failing};
 
 use crate::fault::Fault;
-use crate::input::{INPUT_BYTES, read_all};
+use crate::input::read_input;
 use crate::telling::Teller;
 use feed_http::Service;
 use feed_http::device::{FeedRead, FeedWrite};
@@ -44,19 +44,11 @@ pub fn start_source<R: FeedRead>(
     ensures read { IsErrOf result Fault.Read
         → HasFailed (R.failures input.old) (R.failures input.new) }
 {
-    let mut feed = Vec::new(alloc);
-    if let Err(fault) = read_all(input, &mut feed, INPUT_BYTES) {
-        return Err(Fault::of_input(fault));
-    }
-    let mut waiting = match feed_batches(alloc, feed.as_slice()) {
-        Ok(waiting) => waiting,
-        Err(stop) => return Err(Fault::of_batches(stop)),
-    };
+    let feed = read_input(alloc, input)?;
+    let mut waiting = feed_batches(alloc, feed.as_slice())?;
     let mut primary = Primary::new(alloc, options.limits)?;
     if options.turn.is_none() {
-        if let Err(fault) = commit_all(alloc, &mut primary, &mut waiting) {
-            return Err(Fault::of_commit(fault));
-        }
+        commit_all(alloc, &mut primary, &mut waiting)?;
     }
     Ok(Source { primary, waiting })
 }

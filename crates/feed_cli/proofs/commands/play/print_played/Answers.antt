@@ -1,5 +1,7 @@
 use Rattle.std.proofs.Common.{rules, ◌∙◌, sym, inl, inr}
 use Rattle.feed_play.specs.Player.{Plays, Stops}
+use Rattle.std.proofs.lemmas.Result.{err_from_is_err_and}
+use Rattle.feed_cli.proofs.InputLemmas.{play_fails}
 use Rattle.feed_cli.proofs.PlayLemmas.{told_by}
 use Rattle.feed_cli.proofs.commands.play.print_played.Goals as goal
 
@@ -12,7 +14,7 @@ returns-in-Ok-played-2-clause-err g c =
       told = told;
       whole = search rules;
       plays = inl (told_by (Plays script) _ _ told c.new-told.ensures.items c.as_slice-2.ensures.value c.in-Ok-played-2.ensures.ok);
-      printed = c.in-Err-write_all.ensures.prefix;
+      printed = c.in-Err.ensures.prefix;
     }
 
 pub returns-clause-err : goal.returns-clause-err
@@ -29,7 +31,7 @@ returns-clause-err g c =
         stops = told_by (λ text. Stops script text why) _ _ told c.new-told.ensures.items c.as_slice-2.ensures.value c.in-Err-played-2.ensures.err;
         no_memory = sym c.is_want_of_memory.ensures ∙ c.if-is_want_of_memory.false;
       });
-      printed = c.in-Err-write_all.ensures.prefix;
+      printed = c.in-Err.ensures.prefix;
     }
 
 pub returns-then-is_want_of_memory-clause-err : goal.returns-then-is_want_of_memory-clause-err
@@ -43,5 +45,10 @@ returns-then-is_want_of_memory-clause-err g c =
       whole = search rules;
       stops = told_by (λ text. Stops script text why) _ _ told c.new-told.ensures.items c.as_slice-2.ensures.value c.in-Err-played-2.ensures.err;
       line = search rules;
-      printed = inr (sym c.is_want_of_memory.ensures ∙ c.if-is_want_of_memory.true, record { failed = c.in-Err-write_all.ensures.failed; printed = c.in-Err-write_all.ensures.prefix });
+      printed = inr (sym c.is_want_of_memory.ensures ∙ c.if-is_want_of_memory.true, record { failed = c.in-Err.ensures.failed; printed = c.in-Err.ensures.prefix });
     }
+
+pub returns-in_err-script-clause-err : goal.returns-in_err-script-clause-err
+returns-in_err-script-clause-err g c =
+    let p = err_from_is_err_and c.from_residual.result c.from_residual.ensures.1 in
+    rw (p.1, p.2) (play_fails _ c.in_err-script.field-0.0 c.in_err-script.ensures.err (search rules))

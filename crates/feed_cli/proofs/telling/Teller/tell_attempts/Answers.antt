@@ -6,4 +6,4 @@ pub attempts-init : goal.attempts-init
 attempts-init g c = inl (refl, refl)
 
 pub attempts-preserved : goal.attempts-preserved
-attempts-preserved g c = told_then _ _ _ _ _ _ c.attempts.invariant c.tell_outcome.ensures
+attempts-preserved g c = told_then _ _ _ _ _ _ c.attempts.invariant c.tell_attempt.ensures

@@ -1,0 +1,16 @@
+-- What was read so far is there, and none of the reads found the end.
+use Rattle.std.proofs.Common.{◌≡◌, ◌+◌, ◌-◌, [], vec_len}
+use Rattle.feed_http.specs.Device.{Moved}
+use Rattle.feed_cli.specs.Check.{input_bytes}
+use Rattle.feed_cli.proofs.input.read_input.Given as goal
+
+abbrev pub invariant-pieces : goal.invariant-pieces
+invariant-pieces g l =
+    let reader = g.R.FeedRead in
+    record {
+      given : Moved (reader.remaining l.initial.input) (reader.remaining l.input) [] l.bytes.items;
+      quiet : reader.failures l.input ≡ reader.failures l.initial.input;
+    }
+
+abbrev pub decreases-pieces : goal.decreases-pieces
+decreases-pieces g l = input_bytes + 1 - vec_len l.bytes
