@@ -2,18 +2,18 @@
 
 ghost use Rattle.std.specs.Prelude.{◌≡◌, ◌+◌, [], ℕ, List, None, Contains, min};
 ghost use Rattle.feed_node.specs.States.{NodeState};
-ghost use Rattle.feed_live.specs.Sockets.{Closed, Opened, AllSockets, IsSocket, OtherSockets};
+ghost use Rattle.feed_device.specs.Sockets.{Closed, Opened, AllSockets, IsSocket, OtherSockets};
 ghost use Rattle.feed_live.specs.Serving.{Serving, StillServing, SameSeating, Leaves, IsSent, key_at, IsGreeted};
 ghost use Rattle.feed_live.specs.Held.{answerer, is_over, SameMirrors};
 
 mod sending;
 
 use crate::conn::{Conn, Stage};
-use crate::device::{Sockets, Stop};
 use crate::figures::ScreenTotals;
 use crate::options::LiveLimits;
 use crate::relay::Saying;
-use crate::told::{How, Telling, Told};
+use crate::told::Telling;
+use feed_device::{How, Sockets, Stop, Told};
 use feed_hub::{Answering, Hub, Key};
 use slab::Slab;
 use std::alloc::{AllocError, Global};
