@@ -20,7 +20,7 @@ use Rattle.feed_hub.specs.Seats.{seat_at, Watched, KeepsThose, Ends}
 use Rattle.feed_hub.specs.Steps.{taken}
 use Rattle.feed_live.specs.declared.conn.Conn.{Conn}
 use Rattle.feed_live.specs.declared.screens.Screens.{Screens}
-use Rattle.feed_live.specs.Sockets.{Socket, Closed, Opened, AllSockets, IsSocket, with_more, written_more, IsWrite, SameSockets, OtherSockets}
+use Rattle.feed_device.specs.Sockets.{Socket, Closed, Opened, AllSockets, IsSocket, with_more, written_more, IsWrite, SameSockets, OtherSockets}
 use Rattle.feed_live.specs.Held.{answerer}
 use Rattle.feed_live.specs.Laws.{SocketsAreFaithful}
 use Rattle.feed_live.specs.Serving.{IsGiven, WasServed, IsFaithful, nothing, refused, served, IsSent, Sits, asks, watches, cut, key_of, key_at, Stands, Serving, SameKeys, Leaves, keyless, IsGreeted, SameSeating, full_text}

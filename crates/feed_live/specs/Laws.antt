@@ -10,7 +10,7 @@ use Rattle.feed_hub.specs.Follows.{HasAskedSo, FollowsInLog}
 use Rattle.feed_hub.specs.Laws.{AreInLog}
 use Rattle.feed_live.specs.declared.conn.Conn.{Conn}
 use Rattle.feed_live.specs.Serving.{WasServed, IsFaithful, Serving}
-use Rattle.feed_live.specs.Sockets.{Opened, AllSockets}
+use Rattle.feed_device.specs.Sockets.{Opened, AllSockets}
 
 -- what was written to any socket that is open is faithful
 abbrev pub SocketsAreFaithful : Type 0

@@ -1,4 +1,3 @@
-pub mod Sockets
 pub mod Serving
 pub mod Held
 pub mod Laws

@@ -17,7 +17,7 @@ use Rattle.feed_hub.specs.Seats.{seat_at}
 use Rattle.feed_live.specs.declared.conn.Conn.{Conn}
 use Rattle.feed_live.specs.declared.screens.Screens.{Screens}
 use Rattle.feed_live.specs.declared.screens.TheConstants.{FULL}
-use Rattle.feed_live.specs.Sockets.{Socket, Closed, Opened, AllSockets, IsSocket}
+use Rattle.feed_device.specs.Sockets.{Socket, Closed, Opened, AllSockets, IsSocket}
 
 -- one of these nodes gave this answer to a request for the feed of the contest
 pub record IsGiven (nodes : List NodeState) (contest : List ℕ) (answer : AnswerParts) : Type 0 where

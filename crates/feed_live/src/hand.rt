@@ -6,9 +6,9 @@ ghost use Rattle.feed_answer.specs.Answered.{AnswerParts};
 ghost use Rattle.feed_hub.specs.Hub.{IsSeated, ChangesOnly, prefix_at};
 ghost use Rattle.feed_hub.specs.Seats.{seat_at, Watched};
 ghost use Rattle.feed_hub.specs.Steps.{taken};
-ghost use Rattle.feed_live.specs.Sockets.{IsWrite, OtherSockets};
+ghost use Rattle.feed_device.specs.Sockets.{IsWrite, OtherSockets};
 
-use crate::device::{Sockets, Stop};
+use feed_device::{Sockets, Stop};
 use feed_hub::{Hub, Key};
 
 /// Writes once what the connection at a key is sent next, to the socket at a number, and tells the

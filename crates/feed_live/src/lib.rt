@@ -12,7 +12,6 @@
 #![tactic(auto)]
 
 mod conn;
-mod device;
 mod figures;
 mod hand;
 mod laws;
@@ -24,10 +23,9 @@ mod source;
 mod told;
 mod turn;
 
-pub use device::{Before, Devices, Link, Ready, Sockets, Stop, Store};
+pub use feed_device::{Before, Devices, How, Link, Ready, Sockets, Stop, Store, Told, Why};
 pub use figures::{FeedFigures, Following, ScreenFigures, ScreenTotals};
 pub use laws::live_laws;
 pub use options::{LiveLimits, Start};
 pub use saved::{Restored, restore};
-pub use told::{How, Told, Why};
 pub use turn::{Input, Live, Turn};

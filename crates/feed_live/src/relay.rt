@@ -2,12 +2,12 @@
 
 ghost use Rattle.std.specs.Prelude.{◌≡◌, ℕ, List, Contains};
 ghost use Rattle.feed_node.specs.States.{NodeState};
-ghost use Rattle.feed_live.specs.Sockets.{AllSockets};
+ghost use Rattle.feed_device.specs.Sockets.{AllSockets};
 ghost use Rattle.feed_live.specs.Serving.{StillServing, SameSeating};
 
-use crate::device::Sockets;
 use crate::screens::{Counts, Screens};
-use crate::told::{Telling, Told};
+use crate::told::Telling;
+use feed_device::{Sockets, Told};
 use feed_hub::Said;
 use feed_node::{Node, Pulled};
 use std::alloc::Global;

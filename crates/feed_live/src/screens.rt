@@ -1,19 +1,20 @@
 //! The screens: each has a socket, a connection at the same place, and a seat in the hub.
 
-ghost use Rattle.std.specs.Prelude.{◌≡◌, ◌+◌, [], ℕ, List, None, Contains, min};
+ghost use Rattle.std.specs.Prelude.{◌≡◌, ◌+◌, ◌↔◌, [], ℕ, List, None, Contains, min, false, IsTrue};
+ghost use Rattle.slab.specs.Slab.{get};
 ghost use Rattle.feed_node.specs.States.{NodeState};
-ghost use Rattle.feed_live.specs.Sockets.{Closed, Opened, AllSockets, IsSocket, OtherSockets};
+ghost use Rattle.feed_device.specs.Sockets.{Closed, Opened, AllSockets, IsSocket, OtherSockets};
 ghost use Rattle.feed_live.specs.Serving.{Serving, StillServing, SameSeating, Leaves, IsSent, key_at, IsGreeted};
-ghost use Rattle.feed_live.specs.Held.{answerer, is_over, SameMirrors};
+ghost use Rattle.feed_live.specs.Held.{answerer, is_over, SameMirrors, IsAnswering, Waits};
 
 mod sending;
 
 use crate::conn::{Conn, Stage};
-use crate::device::{Sockets, Stop};
 use crate::figures::ScreenTotals;
 use crate::options::LiveLimits;
 use crate::relay::Saying;
-use crate::told::{How, Telling, Told};
+use crate::told::Telling;
+use feed_device::{How, Sockets, Stop, Told};
 use feed_hub::{Answering, Hub, Key};
 use slab::Slab;
 use std::alloc::{AllocError, Global};
@@ -393,7 +394,10 @@ impl Screens {
     }
 
     /// Whether there may be something to read at a place that is to be read now.
-    fn may_read(&self, shown: &Shown<'_>, at: usize, now: u64) -> bool {
+    fn may_read(&self, shown: &Shown<'_>, at: usize, now: u64) -> bool
+        ensures { Waits (get self.now.conns at) shown.now.is_held self.now.owed now
+            → result ≡ false }
+    {
         let Some(conn) = self.conns.get(at) else {
             return false;
         };
@@ -404,7 +408,9 @@ impl Screens {
     }
 
     /// Whether a request that came at a time can be answered now.
-    fn may_answer(&self, shown: &Shown<'_>, since: u64, now: u64) -> bool {
+    fn may_answer(&self, shown: &Shown<'_>, since: u64, now: u64) -> bool
+        ensures { IsTrue result ↔ IsAnswering shown.now.is_held self.now.owed since now }
+    {
         self.owed < MOST_OWED && shown.is_answering(since, now)
     }
 
@@ -458,7 +464,8 @@ impl Screens {
         self.may_read(shown, at, now) || self.conns.get(at).is_some_and(|conn| conn.has_more)
     }
 
-    /// Reads once, where there may be something to read that is to be read now.
+    /// Reads once, where there may be something to read that is to be read now. Of a request that
+    /// waits nothing is read, and so it is answered by nothing.
     fn read<S: Sockets>(
         &mut self,
         alloc: Global,
@@ -474,6 +481,8 @@ impl Screens {
             answers.old.blank.mirror.node)
             → StillServing nodes shown.now.contest.now self.old self.new
             (S.socket sockets.old) (S.socket sockets.new) }
+        ensures waits { Waits (get self.old.conns at) shown.now.is_held self.old.owed now
+            → (self.new ≡ self.old) × (sockets.new ≡ sockets.old) × (answers.new ≡ answers.old) }
         ensures mirrors { SameMirrors answers.old answers.new }
     {
         if !self.may_read(shown, at, now) {

@@ -2,11 +2,11 @@
 
 mod input;
 
-use crate::device::{Link, Stop};
 use crate::figures::{FeedFigures, Following};
 use crate::screens::{Answers, Screens};
-use crate::told::{Telling, Told, Why};
+use crate::told::Telling;
 use feed_answer::{Framing, Identity, Place, request_text_as};
+use feed_device::{Link, Stop, Told, Why};
 use feed_follow::{FollowFault, Progress};
 use feed_hub::{Answering, Upstream};
 use feed_node::{Mirror, Node};

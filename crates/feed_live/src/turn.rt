@@ -1,11 +1,11 @@
 //! The turn.
 
-use crate::device::{Devices, Link, Ready, Sockets, Store};
 use crate::options::{LiveLimits, Start};
 use crate::saved::{Restored, Saved};
 use crate::screens::{HOLD_TIME, Screens, Shown};
 use crate::source::Source;
-use crate::told::{Telling, Told};
+use crate::told::Telling;
+use feed_device::{Devices, Link, Ready, Sockets, Store, Told};
 use feed_node::Node;
 use std::alloc::Global;
 

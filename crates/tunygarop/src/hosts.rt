@@ -13,14 +13,6 @@ pub(crate) struct Hosts {
     from: Option<String>,
 }
 
-/// An address without the brackets around it, where it has both.
-pub(crate) fn without_brackets(host: &str) -> &str {
-    match host.strip_prefix('[') {
-        Some(rest) => rest.strip_suffix(']').unwrap_or(host),
-        None => host,
-    }
-}
-
 /// Whether brackets are missing.
 fn lacks_brackets(host: &str) -> bool {
     host.parse::<Ipv6Addr>().is_ok()

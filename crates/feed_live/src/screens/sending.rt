@@ -2,14 +2,14 @@
 
 ghost use Rattle.std.specs.Prelude.{◌≡◌, ◌≢◌, ℕ, List, Some, Contains, IsTrue, IfSome};
 ghost use Rattle.feed_node.specs.States.{NodeState};
-ghost use Rattle.feed_live.specs.Sockets.{AllSockets};
+ghost use Rattle.feed_device.specs.Sockets.{AllSockets};
 ghost use Rattle.feed_live.specs.Serving.{StillServing, SameSeating, key_at, keyless};
 
 use crate::conn::Stage;
-use crate::device::{Sockets, Stop};
 use crate::hand::hand;
 use crate::screens::Screens;
-use crate::told::{How, Telling};
+use crate::told::Telling;
+use feed_device::{How, Sockets, Stop};
 use feed_hub::Key;
 use feed_node::Node;
 use std::alloc::{AllocError, Global};

@@ -3,7 +3,8 @@
 use crate::figures::Following;
 use crate::screens::Screens;
 use crate::source::{Source, split_line};
-use crate::told::{Telling, Told};
+use crate::told::Telling;
+use feed_device::Told;
 use feed_node::FeedFault;
 use std::alloc::Global;
 

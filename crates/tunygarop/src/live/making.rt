@@ -1,37 +1,22 @@
 //! What a relay is made of, before its first turn: state files are read, and ports opened.
 
 use crate::ending::Failure;
-use crate::hosts::{Hosts, without_brackets};
+use crate::hosts::Hosts;
 use crate::identity::identity_of;
-use crate::live::guard::Guard;
-use crate::live::link::Servers;
-use crate::live::sockets::Port;
-use crate::live::standard::{ErrorStream, InputStream};
-use crate::live::store::{Files, Names, read_file};
-use crate::live::watchers::{WATCHERS, Watchers};
+use crate::live::Engine;
 use crate::live::watching::Watched;
-use crate::live::{Engine, LISTENER};
 use feed_answer::{Identity, Place};
 use feed_cli::{
-    AddressFault, Fault, LiveOptions, NetworkFault, PullOptions, Server, UpstreamOptions,
-    Verbosity, servers_of,
+    Fault, LiveOptions, NetworkFault, PullOptions, Server, UpstreamOptions, Verbosity, servers_of,
 };
-use feed_live::{Devices, Live, LiveLimits, Ready, Restored, Start, restore};
+use feed_live::{Live, LiveLimits, Restored, Start, restore};
 use feed_node::{Limits, Mirror};
-use feed_words::{Network, networks};
-use mio::net::TcpListener;
-use mio::{Events, Interest, Poll, Token};
-use std::alloc::{AllocError, Global};
+use feed_system::{Names, OpenFault, System, open, read_file, without_brackets};
+use std::alloc::AllocError;
 use std::io;
 use std::io::ErrorKind;
-use std::net::{IpAddr, SocketAddr, ToSocketAddrs};
+use std::net::{SocketAddr, ToSocketAddrs};
 use std::time::Instant;
-
-/// How many events one wait gives.
-const EVENTS: usize = 1_024;
-
-/// How many bytes of the input one turn takes.
-const INPUT_PIECE: usize = 65_536;
 
 /// What the options say of servers, as the other commands take it.
 fn pull_options<'a>(options: &LiveOptions<'a>, upstream: &UpstreamOptions<'a>) -> PullOptions<'a> {
@@ -146,28 +131,14 @@ fn restored(
     needs_memory(restore(alloc, limits, before.as_slice(), file.as_slice()))
 }
 
-/// Listens at a port of an address, where there is one.
-fn listener_of(
-    rt: &HostRuntime,
-    poll: &Poll,
-    address: &str,
-    port: Option<u16>,
-    token: Token,
-) -> Result<Option<TcpListener>, Fault> {
-    let Some(port) = port else {
-        return Ok(None);
-    };
-    let Ok(address) = without_brackets(address).parse::<IpAddr>() else {
-        return Err(Fault::of_addresses(AddressFault::BadAddress(0)));
-    };
-    let Ok(mut listener) = TcpListener::bind(rt, SocketAddr::new(address, port)) else {
-        return Err(Fault::of_network(NetworkFault::Bind));
-    };
-    of_system(
-        poll.registry()
-            .register(&mut listener, token, Interest::READABLE),
-    )?;
-    Ok(Some(listener))
+/// Why there is nothing to run on.
+fn fault_of(fault: OpenFault) -> Fault {
+    match fault {
+        OpenFault::Memory => Fault::Memory,
+        OpenFault::System => Fault::Read,
+        OpenFault::Address(fault) => Fault::of_addresses(fault),
+        OpenFault::Bind => Fault::of_network(NetworkFault::Bind),
+    }
 }
 
 fn limits_of(options: &LiveOptions<'_>) -> LiveLimits {
@@ -180,86 +151,6 @@ fn limits_of(options: &LiveOptions<'_>) -> LiveLimits {
         has_store: options.state.is_some(),
         ends_with_input: options.until_eof,
     }
-}
-
-/// The networks that may connect, where they are listed.
-fn allowed(alloc: Global, options: &LiveOptions<'_>) -> Result<Option<Vec<Network>>, Fault> {
-    let Some(list) = options.allow else {
-        return Ok(None);
-    };
-    match networks(alloc, list) {
-        Ok(networks) => Ok(Some(networks)),
-        Err(fault) => Err(Fault::of_addresses(fault)),
-    }
-}
-
-/// The devices, and the port that is listened at.
-fn devices<'r>(
-    rt: &'r HostRuntime,
-    poll: &Poll,
-    options: &LiveOptions<'_>,
-    names: Option<Names>,
-    addresses: Vec<SocketAddr>,
-) -> Result<Devices<Port, Servers<'r>, Files<'r>>, Fault> {
-    let guard = Guard::new(allowed(rt.alloc(), options)?, options.per_address);
-    let listener = listener_of(rt, poll, options.address, options.listen, LISTENER)?;
-    let registry = poll.registry();
-    let sockets = of_system(registry.try_clone())?;
-    Ok(Devices {
-        sockets: Port::new(rt.alloc(), sockets, listener, guard),
-        link: Servers::new(rt, of_system(registry.try_clone())?, addresses),
-        store: Files::new(rt, names),
-    })
-}
-
-/// Who watches the relay, and the port that they come to.
-fn watchers(rt: &HostRuntime, poll: &Poll, options: &LiveOptions<'_>) -> Result<Watchers, Fault> {
-    let guard = Guard::new(allowed(rt.alloc(), options)?, None);
-    let address = options.status_address.unwrap_or(options.address);
-    let listener = listener_of(rt, poll, address, options.status, WATCHERS)?;
-    let registry = of_system(poll.registry().try_clone())?;
-    Ok(Watchers::new(rt.alloc(), registry, listener, guard))
-}
-
-/// All ends of connections and files.
-#[derive(Drop)]
-struct Ends<'r> {
-    poll: Poll,
-    devices: Devices<Port, Servers<'r>, Files<'r>>,
-    watchers: Watchers,
-}
-
-/// Listens, and makes the ends.
-fn open_ends<'r>(
-    rt: &'r HostRuntime,
-    options: &LiveOptions<'_>,
-    names: Option<Names>,
-    addresses: Vec<SocketAddr>,
-) -> Result<Ends<'r>, Fault> {
-    let poll = of_system(Poll::new(rt))?;
-    let watchers = watchers(rt, &poll, options)?;
-    let devices = devices(rt, &poll, options, names, addresses)?;
-    Ok(Ends {
-        poll,
-        devices,
-        watchers,
-    })
-}
-
-/// What one turn is given is kept in these.
-#[derive(Drop)]
-struct Buffers {
-    events: Events,
-    ready: Vec<Ready>,
-    piece: Vec<u8>,
-}
-
-fn make_buffers(alloc: Global) -> Result<Buffers, AllocError> {
-    Ok(Buffers {
-        events: Events::with_capacity(alloc, EVENTS)?,
-        ready: Vec::with_capacity(alloc, EVENTS)?,
-        piece: Vec::from_elem(alloc, 0u8, INPUT_PIECE)?,
-    })
 }
 
 /// What a relay starts from, before anything is opened.
@@ -319,56 +210,41 @@ fn make_plan(rt: &HostRuntime, options: &LiveOptions<'_>) -> Result<Plan, Failur
     })
 }
 
-/// Makes all that a relay runs on, and listens.
+/// Listens, and makes what the relay runs on.
+fn system_of<'r>(
+    rt: &'r HostRuntime,
+    options: &LiveOptions<'_>,
+    names: Option<Names>,
+    addresses: Vec<SocketAddr>,
+    start: Instant,
+) -> Result<System<'r>, Fault> {
+    match open(rt, options, names, addresses, start) {
+        Ok(system) => Ok(system),
+        Err(fault) => Err(fault_of(fault)),
+    }
+}
+
+/// Makes a relay and all that it runs on, and listens.
 pub(super) fn prepare<'r>(
     rt: &'r HostRuntime,
     options: &LiveOptions<'_>,
 ) -> Result<Engine<'r>, Failure> {
     let start = of_system(Instant::now(rt))?;
-    let buffers = needs_memory(make_buffers(rt.alloc()))?;
     let watched = needs_memory(Watched::new(rt.alloc(), options))?;
-    let plan = make_plan(rt, options)?;
-    let ends = open_ends(rt, options, plan.names, plan.addresses)?;
-    Ok(engine(
-        rt,
-        options,
-        plan.start,
-        plan.contest,
-        ends,
-        buffers,
-        watched,
-        start,
-    ))
-}
-
-/// A relay on these ends.
-fn engine<'r>(
-    rt: &'r HostRuntime,
-    options: &LiveOptions<'_>,
-    from: Start,
-    contest: String,
-    ends: Ends<'r>,
-    buffers: Buffers,
-    watched: Watched,
-    start: Instant,
-) -> Engine<'r> {
-    let mut devices = ends.devices;
-    let store = &mut devices.store;
+    let Plan {
+        start: from,
+        contest,
+        names,
+        addresses,
+    } = make_plan(rt, options)?;
+    let mut system = system_of(rt, options, names, addresses, start)?;
+    let store = &mut system.devices.store;
     let live = Live::new(rt.alloc(), contest, limits_of(options), from, store, 0);
-    let registry = ends.poll.registry();
-    Engine {
+    Ok(Engine {
         rt,
-        events: buffers.events,
-        ready: buffers.ready,
-        piece: buffers.piece,
-        devices,
+        system,
         live,
-        input: InputStream::new(registry),
-        errors: ErrorStream::new(registry, Vec::new(rt.alloc())),
-        watchers: ends.watchers,
         watched,
-        poll: ends.poll,
         verbosity: options.verbosity,
-        start,
-    }
+    })
 }

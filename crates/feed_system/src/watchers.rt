@@ -1,10 +1,10 @@
 //! The status port: those who watch the relay ask it over HTTP, each with one connection. They are
 //! answered with what the relay is at that moment, and change nothing of it.
 
-use crate::live::guard::Guard;
-use crate::live::sockets::{read_once, write_once};
+use crate::guard::Guard;
+use crate::sockets::{read_once, write_once};
 use feed_answer::{HEAD_BYTES, HeadRead, look_at_request};
-use feed_live::Stop;
+use feed_device::Stop;
 use feed_status::{Status, answer};
 use feed_words::Origin;
 use mio::net::{TcpListener, TcpStream};

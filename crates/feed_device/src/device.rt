@@ -2,7 +2,7 @@
 
 ghost use Rattle.std.specs.Prelude.{◌≡◌, ◌≢◌, ◌<◌, ◌≤◌, ℕ, List, [], Option, None, Some, length, take, IfOk, OnOk, OnErr};
 ghost use Rattle.std.specs.Io.KnownBytes.{Keeps, WriteAppends};
-ghost use Rattle.feed_live.specs.Sockets.{Socket, Closed, Opened, IsSocket, IsWrite, SameSockets, OtherSockets};
+ghost use Rattle.feed_device.specs.Sockets.{Socket, Closed, Opened, IsSocket, IsWrite, SameSockets, OtherSockets};
 
 use std::alloc::AllocError;
 use std::net::SocketAddr;

@@ -2,8 +2,8 @@
 
 ghost use Rattle.std.specs.Prelude.{◌≡◌, ◌≤◌, length, IfOk};
 
-use crate::live::guard::Guard;
-use feed_live::{Sockets, Stop};
+use crate::guard::Guard;
+use feed_device::{Sockets, Stop};
 use feed_words::Origin;
 use mio::net::{TcpListener, TcpStream};
 use mio::{Interest, Registry, Token};
@@ -40,7 +40,7 @@ impl Peer {
 
 /// A port that screens connect to, who may connect, and their sockets, each at its number.
 #[derive(Drop)]
-pub(crate) struct Port {
+pub struct Port {
     registry: Registry,
     listener: Option<TcpListener>,
     guard: Guard,

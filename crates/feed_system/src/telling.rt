@@ -1,8 +1,8 @@
 //! What is told on standard error: a line for each thing that happened, with the time in UTC.
 
-use crate::live::link::Servers;
-use feed_cli::Verbosity;
-use feed_live::Told;
+use crate::link::Servers;
+use feed_device::Told;
+use feed_words::Verbosity;
 use jiff::Timestamp;
 use std::alloc::{AllocError, Global};
 use std::net::SocketAddr;

@@ -1,7 +1,7 @@
 //! The connection to one of the servers.
 
-use crate::live::sockets::{read_once, write_once};
-use feed_live::{Link, Stop};
+use crate::sockets::{read_once, write_once};
+use feed_device::{Link, Stop};
 use mio::net::TcpStream;
 use mio::{Interest, Registry, Token};
 use std::net::SocketAddr;
@@ -11,7 +11,7 @@ pub(crate) const LINK: Token = Token(1);
 
 /// The servers' addresses, and the connection to one of them.
 #[derive(Drop)]
-pub(crate) struct Servers<'r> {
+pub struct Servers<'r> {
     rt: &'r HostRuntime,
     registry: Registry,
     addresses: Vec<SocketAddr>,

@@ -1,0 +1,117 @@
+//! What happened in a turn, as values.
+
+use feed_follow::FollowFault;
+use feed_node::FeedFault;
+use std::fmt;
+use std::net::SocketAddr;
+
+/// Why a server is left.
+#[derive(Clone, Copy, Debug, PartialEq, Eq)]
+pub enum Why {
+    /// It can't be connected to.
+    Refuses,
+    /// It did not take the connection within ten seconds.
+    Late,
+    /// The connection broke off.
+    Broke,
+    /// The response ended.
+    Ended,
+    /// Nothing came for twice the idle time.
+    Silent,
+    /// What came can't be followed.
+    Fault(FollowFault),
+    /// Memory ran out.
+    Memory,
+}
+
+impl fmt::Display for Why {
+    fn fmt<W: fmt::Write>(&self, f: &mut fmt::Formatter<W>) -> fmt::Result {
+        match self {
+            Why::Refuses => f.write_str("can't connect"),
+            Why::Late => f.write_str("no connection after 10 s"),
+            Why::Broke => f.write_str("connection lost"),
+            Why::Ended => f.write_str("end of the feed"),
+            Why::Silent => f.write_str("silent"),
+            Why::Fault(fault) => write!(f, "{fault}"),
+            Why::Memory => f.write_str("out of memory"),
+        }
+    }
+}
+
+/// How a screen's connection ended.
+#[derive(Clone, Copy, Debug, PartialEq, Eq)]
+pub enum How {
+    /// Its answer, or its feed, was sent whole.
+    Done,
+    /// It closed, or its connection broke off.
+    Left,
+    /// It was too far behind, its request was late, or it took nothing for too long.
+    Cut,
+    /// Memory ran out.
+    Memory,
+}
+
+impl fmt::Display for How {
+    fn fmt<W: fmt::Write>(&self, f: &mut fmt::Formatter<W>) -> fmt::Result {
+        f.write_str(match self {
+            How::Done => "done",
+            How::Left => "left",
+            How::Cut => "cut",
+            How::Memory => "out of memory",
+        })
+    }
+}
+
+/// What happened. Times are in milliseconds, and servers are told by their numbers.
+#[derive(Clone, Copy, Debug)]
+pub enum Told {
+    /// A server answers, after so long without one.
+    Found {
+        server: usize,
+        away: u64,
+    },
+    /// A server is left, and the next is asked after so long.
+    Lost {
+        server: usize,
+        why: Why,
+        pause: u64,
+    },
+    /// A server doesn't hold the token that it was asked with.
+    Refused {
+        server: usize,
+    },
+    /// The input can't be followed: nothing more of it is read.
+    BadInput(FeedFault),
+    /// The input has ended.
+    EndOfInput,
+    /// So many screens are there, and so many came, ended and were cut in the last minute.
+    Screens {
+        now: usize,
+        came: u64,
+        ended: u64,
+        cut: u64,
+    },
+    /// There are as many screens as there may be: one more was answered 503.
+    Full,
+    /// No connection can be taken for a second.
+    NoAccept,
+    /// A screen's connection ended: it was answered with a status (0: not at all) and sent so many
+    /// bytes.
+    Screen {
+        peer: SocketAddr,
+        how: How,
+        status: u16,
+        bytes: u64,
+        time: u64,
+    },
+    /// Requests are answered 503, since no server was heard yet.
+    NotHeard,
+    /// The state file was begun again with a snapshot of so many bytes.
+    Saved {
+        bytes: u64,
+    },
+    /// The state file can't be written; that is tried again after so long.
+    NotSaved {
+        pause: u64,
+    },
+}

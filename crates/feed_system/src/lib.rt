@@ -1,0 +1,19 @@
+//! The system that a relay runs on: sockets that never wait, the files of its state, standard
+//! streams, those who watch it, and the clock. It knows nothing of what the relay does with them.
+#![tactic(auto)]
+
+mod guard;
+mod link;
+mod opening;
+mod sockets;
+mod standard;
+mod store;
+mod system;
+mod telling;
+mod watchers;
+
+pub use link::Servers;
+pub use opening::{OpenFault, open, without_brackets};
+pub use sockets::Port;
+pub use store::{Files, Names, read_file};
+pub use system::System;

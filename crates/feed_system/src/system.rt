@@ -1,0 +1,192 @@
+//! All that a relay runs on, as one value: it waits, and has what the turn needs.
+
+use crate::link::{LINK, Servers};
+use crate::opening::LISTENER;
+use crate::sockets::{FIRST_SCREEN, Port};
+use crate::standard::{ERRORS, ErrorStream, INPUT, InputStream};
+use crate::store::Files;
+use crate::telling::{is_told, name_of, stamp, text_of};
+use crate::watchers::{FIRST_WATCHER, WATCHERS, Watchers};
+use feed_device::{Devices, Ready, Told};
+use feed_status::Status;
+use feed_words::Verbosity;
+use mio::event::Event;
+use mio::{Events, Poll, Token};
+use std::alloc::AllocError;
+use std::io;
+use std::time::{Duration, Instant};
+
+/// Sockets, files, standard streams and the clock.
+pub struct System<'r> {
+    pub(crate) rt: &'r HostRuntime,
+    pub(crate) poll: Poll,
+    pub(crate) events: Events,
+    /// What became ready while it waited last.
+    pub ready: Vec<Ready>,
+    /// What the input gave is read into this.
+    pub piece: Vec<u8>,
+    pub devices: Devices<Port, Servers<'r>, Files<'r>>,
+    pub(crate) input: InputStream,
+    pub(crate) errors: ErrorStream,
+    pub(crate) watchers: Watchers,
+    pub(crate) start: Instant,
+}
+
+impl Drop for System<'_> {
+    fn drop(self) {
+        let System {
+            rt: _,
+            poll,
+            events,
+            ready,
+            piece,
+            devices,
+            input,
+            errors,
+            watchers,
+            start: _,
+        } = self;
+        drop(poll);
+        drop(events);
+        drop(ready);
+        drop(piece);
+        drop(devices);
+        drop(input);
+        drop(errors);
+        drop(watchers);
+    }
+}
+
+impl System<'_> {
+    /// The time since the start, in milliseconds.
+    pub fn now(&self) -> io::Result<u64> {
+        let elapsed = self.start.elapsed(self.rt)?.as_millis();
+        Ok(u64::try_from(elapsed).unwrap_or(u64::MAX))
+    }
+
+    /// The time since the start, in microseconds.
+    pub fn microseconds(&self) -> io::Result<u64> {
+        let elapsed = self.start.elapsed(self.rt)?.as_micros();
+        Ok(u64::try_from(elapsed).unwrap_or(u64::MAX))
+    }
+
+    /// Waits until something is ready, or a time has come, in milliseconds since the start. Who
+    /// watches the relay may be late before.
+    pub fn wait(&mut self, due: u64) -> io::Result<()> {
+        let due = due.min(self.watchers.due());
+        let pause = due.saturating_sub(self.now()?);
+        self.poll
+            .poll(&mut self.events, Some(Duration::from_millis(pause)))?;
+        self.ready.clear();
+        for event in &self.events {
+            let ready = match event.token() {
+                LISTENER => Ready::Listener,
+                LINK => Ready::Link,
+                INPUT => {
+                    self.input.wake();
+                    continue;
+                }
+                ERRORS => {
+                    self.errors.wake();
+                    continue;
+                }
+                WATCHERS => {
+                    self.watchers.wake();
+                    continue;
+                }
+                Token(number) if number < FIRST_SCREEN => {
+                    self.watchers.wake_one(number.saturating_sub(FIRST_WATCHER));
+                    continue;
+                }
+                Token(number) => screen_of(number.saturating_sub(FIRST_SCREEN), event),
+            };
+            self.ready.push(ready)?;
+        }
+        Ok(())
+    }
+
+    /// Whether the input has something to be read.
+    pub fn has_input(&self) -> bool {
+        self.input.is_ready()
+    }
+
+    /// Whether the input's end was read.
+    pub fn has_no_more_input(&self) -> bool {
+        self.input.has_ended()
+    }
+
+    /// Reads what the input has to `piece`: how much, none at its end. It never waits where there
+    /// is something.
+    pub fn read_input(&mut self) -> usize {
+        let registry = self.poll.registry();
+        self.input.read(self.rt, registry, &mut self.piece)
+    }
+
+    /// The address of the server of a number.
+    pub fn server_name(&self, server: usize) -> Result<String, AllocError> {
+        name_of(self.rt.alloc(), &self.devices.link, server)
+    }
+
+    /// How many connections were refused by their address.
+    pub fn refused(&self) -> u64 {
+        let screens = self.devices.sockets.refused();
+        screens.saturating_add(self.watchers.refused())
+    }
+
+    /// Whether somebody who watches the relay has to be answered.
+    pub fn is_watched(&self, now: u64) -> bool {
+        self.watchers.has_work(now)
+    }
+
+    /// Answers those who watch the relay.
+    pub fn show(&mut self, status: &Status<'_>, now: u64) {
+        self.watchers.serve(self.rt.alloc(), status, now);
+    }
+
+    /// Keeps a line to be written to standard error, with the time.
+    pub fn line(&mut self, text: &str) {
+        let time = stamp(self.rt);
+        if let Ok(line) = format!(in self.rt.alloc(); "{time} live: {text}\n") {
+            self.errors.line(line.as_str());
+        }
+    }
+
+    /// Tells what happened, as much as is asked for; so many things more happened that nobody kept.
+    /// What can be written without a wait is.
+    pub fn tell(&mut self, told: &[Told], missed: u64, verbosity: Verbosity) {
+        for told in told {
+            self.tell_one(told, verbosity);
+        }
+        self.errors.miss(missed);
+        self.tell_missed();
+        self.errors.write(self.rt, self.poll.registry());
+    }
+
+    fn tell_one(&mut self, told: &Told, verbosity: Verbosity) {
+        if !is_told(told, verbosity) {
+            return;
+        }
+        if let Ok(text) = text_of(self.rt.alloc(), told, &self.devices.link) {
+            self.line(text.as_str());
+        }
+    }
+
+    fn tell_missed(&mut self) {
+        if !self.errors.has_missed() {
+            return;
+        }
+        let missed = self.errors.missed();
+        if let Ok(text) = format!(in self.rt.alloc(); "{missed} lines are left away") {
+            self.line(text.as_str());
+        }
+    }
+}
+
+/// The socket of a screen became ready.
+fn screen_of(at: usize, event: &Event) -> Ready {
+    Ready::Screen {
+        at,
+        is_readable: event.is_readable(),
+        is_writable: event.is_writable(),
+    }
+}
