@@ -136,7 +136,7 @@ pub struct Status<'a> {
     pub token: Option<&'a str>,
     /// How many commits were published since the start.
     pub commits: u64,
-    /// How many types are published. One that has one object and no collection is counted here alone.
+    /// How many types are published. One with one object and no collection counts here alone.
     pub types: u64,
     /// How many objects their collections have.
     pub objects: u64,
