@@ -80,9 +80,8 @@ impl Fault {
             Fault::Unpublished => 3,
             Fault::Place(_) | Fault::Address(_) => 1,
             Fault::Commit(_) => 2,
-            Fault::Network(NetworkFault::Engine(
-                EngineFault::Commit(_) | EngineFault::Follow(_),
-            )) => 2,
+            Fault::Network(NetworkFault::Engine(EngineFault::Commit(_) | EngineFault::Follow(_))) =>
+                2,
             Fault::Network(_) => 4,
         }
     }

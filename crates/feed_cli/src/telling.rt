@@ -79,7 +79,9 @@ pub fn tell_about<E: FeedWrite>(
 /// The address of the server that an attempt did not reach.
 fn address_of<'s>(servers: &'s [Server<'_>], attempt: &Attempt) -> Option<Address<'s>> {
     match attempt.outcome {
-        AttemptEnd::NoLink => servers.get(attempt.server).map(|it| (it.host.as_str(), it.port)),
+        AttemptEnd::NoLink => servers
+            .get(attempt.server)
+            .map(|it| (it.host.as_str(), it.port)),
         _ => None,
     }
 }
@@ -114,12 +116,7 @@ impl Teller {
     }
 
     /// Tells why an attempt at one of these servers failed, where it did.
-    fn tell_attempt<E: FeedWrite>(
-        &mut self,
-        servers: &[Server<'_>],
-        attempt: &Attempt,
-        err: &mut E,
-    )
+    fn tell_attempt<E: FeedWrite>(&mut self, servers: &[Server<'_>], attempt: &Attempt, err: &mut E)
         ensures { HasTold (E.failures err.old) (E.failures err.new)
             self.old.has_failed self.new.has_failed }
     {
