@@ -3,6 +3,7 @@ use Rattle.std.proofs.Common.{◌≡◌, ◌≢◌, ◌⊎◌, inl, inr, refl, s
 use Rattle.std.specs.Prelude.{if◌then◌else◌, option_map, unwrap_or}
 use Rattle.std.specs.Io.KnownBytes.{Appends, Keeps}
 use Rattle.feed_http.specs.Device.{HasFailed, AppendsPrefix}
+use Rattle.feed_http.specs.Exchange.{Wrote}
 use Rattle.feed_note.specs.Publishing.{Published}
 use Rattle.feed_note.specs.Texts.{published_text}
 use Rattle.feed_node.specs.States.{token_of}
@@ -21,7 +22,6 @@ use Rattle.feed_http.specs.declared.fault.EngineFault.TheVariants as engine
 use Rattle.feed_follow.specs.declared.fault.FollowFault.TheVariants.{BadHead}
 use Rattle.feed_cli.specs.Fault.{fault_of_network}
 use Rattle.feed_cli.specs.Pull.{PrintedPulled, PullFails, IsCutShort, outcome_of_attempt, outcome_of_pull}
-use Rattle.feed_cli.specs.Streams.{Wrote}
 use Rattle.feed_cli.specs.Tables.{outcome_of}
 use Rattle.feed_cli.specs.declared.fault.Fault.{Fault}
 use Rattle.feed_cli.specs.declared.fault.Fault.TheVariants as fault

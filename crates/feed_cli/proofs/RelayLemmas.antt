@@ -16,7 +16,7 @@ use Rattle.feed_relay.specs.declared.server.Server.{Server}
 use Rattle.feed_cli.specs.Fault.{goes_on}
 use Rattle.feed_cli.specs.Pull.{IsCutShort}
 use Rattle.feed_cli.specs.Relay.{Relaying, relaying, MakesRound, MakesRoundOn, MakesRounds, EndsRounds, has_no_room, has_not_served, BreaksOff, RelayFails}
-use Rattle.feed_cli.specs.Streams.{Wrote}
+use Rattle.feed_http.specs.Exchange.{Wrote}
 use Rattle.feed_cli.specs.Telling.{FailsAs}
 use Rattle.feed_cli.specs.declared.fault.Fault.{Fault}
 use Rattle.feed_cli.specs.declared.fault.Fault.TheVariants as fault

@@ -5,7 +5,8 @@ use Rattle.feed_http.specs.Device.{AppendsPrefix, HasFailed as HasDeviceFailed}
 use Rattle.feed_cli.specs.Check.{CountsPrinted, CheckFails}
 use Rattle.feed_cli.specs.Fault.{IsToldStatus}
 use Rattle.feed_cli.specs.Play.{Played, PlayFails}
-use Rattle.feed_cli.specs.Streams.{Streams, Wrote}
+use Rattle.feed_cli.specs.Streams.{Streams}
+use Rattle.feed_http.specs.Exchange.{Wrote}
 use Rattle.feed_cli.specs.Tables.{PrintedSome, TablesFail}
 use Rattle.feed_cli.specs.declared.fault.Fault.{Fault}
 use Rattle.feed_cli.specs.declared.fault.Fault.TheVariants as fault

@@ -23,7 +23,7 @@ use Rattle.feed_relay.specs.declared.server.Server.{Server}
 use Rattle.feed_words.specs.Addresses.{IsListOf, RefusesList}
 use Rattle.feed_cli.specs.Check.{IsWhole, InputFails}
 use Rattle.feed_cli.specs.Fault.{fault_of_network}
-use Rattle.feed_cli.specs.Streams.{Wrote}
+use Rattle.feed_http.specs.Exchange.{Wrote}
 use Rattle.feed_cli.specs.declared.fault.Fault.{Fault}
 use Rattle.feed_cli.specs.declared.fault.Fault.TheVariants as fault
 use Rattle.feed_words.specs.declared.request.PullOptions.{PullOptions}

@@ -15,7 +15,7 @@ use Rattle.feed_words.specs.declared.request.RelayOptions.{RelayOptions}
 use Rattle.feed_cli.specs.Fault.{goes_on}
 use Rattle.feed_cli.specs.InTurn.{InTurn}
 use Rattle.feed_cli.specs.Pull.{IsCutShort}
-use Rattle.feed_cli.specs.Streams.{Wrote}
+use Rattle.feed_http.specs.Exchange.{Wrote}
 use Rattle.feed_cli.specs.Telling.{FailsAs}
 use Rattle.feed_cli.specs.declared.fault.Fault.{Fault}
 use Rattle.feed_cli.specs.declared.fault.Fault.TheVariants as fault

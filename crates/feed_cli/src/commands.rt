@@ -1,7 +1,8 @@
 //! The commands, as a command line asks for them.
 ghost use Rattle.std.specs.Prelude.{◌≡◌, ◌≢◌, ◌≤◌, IfErr, OnOk};
 ghost use Rattle.feed_cli.specs.Commands.{Succeeds, Fails, IsDeviceFault, EndsBy, Replies, TellsRefusal};
-ghost use Rattle.feed_cli.specs.Streams.{streams_of, wrote_by};
+ghost use Rattle.feed_cli.specs.Streams.{streams_of};
+ghost use Rattle.feed_http.specs.Exchange.{wrote_by};
 
 mod check;
 mod play;

@@ -7,3 +7,4 @@ pub mod RestLemmas
 pub mod ServedLemmas
 pub mod ServingLemmas
 pub mod SessionLemmas
+pub mod WritingLemmas

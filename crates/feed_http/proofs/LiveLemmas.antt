@@ -15,7 +15,6 @@ use Rattle.std.proofs.lemmas.Slice.Eq.{bytes_eq-Decides}
 use Rattle.feed_tables.specs.declared.change.Change.{Change}
 use Rattle.feed_note.specs.Publishing.{Published}
 use Rattle.feed_node.specs.declared.commit.Commit.{Commit}
-use Rattle.feed_node.specs.declared.primary.CommitFault.{CommitFault}
 use Rattle.feed_node.specs.Log.{PrimaryState, token_after}
 use Rattle.feed_node.specs.States.{NodeState, nothing_published, token_of, place_of, keep_last, HoldsItsTokens, IsConsistent}
 use Rattle.feed_node.specs.Serving.{is_published, token_before}
@@ -25,13 +24,11 @@ use Rattle.feed_answer.specs.Asked.{Asked, refused, feed, framing_for}
 use Rattle.feed_answer.specs.Framed.{frame_end}
 use Rattle.feed_answer.specs.Opening.{starts_behind, opens_from}
 use Rattle.feed_answer.specs.Served.{farewell, behind_opening}
-use Rattle.feed_http.specs.declared.fault.EngineFault.{EngineFault}
-use Rattle.feed_http.specs.declared.fault.EngineFault.TheVariants as engine_fault
 use Rattle.feed_http.specs.Device.{counted}
 use Rattle.feed_http.specs.Sessions.{Nothing_new, Lost, next}
 use Rattle.feed_http.specs.Serving.{HasAll, commit_text, commit_frames}
 use Rattle.feed_http.specs.Sending.{Sent, sent_none, sent_one, WroteCommits}
-use Rattle.feed_http.specs.Live.{Intake, intake_of, Accepts, accepts_none, accepts_one, TakesTurn, RefusesInTurn, IsLongTurn, HasSent, commit_sent, IsOver, SendsLive, IsCutShort}
+use Rattle.feed_http.specs.Live.{Intake, intake_of, Accepts, accepts_none, accepts_one, TakesTurn, IsLongTurn, HasSent, commit_sent, IsOver, SendsLive, IsCutShort}
 use Rattle.feed_http.specs.Taking.{IsHeld}
 use Rattle.feed_http.proofs.ServingLemmas.{next_moves, tokens-length, frames-append}
 use Rattle.feed_http.proofs.RestLemmas.{new_is_published, last_is, never_lost}
@@ -222,21 +219,6 @@ end_cut_short turn start opened sent now token framing gone prefix rest run over
   begins = inr (gone, rest, over, split);
   text_is = refl;
 }
-
--- whatever fault it was
-pub stopped : {A : Type 0} (r : Result A EngineFault) (P : Type 0) → P
-    → IfErr r (λ fault. ((why : CommitFault) → fault ≢ engine_fault.Commit why) → P)
-stopped (Ok _) P h = tt
-stopped (Err _) P h = λ _. h
-
--- the refusal is the one that is told
-pub refused_so : (turn : ℕ) (before now : Intake) (actual why : CommitFault)
-    → RefusesInTurn turn before actual now
-    → ◌≡◌ {A = EngineFault} (engine_fault.Commit actual) (engine_fault.Commit why)
-    → RefusesInTurn turn before why now
-refused_so turn before now actual why refuses e =
-    let same : actual ≡ why = cc in
-    subst (λ f. RefusesInTurn turn before f now) same refuses
 
 -- no batch waits where there is no vector
 pub none_left : {A : Type 0} (primary : PrimaryState) (input : List (Vec Change A)) → length input ≡ 0 → (intake_of primary input).batches ≡ []

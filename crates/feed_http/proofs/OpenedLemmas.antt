@@ -1,7 +1,6 @@
 -- A session is opened at status 200, and at no other.
 use Rattle.std.proofs.Common.{arith, ◌≡◌, ◌≢◌, refl, sym, ◌∙◌, subst, ℕ, Bool, true, false, List, [], ◌∷◌}
 use Rattle.std.specs.Prelude.{Option, Some, None, Result, Ok, Err, Vec, IfOk, IfSome}
-use Rattle.std.specs.Io.KnownBytes.{Appends}
 use Rattle.feed_tables.specs.declared.change.Change.{Change}
 use Rattle.feed_node.specs.declared.commit.Commit.{Commit}
 use Rattle.feed_node.specs.declared.session.OpenFault.{OpenFault}
@@ -12,11 +11,8 @@ use Rattle.feed_answer.specs.declared.framing.Framing.{Framing}
 use Rattle.feed_answer.specs.Answered.{AnswerParts, AnswersTo, answer_to, answer_opened}
 use Rattle.feed_answer.specs.Asked.{Asked, refused, feed, framing_for}
 use Rattle.feed_answer.specs.Opening.{Started, opens}
-use Rattle.feed_http.specs.declared.fault.EngineFault.{EngineFault}
 use Rattle.feed_http.specs.declared.fault.Served.{Served}
-use Rattle.feed_http.specs.declared.service.Service.{Service}
-use Rattle.feed_http.specs.Exchange.{Exchange}
-use Rattle.feed_http.specs.Live.{Intake, IsOver, IsLongTurn, LosesItsToken, HasAnswer, SendsLiveTo, SendsLive, ServedLive, TakesAll}
+use Rattle.feed_http.specs.Live.{Intake, IsOver, IsLongTurn, LosesItsToken, SendsLiveTo, SendsLive, TakesAll}
 
 -- with this status a session was opened, or none was
 abbrev pub OpenedAt : ℕ → Option (List ℕ) → Type 0
@@ -80,23 +76,3 @@ takes_all turn start now answer text served opened sends long lost = record {
   none_taken = λ other. stays turn start now answer.status answer.session sends.sent sends.gone
       opened sends.sends (λ is. other (sends.tells.status ∙ is));
 }
-
--- a connection that came to its end, and what that says of the batches
-pub was_live : (turn : ℕ) (service : Service) (spoken : Exchange) (start now : Intake)
-    (answer : AnswerParts)
-    → HasAnswer service.contest.now start.primary.node service.framing service.back spoken.source
-    spoken.left answer
-    → (r : Result Served EngineFault)
-    → IfOk r (λ served. (text : List ℕ) × SendsLive turn start answer text served now
-    × Appends spoken.written_old spoken.written_new text)
-    → IfOk r (λ served. served.gone ≡ true → IsLongTurn turn start)
-    → IfSome answer.session (λ _. IfOk r (λ served. LosesItsToken turn start served.gone))
-    → IfOk r (λ served. ServedLive turn service.contest.now service.framing service.back
-    service.turns spoken start (Ok served) now)
-was_live turn service spoken start now answer has (Err why) sent long lost = tt
-was_live turn service spoken start now answer has (Ok served) (text, sends, wrote) long lost = (
-  (answer, text, has, sends, wrote),
-  takes_all turn start now answer text served
-      (opened_at has.head service.contest.now start.primary.node service.framing service.back
-      answer has.answers) sends long lost,
-)

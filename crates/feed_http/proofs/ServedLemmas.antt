@@ -1,6 +1,6 @@
 -- Lemmas on what a connection came to: what is said of each end, said of the connection.
-use Rattle.std.proofs.Common.{◌≡◌, ◌⊎◌, refl, ap, arith, ℕ, List, []}
-use Rattle.std.specs.Prelude.{true, false, Result, Ok, Err, IfOk, IfErr, IsErrOf}
+use Rattle.std.proofs.Common.{◌≡◌, ◌⊎◌, refl, inr, arith, ℕ, List, []}
+use Rattle.std.specs.Prelude.{Result, Ok, Err, IfOk, IfErr, IsErrOf}
 use Rattle.std.specs.Io.KnownBytes.{Appends, Consumes, IsAtEnd}
 use Rattle.feed_node.specs.States.{NodeState}
 use Rattle.feed_node.specs.declared.primary.CommitFault.{CommitFault}
@@ -10,10 +10,22 @@ use Rattle.feed_http.specs.declared.fault.EngineFault.TheVariants as fault
 use Rattle.feed_http.specs.declared.fault.Served.{Served}
 use Rattle.feed_http.specs.declared.service.Service.{Service}
 use Rattle.feed_http.specs.Device.{HasFailed, RoseBy, RoseAtMost}
-use Rattle.feed_http.specs.Exchange.{Exchange}
+use Rattle.feed_http.specs.Exchange.{Exchange, Wrote}
 use Rattle.feed_http.specs.HeadReading.{IsReadAsNeeded, IsEnough}
-use Rattle.feed_http.specs.Serving.{SendsAnswer, ServedSo, ServesOnce, BrokeInHead, BrokeBehindHead}
-use Rattle.feed_http.specs.Live.{Intake, IsLongTurn, HasAnswer, SendsLive, WroteLive, WroteRefused, TakesAll, ServedLive, ServesLive}
+use Rattle.feed_http.specs.Sending.{WroteAnswer, WroteAll, WroteAllLive}
+use Rattle.feed_http.specs.Serving.{ServedSo, ServesOnce, BrokeInHead, BrokeBehindHead}
+use Rattle.feed_http.specs.Live.{Intake, HasAnswer, WroteLive, WroteRefused, ServedLive, ServesLive}
+use Rattle.feed_http.specs.Writing.{WritesBy, WritesAll}
+use Rattle.feed_http.proofs.OpenedLemmas.{opened_at, takes_all}
+
+-- what was written on a connection
+abbrev pub written_on : Exchange → Wrote
+written_on spoken = record {
+  old = spoken.written_old;
+  new = spoken.written_new;
+  failed_old = spoken.failed_writes_old;
+  failed_new = spoken.failed_writes_new;
+}
 
 module _ (service : Service) (node : NodeState) (spoken : Exchange) where
   -- all was read and written
@@ -55,23 +67,49 @@ module _ (service : Service) (node : NodeState) (spoken : Exchange) where
       → ServesOnce service node spoken r
   serves_once r ok faults read many write memory reads = record { came = came_so r ok faults read many write memory; reads = reads }
 
-  -- all that a node writes with its answer to what was read
-  pub was_served : (head : List ℕ) (answer : AnswerParts)
-      → Consumes spoken.source spoken.left head → IsReadAsNeeded head
-      → IsEnough head ⊎ IsAtEnd spoken.left → AnswersTo head service.contest.now node service.framing service.back answer
-      → (r : Result Served EngineFault)
-      → IfOk r (λ served. (text : List ℕ) × SendsAnswer node answer text served
-      × Appends spoken.written_old spoken.written_new text) → IfOk r WasServed
-  was_served head answer given needed enough answers (Err why) sent = tt
-  was_served head answer given needed enough answers (Ok served) (text, sends, wrote) = (
-    head,
-    text,
-    given,
-    needed,
-    enough,
-    record { answer = answer; answers = answers; sends = sends },
-    wrote,
-  )
+  -- what came of writing a node's answer to what was read
+  module _ (head : List ℕ) (answer : AnswerParts) (given : Consumes spoken.source spoken.left head)
+      (needed : IsReadAsNeeded head) (enough : IsEnough head ⊎ IsAtEnd spoken.left)
+      (answers : AnswersTo head service.contest.now node service.framing service.back answer) where
+    wrote_part : WroteAnswer node answer spoken.written_old spoken.written_new → IsBrokenBehind
+    wrote_part (text, served, sends, prefix) = (
+      head,
+      text,
+      served,
+      given,
+      needed,
+      enough,
+      record { answer = answer; answers = answers; sends = sends },
+      prefix,
+    )
+
+    answered_so : (r : Result Served EngineFault)
+        → WritesAll (written_on spoken) (WroteAll node answer (written_on spoken))
+        (WroteAnswer node answer spoken.written_old spoken.written_new) r
+        → ServedSo service.contest.now node service.framing service.back service.turns spoken r
+    answered_so (Ok served) (all, quiet) =
+        let (text, sends, wrote) = all in (
+          head,
+          text,
+          given,
+          needed,
+          enough,
+          record { answer = answer; answers = answers; sends = sends },
+          wrote,
+        )
+    answered_so (Err fault.Write) (part, failed) = (wrote_part part, failed)
+    answered_so (Err fault.Memory) part = inr (wrote_part part)
+    answered_so (Err fault.Read) none = absurd none
+    answered_so (Err fault.Turns) none = absurd none
+    answered_so (Err (fault.Commit why)) none = absurd none
+    answered_so (Err (fault.Follow why)) none = absurd none
+
+    pub was_served : RoseAtMost spoken.reads_old spoken.reads_new service.turns
+        → (r : Result Served EngineFault)
+        → WritesAll (written_on spoken) (WroteAll node answer (written_on spoken))
+        (WroteAnswer node answer spoken.written_old spoken.written_new) r
+        → ServesOnce service node spoken r
+    was_served reads r w = record { came = answered_so r w; reads = reads }
 
 module _ (turn : ℕ) (service : Service) (spoken : Exchange) (start now : Intake) where
   -- the head was answered like this
@@ -128,13 +166,30 @@ module _ (turn : ℕ) (service : Service) (spoken : Exchange) (start now : Intak
   serves_live r ok faults read many write refused memory reads =
       record { came = came_live r ok faults read many write refused memory; reads = reads }
 
--- what is said of a refused batch's fault, said of the result
-pub of_refused : (r : Result Served EngineFault) (P : CommitFault → Type 0)
-    → IfErr r (λ why. (w : CommitFault) → why ≡ fault.Commit w → P w)
-    → (w : CommitFault) → IsErrOf r (fault.Commit w) → P w
-of_refused (Ok served) P h w e = absurd (cc)
-of_refused (Err why) P h w e = h w (ap fault_of e)
-  where
-    fault_of : Result Served EngineFault → EngineFault
-    fault_of (Ok served) = why
-    fault_of (Err given) = given
+  -- what came of writing a primary's answer to what was read
+  answered_live : (answer : AnswerParts) → Answers answer → (r : Result Served EngineFault)
+      → WritesBy (written_on spoken) (WroteAllLive turn start answer now (written_on spoken))
+      (WroteLive turn start answer now spoken.written_old spoken.written_new)
+      (λ why. WroteRefused turn start answer why now spoken.written_old spoken.written_new) r
+      → ServedLive turn service.contest.now service.framing service.back service.turns spoken start
+      r now
+  answered_live answer has (Ok served) (all, quiet) = (
+    (answer, all.text, has, all.sends, all.wrote_it),
+    takes_all turn start now answer all.text served
+        (opened_at has.head service.contest.now start.primary.node service.framing service.back
+        answer has.answers) all.sends all.only_long all.each_long,
+  )
+  answered_live answer has (Err fault.Write) (part, failed) = ((answer, has, part), failed)
+  answered_live answer has (Err fault.Memory) part = inr (answer, has, part)
+  answered_live answer has (Err (fault.Commit why)) refused = (answer, has, refused)
+  answered_live answer has (Err fault.Read) none = absurd none
+  answered_live answer has (Err fault.Turns) none = absurd none
+  answered_live answer has (Err (fault.Follow why)) none = absurd none
+
+  pub was_live : (answer : AnswerParts) → Answers answer
+      → RoseAtMost spoken.reads_old spoken.reads_new service.turns → (r : Result Served EngineFault)
+      → WritesBy (written_on spoken) (WroteAllLive turn start answer now (written_on spoken))
+      (WroteLive turn start answer now spoken.written_old spoken.written_new)
+      (λ why. WroteRefused turn start answer why now spoken.written_old spoken.written_new) r
+      → ServesLive turn service spoken start r now
+  was_live answer has reads r w = record { came = answered_live answer has r w; reads = reads }

@@ -205,10 +205,6 @@ pulls_gone Nothing_new token new_token sent new_sent pulled h e = let same : UpT
 pulls_gone Lost token new_token sent new_sent pulled h e = (refl, h.1)
 pulls_gone (Commit_after commit) token new_token sent new_sent pulled h e = let same : More ≡ Gone = sym h.0 ∙ e in absurd (cc)
 
-pub on_err : {A E : Type 0} (r : Result A E) (P : Type 0) → P → OnErr r P
-on_err (Ok _) P h = tt
-on_err (Err _) P h = h
-
 -- nothing more was written
 pub wrote_these : (node : NodeState) (start to : List ℕ) (sent : List Commit) (framing : Framing) (old new : Option (List ℕ))
     → Sent node start sent to → Appends old new (commit_frames framing sent)

@@ -49,3 +49,20 @@ module _ {R W : Type 0} where
     contents = contents;
     failed_writes = failed_writes;
   }
+
+-- What one device was written: the bytes of it before and after, where they are known, and how many
+-- writes failed.
+pub record Wrote : Type 0 where
+  pub old : Option (List ℕ)
+  pub new : Option (List ℕ)
+  pub failed_old : ℕ
+  pub failed_new : ℕ
+
+-- what a writer was written, by what its device says of it
+abbrev pub wrote_by : {W : Type 0} → (W → Option (List ℕ)) → (W → ℕ) → W → W → Wrote
+wrote_by contents failures old new = record {
+  old = contents old;
+  new = contents new;
+  failed_old = failures old;
+  failed_new = failures new;
+}

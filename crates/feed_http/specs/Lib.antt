@@ -10,3 +10,4 @@ pub mod Serving
 pub mod Sessions
 pub mod Stream
 pub mod Taking
+pub mod Writing

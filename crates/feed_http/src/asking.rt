@@ -1,9 +1,8 @@
 //! The request for what a mirror lacks.
-ghost use Rattle.std.specs.Prelude.{◌≡◌, ◌⊎◌, OnOk, OnErr, IfOk, IfErr, IsErrOf};
-ghost use Rattle.std.specs.Io.KnownBytes.{Appends};
-ghost use Rattle.feed_http.specs.declared.fault.EngineFault.{EngineFault as Fault};
-ghost use Rattle.feed_http.specs.Device.{HasFailed, AppendsPrefix};
+ghost use Rattle.std.specs.Prelude.{◌≡◌, IfOk};
 ghost use Rattle.feed_answer.specs.RequestText as texts;
+ghost use Rattle.feed_http.specs.Exchange.{wrote_by};
+ghost use Rattle.feed_http.specs.Writing.{Writes};
 
 use crate::device::FeedWrite;
 use crate::fault::EngineFault;
@@ -21,13 +20,8 @@ pub fn ask<W: FeedWrite>(
     identity: &Identity,
     mirror: &Mirror,
 ) -> Result<(), EngineFault>
-    ensures ok { OnOk result (Appends (W.contents writer.old) (W.contents writer.new)
-        (texts.request_text_as place.now mirror.now.since identity.now)) }
-    ensures prefix { OnErr result (AppendsPrefix (W.contents writer.old) (W.contents writer.new)
-        (texts.request_text_as place.now mirror.now.since identity.now)) }
-    ensures faults { IfErr result (λ fault. (fault ≡ Fault.Write) ⊎ (fault ≡ Fault.Memory)) }
-    ensures write { IsErrOf result Fault.Write → HasFailed (W.failures writer.old)
-        (W.failures writer.new) }
+    ensures { Writes (wrote_by W.contents W.failures writer.old writer.new)
+        (texts.request_text_as place.now mirror.now.since identity.now) result }
 {
     let text = request_for(alloc, place, identity, mirror)?;
     write_bytes(writer, text.as_slice())

@@ -1,5 +1,5 @@
 //! Why an engine stopped, and what it served.
-ghost use Rattle.std.specs.Prelude.{◌≡◌};
+ghost use Rattle.std.specs.Prelude.{◌≡◌, false};
 ghost use Rattle.feed_http.specs.declared.fault.EngineFault.TheVariants as engine_fault;
 
 use feed_follow::FollowFault;
@@ -64,6 +64,19 @@ pub struct Served {
     pub commits: u64,
     /// Whether the node lost the session's token.
     pub gone: bool,
+}
+
+impl Served {
+    /// An answer with this status that opened no session.
+    pub(crate) fn nothing(status: u16) -> Served
+        ensures { result ≡ record { status = status; commits = 0; gone = false } }
+    {
+        Served {
+            status,
+            commits: 0,
+            gone: false,
+        }
+    }
 }
 
 /// How a response ended that was followed.

@@ -1,15 +1,12 @@
 //! What a primary that takes batches sends on one connection.
-ghost use Rattle.std.specs.Prelude.{◌≡◌, ◌≢◌, ◌⊎◌, ◌≤◌, ◌<◌, ◌-◌, ℕ, List, [], length, true, false, IfOk, IfErr, IfSome, OnOk, OnErr, IsErrOf};
-ghost use Rattle.std.specs.Io.KnownBytes.{Appends};
-ghost use Rattle.feed_node.specs.declared.commit.Commit.{Commit};
-ghost use Rattle.feed_node.specs.declared.primary.CommitFault.{CommitFault as Why};
+ghost use Rattle.std.specs.Prelude.{◌≤◌, OnOk, IfErr, IfSome};
 ghost use Rattle.feed_answer.specs.Answered.{parts_of};
-ghost use Rattle.feed_http.specs.declared.fault.EngineFault.{EngineFault as Fault};
-ghost use Rattle.feed_http.specs.Device.{HasFailed, counted};
-ghost use Rattle.feed_http.specs.Exchange.{devices_of, exchange};
-ghost use Rattle.feed_http.specs.Serving.{commit_frames};
-ghost use Rattle.feed_http.specs.Live.{intake_of, HasSent, IsOver, SendsLive, TakesTurn, RefusesInTurn, IsLongTurn, LosesItsToken, IsCutShort, IsRefused, WroteLive, WroteRefused, ServesLive};
+ghost use Rattle.feed_http.specs.Exchange.{devices_of, exchange, wrote_by};
+ghost use Rattle.feed_http.specs.Live.{intake_of, TakesTurn, RefusesInTurn};
+ghost use Rattle.feed_http.specs.Live.{WroteLive, WroteRefused, ServesLive};
+ghost use Rattle.feed_http.specs.Sending.{WroteTurns, WroteCutShort, WroteToRefusal, WroteAllLive};
 ghost use Rattle.feed_http.specs.Taking.{IsHeld};
+ghost use Rattle.feed_http.specs.Writing.{WritesBy};
 
 use crate::device::{FeedRead, FeedWrite};
 use crate::fault::{EngineFault, Served};
@@ -58,31 +55,15 @@ fn send_live<W: FeedWrite>(
     session: &mut Session,
     framing: Framing,
 ) -> Result<(u64, bool), EngineFault>
-    requires { 1 ≤ turn }
-    ensures ok { IfOk result (λ told. (sent : List Commit)
-        × HasSent turn (intake_of primary.old input.old.items) session.old sent
-        (intake_of primary.new input.new.items) session.new
-        × IsOver (intake_of primary.new input.new.items) session.new told.1
-        × (told.0 ≡ counted 0 (length sent))
-        × Appends (W.contents writer.old) (W.contents writer.new) (commit_frames framing sent)) }
-    ensures gone { IfOk result (λ told. told.1 ≡ true →
-        IsHeld primary.old.node session.old →
-        IsLongTurn turn (intake_of primary.old input.old.items)) }
-    ensures lost { IfOk result (λ told. LosesItsToken turn
-        (intake_of primary.old input.old.items) told.1) }
-    ensures part { IfErr result (λ fault. ((why : Why) → fault ≢ Fault.Commit why) →
-        (text : List ℕ) × IsCutShort turn (intake_of primary.old input.old.items) session.old
-        framing (intake_of primary.new input.new.items) text
-        × Appends (W.contents writer.old) (W.contents writer.new) text) }
-    ensures commit_in { IfErr result (λ fault. (why : Why) → fault ≡ Fault.Commit why →
-        (text : List ℕ) × IsRefused turn (intake_of primary.old input.old.items) session.old
-        framing why (intake_of primary.new input.new.items) text
-        × Appends (W.contents writer.old) (W.contents writer.new) text) }
-    ensures faults { IfErr result (λ fault. (fault ≡ Fault.Write) ⊎
-        ((fault ≡ Fault.Memory) ⊎ ((why : Why) × (fault ≡ Fault.Commit why)))) }
-    ensures write { IsErrOf result Fault.Write → HasFailed (W.failures writer.old)
-        (W.failures writer.new) }
-    ensures quiet { OnOk result (W.failures writer.new ≡ W.failures writer.old) }
+    requires some { 1 ≤ turn }
+    requires held { IsHeld primary.old.node session.old }
+    ensures { let wrote = wrote_by W.contents W.failures writer.old writer.new in
+        let start = intake_of primary.old input.old.items in
+        let now = intake_of primary.new input.new.items in
+        WritesBy wrote
+        (λ told. WroteTurns turn start session.old framing wrote now session.new told.0 told.1)
+        (WroteCutShort turn start session.old framing now wrote)
+        (WroteToRefusal turn start session.old framing now wrote) result }
 {
     let mut count: u64 = 0;
     'turns: loop {
@@ -108,30 +89,16 @@ fn send_live_answer<W: FeedWrite>(
     turn: usize,
     answered: Answered,
 ) -> Result<Served, EngineFault>
-    requires { 1 ≤ turn }
-    ensures ok { IfOk result (λ served. (text : List ℕ)
-        × SendsLive turn (intake_of primary.old input.old.items)
-        (parts_of answered.status answered.framing answered.bytes.items answered.session)
-        text served (intake_of primary.new input.new.items)
-        × Appends (W.contents writer.old) (W.contents writer.new) text) }
-    ensures gone { IfSome answered.session (λ token. IsHeld primary.old.node token) →
-        IfOk result (λ served. served.gone ≡ true →
-        IsLongTurn turn (intake_of primary.old input.old.items)) }
-    ensures lost { IfSome answered.session (λ _. IfOk result (λ served. LosesItsToken turn
-        (intake_of primary.old input.old.items) served.gone)) }
-    ensures part { IfErr result (λ fault. ((why : Why) → fault ≢ Fault.Commit why) →
-        WroteLive turn (intake_of primary.old input.old.items)
-        (parts_of answered.status answered.framing answered.bytes.items answered.session)
-        (intake_of primary.new input.new.items) (W.contents writer.old) (W.contents writer.new)) }
-    ensures commit_in { IfErr result (λ fault. (why : Why) → fault ≡ Fault.Commit why →
-        WroteRefused turn (intake_of primary.old input.old.items)
-        (parts_of answered.status answered.framing answered.bytes.items answered.session)
-        why (intake_of primary.new input.new.items) (W.contents writer.old)
-        (W.contents writer.new)) }
-    ensures faults { IfErr result (λ fault. (fault ≡ Fault.Write) ⊎
-        ((fault ≡ Fault.Memory) ⊎ ((why : Why) × (fault ≡ Fault.Commit why)))) }
-    ensures write { IsErrOf result Fault.Write → HasFailed (W.failures writer.old)
-        (W.failures writer.new) }
+    requires some { 1 ≤ turn }
+    requires held { IfSome answered.session (λ token. IsHeld primary.old.node token) }
+    ensures { let wrote = wrote_by W.contents W.failures writer.old writer.new in
+        let answer = parts_of answered.status answered.framing answered.bytes.items
+        answered.session in
+        let start = intake_of primary.old input.old.items in
+        let now = intake_of primary.new input.new.items in
+        WritesBy wrote (WroteAllLive turn start answer now wrote)
+        (WroteLive turn start answer now wrote.old wrote.new)
+        (λ why. WroteRefused turn start answer why now wrote.old wrote.new) result }
 {
     let Answered {
         status,
@@ -140,14 +107,9 @@ fn send_live_answer<W: FeedWrite>(
         session,
     } = answered;
     write_bytes(writer, bytes.as_slice())?;
-    let Some(session) = session else {
-        return Ok(Served {
-            status,
-            commits: 0,
-            gone: false,
-        });
+    let Some(mut session) = session else {
+        return Ok(Served::nothing(status));
     };
-    let mut session = session;
     let (commits, gone) = send_live(alloc, writer, primary, input, turn, &mut session, framing)?;
     send_farewell(alloc, writer, &session, framing, gone)?;
     Ok(Served {

@@ -1,16 +1,14 @@
 //! What a server sends on one connection.
-ghost use Rattle.std.specs.Prelude.{◌≡◌, ◌≢◌, ◌⊎◌, ◌++◌, ◌≤◌, ◌<◌, ◌-◌, ℕ, List, [], length, map, true, false, IfOk, IfErr, IfSome, OnOk, OnErr, IsErrOf};
-ghost use Rattle.std.specs.Io.KnownBytes.{Appends};
-ghost use Rattle.feed_node.specs.declared.commit.Commit.{Commit};
+ghost use Rattle.std.specs.Prelude.{◌≡◌, ◌++◌, IfOk, IfSome};
 ghost use Rattle.feed_node.specs.States.{IsConsistent};
-ghost use Rattle.feed_http.specs.declared.fault.EngineFault.{EngineFault as Fault};
-ghost use Rattle.feed_http.specs.Device.{HasFailed, AppendsPrefix, counted};
 ghost use Rattle.feed_answer.specs.Framed as framed;
-ghost use Rattle.feed_answer.specs.Served.{behind_opening, farewell};
+ghost use Rattle.feed_answer.specs.Served.{farewell};
 ghost use Rattle.feed_answer.specs.Answered.{parts_of};
-ghost use Rattle.feed_http.specs.Exchange.{devices_of, exchange};
-ghost use Rattle.feed_http.specs.Serving.{Sends, commit_text, commit_frames, HasAll, SendsAnswer, ServesOnce};
-ghost use Rattle.feed_http.specs.Sending.{Sent, WroteCommits, WroteSome, WroteAnswer};
+ghost use Rattle.feed_http.specs.Exchange.{devices_of, exchange, wrote_by};
+ghost use Rattle.feed_http.specs.Serving.{ServesOnce};
+ghost use Rattle.feed_http.specs.Sending.{WroteCommits, WroteSome, WroteAnswer};
+ghost use Rattle.feed_http.specs.Sending.{WroteFrames, WroteSession, WroteAll};
+ghost use Rattle.feed_http.specs.Writing.{Writes, WritesAll};
 
 use crate::device::{Failed, FeedRead, FeedWrite, write_all};
 use crate::fault::{EngineFault, Served};
@@ -23,13 +21,7 @@ use std::alloc::{AllocError, Global};
 
 /// Writes bytes.
 pub(crate) fn write_bytes<W: FeedWrite>(writer: &mut W, bytes: &[u8]) -> Result<(), EngineFault>
-    ensures ok { OnOk result (Appends (W.contents writer.old) (W.contents writer.new) bytes.now) }
-    ensures prefix { OnErr result (AppendsPrefix (W.contents writer.old)
-        (W.contents writer.new) bytes.now) }
-    ensures faults { IfErr result (λ fault. fault ≡ Fault.Write) }
-    ensures write { IsErrOf result Fault.Write → HasFailed (W.failures writer.old)
-        (W.failures writer.new) }
-    ensures quiet { OnOk result (W.failures writer.new ≡ W.failures writer.old) }
+    ensures { Writes (wrote_by W.contents W.failures writer.old writer.new) bytes.now result }
 {
     match write_all(writer, bytes) {
         Ok(()) => Ok(()),
@@ -44,14 +36,8 @@ fn write_framed<W: FeedWrite>(
     framing: Framing,
     text: &[u8],
 ) -> Result<(), EngineFault>
-    ensures ok { OnOk result (Appends (W.contents writer.old) (W.contents writer.new)
-        (framed.frame framing text.now)) }
-    ensures prefix { OnErr result (AppendsPrefix (W.contents writer.old) (W.contents writer.new)
-        (framed.frame framing text.now)) }
-    ensures faults { IfErr result (λ fault. (fault ≡ Fault.Write) ⊎ (fault ≡ Fault.Memory)) }
-    ensures write { IsErrOf result Fault.Write → HasFailed (W.failures writer.old)
-        (W.failures writer.new) }
-    ensures quiet { OnOk result (W.failures writer.new ≡ W.failures writer.old) }
+    ensures { Writes (wrote_by W.contents W.failures writer.old writer.new)
+        (framed.frame framing text.now) result }
 {
     match framing {
         Framing::Close => write_bytes(writer, text),
@@ -72,16 +58,10 @@ pub(crate) fn send_commits<W: FeedWrite>(
     session: &mut Session,
     framing: Framing,
 ) -> Result<(u64, bool), EngineFault>
-    ensures ok { IfOk result (λ told. (sent : List Commit)
-        × Sent node.now.shown session.old sent session.new
-        × HasAll node.now.shown session.new told.1 × (told.0 ≡ counted 0 (length sent))
-        × Appends (W.contents writer.old) (W.contents writer.new) (commit_frames framing sent)) }
-    ensures part { OnErr result (WroteCommits node.now.shown session.old framing
-        (W.contents writer.old) (W.contents writer.new)) }
-    ensures faults { IfErr result (λ fault. (fault ≡ Fault.Write) ⊎ (fault ≡ Fault.Memory)) }
-    ensures write { IsErrOf result Fault.Write → HasFailed (W.failures writer.old)
-        (W.failures writer.new) }
-    ensures quiet { OnOk result (W.failures writer.new ≡ W.failures writer.old) }
+    ensures sent { let wrote = wrote_by W.contents W.failures writer.old writer.new in
+        let node = node.now.shown in
+        WritesAll wrote (λ told. WroteFrames node session.old session.new framing wrote told.0 told.1)
+        (WroteCommits node session.old framing wrote.old wrote.new) result }
     ensures consistent { IsConsistent node.now.shown }
 {
     let mut count: u64 = 0;
@@ -106,13 +86,8 @@ pub(crate) fn send_farewell<W: FeedWrite>(
     framing: Framing,
     gone: bool,
 ) -> Result<(), EngineFault>
-    ensures ok { OnOk result (Appends (W.contents writer.old) (W.contents writer.new)
-        (farewell framing gone ++ framed.frame_end framing)) }
-    ensures prefix { OnErr result (AppendsPrefix (W.contents writer.old) (W.contents writer.new)
-        (farewell framing gone ++ framed.frame_end framing)) }
-    ensures faults { IfErr result (λ fault. (fault ≡ Fault.Write) ⊎ (fault ≡ Fault.Memory)) }
-    ensures write { IsErrOf result Fault.Write → HasFailed (W.failures writer.old)
-        (W.failures writer.new) }
+    ensures { Writes (wrote_by W.contents W.failures writer.old writer.new)
+        (farewell framing gone ++ framed.frame_end framing) result }
 {
     let end = farewell_text(alloc, session, framing, gone)?;
     write_bytes(writer, end.as_slice())
@@ -143,20 +118,14 @@ fn send_session<W: FeedWrite>(
     alloc: Global,
     writer: &mut W,
     node: &Node,
-    session: Session,
+    mut session: Session,
     framing: Framing,
 ) -> Result<(u64, bool), EngineFault>
-    ensures ok { IfOk result (λ told. (sent : List Commit)
-        × Sends node.now.shown session sent told.1 × (told.0 ≡ counted 0 (length sent))
-        × Appends (W.contents writer.old) (W.contents writer.new)
-        (behind_opening framing (map commit_text sent) told.1)) }
-    ensures prefix { OnErr result (WroteSome node.now.shown session framing (W.contents writer.old)
-        (W.contents writer.new)) }
-    ensures faults { IfErr result (λ fault. (fault ≡ Fault.Write) ⊎ (fault ≡ Fault.Memory)) }
-    ensures write { IsErrOf result Fault.Write → HasFailed (W.failures writer.old)
-        (W.failures writer.new) }
+    ensures { let wrote = wrote_by W.contents W.failures writer.old writer.new in
+        let node = node.now.shown in
+        WritesAll wrote (λ told. WroteSession node session framing wrote told.0 told.1)
+        (WroteSome node session framing wrote.old wrote.new) result }
 {
-    let mut session = session;
     let (commits, gone) = send_commits(alloc, writer, node, &mut session, framing)?;
     send_farewell(alloc, writer, &session, framing, gone)?;
     Ok((commits, gone))
@@ -170,16 +139,11 @@ fn send_answer<W: FeedWrite>(
     answered: Answered,
 ) -> Result<Served, EngineFault>
     requires { IfSome answered.session (λ _. IsConsistent node.now.shown) }
-    ensures ok { IfOk result (λ served. (text : List ℕ)
-        × SendsAnswer node.now.shown (parts_of answered.status answered.framing
-        answered.bytes.items answered.session) text served
-        × Appends (W.contents writer.old) (W.contents writer.new) text) }
-    ensures prefix { OnErr result (WroteAnswer node.now.shown
-        (parts_of answered.status answered.framing answered.bytes.items answered.session)
-        (W.contents writer.old) (W.contents writer.new)) }
-    ensures faults { IfErr result (λ fault. (fault ≡ Fault.Write) ⊎ (fault ≡ Fault.Memory)) }
-    ensures write { IsErrOf result Fault.Write → HasFailed (W.failures writer.old)
-        (W.failures writer.new) }
+    ensures { let wrote = wrote_by W.contents W.failures writer.old writer.new in
+        let answer = parts_of answered.status answered.framing answered.bytes.items
+        answered.session in
+        WritesAll wrote (WroteAll node.now.shown answer wrote)
+        (WroteAnswer node.now.shown answer wrote.old wrote.new) result }
 {
     let Answered {
         status,
@@ -189,11 +153,7 @@ fn send_answer<W: FeedWrite>(
     } = answered;
     write_bytes(writer, bytes.as_slice())?;
     let Some(session) = session else {
-        return Ok(Served {
-            status,
-            commits: 0,
-            gone: false,
-        });
+        return Ok(Served::nothing(status));
     };
     let (commits, gone) = send_session(alloc, writer, node, session, framing)?;
     Ok(Served {

@@ -1,12 +1,11 @@
 //! A server's feed, followed and served in turns.
 ghost use Rattle.std.specs.Prelude.{◌≡◌, Result, IfErr, OnOk};
-ghost use Rattle.feed_http.specs.Exchange.{devices_of};
+ghost use Rattle.feed_http.specs.Exchange.{devices_of, wrote_by};
 ghost use Rattle.feed_relay.specs.Dialing.{dialer_of, links_of};
 ghost use Rattle.feed_relay.specs.First.{position};
 ghost use Rattle.feed_http.specs.declared.fault.Served.{Served as Done};
 ghost use Rattle.feed_relay.specs.declared.fault.NetworkFault.{NetworkFault as Failing};
 ghost use Rattle.feed_cli.specs.Relay.{relay_service, relaying, MakesRoundOn, EndsRounds, Relayed, RelayFails};
-ghost use Rattle.feed_cli.specs.Streams.{wrote_by};
 ghost use Rattle.feed_cli.specs.Telling.{HasTold};
 
 use crate::fault::Fault;

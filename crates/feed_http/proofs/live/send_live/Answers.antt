@@ -4,77 +4,79 @@ use Rattle.std.proofs.lemmas.Result.{err_from_is_err_and}
 use Rattle.feed_http.specs.Live.{intake_of, none_sent, turn_taken}
 use Rattle.feed_http.specs.Sending.{Sent, WroteCommits}
 use Rattle.feed_http.specs.Serving.{commit_frames}
-use Rattle.feed_http.proofs.LiveLemmas.{stopped, cut_short, sent_on, frames_on, all_lost, all_new, lost_late, held_on, accepts_limits, fewer_left, none_left, refused_so}
+use Rattle.feed_http.proofs.LiveLemmas.{cut_short, sent_on, frames_on, all_lost, all_new, lost_late, held_on, accepts_limits, fewer_left, none_left}
 use Rattle.feed_http.proofs.LostLemmas.{never_kept, turn_loses}
+use Rattle.feed_http.proofs.WritingLemmas.{passed}
 use Rattle.feed_http.proofs.live.send_live.Goals as goal
 
 pub turns-init : goal.turns-init
 turns-init g c = record { run = ([], none_sent, refl, Appends-nil _); quiet = refl; held = λ h. inr h; lost = λ few long. inl refl; limits = refl; fewer = omega arith }
 
-pub returns-in_err-sent-clause-part : goal.returns-in_err-sent-clause-part
-returns-in_err-sent-clause-part g c =
+pub returns-in_err-sent : goal.returns-in_err-sent
+returns-in_err-sent g c =
     let (sent, run, count, wrote) = c.turns.invariant.run in
     let node_is : c.node.result.now.shown ≡ c.turns.primary.node = c.node.ensures.node in
-    let part = subst (λ n. WroteCommits n c.turns.session c.args.framing (g.W.FeedWrite.contents c.turns.writer) (g.W.FeedWrite.contents c.send_commits.new.writer)) node_is c.in_err-sent.ensures.part in
-    stopped c.from_residual.result _
-    (cut_short c.args.turn (intake_of c.args.primary.now c.args.input.now.items) c.args.session.now sent (intake_of c.turns.primary c.turns.input.items) c.turns.session c.args.framing _ _ _ run wrote part)
+    let p = err_from_is_err_and c.from_residual.result c.from_residual.ensures.1 in
+    passed _ p.1 p.2 c.turns.invariant.quiet refl
+    (λ part. cut_short c.args.turn (intake_of c.args.primary.now c.args.input.now.items) c.args.session.now sent (intake_of c.turns.primary c.turns.input.items) c.turns.session c.args.framing _ _ _ run wrote
+    (subst (λ n. WroteCommits n c.turns.session c.args.framing (g.W.FeedWrite.contents c.turns.writer) (g.W.FeedWrite.contents c.send_commits.new.writer)) node_is part))
+    (λ why none. absurd none) c.in_err-sent.ensures.sent
 
-pub returns-then-gone-clause-ok : goal.returns-then-gone-clause-ok
-returns-then-gone-clause-ok g c =
+pub returns-then-gone : goal.returns-then-gone
+returns-then-gone g c =
     let (sent, run, count, wrote) = c.turns.invariant.run in
-    let (more, sends, all, many, appended) = c.in_ok-sent.ensures.ok in
-    let node_is : c.node.result.now.shown ≡ c.turns.primary.node = c.node.ensures.node in
-    let goes_on = subst (λ n. Sent n c.turns.session more c.send_commits.new.session) node_is sends in (
-      sent ++ more,
-      sent_on c.args.turn (intake_of c.args.primary.now c.args.input.now.items) c.args.session.now sent (intake_of c.turns.primary c.turns.input.items) c.turns.session c.send_commits.new.session more run goes_on,
-      all_lost c.node.result.now.shown c.turns.primary.node c.send_commits.new.session c.in_ok-sent.gone node_is c.if-gone.true all,
-      omega (arith, length-append sent more, count, many, c.saturating_add-count.ensures),
-      frames_on c.args.framing sent more _ _ _ wrote appended,
-    )
-
-pub returns-then-gone-clause-gone : goal.returns-then-gone-clause-gone
-returns-then-gone-clause-gone g c = λ is held.
-    let (more, sends, all, many, appended) = c.in_ok-sent.ensures.ok in
+    let (done, quiet) = c.in_ok-sent.ensures.sent in
+    let (more, sends, all, many, appended) = done in
+    let start = intake_of c.args.primary.now c.args.input.now.items in
+    let now = intake_of c.turns.primary c.turns.input.items in
     let node_is : c.node.result.now.shown ≡ c.turns.primary.node = c.node.ensures.node in
     let goes_on = subst (λ n. Sent n c.turns.session more c.send_commits.new.session) node_is sends in
-    lost_late c.args.turn (intake_of c.args.primary.now c.args.input.now.items) (intake_of c.turns.primary c.turns.input.items) c.turns.session c.send_commits.new.session more c.node.ensures.consistent goes_on
-    (all_lost c.node.result.now.shown c.turns.primary.node c.send_commits.new.session c.in_ok-sent.gone node_is c.if-gone.true all)
-    (c.turns.invariant.held held)
-
-pub returns-then-is_empty-clause-ok : goal.returns-then-is_empty-clause-ok
-returns-then-is_empty-clause-ok g c =
-    let (sent, run, count, wrote) = c.turns.invariant.run in
-    let (more, sends, all, many, appended) = c.in_ok-sent.ensures.ok in
-    let node_is : c.node.result.now.shown ≡ c.turns.primary.node = c.node.ensures.node in
-    let goes_on = subst (λ n. Sent n c.turns.session more c.send_commits.new.session) node_is sends in
-    let none : c.turns.input.len ≡ 0 = eqb-true c.turns.input.len 0 (sym c.is_empty.ensures ∙ c.if-is_empty.true) in
-    let empty : length c.turns.input.items ≡ 0 = sym c.turns.input.ok.0 ∙ none in (
-      sent ++ more,
-      sent_on c.args.turn (intake_of c.args.primary.now c.args.input.now.items) c.args.session.now sent (intake_of c.turns.primary c.turns.input.items) c.turns.session c.send_commits.new.session more run goes_on,
-      (all_new c.node.result.now.shown c.turns.primary.node c.send_commits.new.session c.in_ok-sent.gone node_is c.if-gone.false all, none_left c.turns.primary c.turns.input.items empty),
-      omega (arith, length-append sent more, count, many, c.saturating_add-count.ensures),
-      frames_on c.args.framing sent more _ _ _ wrote appended,
+    let over = all_lost c.node.result.now.shown c.turns.primary.node c.send_commits.new.session c.in_ok-sent.gone node_is c.if-gone.true all in (
+      record {
+        sent = sent ++ more;
+        has_sent = sent_on c.args.turn start c.args.session.now sent now c.turns.session c.send_commits.new.session more run goes_on;
+        over = over;
+        count_is = omega (arith, length-append sent more, count, many, c.saturating_add-count.ensures);
+        frames = frames_on c.args.framing sent more _ _ _ wrote appended;
+        only_long = λ is. lost_late c.args.turn start now c.turns.session c.send_commits.new.session more c.node.ensures.consistent goes_on over (c.turns.invariant.held c.requires.held);
+        each_long = λ few long. refl;
+      },
+      quiet ∙ c.turns.invariant.quiet,
     )
 
-pub returns-then-is_empty-clause-lost : goal.returns-then-is_empty-clause-lost
-returns-then-is_empty-clause-lost g c = λ few long.
+pub returns-then-is_empty : goal.returns-then-is_empty
+returns-then-is_empty g c =
+    let (sent, run, count, wrote) = c.turns.invariant.run in
+    let (done, quiet) = c.in_ok-sent.ensures.sent in
+    let (more, sends, all, many, appended) = done in
     let start = intake_of c.args.primary.now c.args.input.now.items in
     let before = intake_of c.turns.primary c.turns.input.items in
-    let (more, sends, all, many, appended) = c.in_ok-sent.ensures.ok in
     let node_is : c.node.result.now.shown ≡ c.turns.primary.node = c.node.ensures.node in
     let goes_on = subst (λ n. Sent n c.turns.session more c.send_commits.new.session) node_is sends in
     let new = all_new c.node.result.now.shown c.turns.primary.node c.send_commits.new.session c.in_ok-sent.gone node_is c.if-gone.false all in
     let none : c.turns.input.len ≡ 0 = eqb-true c.turns.input.len 0 (sym c.is_empty.ensures ∙ c.if-is_empty.true) in
     let empty : length c.turns.input.items ≡ 0 = sym c.turns.input.ok.0 ∙ none in
-    elim (c.turns.invariant.lost few long) [
-      | inl same ↦ (let left = ap (λ i. length i.batches) (sym same) in let gone : length before.batches ≡ 0 = ap length (none_left c.turns.primary c.turns.input.items empty) in absurd (omega (arith, long.1)))
-      | inr past ↦ absurd (never_kept start before c.turns.session c.send_commits.new.session more c.turns.invariant.limits c.node.ensures.primary c.node.ensures.consistent past goes_on new)
-    ]
+    let nothing_left = none_left c.turns.primary c.turns.input.items empty in (
+      record {
+        sent = sent ++ more;
+        has_sent = sent_on c.args.turn start c.args.session.now sent before c.turns.session c.send_commits.new.session more run goes_on;
+        over = (new, nothing_left);
+        count_is = omega (arith, length-append sent more, count, many, c.saturating_add-count.ensures);
+        frames = frames_on c.args.framing sent more _ _ _ wrote appended;
+        only_long = λ is. absurd (cc);
+        each_long = λ few long. elim (c.turns.invariant.lost few long) [
+          | inl same ↦ (let left = ap (λ i. length i.batches) (sym same) in let gone : length before.batches ≡ 0 = ap length nothing_left in absurd (omega (arith, long.1)))
+          | inr past ↦ absurd (never_kept start before c.turns.session c.send_commits.new.session more c.turns.invariant.limits c.node.ensures.primary c.node.ensures.consistent past goes_on new)
+        ];
+      },
+      quiet ∙ c.turns.invariant.quiet,
+    )
 
 pub turns-preserved : goal.turns-preserved
 turns-preserved g c =
     let (sent, run, count, wrote) = c.turns.invariant.run in
-    let (more, sends, all, many, appended) = c.in_ok-sent.ensures.ok in
+    let (done, quiet) = c.in_ok-sent.ensures.sent in
+    let (more, sends, all, many, appended) = done in
     let start = intake_of c.args.primary.now c.args.input.now.items in
     let before = intake_of c.turns.primary c.turns.input.items in
     let now = intake_of c.take_turn.new.primary c.take_turn.new.input.items in
@@ -91,7 +93,7 @@ turns-preserved g c =
         omega (arith, length-append sent more, count, many, c.saturating_add-count.ensures),
         frames_on c.args.framing sent more _ _ _ wrote appended,
       );
-      quiet = c.in_ok-sent.ensures.quiet ∙ c.turns.invariant.quiet;
+      quiet = quiet ∙ c.turns.invariant.quiet;
       held = λ h. held_on c.args.turn start before now c.turns.session c.send_commits.new.session more c.turns.invariant.limits c.turns.invariant.fewer c.node.ensures.consistent goes_on new takes (c.turns.invariant.held h);
       lost = λ few long. inr (elim (c.turns.invariant.lost few long) [
         | inl same ↦ turn_loses c.args.turn start before now c.send_commits.new.session same few c.node.ensures.primary new takes long
@@ -101,18 +103,18 @@ turns-preserved g c =
       fewer = omega (arith, left, c.turns.invariant.fewer);
     }
 
-pub returns-in_err-take_turn-clause-commit_in : goal.returns-in_err-take_turn-clause-commit_in
-returns-in_err-take_turn-clause-commit_in g c =
+pub returns-in_err-take_turn : goal.returns-in_err-take_turn
+returns-in_err-take_turn g c =
     let (sent, run, count, wrote) = c.turns.invariant.run in
-    let (more, sends, all, many, appended) = c.in_ok-sent.ensures.ok in
+    let (done, quiet) = c.in_ok-sent.ensures.sent in
+    let (more, sends, all, many, appended) = done in
     let start = intake_of c.args.primary.now c.args.input.now.items in
     let before = intake_of c.turns.primary c.turns.input.items in
-    let now = intake_of c.take_turn.new.primary c.take_turn.new.input.items in
     let node_is : c.node.result.now.shown ≡ c.turns.primary.node = c.node.ensures.node in
     let goes_on = subst (λ n. Sent n c.turns.session more c.send_commits.new.session) node_is sends in
     let new = all_new c.node.result.now.shown c.turns.primary.node c.send_commits.new.session c.in_ok-sent.gone node_is c.if-gone.false all in
     let p = err_from_is_err_and c.from_residual-in_err-take_turn.result c.from_residual-in_err-take_turn.ensures.1 in
-    rw (p.1, p.2) (λ why e. (
+    rw (p.1, p.2) (
       commit_frames c.args.framing (sent ++ more),
       record {
         sent = sent ++ more;
@@ -120,8 +122,8 @@ returns-in_err-take_turn-clause-commit_in g c =
         token = c.send_commits.new.session;
         has_sent = sent_on c.args.turn start c.args.session.now sent before c.turns.session c.send_commits.new.session more run goes_on;
         nothing_new = new;
-        refuses = refused_so c.args.turn before now c.in_err-take_turn.field-0.0 why c.in_err-take_turn.ensures.err e;
+        refuses = c.in_err-take_turn.ensures.err;
         text_is = refl;
       },
       frames_on c.args.framing sent more _ _ _ wrote appended,
-    ))
+    )

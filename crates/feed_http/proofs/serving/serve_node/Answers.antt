@@ -20,11 +20,9 @@ returns g c =
     let writer = g.W.FeedWrite in
     let spoken = exchange (devices_of reader.remaining reader.reads reader.failures writer.contents writer.failures) c.args.reader.now c.read_head.new.reader c.args.writer.now c.send_answer.new.writer in
     let s = c.args.service.now in
-    let head = c.read_head.new.bytes.items in
     let a = c.in_ok-answered.answered in
     let answer = parts_of a.status a.framing a.bytes.items a.session in
     let answers = subst (λ h. AnswersTo h s.contest.now c.args.node.now.shown s.framing s.back answer) c.as_slice.ensures.value c.in_ok-answered.ensures.ok in
-    serves_once s c.args.node.now.shown spoken c.send_answer.result
-    (was_served s c.args.node.now.shown spoken head
-    answer c.in_ok-read_head.ensures.given c.read_head.ensures.needed c.in_ok-read_head.ensures.enough answers c.send_answer.result c.send_answer.ensures.ok)
-    (search rules) (search rules) (search rules) (search rules) (search rules) (search rules)
+    was_served s c.args.node.now.shown spoken c.read_head.new.bytes.items answer
+    c.in_ok-read_head.ensures.given c.read_head.ensures.needed c.in_ok-read_head.ensures.enough answers
+    c.read_head.ensures.reads c.send_answer.result c.send_answer.ensures
