@@ -1,7 +1,7 @@
 //! The members of a notification that count, and what they name.
 
 ghost use Rattle.std.specs.Prelude.{◌≡◌, ◌||◌, IfOk, IfSome, MatchResult, option_map, IsUtf8, IsTrue, Bool, codes};
-ghost use Rattle.feed_text.specs.Members.{item_view, member_view, member_views, IsMemberSpelling, AreMemberSpellings};
+ghost use Rattle.feed_text.specs.Members.{item_view, member_view, member_views, few_views, IsMemberSpelling, AreMemberSpellings};
 ghost use Rattle.feed_text.specs.Strings.{Says, written_string};
 ghost use Rattle.feed_note.specs.Meaning.{Notification};
 ghost use Rattle.feed_note.specs.Naming.{IsSpeltValue};
@@ -10,7 +10,7 @@ ghost use Rattle.feed_note.specs.Naming.{is_unreadable as unreadable_test, is_un
 
 use crate::line::LineFault;
 use crate::naming::{Naming, read_member_naming, read_naming};
-use feed_text::{Item, Member, Members, plain_text, text_laws};
+use feed_text::{FewMembers, Item, Member, Members, plain_text, text_laws};
 use std::alloc::{AllocError, Global};
 
 /// The values of the members that count: the last one of each name, where there is one.
@@ -60,30 +60,30 @@ pub fn read_fields<'a>(alloc: Global, members: &Members<'a>) -> Result<Fields<'a
     ensures values { IfOk result (λ fields. HasFields members.now fields) }
     ensures spelt { IfOk result (λ fields. AreSpelt fields) }
 {
-    if let Some(fields) = usual_fields(members.list()) {
-        return Ok(fields);
-    }
     match plain_fields(members.list()) {
         Some(fields) => Ok(fields),
         None => find_fields(alloc, members),
     }
 }
 
-/// The values of the members that count, where no others stand and these do in the usual order.
+/// The values of the members that count, where there are three or four members, a type, an id and
+/// data in this order, and perhaps a token: so lines mostly are.
+#[inline(always)]
 #[tactic(auto, unfolding(feed_text::specs::Strings::written_string))]
-fn usual_fields<'a>(members: &[Member<'a>]) -> Option<Fields<'a>>
-    requires { AreMemberSpellings (member_views members.now) }
-    ensures values { IfSome result (λ fields. HasFields (member_views members.now) fields) }
+pub fn usual_fields<'a>(few: &FewMembers<'a>) -> Option<Fields<'a>>
+    requires { AreMemberSpellings (few_views few.now) }
+    ensures values { IfSome result (λ fields. HasFields (few_views few.now) fields) }
     ensures spelt { IfSome result (λ fields. AreSpelt fields) }
 {
-    if members.len() == 3 {
-        return fields_of(&members[0], &members[1], &members[2], None);
+    match &few.fourth {
+        None => fields_of(&few.first, &few.second, &few.third, None),
+        Some(last) => {
+            if !is_plainly(last, "token", b"\"token\"") {
+                return None;
+            }
+            fields_of(&few.first, &few.second, &few.third, Some(last.item()))
+        }
     }
-    if members.len() == 4 && is_plainly(&members[3], "token", b"\"token\"") {
-        let token = members[3].item();
-        return fields_of(&members[0], &members[1], &members[2], Some(token));
-    }
-    None
 }
 
 /// The fields of three members, where these are a type, an id and data, and a token.
