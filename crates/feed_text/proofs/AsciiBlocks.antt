@@ -32,13 +32,13 @@ ascii_through text at last le long before behind i =
     elim (cases_lt i at) [
       | inl lt ↦ omega (arith, get_or-take at text i 0 lt, before i)
       | inr ge ↦ elim (cases_lt i (last + 32)) [
-          | inl within ↦
-              let place : last + (i - last) ≡ i = omega arith in
-              let lt : i - last < 32 = omega arith in
-              let same : get_or text (last + (i - last)) 0 ≡ get_or text i 0 = ap (λ k. get_or text k 0) place in
-              omega (arith, get_or-take 32 (drop last text) (i - last) 0 lt, get_or-drop last text (i - last) 0, same, behind (i - last))
-          | inr out ↦ omega (arith, get_or_past text i 0 (omega arith))
-        ]
+        | inl within ↦
+            let place : last + (i - last) ≡ i = omega arith in
+            let lt : i - last < 32 = omega arith in
+            let same : get_or text (last + (i - last)) 0 ≡ get_or text i 0 = ap (λ k. get_or text k 0) place in
+            omega (arith, get_or-take 32 (drop last text) (i - last) 0 lt, get_or-drop last text (i - last) 0, same, behind (i - last))
+        | inr out ↦ omega (arith, get_or_past text i 0 (omega arith))
+      ]
     ]
 
 pub ascii_more : (text : List ℕ) (at : ℕ) → IsAscii (take at text) → IsAscii (take 32 (drop at text)) → IsAscii (take (at + 32) text)
