@@ -41,6 +41,7 @@ pub enum Content {
 const TOO_DEEP: usize = OBJECT_LEVELS + 1;
 
 /// The text of an object, unless it is too large.
+#[inline(always)]
 fn kept_object(alloc: Global, text: &[u8]) -> Result<Option<ObjectText>, AllocError>
     requires { HoldsReadable value_depth (text.now, Object) }
     ensures { OfEach Object text.now (λ v. IfOk result (λ object. object ≡ kept v)) }
@@ -121,6 +122,7 @@ fn gather(alloc: Global, array: &[u8]) -> Result<Option<Vec<Element>>, AllocErro
 }
 
 /// What `data` holds. A fault is that of a scalar, of an array beside an id, or of an element.
+#[inline(always)]
 pub fn read_content(alloc: Global, fields: &Fields<'_>, has_id: bool) -> Result<Content, LineFault>
     requires { IfSome fields.now.content (λ item. HoldsReadable value_depth (item_view item)) }
     ensures { (n : Notification) → Spell fields.now n → IsNamed n has_id →

@@ -1,7 +1,7 @@
 //! The members of a notification that count, and what they name.
 
 ghost use Rattle.std.specs.Prelude.{◌≡◌, ◌||◌, IfOk, IfSome, MatchResult, option_map, IsUtf8, IsTrue, Bool, codes};
-ghost use Rattle.feed_text.specs.Members.{item_view, member_view, member_views, IsMemberSpelling, AreMemberSpellings};
+ghost use Rattle.feed_text.specs.Members.{item_view, member_view, member_views, few_views, IsMemberSpelling, AreMemberSpellings};
 ghost use Rattle.feed_text.specs.Strings.{Says, written_string};
 ghost use Rattle.feed_note.specs.Meaning.{Notification};
 ghost use Rattle.feed_note.specs.Naming.{IsSpeltValue};
@@ -10,7 +10,7 @@ ghost use Rattle.feed_note.specs.Naming.{is_unreadable as unreadable_test, is_un
 
 use crate::line::LineFault;
 use crate::naming::{Naming, read_member_naming, read_naming};
-use feed_text::{Item, Member, Members, plain_text, text_laws};
+use feed_text::{FewMembers, Item, Member, Members, plain_text, text_laws};
 use std::alloc::{AllocError, Global};
 
 /// The values of the members that count: the last one of each name, where there is one.
@@ -47,6 +47,7 @@ fn last_value<'a>(
 }
 
 /// Whether a member's key is this text as it is usually written.
+#[inline(always)]
 fn is_plainly(member: &Member<'_>, text: &str, written: &[u8]) -> bool
     requires { written.now ≡ written_string text.now }
     ensures { IsTrue result → Says (member_view member.now).0 text.now }
@@ -60,33 +61,56 @@ pub fn read_fields<'a>(alloc: Global, members: &Members<'a>) -> Result<Fields<'a
     ensures values { IfOk result (λ fields. HasFields members.now fields) }
     ensures spelt { IfOk result (λ fields. AreSpelt fields) }
 {
-    if let Some(fields) = usual_fields(members.list()) {
-        return Ok(fields);
-    }
     match plain_fields(members.list()) {
         Some(fields) => Ok(fields),
         None => find_fields(alloc, members),
     }
 }
 
-/// The values of the members that count, where no others stand and these do in the usual order.
-#[tactic(auto, unfolding(feed_text::specs::Strings::written_string))]
-fn usual_fields<'a>(members: &[Member<'a>]) -> Option<Fields<'a>>
-    requires { AreMemberSpellings (member_views members.now) }
-    ensures values { IfSome result (λ fields. HasFields (member_views members.now) fields) }
+/// The values of the members that count, of three or four, where no key has a backslash.
+#[inline(always)]
+pub fn few_fields<'a>(few: &FewMembers<'a>) -> Option<Fields<'a>>
+    requires { AreMemberSpellings (few_views few.now) }
+    ensures values { IfSome result (λ fields. HasFields (few_views few.now) fields) }
     ensures spelt { IfSome result (λ fields. AreSpelt fields) }
 {
-    if members.len() == 3 {
-        return fields_of(&members[0], &members[1], &members[2], None);
+    match usual_fields(few) {
+        Some(fields) => Some(fields),
+        None => fields_in_any_order(few),
     }
-    if members.len() == 4 && is_plainly(&members[3], "token", b"\"token\"") {
-        let token = members[3].item();
-        return fields_of(&members[0], &members[1], &members[2], Some(token));
+}
+
+/// The same, where these stand in the usual order: a type, an id, data, and perhaps a token.
+#[inline(always)]
+#[tactic(auto, unfolding(feed_text::specs::Strings::written_string))]
+fn usual_fields<'a>(few: &FewMembers<'a>) -> Option<Fields<'a>>
+    requires { AreMemberSpellings (few_views few.now) }
+    ensures values { IfSome result (λ fields. HasFields (few_views few.now) fields) }
+    ensures spelt { IfSome result (λ fields. AreSpelt fields) }
+{
+    let Some(last) = few.fourth else {
+        return fields_of(&few.first, &few.second, &few.third, None);
+    };
+    if !is_plainly(&last, "token", b"\"token\"") {
+        return None;
     }
-    None
+    fields_of(&few.first, &few.second, &few.third, Some(last.item()))
+}
+
+/// The same, in whatever order they stand.
+fn fields_in_any_order<'a>(few: &FewMembers<'a>) -> Option<Fields<'a>>
+    requires { AreMemberSpellings (few_views few.now) }
+    ensures values { IfSome result (λ fields. HasFields (few_views few.now) fields) }
+    ensures spelt { IfSome result (λ fields. AreSpelt fields) }
+{
+    match few.fourth {
+        None => plain_fields(&[few.first, few.second, few.third]),
+        Some(last) => plain_fields(&[few.first, few.second, few.third, last]),
+    }
 }
 
 /// The fields of three members, where these are a type, an id and data, and a token.
+#[inline(always)]
 #[tactic(auto, unfolding(feed_text::specs::Strings::written_string))]
 fn fields_of<'a>(
     kind: &Member<'a>,
@@ -170,6 +194,7 @@ fn find_fields<'a>(alloc: Global, members: &Members<'a>) -> Result<Fields<'a>, A
 
 /// What the members name. A fault is that of an absent type, or of a type, an id or a token that is
 /// no text.
+#[inline(always)]
 pub fn read_names(alloc: Global, fields: &Fields<'_>) -> Result<Names, LineFault>
     requires { AreSpelt fields.now }
     ensures { (n : Notification) → Spell fields.now n →
@@ -187,6 +212,7 @@ pub fn read_names(alloc: Global, fields: &Fields<'_>) -> Result<Names, LineFault
     Ok(Names { kind, id, token })
 }
 
+#[inline(always)]
 fn is_any_unreadable(kind: &Naming, id: &Option<Naming>, token: &Option<Naming>) -> bool
     ensures { result ≡ (unreadable_test kind.now
         || is_unreadable_or_null id.now || is_unreadable_or_null token.now) }
@@ -194,12 +220,14 @@ fn is_any_unreadable(kind: &Naming, id: &Option<Naming>, token: &Option<Naming>)
     is_unreadable(kind) || is_unreadable_member(id) || is_unreadable_member(token)
 }
 
+#[inline(always)]
 fn is_unreadable(naming: &Naming) -> bool
     ensures { result ≡ unreadable_test naming.now }
 {
     matches!(naming, Naming::Unreadable)
 }
 
+#[inline(always)]
 fn is_unreadable_member(naming: &Option<Naming>) -> bool
     ensures { result ≡ is_unreadable_or_null naming.now }
 {

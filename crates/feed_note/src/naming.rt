@@ -22,6 +22,7 @@ pub enum Naming {
 }
 
 /// What the value names.
+#[inline(always)]
 pub fn read_naming(alloc: Global, value: &Item<'_>) -> Result<Naming, AllocError>
     requires { IsSpelling (item_view value.now) }
     ensures { IfOk result (λ naming. naming ≡ naming_of (spelled_text (item_view value.now))) }
@@ -34,6 +35,7 @@ pub fn read_naming(alloc: Global, value: &Item<'_>) -> Result<Naming, AllocError
 }
 
 /// What a JSON string names. One without a backslash is taken as it stands.
+#[inline(always)]
 fn read_string(alloc: Global, string: &[u8]) -> Result<Naming, AllocError>
     requires string { IsString string.now }
     requires utf8 { IsUtf8 string.now }
@@ -49,6 +51,7 @@ fn read_string(alloc: Global, string: &[u8]) -> Result<Naming, AllocError>
 }
 
 /// The text as a name.
+#[inline(always)]
 fn named(alloc: Global, text: &str) -> Result<Naming, AllocError>
     ensures { IfOk result (λ naming. naming ≡ naming_of (Some text.now)) }
 {
@@ -60,6 +63,7 @@ fn named(alloc: Global, text: &str) -> Result<Naming, AllocError>
 }
 
 /// What a member names that may be absent or null.
+#[inline(always)]
 pub fn read_member_naming(
     alloc: Global,
     value: Option<Item<'_>>,
