@@ -6,7 +6,7 @@ use Rattle.std.proofs.Math.Seq.{take-append_seam}
 use Rattle.std.proofs.lemmas.Bool.{cases_lt}
 use Rattle.std.specs.Io.KnownBytes.{Consumes, Keeps}
 use Rattle.std.proofs.KnownBytes.{Consumes-trans}
-use Rattle.feed_http.specs.Device.{counted, RoseBy, Moved, MovedSome}
+use Rattle.feed_http.specs.Device.{counted, HasFailed, RoseBy, Moved, MovedSome}
 
 -- what was copied is the prefix of what was left
 pub given_prefix : (left copied tail : List ℕ) (n : ℕ) → copied ≡ take n left → n ≤ length left
@@ -32,6 +32,11 @@ rose_on old new n e =
 pub rose_more : (old mid new n : ℕ) → RoseBy old mid n → new ≡ counted mid 1 → RoseBy old new (n + 1)
 rose_more old mid new n (inl e) h = rose_on old new n (h ∙ ap (λ m. counted m 1) e)
 rose_more old mid new n (inr e) h = inr (omega arith)
+
+-- the count of failures behind a call that failed
+pub failed_once : (old mid new : ℕ) → mid ≡ old → new ≡ counted mid 1 → HasFailed old new
+failed_once old mid new same once =
+    elim (cases_lt old (2 ^ 64 - 1)) [ inl h ↦ inl (omega arith) | inr h ↦ inr (omega arith) ]
 
 -- what was moved before and what is moved now
 pub Moved-trans : (a b c : Option (List ℕ)) (x y z : List ℕ) → Moved a b x y → Moved b c y z → Moved a c x z

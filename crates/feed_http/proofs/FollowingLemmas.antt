@@ -1,7 +1,7 @@
 -- How far a response has come that is followed.
 use Rattle.std.proofs.Common.{◌≡◌, ◌≢◌, inl, inr, ◌≤◌, ℕ, Bool, List, [], ◌++◌, length, take}
 use Rattle.std.proofs.Common.{append-nil, refl, sym, ap, ◌∙◌, subst, Option}
-use Rattle.std.specs.Prelude.{is_some, Ok, Err, Result, IfOk}
+use Rattle.std.specs.Prelude.{is_some, Ok, Err, Result}
 use Rattle.std.specs.Io.KnownBytes.{Consumes, IsAtEnd, Keeps}
 use Rattle.std.proofs.KnownBytes.{Consumes-nil, Consumes-trans, Consumes-kept}
 use Rattle.httparse.specs.Grammar.{ResponseHead, ReadsResponse, NeverHasResponse}
@@ -18,12 +18,13 @@ use Rattle.feed_follow.specs.Following.{Fails, HasLostSome}
 use Rattle.feed_follow.specs.Follower.{FollowerState, FollowsAt, GoesOn}
 use Rattle.feed_follow.specs.Laws.{StandsOnce}
 use Rattle.feed_http.specs.declared.fault.EngineFault.{EngineFault}
-use Rattle.feed_http.specs.declared.fault.EngineFault.TheVariants.{Follow}
+use Rattle.feed_http.specs.declared.fault.EngineFault.TheVariants as fault
 use Rattle.feed_http.specs.declared.fault.Followed.{Followed}
 use Rattle.feed_http.specs.declared.fault.Followed.TheVariants.{Early, Ended, Done, TokenRefused}
+use Rattle.feed_http.specs.Exchange.{Gave}
 use Rattle.feed_http.specs.HeadReading.{read_bytes}
 use Rattle.feed_http.specs.Following.{IsGoingOn, CameAsNeeded, nothing_came, more_came}
-use Rattle.feed_http.specs.Following.{HasCome, WasFollowed, EndsAs, MetFault}
+use Rattle.feed_http.specs.Following.{HasCome, EndsAs, MetFault, Comes, Follows}
 
 -- a response goes on, its follower stands behind what came, and this is answered if no more comes
 pub record GoesOnAt (source left : Option (List ℕ)) (start : MirrorState) (at_end : Followed)
@@ -219,17 +220,6 @@ not_closed start had_token before piece standing m fault once going so fails is 
     let refused = subst (Fails start had_token before piece m) is fails in
     not_refused had_token before standing once going so refused.0
 
--- what is answered is the fault of the response
-pub answered : (source left : Option (List ℕ)) (start m : MirrorState)
-    (told : Result Followed EngineFault) (given : EngineFault) (of fault : FollowFault)
-    → told ≡ Err given → given ≡ Follow of → MetFault source left start m of
-    → told ≡ Err (Follow fault) → MetFault source left start m fault
-answered source left start m told given of fault is made met asked =
-    let same : ◌≡◌ {A = Result Followed EngineFault} (Err (Follow of)) (Err (Follow fault)) =
-    ap Err (sym made) ∙ sym is ∙ asked in
-    let one : of ≡ fault = cc in
-    subst (MetFault source left start m) one met
-
 lost_cuts : (start : MirrorState) (had_token : Bool) (before piece : List ℕ) (m : MirrorState)
     → HasLostSome start had_token before piece m → cut_off m ≡ m
 lost_cuts start had_token before piece m h = elim h.left [
@@ -254,18 +244,26 @@ fault_cuts start had_token before piece m (Status status) (_, _, h) =
 fault_cuts start had_token before piece m BadCoding (_, _, h) = ap cut_off h ∙ sym h
 fault_cuts start had_token before piece m BadLength (_, _, h) = ap cut_off h ∙ sym h
 
-pub met_is_cut : (source left : Option (List ℕ)) (start m : MirrorState) (fault : FollowFault)
+met_is_cut : (source left : Option (List ℕ)) (start m : MirrorState) (fault : FollowFault)
     → MetFault source left start m fault → MetFault source left start (cut_off m) fault
 met_is_cut source left start m fault met =
     let same = fault_cuts start (is_some start.since) met.before met.piece m fault met.fails in
     subst (λ n. MetFault source left start n fault) (sym same) met
 
 -- how following ends is how the response came, and then the mirror is cut
-pub ends_cut : (source left : Option (List ℕ)) (start m n : MirrorState)
-    (told : Result Followed EngineFault) → n ≡ cut_off m
-    → IfOk told (λ f. (standing : Standing) × EndsAs standing left f
-    × HasCome source left start standing m)
-    → IfOk told (λ f. (standing : Standing) × EndsAs standing left f
-    × WasFollowed source left start standing n)
-ends_cut source left start m n (Ok f) is (standing, ends, come) = (standing, ends, (m, come, is))
-ends_cut source left start m n (Err fault) is h = h
+pub cut_behind : (turns : ℕ) (gave : Gave) (start m n : MirrorState)
+    (told : Result Followed EngineFault) → n ≡ cut_off m → Comes turns gave start told m
+    → Follows turns gave start told n
+cut_behind turns gave start m n (Ok f) is (standing, ends, came) = (standing, ends, (m, came, is))
+cut_behind turns gave start m n (Err fault.Read) is ((standing, going, came), count) =
+    ((standing, going, (m, came, is)), count)
+cut_behind turns gave start m n (Err fault.Turns) is ((standing, going, came), count) =
+    ((standing, going, (m, came, is)), count)
+cut_behind turns gave start m n (Err (fault.Follow why)) is (other, has) = (
+  other,
+  subst (λ k. MetFault gave.source gave.left start k why) (sym is)
+      (met_is_cut gave.source gave.left start m why has),
+)
+cut_behind turns gave start m n (Err fault.Write) is none = absurd none
+cut_behind turns gave start m n (Err fault.Memory) is none = absurd none
+cut_behind turns gave start m n (Err (fault.Commit why)) is none = absurd none

@@ -1,5 +1,6 @@
 pub mod DeviceLemmas
 pub mod FollowingLemmas
+pub mod HeadLemmas
 pub mod LiveLemmas
 pub mod LostLemmas
 pub mod OpenedLemmas

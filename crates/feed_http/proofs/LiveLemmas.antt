@@ -17,7 +17,7 @@ use Rattle.feed_note.specs.Publishing.{Published}
 use Rattle.feed_node.specs.declared.commit.Commit.{Commit}
 use Rattle.feed_node.specs.Log.{PrimaryState, token_after}
 use Rattle.feed_node.specs.States.{NodeState, nothing_published, token_of, place_of, keep_last, HoldsItsTokens, IsConsistent}
-use Rattle.feed_node.specs.Serving.{is_published, token_before}
+use Rattle.feed_node.specs.Serving.{is_published, token_before, commit_text}
 use Rattle.feed_answer.specs.declared.framing.Framing.{Framing}
 use Rattle.feed_answer.specs.Answered.{AnswersTo, parts_of, answer_to, answer_opened}
 use Rattle.feed_answer.specs.Asked.{Asked, refused, feed, framing_for}
@@ -26,7 +26,7 @@ use Rattle.feed_answer.specs.Opening.{starts_behind, opens_from}
 use Rattle.feed_answer.specs.Served.{farewell, behind_opening}
 use Rattle.feed_http.specs.Device.{counted}
 use Rattle.feed_http.specs.Sessions.{Nothing_new, Lost, next}
-use Rattle.feed_http.specs.Serving.{HasAll, commit_text, commit_frames}
+use Rattle.feed_http.specs.Serving.{HasAll, commit_frames}
 use Rattle.feed_http.specs.Sending.{Sent, sent_none, sent_one, WroteCommits}
 use Rattle.feed_http.specs.Live.{Intake, intake_of, Accepts, accepts_none, accepts_one, TakesTurn, IsLongTurn, HasSent, commit_sent, IsOver, SendsLive, IsCutShort}
 use Rattle.feed_http.specs.Taking.{IsHeld}

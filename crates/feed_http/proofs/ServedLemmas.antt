@@ -1,19 +1,18 @@
 -- Lemmas on what a connection came to: what is said of each end, said of the connection.
-use Rattle.std.proofs.Common.{◌≡◌, ◌⊎◌, refl, inr, arith, ℕ, List, []}
-use Rattle.std.specs.Prelude.{Result, Ok, Err, IfOk, IfErr, IsErrOf}
+use Rattle.std.proofs.Common.{◌≡◌, ◌⊎◌, inl, inr, sym, ap, ◌∙◌, subst, ℕ, List, []}
+use Rattle.std.specs.Prelude.{Result, Ok, Err}
 use Rattle.std.specs.Io.KnownBytes.{Appends, Consumes, IsAtEnd}
 use Rattle.feed_node.specs.States.{NodeState}
-use Rattle.feed_node.specs.declared.primary.CommitFault.{CommitFault}
 use Rattle.feed_answer.specs.Answered.{AnswerParts, AnswersTo}
 use Rattle.feed_http.specs.declared.fault.EngineFault.{EngineFault}
 use Rattle.feed_http.specs.declared.fault.EngineFault.TheVariants as fault
 use Rattle.feed_http.specs.declared.fault.Served.{Served}
 use Rattle.feed_http.specs.declared.service.Service.{Service}
-use Rattle.feed_http.specs.Device.{HasFailed, RoseBy, RoseAtMost}
-use Rattle.feed_http.specs.Exchange.{Exchange, Wrote}
-use Rattle.feed_http.specs.HeadReading.{IsReadAsNeeded, IsEnough}
+use Rattle.feed_http.specs.Device.{RoseAtMost}
+use Rattle.feed_http.specs.Exchange.{Exchange, Wrote, gave_on}
+use Rattle.feed_http.specs.HeadReading.{IsReadAsNeeded, IsEnough, HeadFails}
 use Rattle.feed_http.specs.Sending.{WroteAnswer, WroteAll, WroteAllLive}
-use Rattle.feed_http.specs.Serving.{ServedSo, ServesOnce, BrokeInHead, BrokeBehindHead}
+use Rattle.feed_http.specs.Serving.{ServedSo, ServesOnce, BrokeBehindHead}
 use Rattle.feed_http.specs.Live.{Intake, HasAnswer, WroteLive, WroteRefused, ServedLive, ServesLive}
 use Rattle.feed_http.specs.Writing.{WritesBy, WritesAll}
 use Rattle.feed_http.proofs.OpenedLemmas.{opened_at, takes_all}
@@ -28,44 +27,34 @@ written_on spoken = record {
 }
 
 module _ (service : Service) (node : NodeState) (spoken : Exchange) where
-  -- all was read and written
-  abbrev WasServed : Served → Type 0
-  WasServed served =
-      ServedSo service.contest.now node service.framing service.back service.turns spoken (Ok served)
-
-  abbrev IsBrokenInHead : Type 0
-  IsBrokenInHead =
-      BrokeInHead spoken.source spoken.left spoken.written_old spoken.written_new
-
   abbrev IsBrokenBehind : Type 0
   IsBrokenBehind =
       BrokeBehindHead service.contest.now node service.framing service.back spoken.source
       spoken.left spoken.written_old spoken.written_new
 
-  came_so : (r : Result Served EngineFault) → IfOk r WasServed
-      → IfErr r (λ why. (why ≡ fault.Read) ⊎ ((why ≡ fault.Write) ⊎ ((why ≡ fault.Turns) ⊎ (why ≡ fault.Memory))))
-      → (IsErrOf r fault.Read → IsBrokenInHead × HasFailed spoken.failed_reads_old spoken.failed_reads_new)
-      → (IsErrOf r fault.Turns → IsBrokenInHead × RoseBy spoken.reads_old spoken.reads_new service.turns)
-      → (IsErrOf r fault.Write → IsBrokenBehind × HasFailed spoken.failed_writes_old spoken.failed_writes_new)
-      → (IsErrOf r fault.Memory → Appends spoken.written_old spoken.written_new [] ⊎ IsBrokenBehind)
-      → ServedSo service.contest.now node service.framing service.back service.turns spoken r
-  came_so (Ok served) ok faults read many write memory = ok
-  came_so (Err fault.Read) ok faults read many write memory = read refl
-  came_so (Err fault.Turns) ok faults read many write memory = many refl
-  came_so (Err fault.Write) ok faults read many write memory = write refl
-  came_so (Err fault.Memory) ok faults read many write memory = memory refl
-  came_so (Err (fault.Commit why)) ok faults read many write memory = grind (arith, faults)
-  came_so (Err (fault.Follow why)) ok faults read many write memory = grind (arith, faults)
+  unread_so : (head : List ℕ) (why : EngineFault) → IsReadAsNeeded head
+      → Appends spoken.written_old spoken.written_new []
+      → HeadFails service.turns (gave_on spoken) head why
+      → ServedSo service.contest.now node service.framing service.back service.turns spoken (Err why)
+  unread_so head fault.Read needed nothing (given, still, failed) =
+      ((head, given, needed, still, nothing), failed)
+  unread_so head fault.Turns needed nothing (given, still, rose) =
+      ((head, given, needed, still, nothing), rose)
+  unread_so head fault.Memory needed nothing h = inl nothing
+  unread_so head fault.Write needed nothing none = absurd none
+  unread_so head (fault.Commit why) needed nothing none = absurd none
+  unread_so head (fault.Follow why) needed nothing none = absurd none
 
-  pub serves_once : (r : Result Served EngineFault) → IfOk r WasServed
-      → IfErr r (λ why. (why ≡ fault.Read) ⊎ ((why ≡ fault.Write) ⊎ ((why ≡ fault.Turns) ⊎ (why ≡ fault.Memory))))
-      → (IsErrOf r fault.Read → IsBrokenInHead × HasFailed spoken.failed_reads_old spoken.failed_reads_new)
-      → (IsErrOf r fault.Turns → IsBrokenInHead × RoseBy spoken.reads_old spoken.reads_new service.turns)
-      → (IsErrOf r fault.Write → IsBrokenBehind × HasFailed spoken.failed_writes_old spoken.failed_writes_new)
-      → (IsErrOf r fault.Memory → Appends spoken.written_old spoken.written_new [] ⊎ IsBrokenBehind)
+  -- the head was not read, or there was no memory to answer it, and nothing was written
+  pub was_unread : (head : List ℕ) {r : Result Served EngineFault} {told why : EngineFault}
+      → r ≡ Err told → told ≡ why → IsReadAsNeeded head
+      → Appends spoken.written_old spoken.written_new []
+      → HeadFails service.turns (gave_on spoken) head why
       → RoseAtMost spoken.reads_old spoken.reads_new service.turns
       → ServesOnce service node spoken r
-  serves_once r ok faults read many write memory reads = record { came = came_so r ok faults read many write memory; reads = reads }
+  was_unread head {r} {told} {why} is kept needed nothing fails reads =
+      subst (ServesOnce service node spoken) (sym (is ∙ ap Err kept))
+      (record { came = unread_so head why needed nothing fails; reads = reads })
 
   -- what came of writing a node's answer to what was read
   module _ (head : List ℕ) (answer : AnswerParts) (given : Consumes spoken.source spoken.left head)
@@ -124,47 +113,30 @@ module _ (turn : ℕ) (service : Service) (spoken : Exchange) (start now : Intak
       (answer : AnswerParts) × Answers answer
       × WroteLive turn start answer now spoken.written_old spoken.written_new
 
-  abbrev WasLive : Served → Type 0
-  WasLive served =
-      ServedLive turn service.contest.now service.framing service.back service.turns spoken start
-      (Ok served) now
-
-  came_live : (r : Result Served EngineFault) → IfOk r WasLive
-      → IfErr r (λ why. (why ≡ fault.Read) ⊎ ((why ≡ fault.Write) ⊎ ((why ≡ fault.Turns)
-      ⊎ (((w : CommitFault) × (why ≡ fault.Commit w)) ⊎ (why ≡ fault.Memory)))))
-      → (IsErrOf r fault.Read → BrokeInHead spoken.source spoken.left spoken.written_old spoken.written_new
-      × (now ≡ start) × HasFailed spoken.failed_reads_old spoken.failed_reads_new)
-      → (IsErrOf r fault.Turns → BrokeInHead spoken.source spoken.left spoken.written_old spoken.written_new
-      × (now ≡ start) × RoseBy spoken.reads_old spoken.reads_new service.turns)
-      → (IsErrOf r fault.Write → IsStopped × HasFailed spoken.failed_writes_old spoken.failed_writes_new)
-      → ((why : CommitFault) → IsErrOf r (fault.Commit why) → (answer : AnswerParts) × Answers answer
-      × WroteRefused turn start answer why now spoken.written_old spoken.written_new)
-      → (IsErrOf r fault.Memory → (Appends spoken.written_old spoken.written_new [] × (now ≡ start)) ⊎ IsStopped)
+  unread_live : (head : List ℕ) (why : EngineFault) → IsReadAsNeeded head → now ≡ start
+      → Appends spoken.written_old spoken.written_new []
+      → HeadFails service.turns (gave_on spoken) head why
       → ServedLive turn service.contest.now service.framing service.back service.turns spoken start
-      r now
-  came_live (Ok served) ok faults read many write refused memory = ok
-  came_live (Err fault.Read) ok faults read many write refused memory = read refl
-  came_live (Err fault.Turns) ok faults read many write refused memory = many refl
-  came_live (Err fault.Write) ok faults read many write refused memory = write refl
-  came_live (Err (fault.Commit why)) ok faults read many write refused memory = refused why refl
-  came_live (Err fault.Memory) ok faults read many write refused memory = memory refl
-  came_live (Err (fault.Follow why)) ok faults read many write refused memory = grind (arith, faults)
+      (Err why) now
+  unread_live head fault.Read needed same nothing (given, still, failed) =
+      ((head, given, needed, still, nothing), same, failed)
+  unread_live head fault.Turns needed same nothing (given, still, rose) =
+      ((head, given, needed, still, nothing), same, rose)
+  unread_live head fault.Memory needed same nothing h = inl (nothing, same)
+  unread_live head fault.Write needed same nothing none = absurd none
+  unread_live head (fault.Commit why) needed same nothing none = absurd none
+  unread_live head (fault.Follow why) needed same nothing none = absurd none
 
-  pub serves_live : (r : Result Served EngineFault) → IfOk r WasLive
-      → IfErr r (λ why. (why ≡ fault.Read) ⊎ ((why ≡ fault.Write) ⊎ ((why ≡ fault.Turns)
-      ⊎ (((w : CommitFault) × (why ≡ fault.Commit w)) ⊎ (why ≡ fault.Memory)))))
-      → (IsErrOf r fault.Read → BrokeInHead spoken.source spoken.left spoken.written_old spoken.written_new
-      × (now ≡ start) × HasFailed spoken.failed_reads_old spoken.failed_reads_new)
-      → (IsErrOf r fault.Turns → BrokeInHead spoken.source spoken.left spoken.written_old spoken.written_new
-      × (now ≡ start) × RoseBy spoken.reads_old spoken.reads_new service.turns)
-      → (IsErrOf r fault.Write → IsStopped × HasFailed spoken.failed_writes_old spoken.failed_writes_new)
-      → ((why : CommitFault) → IsErrOf r (fault.Commit why) → (answer : AnswerParts) × Answers answer
-      × WroteRefused turn start answer why now spoken.written_old spoken.written_new)
-      → (IsErrOf r fault.Memory → (Appends spoken.written_old spoken.written_new [] × (now ≡ start)) ⊎ IsStopped)
+  -- the head was not read, or there was no memory to answer it, and no batch was taken
+  pub was_not_heard : (head : List ℕ) {r : Result Served EngineFault} {told why : EngineFault}
+      → r ≡ Err told → told ≡ why → IsReadAsNeeded head → now ≡ start
+      → Appends spoken.written_old spoken.written_new []
+      → HeadFails service.turns (gave_on spoken) head why
       → RoseAtMost spoken.reads_old spoken.reads_new service.turns
       → ServesLive turn service spoken start r now
-  serves_live r ok faults read many write refused memory reads =
-      record { came = came_live r ok faults read many write refused memory; reads = reads }
+  was_not_heard head {r} {told} {why} is kept needed same nothing fails reads =
+      subst (λ s. ServesLive turn service spoken start s now) (sym (is ∙ ap Err kept))
+      (record { came = unread_live head why needed same nothing fails; reads = reads })
 
   -- what came of writing a primary's answer to what was read
   answered_live : (answer : AnswerParts) → Answers answer → (r : Result Served EngineFault)

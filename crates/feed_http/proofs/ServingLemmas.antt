@@ -14,7 +14,7 @@ use Rattle.std.proofs.lemmas.List.{map-append}
 use Rattle.feed_note.specs.Publishing.{Published}
 use Rattle.feed_node.specs.declared.commit.Commit.{Commit}
 use Rattle.feed_node.specs.States.{NodeState, nothing_published, published_token, place_of, HoldsItsTokens, IsConsistent, tokens}
-use Rattle.feed_node.specs.Serving.{is_published, commit_after}
+use Rattle.feed_node.specs.Serving.{is_published, commit_after, commit_text}
 use Rattle.feed_http.specs.Sessions.{Next, Nothing_new, Lost, Commit_after, next, or_lost, Pulls}
 use Rattle.feed_node.specs.declared.session.Pulled.{Pulled}
 use Rattle.feed_node.specs.declared.session.Pulled.TheVariants.{More, UpToDate, Gone}
@@ -23,7 +23,7 @@ use Rattle.feed_http.specs.Device.{AppendsPrefix, counted}
 use Rattle.feed_answer.specs.Framed.{frame, frame_end}
 use Rattle.feed_answer.specs.Served.{behind_opening, farewell}
 use Rattle.feed_answer.specs.Answered.{parts_of}
-use Rattle.feed_http.specs.Serving.{Sends, up_to_date, lost, sends, commit_text, commit_frames, HasAll, BeginsCommit, SendsAnswer}
+use Rattle.feed_http.specs.Serving.{Sends, up_to_date, lost, sends, commit_frames, HasAll, BeginsCommit, SendsAnswer}
 use Rattle.feed_http.specs.Sending.{Sent, sent_none, sent_one, WroteCommits, WroteSome, WroteAnswer}
 use Rattle.feed_http.specs.declared.fault.Served.{Served}
 

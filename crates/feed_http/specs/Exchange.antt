@@ -50,6 +50,38 @@ module _ {R W : Type 0} where
     failed_writes = failed_writes;
   }
 
+-- What one reader gave: the bytes that are left of it before and after, where they are known, how
+-- many reads were made, and how many failed.
+pub record Gave : Type 0 where
+  pub source : Option (List ℕ)
+  pub left : Option (List ℕ)
+  pub reads_old : ℕ
+  pub reads_new : ℕ
+  pub failed_old : ℕ
+  pub failed_new : ℕ
+
+-- what a reader gave, by what its device says of it
+abbrev pub gave_by : {R : Type 0} → (R → Option (List ℕ)) → (R → ℕ) → (R → ℕ) → R → R → Gave
+gave_by remaining reads failures old new = record {
+  source = remaining old;
+  left = remaining new;
+  reads_old = reads old;
+  reads_new = reads new;
+  failed_old = failures old;
+  failed_new = failures new;
+}
+
+-- what the reader of a connection gave
+abbrev pub gave_on : Exchange → Gave
+gave_on spoken = record {
+  source = spoken.source;
+  left = spoken.left;
+  reads_old = spoken.reads_old;
+  reads_new = spoken.reads_new;
+  failed_old = spoken.failed_reads_old;
+  failed_new = spoken.failed_reads_new;
+}
+
 -- What one device was written: the bytes of it before and after, where they are known, and how many
 -- writes failed.
 pub record Wrote : Type 0 where

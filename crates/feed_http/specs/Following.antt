@@ -1,13 +1,18 @@
 -- How a response is followed on one connection (CLICS Contest API 2023-06, reconnection).
-use Rattle.std.specs.Prelude.{◌≡◌, ◌≤◌, ℕ, Bool, List, [], ◌++◌, length, is_some, Option}
+use Rattle.std.specs.Prelude.{◌≡◌, ◌≢◌, ◌≤◌, ℕ, Bool, List, [], ◌++◌, length, is_some, Option, Result, Ok, Err}
 use Rattle.std.specs.Io.KnownBytes.{Consumes, IsAtEnd}
 use Rattle.feed_node.specs.Mirroring.{MirrorState, cut_off}
 use Rattle.feed_follow.specs.declared.fault.FollowFault.{FollowFault}
+use Rattle.feed_follow.specs.declared.fault.FollowFault.TheVariants.{Closed}
 use Rattle.feed_follow.specs.Standing.{Standing, in_head, token_refused, in_body, done, failed}
 use Rattle.feed_follow.specs.Standing.{Stands}
 use Rattle.feed_follow.specs.Following.{Leaves, Fails}
+use Rattle.feed_http.specs.declared.fault.EngineFault.{EngineFault}
+use Rattle.feed_http.specs.declared.fault.EngineFault.TheVariants as fault
 use Rattle.feed_http.specs.declared.fault.Followed.{Followed}
 use Rattle.feed_http.specs.declared.fault.Followed.TheVariants.{Early, Ended, Done, TokenRefused}
+use Rattle.feed_http.specs.Device.{HasFailed, RoseBy}
+use Rattle.feed_http.specs.Exchange.{Gave}
 use Rattle.feed_http.specs.HeadReading.{read_bytes}
 
 -- further bytes count: the response stands in its head or in its body
@@ -51,11 +56,6 @@ EndsAs (done payload) left followed = followed ≡ Done
 EndsAs token_refused left followed = followed ≡ TokenRefused
 EndsAs (failed fault payload) left followed = ⊥
 
--- following broke off where the response still went on
-abbrev pub BrokeOff : Option (List ℕ) → Option (List ℕ) → MirrorState → MirrorState → Type 0
-BrokeOff source left start mirror =
-    (standing : Standing) × IsGoingOn standing × WasFollowed source left start standing mirror
-
 -- behind bytes at which the response still went on, the next piece has this fault
 pub record MetFault (source left : Option (List ℕ)) (start mirror : MirrorState)
     (fault : FollowFault) : Type 0 where
@@ -68,3 +68,35 @@ pub record MetFault (source left : Option (List ℕ)) (start mirror : MirrorStat
   pub going : IsGoingOn standing
   pub short : length piece ≤ read_bytes
   pub fails : Fails start (is_some start.since) before piece mirror fault
+
+-- why a response was not followed to its end: a read failed or was one too many (of `turns`) where it
+-- still went on, or it has a fault
+abbrev pub FollowFails : (Standing → Type 0) → (FollowFault → Type 0) → ℕ → Gave → EngineFault → Type 0
+FollowFails Came Met turns gave fault.Read =
+    ((standing : Standing) × IsGoingOn standing × Came standing)
+    × HasFailed gave.failed_old gave.failed_new
+FollowFails Came Met turns gave fault.Turns =
+    ((standing : Standing) × IsGoingOn standing × Came standing)
+    × RoseBy gave.reads_old gave.reads_new turns
+FollowFails Came Met turns gave (fault.Follow why) = (why ≢ Closed) × Met why
+FollowFails Came Met turns gave fault.Write = ⊥
+FollowFails Came Met turns gave fault.Memory = ⊥
+FollowFails Came Met turns gave (fault.Commit why) = ⊥
+
+abbrev pub FollowEnds : (Standing → Type 0) → (FollowFault → Type 0) → ℕ → Gave
+    → Result Followed EngineFault → Type 0
+FollowEnds Came Met turns gave (Ok followed) =
+    (standing : Standing) × EndsAs standing gave.left followed × Came standing
+FollowEnds Came Met turns gave (Err why) = FollowFails Came Met turns gave why
+
+-- a response came in at most so many reads (`turns`), and leaves this of the mirror
+abbrev pub Comes : ℕ → Gave → MirrorState → Result Followed EngineFault → MirrorState → Type 0
+Comes turns gave start followed mirror =
+    FollowEnds (λ standing. HasCome gave.source gave.left start standing mirror)
+    (MetFault gave.source gave.left start mirror) turns gave followed
+
+-- a response came so, and its mirror was then cut
+abbrev pub Follows : ℕ → Gave → MirrorState → Result Followed EngineFault → MirrorState → Type 0
+Follows turns gave start followed mirror =
+    FollowEnds (λ standing. WasFollowed gave.source gave.left start standing mirror)
+    (MetFault gave.source gave.left start mirror) turns gave followed

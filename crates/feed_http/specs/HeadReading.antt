@@ -1,8 +1,13 @@
 -- How the head of a request is read: no further than it takes.
-use Rattle.std.specs.Prelude.{ℕ, ◌-◌, ◌≤◌, ◌⊎◌, min, nat_lt, if◌then◌else◌, List, [], ◌++◌, length}
+use Rattle.std.specs.Prelude.{ℕ, ◌-◌, ◌≤◌, ◌⊎◌, min, nat_lt, if◌then◌else◌, List, [], ◌++◌, length, Result, Ok, Err}
+use Rattle.std.specs.Io.KnownBytes.{Consumes, IsAtEnd}
 use Rattle.httparse.specs.Grammar.{RequestHead, NeverHasRequest}
 use Rattle.feed_follow.specs.Heads.{head_bytes, IsPastLimits}
 use Rattle.feed_answer.specs.Heads.{BeginsWithRequest, HasNoWholeRequest, IsTooLargeRequest}
+use Rattle.feed_http.specs.declared.fault.EngineFault.{EngineFault}
+use Rattle.feed_http.specs.declared.fault.EngineFault.TheVariants as fault
+use Rattle.feed_http.specs.Device.{HasFailed, RoseBy}
+use Rattle.feed_http.specs.Exchange.{Gave}
 
 -- how many bytes one read asks for at most
 abbrev pub read_bytes : ℕ
@@ -27,3 +32,23 @@ pub data IsReadAsNeeded : List ℕ → Type 0 where
   none_read : IsReadAsNeeded []
   more_read : (prefix last : List ℕ) → IsReadAsNeeded prefix → IsStillNeeded prefix
       → length last ≤ most_after (length prefix) → IsReadAsNeeded (prefix ++ last)
+
+-- why a head was not read: a read failed, or was one too many (of `turns`), where it was still needed;
+-- or memory ran out
+abbrev pub HeadFails : ℕ → Gave → List ℕ → EngineFault → Type 0
+HeadFails turns gave head fault.Read =
+    Consumes gave.source gave.left head × IsStillNeeded head
+    × HasFailed gave.failed_old gave.failed_new
+HeadFails turns gave head fault.Turns =
+    Consumes gave.source gave.left head × IsStillNeeded head
+    × RoseBy gave.reads_old gave.reads_new turns
+HeadFails turns gave head fault.Memory = Unit {0}
+HeadFails turns gave head fault.Write = ⊥
+HeadFails turns gave head (fault.Commit why) = ⊥
+HeadFails turns gave head (fault.Follow why) = ⊥
+
+-- these bytes of a head were read: enough, or all that there were
+abbrev pub HeadEnds : {A : Type 0} → ℕ → Gave → List ℕ → Result A EngineFault → Type 0
+HeadEnds turns gave head (Ok _) =
+    Consumes gave.source gave.left head × (IsEnough head ⊎ IsAtEnd gave.left)
+HeadEnds turns gave head (Err why) = HeadFails turns gave head why

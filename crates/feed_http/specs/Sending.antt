@@ -2,6 +2,7 @@
 use Rattle.std.specs.Prelude.{◌≡◌, ℕ, Bool, true, List, [], ◌∷◌, ◌++◌, length, map, Option, IfSome}
 use Rattle.std.specs.Io.KnownBytes.{Appends}
 use Rattle.feed_node.specs.declared.commit.Commit.{Commit}
+use Rattle.feed_node.specs.Serving.{commit_text}
 use Rattle.feed_node.specs.States.{NodeState}
 use Rattle.feed_node.specs.declared.primary.CommitFault.{CommitFault}
 use Rattle.feed_http.specs.Sessions.{Commit_after, next}
@@ -12,7 +13,7 @@ use Rattle.feed_http.specs.Device.{AppendsPrefix, counted}
 use Rattle.feed_http.specs.Exchange.{Wrote}
 use Rattle.feed_http.specs.Live.{Intake, HasSent, IsOver, SendsLive, IsLongTurn, LosesItsToken, IsCutShort, IsRefused}
 use Rattle.feed_answer.specs.Served.{behind_opening}
-use Rattle.feed_http.specs.Serving.{Sends, commit_text, commit_frames, HasAll, BeginsCommit, SendsAnswer}
+use Rattle.feed_http.specs.Serving.{Sends, commit_frames, HasAll, BeginsCommit, SendsAnswer}
 
 -- a session at one token was sent these commits, and is at another one
 pub data Sent (node : NodeState) : List ℕ → List Commit → List ℕ → Type 0 where

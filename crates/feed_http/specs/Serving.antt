@@ -2,8 +2,8 @@
 use Rattle.std.specs.Prelude.{◌≡◌, ◌⊎◌, ℕ, Bool, true, false, List, [], ◌∷◌, ◌++◌, length, map, Option, Some, None, Result, Ok, Err}
 use Rattle.std.specs.List.{flat_map}
 use Rattle.std.specs.Io.KnownBytes.{Appends, Consumes, IsAtEnd}
-use Rattle.feed_note.specs.Texts.{batch_text}
 use Rattle.feed_node.specs.declared.commit.Commit.{Commit}
+use Rattle.feed_node.specs.Serving.{commit_text}
 use Rattle.feed_node.specs.States.{NodeState}
 use Rattle.feed_http.specs.Sessions.{Nothing_new, Lost, Commit_after, next}
 use Rattle.feed_http.specs.declared.fault.EngineFault.{EngineFault}
@@ -17,10 +17,6 @@ use Rattle.feed_http.specs.Exchange.{Exchange}
 use Rattle.feed_http.specs.HeadReading.{IsReadAsNeeded, IsStillNeeded, IsEnough}
 use Rattle.feed_answer.specs.Framed.{frame}
 use Rattle.feed_answer.specs.Served.{behind_opening}
-
--- the text of a commit's lines
-abbrev pub commit_text : Commit → List ℕ
-commit_text commit = batch_text commit.changes commit.token
 
 -- the commits that a session at this token is sent, and whether its token is then no longer held
 pub data Sends (node : NodeState) : List ℕ → List Commit → Bool → Type 0 where

@@ -1,12 +1,10 @@
 //! The reading of a response, whose feed goes to a mirror.
-ghost use Rattle.std.specs.Prelude.{◌≡◌, ◌≢◌, ◌⊎◌, [], None, IfOk, IfErr, IsErrOf};
-ghost use Rattle.feed_follow.specs.declared.fault.FollowFault.{FollowFault as ResponseFault};
-ghost use Rattle.feed_follow.specs.Standing.{Standing, in_head};
+ghost use Rattle.std.specs.Prelude.{◌≡◌, [], None};
+ghost use Rattle.feed_follow.specs.Standing.{in_head};
 ghost use Rattle.feed_follow.specs.Follower.{FollowsAt};
-ghost use Rattle.feed_http.specs.declared.fault.EngineFault.{EngineFault as Fault};
-ghost use Rattle.feed_http.specs.Device.{HasFailed, RoseBy, RoseAtMost};
-ghost use Rattle.feed_http.specs.Following.{IsGoingOn, HasCome, WasFollowed, EndsAs};
-ghost use Rattle.feed_http.specs.Following.{BrokeOff, MetFault};
+ghost use Rattle.feed_http.specs.Device.{RoseAtMost};
+ghost use Rattle.feed_http.specs.Exchange.{gave_by};
+ghost use Rattle.feed_http.specs.Following.{Comes, Follows};
 
 use crate::device::{Failed, FeedRead};
 use crate::fault::{EngineFault, Followed};
@@ -24,24 +22,11 @@ fn push_response<R: FeedRead>(
     turns: u64,
 ) -> Result<Followed, EngineFault>
     requires { FollowsAt mirror.old [] in_head follower.old mirror.old }
-    ensures ok { IfOk result (λ followed. (standing : Standing)
-        × EndsAs standing (R.remaining reader.new) followed
-        × HasCome (R.remaining reader.old) (R.remaining reader.new) mirror.old standing
-        mirror.new) }
-    ensures broken { (IsErrOf result Fault.Read ⊎ IsErrOf result Fault.Turns)
-        → (standing : Standing) × IsGoingOn standing
-        × HasCome (R.remaining reader.old) (R.remaining reader.new) mirror.old standing mirror.new }
-    ensures follow_in { (fault : ResponseFault) → IsErrOf result (Fault.Follow fault)
-        → MetFault (R.remaining reader.old) (R.remaining reader.new) mirror.old mirror.new fault }
-    ensures faults { IfErr result (λ fault. (fault ≡ Fault.Read) ⊎ ((fault ≡ Fault.Turns)
-        ⊎ ((of : ResponseFault) × (of ≢ ResponseFault.Closed) × (fault ≡ Fault.Follow of)))) }
-    ensures read { IsErrOf result Fault.Read → HasFailed (R.failures reader.old)
-        (R.failures reader.new) }
-    ensures turns { IsErrOf result Fault.Turns → RoseBy (R.reads reader.old)
-        (R.reads reader.new) turns }
+    ensures came { let gave = gave_by R.remaining R.reads R.failures reader.old reader.new in
+        Comes turns gave mirror.old result mirror.new }
     ensures reads { RoseAtMost (R.reads reader.old) (R.reads reader.new) turns }
 {
-    // What `faults` rests on.
+    // What no `Closed` rests on.
     follow_laws();
     let mut piece = [0u8; READ_BYTES];
     let mut at_end = Followed::Early;
@@ -72,23 +57,9 @@ pub fn follow<R: FeedRead>(
     mirror: &mut Mirror,
     turns: u64,
 ) -> Result<Followed, EngineFault>
-    ensures ok { IfOk result (λ followed. (standing : Standing)
-        × EndsAs standing (R.remaining reader.new) followed
-        × WasFollowed (R.remaining reader.old) (R.remaining reader.new) mirror.old standing
-        mirror.new) }
+    ensures followed { let gave = gave_by R.remaining R.reads R.failures reader.old reader.new in
+        Follows turns gave mirror.old result mirror.new }
     ensures cut { mirror.new.connection ≡ None }
-    ensures faults { IfErr result (λ fault. (fault ≡ Fault.Read) ⊎ ((fault ≡ Fault.Turns)
-        ⊎ ((of : ResponseFault) × (of ≢ ResponseFault.Closed) × (fault ≡ Fault.Follow of)))) }
-    ensures read { IsErrOf result Fault.Read → HasFailed (R.failures reader.old)
-        (R.failures reader.new) }
-    ensures read_in { IsErrOf result Fault.Read → BrokeOff (R.remaining reader.old)
-        (R.remaining reader.new) mirror.old mirror.new }
-    ensures turns { IsErrOf result Fault.Turns → RoseBy (R.reads reader.old)
-        (R.reads reader.new) turns }
-    ensures turns_in { IsErrOf result Fault.Turns → BrokeOff (R.remaining reader.old)
-        (R.remaining reader.new) mirror.old mirror.new }
-    ensures follow_in { (fault : ResponseFault) → IsErrOf result (Fault.Follow fault)
-        → MetFault (R.remaining reader.old) (R.remaining reader.new) mirror.old mirror.new fault }
     ensures reads { RoseAtMost (R.reads reader.old) (R.reads reader.new) turns }
 {
     let mut follower = Follower::new(mirror);

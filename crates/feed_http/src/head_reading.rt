@@ -2,10 +2,11 @@
 ghost use Rattle.std.specs.Prelude.{◌≡◌, ◌⊎◌, ◌<◌, ◌≤◌, ℕ, List, [], ◌++◌, length, IsTrue, IfOk, IfErr, OnOk, OnErr, IsErrOf};
 ghost use Rattle.std.specs.Io.KnownBytes.{Consumes, IsAtEnd};
 ghost use Rattle.feed_http.specs.declared.fault.EngineFault.{EngineFault as Fault};
-ghost use Rattle.feed_http.specs.Device.{counted, HasFailed, RoseBy, RoseAtMost};
-ghost use Rattle.feed_http.specs.HeadReading.{read_bytes, most_after, IsReadAsNeeded, IsStillNeeded, IsEnough};
+ghost use Rattle.feed_http.specs.Device.{counted, HasFailed, RoseAtMost};
+ghost use Rattle.feed_http.specs.Exchange.{gave_by};
+ghost use Rattle.feed_http.specs.HeadReading.{read_bytes, most_after, IsReadAsNeeded, IsStillNeeded, IsEnough, HeadEnds};
 
-use crate::device::{Failed, FeedRead};
+use crate::device::FeedRead;
 use crate::fault::EngineFault;
 use feed_answer::{HEAD_BYTES, HeadRead, look_at_request};
 
@@ -45,13 +46,11 @@ fn read_piece<R: FeedRead>(reader: &mut R, bytes: &mut Vec<u8>) -> Result<usize,
 {
     let mut piece = [0u8; READ_BYTES];
     let most = most_wanted(bytes.len());
-    match reader.read_some(&mut piece[..most]) {
-        Ok(n) => match bytes.extend_from_slice(&piece[..n]) {
-            Ok(()) => Ok(n),
-            Err(_) => Err(EngineFault::Memory),
-        },
-        Err(Failed) => Err(EngineFault::Read),
-    }
+    let Ok(n) = reader.read_some(&mut piece[..most]) else {
+        return Err(EngineFault::Read);
+    };
+    bytes.extend_from_slice(&piece[..n])?;
+    Ok(n)
 }
 
 /// Whether more bytes are to be read after these, the first of a request: they begin with no whole
@@ -71,29 +70,16 @@ pub fn is_needed(bytes: &[u8]) -> bool
 
 /// Reads the head of a request: until it is whole, is too large or never becomes one, or the reader
 /// ends.
-#[tactic(auto, using(crate::proofs::DeviceLemmas::taken_before))]
 pub(crate) fn read_head<R: FeedRead>(
     reader: &mut R,
     bytes: &mut Vec<u8>,
     turns: u64,
 ) -> Result<(), EngineFault>
     requires { bytes.old.items ≡ [] }
-    ensures enough { OnOk result (IsEnough bytes.new.items ⊎ IsAtEnd (R.remaining reader.new)) }
-    ensures given { OnOk result (Consumes (R.remaining reader.old)
-        (R.remaining reader.new) bytes.new.items) }
+    ensures ends { let gave = gave_by R.remaining R.reads R.failures reader.old reader.new in
+        HeadEnds turns gave bytes.new.items result }
     ensures needed { IsReadAsNeeded bytes.new.items }
     ensures reads { RoseAtMost (R.reads reader.old) (R.reads reader.new) turns }
-    ensures read { IsErrOf result Fault.Read → HasFailed (R.failures reader.old)
-        (R.failures reader.new) }
-    ensures broken { IsErrOf result Fault.Read →
-        Consumes (R.remaining reader.old) (R.remaining reader.new) bytes.new.items
-        × IsStillNeeded bytes.new.items }
-    ensures turns { IsErrOf result Fault.Turns → RoseBy (R.reads reader.old)
-        (R.reads reader.new) turns
-        × Consumes (R.remaining reader.old) (R.remaining reader.new) bytes.new.items
-        × IsStillNeeded bytes.new.items }
-    ensures faults { IfErr result (λ fault. (fault ≡ Fault.Read) ⊎
-        ((fault ≡ Fault.Turns) ⊎ (fault ≡ Fault.Memory))) }
 {
     let mut made: u64 = 0;
     'pieces: while is_needed(bytes.as_slice()) {

@@ -10,7 +10,7 @@ ghost use Rattle.feed_http.specs.Sending.{WroteCommits, WroteSome, WroteAnswer};
 ghost use Rattle.feed_http.specs.Sending.{WroteFrames, WroteSession, WroteAll};
 ghost use Rattle.feed_http.specs.Writing.{Writes, WritesAll};
 
-use crate::device::{Failed, FeedRead, FeedWrite, write_all};
+use crate::device::{FeedRead, FeedWrite, write_all};
 use crate::fault::{EngineFault, Served};
 use crate::head_reading::read_head;
 use crate::service::Service;
@@ -23,10 +23,7 @@ use std::alloc::{AllocError, Global};
 pub(crate) fn write_bytes<W: FeedWrite>(writer: &mut W, bytes: &[u8]) -> Result<(), EngineFault>
     ensures { Writes (wrote_by W.contents W.failures writer.old writer.new) bytes.now result }
 {
-    match write_all(writer, bytes) {
-        Ok(()) => Ok(()),
-        Err(Failed) => Err(EngineFault::Write),
-    }
+    write_all(writer, bytes).map_err(|_| EngineFault::Write)
 }
 
 /// Frames a text, and writes it. What ends with the connection is framed as it is.

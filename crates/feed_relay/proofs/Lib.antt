@@ -1,3 +1,4 @@
 pub mod CommitLemmas
 pub mod FirstLemmas
+pub mod PullingLemmas
 pub mod ServingLemmas

@@ -1,16 +1,14 @@
 -- How a mirror pulls what it lacks from a server (CLICS Contest API 2023-06, reconnection).
-use Rattle.std.specs.Prelude.{◌≡◌, ◌≢◌, ℕ, List, Result, Ok, Err}
+use Rattle.std.specs.Prelude.{◌≡◌, ℕ, List, Result, Err}
 use Rattle.std.specs.Io.KnownBytes.{Appends}
 use Rattle.feed_node.specs.Mirroring.{MirrorState}
-use Rattle.feed_follow.specs.declared.fault.FollowFault.TheVariants.{Closed}
-use Rattle.feed_follow.specs.Standing.{Standing}
 use Rattle.feed_answer.specs.RequestText.{request_text_as}
 use Rattle.feed_http.specs.declared.fault.EngineFault.{EngineFault}
-use Rattle.feed_http.specs.declared.fault.EngineFault.TheVariants.{Read, Write, Turns, Commit, Follow, Memory}
+use Rattle.feed_http.specs.declared.fault.EngineFault.TheVariants.{Write, Memory}
 use Rattle.feed_http.specs.declared.fault.Followed.{Followed}
-use Rattle.feed_http.specs.Device.{HasFailed, AppendsPrefix, RoseBy, RoseAtMost}
-use Rattle.feed_http.specs.Following.{EndsAs, WasFollowed, BrokeOff, MetFault}
-use Rattle.feed_http.specs.Exchange.{Exchange}
+use Rattle.feed_http.specs.Device.{HasFailed, AppendsPrefix, RoseAtMost}
+use Rattle.feed_http.specs.Following.{Follows}
+use Rattle.feed_http.specs.Exchange.{Exchange, gave_on}
 use Rattle.feed_relay.specs.declared.server.Server.{Server}
 
 -- the request was written; where asking failed, a prefix of it
@@ -23,25 +21,15 @@ HasAsked request spoken pulled = Appends spoken.written_old spoken.written_new r
 abbrev pub IsUnanswered : Exchange → MirrorState → MirrorState → Type 0
 IsUnanswered spoken start mirror = (spoken.left ≡ spoken.source) × (mirror ≡ start)
 
--- what was read, in at most so many reads (`turns`), leaves this of the mirror
+-- what was read, in at most so many reads (`turns`), leaves this of the mirror; nothing was where
+-- asking failed
 abbrev pub IsFollowed : ℕ → Exchange → MirrorState → Result Followed EngineFault → MirrorState
     → Type 0
-IsFollowed turns spoken start (Ok followed) mirror =
-    (standing : Standing) × EndsAs standing spoken.left followed
-    × WasFollowed spoken.source spoken.left start standing mirror
 IsFollowed turns spoken start (Err Write) mirror =
     IsUnanswered spoken start mirror
     × HasFailed spoken.failed_writes_old spoken.failed_writes_new
 IsFollowed turns spoken start (Err Memory) mirror = IsUnanswered spoken start mirror
-IsFollowed turns spoken start (Err Read) mirror =
-    BrokeOff spoken.source spoken.left start mirror
-    × HasFailed spoken.failed_reads_old spoken.failed_reads_new
-IsFollowed turns spoken start (Err Turns) mirror =
-    BrokeOff spoken.source spoken.left start mirror
-    × RoseBy spoken.reads_old spoken.reads_new turns
-IsFollowed turns spoken start (Err (Follow fault)) mirror =
-    (fault ≢ Closed) × MetFault spoken.source spoken.left start mirror fault
-IsFollowed turns spoken start (Err (Commit why)) mirror = ⊥
+IsFollowed turns spoken start pulled mirror = Follows turns (gave_on spoken) start pulled mirror
 
 -- the server was asked for what a mirror lacks, and what was read of the response, in at most so
 -- many reads, leaves this of the mirror

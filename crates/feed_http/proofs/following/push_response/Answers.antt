@@ -1,12 +1,11 @@
-use Rattle.std.proofs.Common.{◌≡◌, ◌≤◌, ◌+◌, ◌<◌, refl, sym, ◌∙◌, subst, arith, inl, inr, take}
+use Rattle.std.proofs.Common.{rules, ◌≡◌, ◌≤◌, ◌+◌, ◌<◌, refl, sym, ◌∙◌, subst, arith, inl, inr, take}
 use Rattle.std.proofs.Common.{◌++◌, length, length-take}
 use Rattle.std.proofs.KnownBytes.{Keeps-refl}
 use Rattle.std.proofs.lemmas.Result.{err_from_is_err_and}
 use Rattle.feed_follow.specs.Follower.{GoesOn}
 use Rattle.feed_http.specs.HeadReading.{read_bytes}
-use Rattle.feed_http.proofs.DeviceLemmas.{rose_more}
+use Rattle.feed_http.proofs.DeviceLemmas.{failed_once, rose_more}
 use Rattle.feed_http.proofs.FollowingLemmas.{GoesOnAt, goes_at_first, broke_off, ended, met}
-use Rattle.feed_http.proofs.FollowingLemmas.{answered}
 use Rattle.feed_http.proofs.FollowingLemmas.{not_closed, on_in_head, on_in_body, over_done}
 use Rattle.feed_http.proofs.FollowingLemmas.{over_refused}
 use Rattle.feed_http.proofs.following.push_response.Goals.{in-Head, in-Body}
@@ -16,8 +15,8 @@ pub pieces-init : goal.pieces-init
 pieces-init g c =
     record { goes = goes_at_first _ _ _ c.requires; reads = inl (omega arith); quiet = refl }
 
-pub returns-in-Ok-eq0-clause-ok : goal.returns-in-Ok-eq0-clause-ok
-returns-in-Ok-eq0-clause-ok g c =
+pub returns-in-Ok-eq0-clause-came : goal.returns-in-Ok-eq0-clause-came
+returns-in-Ok-eq0-clause-came g c =
     let none : c.in-Ok-eq0.field-0 ≡ 0 = omega arith in
     let some : 0 < length c.read_some.new.buf = omega arith in
     let read = c.in-Ok-eq0.ensures.bytes in
@@ -29,17 +28,19 @@ returns-in-Ok-eq0-clause-reads g c =
     let reads = rose_more _ _ _ _ c.pieces.invariant.reads c.read_some.ensures.reads in
     (c.pieces.counter + 1, omega arith, reads)
 
-pub returns-in-Err-clause-broken : goal.returns-in-Err-clause-broken
-returns-in-Err-clause-broken g c =
-    λ _. broke_off _ _ _ _ _ _ _ c.pieces.invariant.goes c.in-Err.ensures.bytes
+pub returns-in-Err-clause-came : goal.returns-in-Err-clause-came
+returns-in-Err-clause-came g c = (
+  broke_off _ _ _ _ _ _ _ c.pieces.invariant.goes c.in-Err.ensures.bytes,
+  failed_once _ _ _ c.pieces.invariant.quiet c.in-Err.ensures.failures,
+)
 
 pub returns-in-Err-clause-reads : goal.returns-in-Err-clause-reads
 returns-in-Err-clause-reads g c =
     let reads = rose_more _ _ _ _ c.pieces.invariant.reads c.read_some.ensures.reads in
     (c.pieces.counter + 1, omega arith, reads)
 
-pub returns-in_err-push-clause-follow_in : goal.returns-in_err-push-clause-follow_in
-returns-in_err-push-clause-follow_in g c =
+pub returns-in_err-push-clause-came : goal.returns-in_err-push-clause-came
+returns-in_err-push-clause-came g c =
     let p = err_from_is_err_and c.from_residual.result c.from_residual.ensures.1 in
     let goes = c.pieces.invariant.goes in
     let piece = take c.in-Ok.len c.read_some.new.buf in
@@ -47,27 +48,18 @@ returns-in_err-push-clause-follow_in g c =
     omega (arith, length-take c.in-Ok.len c.read_some.new.buf) in
     let of = c.in_err-push.field-0.0 in
     let fails = c.in_err-push.ensures.err c.args.mirror.now goes.bytes goes.standing goes.follows in
-    λ fault asked. answered _ _ _ _ c.from_residual.result p.0 of fault p.1 p.2
-    (met _ _ _ _ _ _ _ goes piece c.in-Ok.ensures.bytes.0 short c.push.new.mirror of fails) asked
-
-pub returns-in_err-push-clause-faults : goal.returns-in_err-push-clause-faults
-returns-in_err-push-clause-faults g c =
-    let p = err_from_is_err_and c.from_residual.result c.from_residual.ensures.1 in
-    let goes = c.pieces.invariant.goes in
-    let of = c.in_err-push.field-0.0 in
-    let fails = c.in_err-push.ensures.err c.args.mirror.now goes.bytes goes.standing goes.follows in
-    let other = not_closed c.args.mirror.now c.pieces.follower.had_token goes.bytes
-    (take c.in-Ok.len c.read_some.new.buf) goes.standing c.push.new.mirror of
-    c.follow_laws.ensures goes.going goes.follows.stands fails in
-    rw (p.1, p.2) (inr (inr (of, other, refl)))
+    let other = not_closed c.args.mirror.now c.pieces.follower.had_token goes.bytes piece goes.standing
+    c.push.new.mirror of c.follow_laws.ensures goes.going goes.follows.stands fails in
+    rw (p.1, p.2)
+    (other, met _ _ _ _ _ _ _ goes piece c.in-Ok.ensures.bytes.0 short c.push.new.mirror of fails)
 
 pub returns-in_err-push-clause-reads : goal.returns-in_err-push-clause-reads
 returns-in_err-push-clause-reads g c =
     let reads = rose_more _ _ _ _ c.pieces.invariant.reads c.read_some.ensures.reads in
     (c.pieces.counter + 1, omega arith, reads)
 
-pub returns-in-Done-clause-ok : goal.returns-in-Done-clause-ok
-returns-in-Done-clause-ok g c =
+pub returns-in-Done-clause-came : goal.returns-in-Done-clause-came
+returns-in-Done-clause-came g c =
     let goes = c.pieces.invariant.goes in
     let piece = take c.in-Ok.len c.read_some.new.buf in
     let short : length piece ≤ read_bytes =
@@ -83,8 +75,8 @@ returns-in-Done-clause-reads g c =
     let reads = rose_more _ _ _ _ c.pieces.invariant.reads c.read_some.ensures.reads in
     (c.pieces.counter + 1, omega arith, reads)
 
-pub returns-in-TokenRefused-clause-ok : goal.returns-in-TokenRefused-clause-ok
-returns-in-TokenRefused-clause-ok g c =
+pub returns-in-TokenRefused-clause-came : goal.returns-in-TokenRefused-clause-came
+returns-in-TokenRefused-clause-came g c =
     let goes = c.pieces.invariant.goes in
     let piece = take c.in-Ok.len c.read_some.new.buf in
     let short : length piece ≤ read_bytes =
@@ -126,5 +118,6 @@ pieces-preserved g c =
       quiet = c.in-Ok.ensures.failures ∙ c.pieces.invariant.quiet;
     }
 
-pub returns-clause-broken : goal.returns-clause-broken
-returns-clause-broken g c = λ _. broke_off _ _ _ _ _ _ _ c.pieces.invariant.goes (Keeps-refl _)
+pub returns-clause-came : goal.returns-clause-came
+returns-clause-came g c =
+    (broke_off _ _ _ _ _ _ _ c.pieces.invariant.goes (Keeps-refl _), search rules)

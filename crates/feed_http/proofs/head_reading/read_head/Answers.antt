@@ -1,8 +1,12 @@
-use Rattle.std.proofs.Common.{◌+◌, sym, ◌∙◌, subst, arith, inl, refl}
+use Rattle.std.proofs.Common.{rules, ◌+◌, sym, ◌∙◌, ap, subst, arith, inl, inr, refl}
+use Rattle.std.proofs.lemmas.Result.{err_from_is_err_and}
+use Rattle.std.specs.Prelude.{Err}
 use Rattle.std.specs.Io.KnownBytes.{Consumes}
 use Rattle.std.proofs.KnownBytes.{Consumes-nil, Consumes-trans}
-use Rattle.feed_http.specs.HeadReading.{IsReadAsNeeded, IsStillNeeded, none_read, more_read}
+use Rattle.feed_http.specs.Exchange.{gave_by}
+use Rattle.feed_http.specs.HeadReading.{IsReadAsNeeded, IsStillNeeded, IsEnough, none_read, more_read}
 use Rattle.feed_http.proofs.DeviceLemmas.{rose_more}
+use Rattle.feed_http.proofs.HeadLemmas.{fails_at}
 use Rattle.feed_http.proofs.head_reading.read_head.Goals as goal
 
 pub pieces-init : goal.pieces-init
@@ -31,3 +35,25 @@ returns-in_err-read_piece-clause-reads g c = (c.pieces.made + 1, omega arith, ro
 
 pub returns-then-branch-eq0-clause-reads : goal.returns-then-branch-eq0-clause-reads
 returns-then-branch-eq0-clause-reads g c = (c.pieces.made + 1, omega arith, rose_more _ _ _ _ c.pieces.invariant.reads c.read_piece.ensures.reads)
+
+pub returns-in_err-read_piece-clause-ends : goal.returns-in_err-read_piece-clause-ends
+returns-in_err-read_piece-clause-ends g c =
+    let p = err_from_is_err_and c.from_residual.result c.from_residual.ensures.1 in
+    let reader = g.R.FeedRead in
+    let gave = gave_by reader.remaining reader.reads reader.failures c.args.reader.now c.read_piece.new.reader in
+    let why = c.in_err-read_piece.field-0.0 in
+    let lacking : IsStillNeeded c.pieces.bytes.items = subst IsStillNeeded c.as_slice.ensures.value (c.is_needed.ensures.needed c.pieces-test.true) in
+    rw (p.1, p.2) (fails_at c.args.turns gave _ _ c.pieces.bytes.items _ why c.in_err-read_piece.ensures.kept
+    c.pieces.invariant.given lacking c.pieces.invariant.quiet c.in_err-read_piece.ensures.faults
+    (λ is. c.in_err-read_piece.ensures.unread (ap Err is)) (λ is. c.in_err-read_piece.ensures.read (ap Err is)))
+
+pub returns-then-branch-eq0-clause-ends : goal.returns-then-branch-eq0-clause-ends
+returns-then-branch-eq0-clause-ends g c =
+    let (given, grown, is_length, within, consumed, ended) = c.in_ok-read_piece.ensures.given in (
+      subst (Consumes _ _) (sym grown) (Consumes-trans _ _ _ _ _ c.pieces.invariant.given consumed),
+      inr (ended (search rules)),
+    )
+
+pub returns-clause-ends : goal.returns-clause-ends
+returns-clause-ends g c =
+    (c.pieces.invariant.given, inl (subst IsEnough c.as_slice.ensures.value (c.is_needed.ensures.enough (search rules))))

@@ -4,7 +4,7 @@ use Rattle.std.proofs.KnownBytes.{Appends-nil}
 use Rattle.std.proofs.lemmas.Result.{err_from_is_err_and}
 use Rattle.feed_answer.specs.Framed.{frame}
 use Rattle.feed_http.specs.Device.{AppendsPrefix}
-use Rattle.feed_http.specs.Serving.{commit_text}
+use Rattle.feed_node.specs.Serving.{commit_text}
 use Rattle.feed_http.specs.Sessions.{next}
 use Rattle.feed_http.specs.Sending.{Sent, sent_none, sent_one}
 use Rattle.feed_http.proofs.ServingLemmas.{next_moves, ahead_falls, pulls_more, pulls_up_to_date, pulls_gone, wrote_these, wrote_into, wrote_one, ahead}

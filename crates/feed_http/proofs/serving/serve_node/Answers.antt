@@ -1,18 +1,28 @@
-use Rattle.std.proofs.Common.{rules, subst}
+use Rattle.std.proofs.Common.{subst}
+use Rattle.std.proofs.KnownBytes.{Appends-nil}
+use Rattle.std.proofs.lemmas.Result.{err_from_is_err_and}
 use Rattle.feed_answer.specs.Answered.{parts_of, AnswersTo}
 use Rattle.feed_http.specs.Exchange.{devices_of, exchange}
-use Rattle.feed_http.proofs.ServedLemmas.{serves_once, was_served}
+use Rattle.feed_http.proofs.ServedLemmas.{was_unread, was_served}
 use Rattle.feed_http.proofs.serving.serve_node.Goals as goal
 
 pub returns-in_err-read_head : goal.returns-in_err-read_head
 returns-in_err-read_head g c =
-    serves_once _ _ _ c.from_residual.result (search rules) (search rules) (search rules)
-    (search rules) (search rules) (search rules) (search rules)
+    let reader = g.R.FeedRead in
+    let writer = g.W.FeedWrite in
+    let spoken = exchange (devices_of reader.remaining reader.reads reader.failures writer.contents writer.failures) c.args.reader.now c.read_head.new.reader c.args.writer.now c.args.writer.now in
+    let p = err_from_is_err_and c.from_residual.result c.from_residual.ensures.1 in
+    was_unread c.args.service.now c.args.node.now.shown spoken c.read_head.new.bytes.items p.1 p.2
+    c.read_head.ensures.needed (Appends-nil _) c.in_err-read_head.ensures.ends c.read_head.ensures.reads
 
 pub returns-in_err-answered : goal.returns-in_err-answered
 returns-in_err-answered g c =
-    serves_once _ _ _ c.from_residual-in_err-answered.result (search rules) (search rules)
-    (search rules) (search rules) (search rules) (search rules) (search rules)
+    let reader = g.R.FeedRead in
+    let writer = g.W.FeedWrite in
+    let spoken = exchange (devices_of reader.remaining reader.reads reader.failures writer.contents writer.failures) c.args.reader.now c.read_head.new.reader c.args.writer.now c.args.writer.now in
+    let p = err_from_is_err_and c.from_residual-in_err-answered.result c.from_residual-in_err-answered.ensures.1 in
+    was_unread c.args.service.now c.args.node.now.shown spoken c.read_head.new.bytes.items p.1 p.2
+    c.read_head.ensures.needed (Appends-nil _) tt c.read_head.ensures.reads
 
 pub returns : goal.returns
 returns g c =
@@ -24,5 +34,5 @@ returns g c =
     let answer = parts_of a.status a.framing a.bytes.items a.session in
     let answers = subst (λ h. AnswersTo h s.contest.now c.args.node.now.shown s.framing s.back answer) c.as_slice.ensures.value c.in_ok-answered.ensures.ok in
     was_served s c.args.node.now.shown spoken c.read_head.new.bytes.items answer
-    c.in_ok-read_head.ensures.given c.read_head.ensures.needed c.in_ok-read_head.ensures.enough answers
+    c.in_ok-read_head.ensures.ends.0 c.read_head.ensures.needed c.in_ok-read_head.ensures.ends.1 answers
     c.read_head.ensures.reads c.send_answer.result c.send_answer.ensures

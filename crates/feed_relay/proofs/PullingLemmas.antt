@@ -1,0 +1,24 @@
+-- What a pull came to where asking did not fail.
+use Rattle.std.proofs.Common.{ℕ, List}
+use Rattle.std.specs.Prelude.{Result, Ok, Err}
+use Rattle.std.specs.Io.KnownBytes.{Appends}
+use Rattle.feed_node.specs.Mirroring.{MirrorState}
+use Rattle.feed_http.specs.declared.fault.EngineFault.{EngineFault}
+use Rattle.feed_http.specs.declared.fault.EngineFault.TheVariants as fault
+use Rattle.feed_http.specs.declared.fault.Followed.{Followed}
+use Rattle.feed_http.specs.Exchange.{Exchange, gave_on}
+use Rattle.feed_http.specs.Following.{Follows}
+use Rattle.feed_relay.specs.Pulling.{HasAsked, IsFollowed}
+
+pub answered : (request : List ℕ) (turns : ℕ) (spoken : Exchange) (start mirror : MirrorState)
+    (pulled : Result Followed EngineFault)
+    → Appends spoken.written_old spoken.written_new request
+    → Follows turns (gave_on spoken) start pulled mirror
+    → HasAsked request spoken pulled × IsFollowed turns spoken start pulled mirror
+answered request turns spoken start mirror (Ok followed) wrote came = (wrote, came)
+answered request turns spoken start mirror (Err fault.Read) wrote came = (wrote, came)
+answered request turns spoken start mirror (Err fault.Turns) wrote came = (wrote, came)
+answered request turns spoken start mirror (Err (fault.Follow why)) wrote came = (wrote, came)
+answered request turns spoken start mirror (Err fault.Write) wrote none = absurd none
+answered request turns spoken start mirror (Err fault.Memory) wrote none = absurd none
+answered request turns spoken start mirror (Err (fault.Commit why)) wrote none = absurd none
