@@ -10,11 +10,11 @@ use Rattle.std.proofs.lemmas.List.Sums.{sum_by-append}
 use Rattle.httparse.specs.Ascii.{line_feed}
 use Rattle.httparse.specs.Grammar.{ResponseHead, print_response, ReadsResponse}
 use Rattle.httparse.proofs.GrammarLemmas.{response_prefix_free}
+use Rattle.feed_settings.specs.declared.framing.Framing.{Framing}
+use Rattle.feed_settings.specs.declared.framing.Framing.TheVariants.{Close, Chunked}
 use Rattle.feed_follow.specs.Heads.{line_count, IsHeadSize, IsPastLimits, BeginsWithResponse, HasNoWholeResponse}
 use Rattle.feed_follow.specs.Laws.{StandsOnce}
 use Rattle.feed_follow.specs.Standing.{Standing, in_head, in_body, done, verdict, Stands, StandsBehind}
-use Rattle.feed_answer.specs.declared.framing.Framing.{Framing}
-use Rattle.feed_answer.specs.declared.framing.Framing.TheVariants.{Close, Chunked}
 use Rattle.feed_answer.specs.Answer.{feed_head, refusal_head, refusal_body, refusal_text}
 use Rattle.feed_answer.specs.Framed.{frame, frame_end}
 use Rattle.feed_answer.specs.FrameLaws.{AreTexts, IsUnfinished, joined}

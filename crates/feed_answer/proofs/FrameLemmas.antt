@@ -11,7 +11,7 @@ use Rattle.std.proofs.lemmas.Fmt.{digits_is_IsNumeral}
 use Rattle.std.proofs.lemmas.List.Elements.{All-nil, All-cons}
 use Rattle.httparse.specs.Ascii.{crlf_bytes}
 use Rattle.httparse.specs.Grammar.{AllPass, ChunkLine}
-use Rattle.feed_answer.specs.declared.framing.Framing.TheVariants.{Chunked}
+use Rattle.feed_settings.specs.declared.framing.Framing.TheVariants.{Chunked}
 use Rattle.feed_answer.specs.Framed.{frame, frame_end}
 use Rattle.feed_follow.specs.ChunkedBody.{Chunk, IsChunk, size_line, print_chunk, carried, IsLastLine, IsChunkedBody, BreaksOff}
 

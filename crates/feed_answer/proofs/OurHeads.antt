@@ -10,12 +10,12 @@ use Rattle.std.proofs.lemmas.List.Sums.{AllPass-from_list_all}
 use Rattle.std.proofs.lemmas.List.Elements.{All-weaker}
 use Rattle.httparse.specs.Grammar.{ResponseHead, IsResponseHead, Field, IsField, crlf, is_token, is_token_byte, is_value_byte, print_response, status_code, trim_ows}
 use Rattle.httparse.specs.Spans.{name_and_value}
+use Rattle.feed_settings.specs.declared.framing.Framing.{Framing}
+use Rattle.feed_settings.specs.declared.framing.Framing.TheVariants.{Close, Chunked}
 use Rattle.feed_follow.specs.ChunkedBody.{IsChunkedBody}
 use Rattle.feed_follow.specs.Coding.{values_of}
 use Rattle.feed_follow.specs.Heads.{line_count, IsHeadSize}
 use Rattle.feed_follow.specs.Standing.{in_body, done, verdict, StandsBehind}
-use Rattle.feed_answer.specs.declared.framing.Framing.{Framing}
-use Rattle.feed_answer.specs.declared.framing.Framing.TheVariants.{Close, Chunked}
 use Rattle.feed_answer.specs.declared.refusal.Refusal.{Refusal}
 use Rattle.feed_answer.specs.declared.refusal.Refusal.TheVariants.{LargeHead, Unreadable, NotGet, OtherPath, NothingPublished, TokenNotHeld}
 use Rattle.feed_answer.specs.Answer.{feed_head, refusal_code, refusal_phrase, refusal_head, refusal_body}

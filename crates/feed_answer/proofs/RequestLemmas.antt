@@ -22,10 +22,10 @@ use Rattle.http_uri.specs.declared.uri.Uri.{Uri as Target}
 use Rattle.http_uri.specs.Uri.{Spells, uri_path}
 use Rattle.http_uri.specs.ByteClasses.{is_path_byte, is_query_byte, is_delimiter, index_of, split_once_front, split_once_back}
 use Rattle.http_uri.specs.Grammar.{AllPass, IsPathAndQuery, IsPathInput, or_slash, path_of, without_fragment}
-use Rattle.feed_answer.specs.declared.place.PlaceFault.{PlaceFault}
-use Rattle.feed_answer.specs.declared.place.PlaceFault.TheVariants.{BadHost, BadBase, BadContest}
+use Rattle.feed_settings.specs.declared.place.PlaceFault.{PlaceFault}
+use Rattle.feed_settings.specs.declared.place.PlaceFault.TheVariants.{BadHost, BadBase, BadContest}
+use Rattle.feed_settings.specs.Place.{Place, is_alphanumeric_or, is_text_of, is_host, is_base, is_contest}
 use Rattle.feed_follow.specs.Heads.{IsHeadSize, line_count}
-use Rattle.feed_answer.specs.Place.{Place, is_alphanumeric_or, is_text_of, is_host, is_base, is_contest}
 use Rattle.feed_answer.specs.RequestText.{head_text, feed_path, since_query, request_text}
 use Rattle.feed_answer.specs.Asked.{Requests, form_text, parameter, since_token}
 use Rattle.feed_answer.specs.Laws.{RequestIsRead}

@@ -6,8 +6,8 @@ use Rattle.http_uri.specs.declared.uri.Uri.{Uri as Target}
 use Rattle.http_uri.specs.Uri.{Spells, uri_path, uri_query}
 use Rattle.http_uri.specs.ByteClasses.{slash}
 use Rattle.form_urlencoded.specs.Form.{raw_pairs, decode}
-use Rattle.feed_answer.specs.declared.framing.Framing.{Framing}
-use Rattle.feed_answer.specs.declared.framing.Framing.TheVariants.{Close}
+use Rattle.feed_settings.specs.declared.framing.Framing.{Framing}
+use Rattle.feed_settings.specs.declared.framing.Framing.TheVariants.{Close}
 use Rattle.feed_answer.specs.declared.refusal.Refusal.{Refusal}
 use Rattle.feed_answer.specs.declared.refusal.Refusal.TheVariants.{LargeHead, Unreadable, NotGet, OtherPath, NothingPublished, TokenNotHeld}
 use Rattle.feed_answer.specs.RequestText.{feed_path}

@@ -2,11 +2,11 @@
 use Rattle.std.specs.Prelude.{◌≡◌, ℕ, ◌≤◌, Bool, List, [], ◌∷◌, length, take, map, codes, decimal}
 use Rattle.httparse.specs.Grammar.{ResponseHead, status_code}
 use Rattle.httparse.specs.Spans.{name_and_value}
+use Rattle.feed_settings.specs.declared.framing.Framing.{Framing}
+use Rattle.feed_settings.specs.declared.framing.Framing.TheVariants.{Close, Chunked}
 use Rattle.feed_follow.specs.Coding.{values_of}
 use Rattle.feed_follow.specs.Heads.{BeginsWithResponse}
 use Rattle.feed_follow.specs.Standing.{Standing, in_body, Stands}
-use Rattle.feed_answer.specs.declared.framing.Framing.{Framing}
-use Rattle.feed_answer.specs.declared.framing.Framing.TheVariants.{Close, Chunked}
 use Rattle.feed_answer.specs.declared.refusal.Refusal.{Refusal}
 use Rattle.feed_answer.specs.Answer.{feed_head, refusal_code, refusal_head, refusal_body, refusal_text}
 use Rattle.feed_answer.specs.FrameLaws.{AreTexts, joined}

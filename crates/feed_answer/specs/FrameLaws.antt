@@ -1,9 +1,9 @@
 -- What is framed carries what was framed (RFC 9112, sections 6.3 and 7.1).
 use Rattle.std.specs.Prelude.{◌≡◌, ℕ, ◌<◌, ◌^◌, List, ◌++◌, length}
 use Rattle.std.specs.List.{flat_map, AllByRecursion}
+use Rattle.feed_settings.specs.declared.framing.Framing.{Framing}
+use Rattle.feed_settings.specs.declared.framing.Framing.TheVariants.{Close, Chunked}
 use Rattle.feed_follow.specs.ChunkedBody.{BreaksOff, IsChunkedBody}
-use Rattle.feed_answer.specs.declared.framing.Framing.{Framing}
-use Rattle.feed_answer.specs.declared.framing.Framing.TheVariants.{Close, Chunked}
 use Rattle.feed_answer.specs.Framed.{frame, frame_end}
 
 -- the bytes are a body so framed that isn't whole, and this is its payload; one to the end of the

@@ -2,8 +2,8 @@
 use Rattle.std.specs.Prelude.{ℕ, List, [], ◌∷◌, ◌++◌, length, codes, false}
 use Rattle.std.specs.Fmt.{digits}
 use Rattle.httparse.specs.Ascii.{crlf_bytes}
-use Rattle.feed_answer.specs.declared.framing.Framing.{Framing}
-use Rattle.feed_answer.specs.declared.framing.Framing.TheVariants.{Close, Chunked}
+use Rattle.feed_settings.specs.declared.framing.Framing.{Framing}
+use Rattle.feed_settings.specs.declared.framing.Framing.TheVariants.{Close, Chunked}
 
 -- one chunk: the number of its bytes in lower-case hexadecimal, and the bytes
 abbrev pub chunk_text : List ℕ → List ℕ

@@ -3,7 +3,7 @@ use Rattle.std.specs.Prelude.{◌≡◌, ℕ, Bool, true, not, ◌&&◌, ◌||�
 use Rattle.std.specs.List.{list_all, list_any}
 use Rattle.base64.specs.Engines.{standard}
 use Rattle.base64.specs.GeneralPurpose.{encode_of}
-use Rattle.feed_answer.specs.Place.{is_host}
+use Rattle.feed_settings.specs.Place.{is_host}
 use Rattle.feed_answer.specs.declared.identity.IdentityFault.{IdentityFault}
 use Rattle.feed_answer.specs.declared.identity.IdentityFault.TheVariants.{BadHost, BadUser, Memory}
 

@@ -1,10 +1,10 @@
 -- What is written here is read here as it was meant.
 use Rattle.std.specs.Prelude.{◌≡◌, ℕ, ◌≤◌, List, [], length, Option, IfSome, IsUtf8}
+use Rattle.feed_settings.specs.declared.framing.Framing.{Framing}
+use Rattle.feed_settings.specs.Place.{Place, IsPlace}
 use Rattle.feed_text.specs.Limits.{name_bytes}
 use Rattle.feed_node.specs.States.{NodeState}
 use Rattle.feed_answer.specs.Opening.{opens}
-use Rattle.feed_answer.specs.declared.framing.Framing.{Framing}
-use Rattle.feed_answer.specs.Place.{Place, IsPlace}
 use Rattle.feed_answer.specs.RequestText.{request_text}
 use Rattle.feed_answer.specs.Asked.{Asked, Asks, feed}
 use Rattle.feed_answer.specs.Answered.{AnswerParts, AnswersTo, answer_opened}

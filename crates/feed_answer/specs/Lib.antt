@@ -11,7 +11,6 @@ pub mod Heads
 pub mod Identity
 pub mod Laws
 pub mod Opening
-pub mod Place
 pub mod Replied
 pub mod RequestText
 pub mod Served

@@ -1,10 +1,10 @@
 -- How a node answers a request for its feed, where the bytes of a snapshot are left out: many
 -- answers share them.
 use Rattle.std.specs.Prelude.{◌≡◌, ℕ, List, [], Option, Some, None}
+use Rattle.feed_settings.specs.declared.framing.Framing.{Framing}
 use Rattle.feed_node.specs.States.{NodeState, published_token}
 use Rattle.feed_answer.specs.declared.answering.Reply.{Reply}
 use Rattle.feed_answer.specs.declared.answering.Reply.TheVariants.{Whole, Snapshot}
-use Rattle.feed_answer.specs.declared.framing.Framing.{Framing}
 use Rattle.feed_answer.specs.declared.refusal.Refusal.TheVariants.{NothingPublished}
 use Rattle.feed_answer.specs.Answered.{AnswerParts, parts_of, refusing, answer_opened}
 use Rattle.feed_answer.specs.Asked.{Asked, refused, feed, framing_for, Asks}

@@ -4,7 +4,7 @@ use Rattle.std.specs.Prelude.{ℕ, List, [], ◌∷◌, ◌++◌, codes, Option,
 use Rattle.std.specs.List.{flat_map}
 use Rattle.httparse.specs.Ascii.{crlf_bytes}
 use Rattle.form_urlencoded.specs.Form.{byte_serialize}
-use Rattle.feed_answer.specs.Place.{Place}
+use Rattle.feed_settings.specs.Place.{Place}
 use Rattle.feed_answer.specs.Identity.{Identity}
 
 -- lines of a head, each ended by CR LF

@@ -3,15 +3,8 @@ ghost use Rattle.std.specs.Prelude.{◌≡◌, ◌++◌, [], IsOk, OnOk, OnErr};
 ghost use Rattle.feed_note.specs.Written.{Begins};
 ghost use Rattle.feed_answer.specs.Framed as framed;
 
+use feed_settings::Framing;
 use std::alloc::{AllocError, Global};
-
-/// How the body of an answer is framed: to the end of the connection, or in chunks (RFC 9112,
-/// sections 6.3 and 7.1).
-#[derive(Clone, Copy, Debug, PartialEq, Eq)]
-pub enum Framing {
-    Close,
-    Chunked,
-}
 
 /// Appends the bytes as they stand in a body. Of no bytes nothing is appended: an empty chunk would
 /// end the body. Out of memory, nothing is appended, either.

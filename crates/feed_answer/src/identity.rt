@@ -2,12 +2,12 @@
 ghost use Rattle.std.specs.Prelude.{◌≡◌, ◌==◌, Ok, IfOk, IfErr, codes, option_map, string_bytes};
 ghost use Rattle.std.specs.List.{list_all, list_any};
 ghost use Rattle.std.specs.Option.{option_copied};
+ghost use Rattle.feed_settings.specs.Place.{is_host as host_of};
 ghost use Rattle.feed_answer.specs.Identity.{anonymous as nobody, basic as basic_of, identity_of, is_printed as printed, is_user_pass as user_pass_of, passes, RefusesIdentity};
-ghost use Rattle.feed_answer.specs.Place.{is_host as host_of};
 ghost use Rattle.feed_answer.specs.declared.identity.IdentityFault.TheVariants as identity_fault;
 
-use crate::place::is_host;
 use base64::engine::general_purpose::STANDARD;
+use feed_settings::is_host;
 use std::alloc::{AllocError, Global};
 use std::marker::Model;
 use thiserror::Error;

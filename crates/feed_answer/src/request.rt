@@ -8,7 +8,7 @@ ghost use Rattle.feed_answer.specs.Identity.{anonymous};
 ghost use Rattle.feed_answer.specs.RequestText as texts;
 
 use crate::identity::Identity;
-use crate::place::Place;
+use feed_settings::Place;
 use form_urlencoded::byte_serialize;
 use std::alloc::AllocError;
 

@@ -2,11 +2,11 @@
 use Rattle.std.proofs.Common.{◌≡◌, ◌≢◌, ◌⊎◌, inl, inr, refl, sym, ap, ◌∙◌, subst, List, ℕ, Option, Some}
 use Rattle.std.specs.Io.KnownBytes.{Keeps}
 use Rattle.std.specs.Borrow.{Bor}
+use Rattle.feed_settings.specs.Limits.{Limits}
 use Rattle.feed_note.specs.Counts.{StopsAt}
 use Rattle.feed_note.specs.declared.counts.SurveyFault.{SurveyFault}
 use Rattle.feed_note.specs.declared.stop.LineStop.{LineStop}
 use Rattle.feed_note.specs.declared.stop.LineStop.TheVariants as stop
-use Rattle.feed_node.specs.Limits.{Limits}
 use Rattle.feed_cli.specs.Check.{IsWhole, InputStops, InputFails, CountFails}
 use Rattle.feed_cli.specs.Fault.{fault_at, fault_of_survey}
 use Rattle.feed_cli.specs.Play.{PlayFails}

@@ -1,6 +1,7 @@
 -- Lemmas on what the command `serve` commits.
 use Rattle.std.proofs.Common.{◌≡◌, ◌⊎◌, inl, inr, refl, sym, ap, ◌∙◌, subst, Bool, true, false, List, [], ◌∷◌, ◌++◌, append_assoc, append-nil, take-append-drop, true≢false, map, ℕ, Ok, Err, Result, take, drop, length, Option, Some, None}
 use Rattle.std.specs.Prelude.{◌<◌, Vec, OnOk, IfErr}
+use Rattle.feed_settings.specs.Limits.{Limits}
 use Rattle.feed_tables.specs.declared.change.Change.{Change}
 use Rattle.feed_node.specs.Log.{PrimaryState, new_primary}
 use Rattle.feed_node.specs.declared.commit.Commit.{Commit}
@@ -19,7 +20,6 @@ use Rattle.feed_relay.specs.declared.fault.NetworkFault.TheVariants as network
 use Rattle.feed_note.specs.Batches.{batch_changes}
 use Rattle.feed_note.specs.Counts.{AreRead}
 use Rattle.feed_note.specs.declared.line.Line.{Line}
-use Rattle.feed_node.specs.Limits.{Limits}
 use Rattle.feed_cli.specs.Check.{IsWhole}
 use Rattle.feed_cli.specs.Fault.{fault_of_network, fault_of_commit, is_one_connections, goes_on}
 use Rattle.feed_cli.specs.InTurn.{InTurn, none_done, one_done}

@@ -4,6 +4,7 @@ use Rattle.std.proofs.lemmas.List.{append-nil, length-take-le}
 use Rattle.std.specs.Prelude.{IsErrOf}
 use Rattle.std.specs.Io.KnownBytes.{Appends, Consumes, Keeps}
 use Rattle.std.proofs.KnownBytes.{Consumes-nil, Consumes-trans, Consumes-kept}
+use Rattle.feed_settings.specs.Limits.{Limits}
 use Rattle.feed_note.specs.declared.line.Line.{Line}
 use Rattle.feed_note.specs.Publishing.{Published}
 use Rattle.feed_note.specs.Texts.{published_text}
@@ -11,10 +12,9 @@ use Rattle.feed_node.specs.States.{token_of}
 use Rattle.feed_http.specs.Device.{AppendsPrefix}
 use Rattle.feed_node.specs.declared.fault.FeedFault.{FeedFault}
 use Rattle.feed_node.specs.declared.fault.FeedFault.TheVariants as feed
-use Rattle.feed_node.specs.Limits.{Limits}
 use Rattle.feed_node.specs.Mirroring.{MirrorState, StandsAt, Fed, HasStopped, Faulted}
 use Rattle.feed_node.specs.Reading.{Reads, FaultsAt, reads}
-use Rattle.feed_relay.specs.Serving.{engine_turns}
+use Rattle.feed_relay.specs.Serving.{most_reads}
 use Rattle.feed_cli.specs.Fault.{fault_of_feed}
 use Rattle.feed_cli.specs.Tables.{first_opening, Stands, HasRead, HasReadOn, IsLeft, HasFaulted, IsFed, Printed, PrintedSome, PrintedPrefix, outcome_of, TablesFail}
 use Rattle.feed_cli.specs.Streams.{Streams}
@@ -75,7 +75,7 @@ read_by limits least a b mirror s = record {
 }
 
 -- all reads that are allowed gave something
-pub read_on_by : (limits : Limits) (least : ℕ) (a b : Option (List ℕ)) (mirror : MirrorState) → engine_turns ≤ least → Stands limits least a b [] mirror
+pub read_on_by : (limits : Limits) (least : ℕ) (a b : Option (List ℕ)) (mirror : MirrorState) → most_reads ≤ least → Stands limits least a b [] mirror
     → HasReadOn limits a b mirror.node.published
 unfolding read_by
 read_on_by limits least a b mirror all s = record {

@@ -1,7 +1,7 @@
 -- Why a command fails, for the fault of what it calls, and the statuses that the program ends with.
 use Rattle.std.specs.Prelude.{◌≡◌, ◌⊎◌, ℕ, Bool, true, false, max, Option, Result, Ok, Err, if◌then◌else◌}
-use Rattle.feed_answer.specs.declared.place.PlaceFault.{PlaceFault}
-use Rattle.feed_answer.specs.declared.place.PlaceFault.TheVariants as place
+use Rattle.feed_settings.specs.declared.place.PlaceFault.{PlaceFault}
+use Rattle.feed_settings.specs.declared.place.PlaceFault.TheVariants as place
 use Rattle.feed_http.specs.Device.{HasFailed}
 use Rattle.feed_http.specs.declared.fault.EngineFault.{EngineFault}
 use Rattle.feed_http.specs.declared.fault.Served.{Served}

@@ -3,11 +3,11 @@ use Rattle.std.specs.Prelude.{◌≡◌, ◌⊎◌, ℕ, Bool, true, false, List
 use Rattle.std.specs.Prelude.{codes, decimal, string_bytes, Contains, IsSomeAnd, option_map, unwrap_or}
 use Rattle.std.specs.Borrow.{Bor}
 use Rattle.std.specs.Io.KnownBytes.{Appends, Keeps}
+use Rattle.feed_settings.specs.Limits.{Limits}
+use Rattle.feed_settings.specs.Place.{Place, RefusesPlace, place_of}
+use Rattle.feed_settings.specs.declared.place.PlaceFault.{PlaceFault}
 use Rattle.feed_note.specs.Texts.{published_text}
-use Rattle.feed_node.specs.Limits.{Limits}
 use Rattle.feed_node.specs.Mirroring.{MirrorState, IsRestored, FailsToRestore, new_mirror}
-use Rattle.feed_answer.specs.Place.{Place, RefusesPlace, place_of}
-use Rattle.feed_answer.specs.declared.place.PlaceFault.{PlaceFault}
 use Rattle.feed_answer.specs.Identity.{Identity}
 use Rattle.feed_follow.specs.declared.fault.FollowFault.TheVariants.{BadHead}
 use Rattle.feed_http.specs.Device.{HasFailed, AppendsPrefix}

@@ -7,7 +7,7 @@ use Rattle.feed_http.specs.declared.fault.Served.{Served}
 use Rattle.feed_http.specs.declared.service.Service.{Service}
 use Rattle.feed_relay.specs.Dialing.{Dialer, Links}
 use Rattle.feed_relay.specs.First.{Position, FollowsFirst, ran_out}
-use Rattle.feed_relay.specs.Serving.{ServesNext, engine_turns}
+use Rattle.feed_relay.specs.Serving.{ServesNext, most_reads}
 use Rattle.feed_relay.specs.declared.fault.NetworkFault.{NetworkFault}
 use Rattle.feed_relay.specs.declared.first.Attempt.{Attempt}
 use Rattle.feed_relay.specs.declared.server.Server.{Server}
@@ -27,7 +27,7 @@ relay_service options =
       contest = options.pull.contest;
       framing = options.framing;
       back = 0;
-      turns = engine_turns;
+      turns = most_reads;
     }
 
 -- a mirror with what it connects to servers with, and what followers connect to

@@ -1,10 +1,10 @@
 -- What the command `serve` starts from, and what it commits.
 use Rattle.std.specs.Prelude.{◌≡◌, ◌⊎◌, ◌<◌, ℕ, max, true, false, List, [], ◌∷◌, ◌++◌, length, Option, Some, None, unwrap_or, Result}
+use Rattle.feed_settings.specs.Limits.{Limits}
 use Rattle.feed_note.specs.Batches.{batch_changes}
 use Rattle.feed_note.specs.Counts.{AreRead}
 use Rattle.feed_note.specs.declared.line.Line.{Line}
 use Rattle.feed_tables.specs.declared.change.Change.{Change}
-use Rattle.feed_node.specs.Limits.{Limits}
 use Rattle.feed_node.specs.Log.{new_primary, RefusesBatch}
 use Rattle.feed_node.specs.declared.primary.CommitFault.{CommitFault}
 use Rattle.feed_node.specs.declared.primary.CommitFault.TheVariants as commit
@@ -14,7 +14,7 @@ use Rattle.feed_http.specs.declared.fault.Served.{Served}
 use Rattle.feed_http.specs.declared.service.Service.{Service}
 use Rattle.feed_http.specs.declared.fault.EngineFault.TheVariants as engine
 use Rattle.feed_relay.specs.Dialing.{Links}
-use Rattle.feed_relay.specs.Serving.{ServesLiveNext, engine_turns}
+use Rattle.feed_relay.specs.Serving.{ServesLiveNext, most_reads}
 use Rattle.feed_relay.specs.declared.fault.NetworkFault.{NetworkFault}
 use Rattle.feed_relay.specs.declared.fault.NetworkFault.TheVariants as network
 use Rattle.feed_words.specs.declared.request.ServeOptions.{ServeOptions}
@@ -83,7 +83,7 @@ serve_service options =
       contest = options.contest;
       framing = options.framing;
       back = options.back;
-      turns = engine_turns;
+      turns = most_reads;
     }
 
 -- a primary with its batches, and what followers connect to

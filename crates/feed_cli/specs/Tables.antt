@@ -1,15 +1,15 @@
 -- What the command `tables` reads and prints.
 use Rattle.std.specs.Prelude.{◌≡◌, ℕ, ◌≤◌, Bool, true, false, List, [], ◌++◌, length, Option, Some, None, Result, Ok, Err, is_some}
 use Rattle.std.specs.Io.KnownBytes.{Appends, Consumes, IsAtEnd, Keeps}
+use Rattle.feed_settings.specs.Limits.{Limits}
 use Rattle.feed_note.specs.declared.line.Line.{Line}
 use Rattle.feed_note.specs.Publishing.{Published}
 use Rattle.feed_note.specs.Texts.{published_text}
-use Rattle.feed_node.specs.Limits.{Limits}
 use Rattle.feed_node.specs.States.{nothing_published}
 use Rattle.feed_node.specs.Mirroring.{MirrorState, StandsAt}
 use Rattle.feed_node.specs.Reading.{Opening, Reads, FaultsAt, reads}
 use Rattle.feed_http.specs.Device.{AppendsPrefix}
-use Rattle.feed_relay.specs.Serving.{engine_turns}
+use Rattle.feed_relay.specs.Serving.{most_reads}
 use Rattle.feed_cli.specs.Streams.{Streams}
 use Rattle.feed_cli.specs.declared.fault.Fault.{Fault}
 use Rattle.feed_cli.specs.declared.fault.FeedStop.{FeedStop}
@@ -43,7 +43,7 @@ pub record HasRead (limits : Limits) (old new : Option (List ℕ)) (shown : Opti
 pub record HasReadOn (limits : Limits) (old new : Option (List ℕ)) (shown : Option Published)
     : Type 0 where
   pub whole : HasRead limits old new shown
-  pub many : engine_turns ≤ length whole.bytes
+  pub many : most_reads ≤ length whole.bytes
 
 -- all that was read was fed; or, where the fault's line is told, what was read up to that line
 abbrev pub IsLeft : Option ℕ → List ℕ → Type 0

@@ -11,7 +11,7 @@ pub mod relay;
 pub mod serve;
 mod tables;
 
-use crate::fault::Fault;
+use crate::fault::{Fault, REFUSED};
 use crate::telling::tell;
 use check::print_counts;
 use feed_http::device::{Failed, FeedRead, FeedWrite, write_all};
@@ -19,9 +19,6 @@ use feed_words::{Local, NoCommand, PROGRAM};
 use play::print_played;
 use std::alloc::Global;
 use tables::print_tables;
-
-/// The status for words that are refused.
-const REFUSED: u8 = 1;
 
 /// Prints what is replied to words that ask for no command: help and the version to `out`, why they
 /// are refused to `err`. The status is 0 where all of that text was printed, 1 for words that are

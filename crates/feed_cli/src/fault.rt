@@ -10,6 +10,9 @@ use feed_words::AddressFault;
 use std::alloc::{AllocError, AllocFailed};
 use thiserror::Error;
 
+/// The status for words that are refused: the command line, an option's value, or a server's name.
+pub const REFUSED: u8 = 1;
+
 /// Why a feed can't be fed on to a mirror, and at which of its lines, where that was asked for.
 /// Lines are counted from 1.
 #[derive(Clone, Copy, Debug, PartialEq, Eq, Error)]
@@ -19,8 +22,8 @@ pub struct FeedStop {
     pub line: Option<u64>,
 }
 
-/// Why a command fails. Running out of memory in what a command calls is a fault of its own, but for
-/// a script's, which says at which line.
+/// Why a command fails. Running out of memory in what a command calls is a fault of its own, but
+/// for a script's, which says at which line.
 #[derive(Clone, Copy, Debug, PartialEq, Eq, Error)]
 pub enum Fault {
     /// Memory ran out.
@@ -65,8 +68,7 @@ pub enum Fault {
 }
 
 impl Fault {
-    ghost use Rattle.feed_cli.specs.Fault.{status_of, is_one_connections};
-    ghost use Rattle.feed_cli.specs.Fault.{fault_of_feed, fault_of_place, fault_of_addresses, fault_of_network};
+    ghost use Rattle.feed_cli.specs.Fault.{status_of, is_one_connections, fault_of_feed};
 
     /// The status that a program with this fault ends with.
     pub fn status(self) -> u8
@@ -78,7 +80,7 @@ impl Fault {
             Fault::Play(fault) if fault.is_want_of_memory() => 5,
             Fault::TooLong | Fault::Feed(_) | Fault::Survey(_) | Fault::Play(_) => 2,
             Fault::Unpublished => 3,
-            Fault::Place(_) | Fault::Address(_) => 1,
+            Fault::Place(_) | Fault::Address(_) => REFUSED,
             Fault::Commit(_) => 2,
             Fault::Network(NetworkFault::Engine(EngineFault::Commit(_) | EngineFault::Follow(_))) =>
                 2,
@@ -108,27 +110,6 @@ impl Fault {
             FeedFault::Memory => Fault::Memory,
             fault => Fault::Feed(FeedStop { fault, line }),
         }
-    }
-
-    /// The fault of a command whose server can't be named like this.
-    pub fn of_place(fault: PlaceFault) -> Fault
-        ensures { result ≡ fault_of_place fault }
-    {
-        Fault::from(fault)
-    }
-
-    /// The fault of a command whose further servers can't be addressed like this.
-    pub fn of_addresses(fault: AddressFault) -> Fault
-        ensures { result ≡ fault_of_addresses fault }
-    {
-        Fault::from(fault)
-    }
-
-    /// The fault of a command whose connection was not made, or failed.
-    pub fn of_network(fault: NetworkFault) -> Fault
-        ensures { result ≡ fault_of_network fault }
-    {
-        Fault::from(fault)
     }
 }
 

@@ -5,7 +5,7 @@ ghost use Rattle.feed_http.specs.Device.{HasFailed, Moved};
 ghost use Rattle.feed_cli.specs.Check.{IsWhole, InputFails};
 
 use crate::fault::Fault;
-use feed_http::device::{Failed, FeedRead};
+use feed_http::device::FeedRead;
 use feed_http::head_reading::READ_BYTES;
 use std::alloc::Global;
 
@@ -26,20 +26,19 @@ fn read_piece<R: FeedRead>(reader: &mut R, bytes: &mut Vec<u8>) -> Result<usize,
     ensures quiet { OnOk result (R.failures reader.new ≡ R.failures reader.old) }
 {
     let mut piece = [0u8; READ_BYTES];
-    match reader.read_some(&mut piece) {
-        Ok(count) => match bytes.extend_from_slice(&piece[..count]) {
-            Ok(()) => Ok(count),
-            Err(_) => Err(Fault::Memory),
-        },
-        Err(Failed) => Err(Fault::Read),
-    }
+    let Ok(count) = reader.read_some(&mut piece) else {
+        return Err(Fault::Read);
+    };
+    bytes.extend_from_slice(&piece[..count])?;
+    Ok(count)
 }
 
 /// Reads the input to its end, at most 67,108,864 bytes.
 pub(crate) fn read_input<R: FeedRead>(alloc: Global, input: &mut R) -> Result<Vec<u8>, Fault>
     ensures ok { IfOk result (λ bytes.
         IsWhole (R.remaining input.old) (R.remaining input.new) bytes.items) }
-    ensures err { IfErr result (λ why. InputFails why (R.remaining input.old) (R.remaining input.new)) }
+    ensures err { IfErr result (λ why.
+        InputFails why (R.remaining input.old) (R.remaining input.new)) }
     ensures read { IsErrOf result Fault.Read
         → HasFailed (R.failures input.old) (R.failures input.new) }
 {

@@ -19,8 +19,8 @@ const ROOM: usize = 512;
 /// A host and a port.
 type Address<'h> = (&'h str, u16);
 
-/// What is told of a fault: its text, with the address that it is about where there is one, and on a
-/// second line where in the feed it is, where that was asked for.
+/// What is told of a fault: its text, with the address that it is about where there is one, and on
+/// a second line where in the feed it is, where that was asked for.
 fn text_of(name: &str, fault: Fault, address: Option<Address<'_>>) -> ArrayString<ROOM> {
     let mut text = ArrayString::new();
     let _ = match address {
@@ -193,8 +193,8 @@ impl Teller {
         Ok(())
     }
 
-    /// What the command comes to that has gone on to its end: a device's fault where something could
-    /// not be told.
+    /// What the command comes to that has gone on to its end: a device's fault where something
+    /// could not be told.
     pub(crate) fn outcome(&self) -> Result<(), Fault>
         ensures ok { OnOk result (self.now.has_failed ≡ false) }
         ensures err { IfErr result

@@ -2,6 +2,7 @@
 use Rattle.std.proofs.Common.{◌≡◌, refl, sym, ap, ◌∙◌, subst, ℕ, zero, suc, ◌<◌, ◌≤◌, Bool, true, false, ◌&&◌, ◌||◌, arith, List, [], ◌∷◌, ◌++◌, length, take, append_assoc, append-nil, length-append, Option, Some, None}
 use Rattle.std.specs.Prelude.{if◌then◌else◌, ◌≢◌}
 use Rattle.std.specs.List.{AllByRecursion}
+use Rattle.feed_settings.specs.Limits.{Limits}
 use Rattle.feed_text.specs.Limits.{line_bytes}
 use Rattle.feed_tables.specs.declared.change.Change.{Change}
 use Rattle.feed_tables.specs.Changes.{IsChange}
@@ -14,7 +15,6 @@ use Rattle.feed_note.specs.Texts.{batch_text}
 use Rattle.feed_note.specs.Written.{written, written_line, WrittenLineMeans}
 use Rattle.feed_node.specs.declared.fault.FeedFault.{FeedFault}
 use Rattle.feed_node.specs.declared.fault.FeedFault.TheVariants.{StageFull}
-use Rattle.feed_node.specs.Limits.{Limits}
 use Rattle.feed_node.specs.Sent.{PublishesNothing}
 use Rattle.feed_node.specs.States.{published_tables}
 use Rattle.feed_node.specs.Staging.{Standing, staging, with_changes, then_token, publishes, times_published, step, steps, AllTaken}

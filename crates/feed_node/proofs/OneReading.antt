@@ -1,10 +1,10 @@
 -- Where nothing is bad, the lines say one thing, and no fault stands.
 use Rattle.std.proofs.Common.{◌≡◌, refl, sym, ap, ◌∙◌, subst, ℕ, arith, List, [], ◌∷◌, ◌++◌, append_assoc, append-nil, Some, None}
+use Rattle.feed_settings.specs.Limits.{Limits}
 use Rattle.feed_note.specs.declared.line.Line.{Line}
 use Rattle.feed_note.specs.Lines.{lines}
 use Rattle.feed_note.specs.Meaning.{OnlyOne}
 use Rattle.feed_node.specs.declared.fault.FeedFault.{FeedFault}
-use Rattle.feed_node.specs.Limits.{Limits}
 use Rattle.feed_node.specs.Reading.{Opening, Reads, FaultsAt, at_line, at_rest, IsGood, IsBad, long, meaningless, refused, fault_after, AllGood, AllGoodAfter}
 use Rattle.feed_node.specs.Steps.{ReadingIsOne}
 

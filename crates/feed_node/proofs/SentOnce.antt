@@ -1,6 +1,7 @@
 -- The text of a batch, and of a snapshot on a fresh connection, publishes at its end.
 use Rattle.std.proofs.Common.{◌≡◌, refl, sym, ap, ◌∙◌, subst, ℕ, ◌+◌, ◌<◌, ◌≤◌, false, arith, List, [], ◌∷◌, ◌++◌, Some, length, take, append-nil, length-append}
 use Rattle.std.specs.Prelude.{◌≢◌}
+use Rattle.feed_settings.specs.Limits.{Limits}
 use Rattle.feed_text.specs.Limits.{line_bytes}
 use Rattle.feed_tables.specs.declared.change.Change.{Change}
 use Rattle.feed_tables.specs.Listings.{ListingRestores, ListingHasSize}
@@ -10,7 +11,6 @@ use Rattle.feed_note.specs.declared.line.Line.TheVariants.{Note}
 use Rattle.feed_note.specs.Lines.{lines, rest, ended, LinesCut, LinesAreTheOnlyCut}
 use Rattle.feed_note.specs.Texts.{batch_text, snapshot_text}
 use Rattle.feed_note.specs.Written.{WrittenLineMeans}
-use Rattle.feed_node.specs.Limits.{Limits}
 use Rattle.feed_node.specs.Sent.{TakesText, TextsGoOn, PublishesNothing, PublishesAtEnd, FitsBatch, BatchesPublishAtEnd, fresh_on, renewed_on, SnapshotsPublishAtEnd}
 use Rattle.feed_node.specs.Staging.{Standing, step, times_published, AllTaken}
 use Rattle.feed_node.specs.States.{reset_to}

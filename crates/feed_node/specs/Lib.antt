@@ -1,6 +1,5 @@
 pub mod Codes
 pub mod Followed
-pub mod Limits
 pub mod Log
 pub mod Mirroring
 pub mod Numbered

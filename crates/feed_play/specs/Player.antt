@@ -1,9 +1,9 @@
 -- A script played: what its lines do in a world, one after another, what is printed of that, and
 -- why it stops.
 use Rattle.std.specs.Prelude.{◌≡◌, ◌≢◌, ℕ, ◌+◌, ◌≤◌, ◌<◌, ◌⊎◌, List, [], ◌∷◌, ◌++◌, length, slice_get, Option, Some, None}
+use Rattle.feed_settings.specs.Limits.{IsInRange}
 use Rattle.feed_tables.specs.declared.change.Change.{Change}
 use Rattle.feed_note.specs.Lines.{lines as lines_of}
-use Rattle.feed_node.specs.Limits.{IsInRange}
 use Rattle.feed_node.specs.States.{NodeState, published_token}
 use Rattle.feed_world.specs.States.{IsWorld, WorldState, shown_at}
 use Rattle.feed_world.specs.Step.{Step, IsRefused}

@@ -88,10 +88,7 @@ fn at(line: u64, played: Result<(), PlayCause>) -> Result<(), PlayFault>
     ensures ok { OnOk result (played ≡ Ok tt) }
     ensures err { IfErr result (λ fault. (fault.line ≡ line) × (played ≡ Err fault.cause)) }
 {
-    match played {
-        Ok(()) => Ok(()),
-        Err(cause) => Err(PlayFault { line, cause }),
-    }
+    played.map_err(|cause| PlayFault { line, cause })
 }
 
 /// Does what a line asks for, with the feed lines after it where it announces some.

@@ -11,7 +11,8 @@ use std::alloc::{AllocError, Global};
 
 /// The line that tells a reply. The token is the one that a restarted mirror has published.
 fn reply_line(alloc: Global, reply: &Reply, token: Option<&str>) -> Result<String, AllocError>
-    ensures { IfOk result (λ line. Tells (option_copied token.entry) reply.now (string_bytes line)) }
+    ensures { IfOk result
+        (λ line. Tells (option_copied token.entry) reply.now (string_bytes line)) }
 {
     match reply {
         Reply::Committed(token) => {

@@ -1,12 +1,12 @@
 -- What a pull came to where asking did not fail.
-use Rattle.std.proofs.Common.{ℕ, List}
-use Rattle.std.specs.Prelude.{Result, Ok, Err}
+use Rattle.std.proofs.Common.{◌≡◌, ℕ, List}
+use Rattle.std.specs.Prelude.{Result, Ok, Err, OnOk}
 use Rattle.std.specs.Io.KnownBytes.{Appends}
 use Rattle.feed_node.specs.Mirroring.{MirrorState}
 use Rattle.feed_http.specs.declared.fault.EngineFault.{EngineFault}
 use Rattle.feed_http.specs.declared.fault.EngineFault.TheVariants as fault
 use Rattle.feed_http.specs.declared.fault.Followed.{Followed}
-use Rattle.feed_http.specs.Exchange.{Exchange, gave_on}
+use Rattle.feed_http.specs.Exchange.{Exchange, gave_on, NoneFailed}
 use Rattle.feed_http.specs.Following.{Follows}
 use Rattle.feed_relay.specs.Pulling.{HasAsked, IsFollowed}
 
@@ -22,3 +22,11 @@ answered request turns spoken start mirror (Err (fault.Follow why)) wrote came =
 answered request turns spoken start mirror (Err fault.Write) wrote none = absurd none
 answered request turns spoken start mirror (Err fault.Memory) wrote none = absurd none
 answered request turns spoken start mirror (Err (fault.Commit why)) wrote none = absurd none
+
+-- where a response was followed, nothing failed: not the asking either
+pub none_failed : (spoken : Exchange) (pulled : Result Followed EngineFault)
+    → spoken.failed_writes_new ≡ spoken.failed_writes_old
+    → OnOk pulled (spoken.failed_reads_new ≡ spoken.failed_reads_old)
+    → OnOk pulled (NoneFailed spoken)
+none_failed spoken (Ok followed) writes reads = (reads, writes)
+none_failed spoken (Err why) writes reads = tt

@@ -10,8 +10,8 @@ use Rattle.feed_relay.specs.declared.fault.NetworkFault.{NetworkFault}
 use Rattle.feed_relay.specs.declared.fault.NetworkFault.TheVariants.{Connect, Bind, Accept, Engine}
 
 -- the most reads of the head of a request, and of an input
-abbrev pub engine_turns : ℕ
-engine_turns = 1000000
+abbrev pub most_reads : ℕ
+most_reads = 1000000
 
 -- what a connection came to, as a program sees it
 abbrev pub over_network : Result Served EngineFault → Result Served NetworkFault

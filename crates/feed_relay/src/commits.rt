@@ -11,8 +11,8 @@ use feed_tables::{Change, Changes};
 use std::alloc::{AllocError, Global};
 use std::collections::VecDeque;
 
-/// The batches of a feed, each as its changes, the first one first. The lines after the last
-/// token belong to no batch. The fault is that of the first line that can't be read, with its number.
+/// The batches of a feed, each as its changes, the first one first. The lines after the last token
+/// belong to no batch. The fault is that of the first line that can't be read, with its number.
 pub fn feed_batches(alloc: Global, bytes: &[u8]) -> Result<VecDeque<Vec<Change>>, SurveyFault>
     ensures ok { IfOk result (λ all. (notes : List Note) × AreRead bytes.now notes
         × (map (λ batch. batch.items) all.items ≡ batch_changes notes)) }

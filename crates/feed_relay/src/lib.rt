@@ -15,4 +15,4 @@ pub use fault::NetworkFault;
 pub use first::{Attempt, AttemptEnd, follow_first, has_run_out};
 pub use pulling::pull_once;
 pub use server::Server;
-pub use serving::{ENGINE_TURNS, serve_live_next, serve_next};
+pub use serving::{MOST_READS, serve_live_next, serve_next};

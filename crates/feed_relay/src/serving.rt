@@ -15,7 +15,7 @@ use std::alloc::Global;
 use std::collections::VecDeque;
 
 /// The most reads of the head of a request, and of an input.
-pub const ENGINE_TURNS: u64 = 1_000_000;
+pub const MOST_READS: u64 = 1_000_000;
 
 /// Serves a node on the next connection, as [`serve_node`] does, and gives the connection back.
 pub fn serve_next<A: Accept>(

@@ -10,7 +10,7 @@ use Rattle.std.proofs.Math.Seq.{get_or-append_seam}
 use Rattle.std.proofs.lemmas.List.{take-append-drop, take_more, get_or-map, map-append, length-map}
 use Rattle.std.proofs.lemmas.Str.Parse.{digit_at}
 use Rattle.std.proofs.lemmas.Str.Pattern.{NoCharPasses-char, drop_at_char}
-use Rattle.feed_answer.specs.Place.{is_host}
+use Rattle.feed_settings.specs.Place.{is_host}
 use Rattle.std.specs.List.{AllWithin, HoldsAt}
 use Rattle.feed_words.specs.Addresses.{parts, IsPort, IsAddress, IsGood, IsBad, IsFirstBad, AreGood, AreAddresses, IsListOf}
 

@@ -2,10 +2,16 @@
 use Rattle.std.specs.Prelude.{◌≡◌, ℕ, ◌<◌, ◌≤◌, true, List, [], ◌∷◌, ◌++◌, ◌==◌, length}
 use Rattle.std.specs.List.{slice_split, AllWithin, HoldsAt}
 use Rattle.std.specs.Str.Parse.{AllDigits, digits_value}
-use Rattle.feed_text.specs.Ascii.{colon, comma}
-use Rattle.feed_answer.specs.Place.{is_host}
+use Rattle.feed_settings.specs.Place.{is_host}
 use Rattle.feed_words.specs.declared.address.AddressFault.{AddressFault}
 use Rattle.feed_words.specs.declared.address.AddressFault.TheVariants.{BadAddress, TooMany, Memory}
+
+-- what stands before a port, and what between two addresses
+abbrev pub colon : ℕ
+colon = 58
+
+abbrev pub comma : ℕ
+comma = 44
 
 -- the greatest number of a port
 abbrev pub most_port : ℕ

@@ -7,9 +7,9 @@ use Rattle.clap.specs.Walk.{first_of, one_of}
 use Rattle.clap.specs.Words.{App, Row, Rule, Text, new_rule, with_rule}
 use Rattle.clap.specs.declared.builder.action.ArgAction.TheVariants.{SetTrue}
 use Rattle.clap.specs.declared.builder.value_parser.ValueParser.TheVariants.{Unsigned}
-use Rattle.feed_answer.specs.declared.framing.Framing.{Framing}
-use Rattle.feed_answer.specs.declared.framing.Framing.TheVariants as framing
-use Rattle.feed_node.specs.Limits.{Limits, most_commits, most_changes}
+use Rattle.feed_settings.specs.declared.framing.Framing.{Framing}
+use Rattle.feed_settings.specs.declared.framing.Framing.TheVariants as framing
+use Rattle.feed_settings.specs.Limits.{Limits, most_commits, most_changes}
 use Rattle.feed_words.specs.Addresses.{most_port}
 
 -- ---- the options

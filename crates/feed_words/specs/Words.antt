@@ -4,7 +4,7 @@
 use Rattle.std.specs.Prelude.{◌≡◌, List, Option, Some, codes, option_map, true}
 use Rattle.clap.specs.Simple.{on_top}
 use Rattle.clap.specs.Words.{App, Row, Text, new_app, subcommand_of, with_rule, with_subcommand}
-use Rattle.feed_node.specs.Limits.{most_commits}
+use Rattle.feed_settings.specs.Limits.{most_commits}
 use Rattle.feed_words.specs.Addresses.{most_port}
 use Rattle.feed_words.specs.Live.{live, AsksLive}
 use Rattle.feed_words.specs.Options.{most_rounds, most_silence, verbose, port, listen, contest, count, turn, chunked, back, host, from, base, host_header, user_file, turns, silence, resume, with_limits}

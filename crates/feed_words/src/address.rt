@@ -1,11 +1,10 @@
 //! Addresses of servers.
-ghost use Rattle.std.specs.Prelude.{◌≡◌, ◌++◌, ◌∷◌, [], ℕ, List, None, true, false, map, length, codes, string_bytes, IfOk, IfErr, IfSome, OnOk};
-ghost use Rattle.std.specs.List.{list_all};
-ghost use Rattle.feed_answer.specs.Place.{is_host as host_of, is_alphanumeric_or};
+ghost use Rattle.std.specs.Prelude.{◌≡◌, ◌++◌, ◌∷◌, [], ℕ, List, None, true, false, map, length, string_bytes, IfOk, IfErr, IfSome, OnOk};
 ghost use Rattle.feed_words.specs.Addresses.{parts, IsPort, IsAddress, IsGood, IsBad, IsFirstBad};
 ghost use Rattle.feed_words.specs.Addresses.{AreGood, AreAddresses, IsListOf, RefusesList};
 ghost use Rattle.feed_words.specs.declared.address.AddressFault.TheVariants as address_fault;
 
+use feed_settings::is_host;
 use std::alloc::{AllocError, Global};
 use thiserror::Error;
 
@@ -32,25 +31,6 @@ impl From<AllocError> for AddressFault {
     fn from(_error: AllocError) -> AddressFault {
         AddressFault::Memory
     }
-}
-
-/// Whether the text is 1 to 255 letters, digits and characters of `.-:[]`.
-fn is_host(text: &str) -> bool
-    ensures { result ≡ host_of text.now }
-{
-    !text.is_empty() && text.len() <= 255 && has_marks_of_host(text.as_bytes())
-}
-
-fn has_marks_of_host(text: &[u8]) -> bool
-    ensures { result ≡ list_all (is_alphanumeric_or (codes ".-:[]")) text.now }
-{
-    text.iter().all(|b| is_mark_of_host(*b))
-}
-
-fn is_mark_of_host(byte: u8) -> bool
-    ensures { result ≡ is_alphanumeric_or (codes ".-:[]") byte }
-{
-    byte.is_ascii_alphanumeric() || b".-:[]".contains(&byte)
 }
 
 /// The port that 1 to 5 decimal digits say.

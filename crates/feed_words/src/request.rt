@@ -1,7 +1,6 @@
 //! What a command line can ask for.
 
-use feed_answer::Framing;
-use feed_node::Limits;
+use feed_settings::{Framing, Limits};
 
 /// How `tables` feeds its mirror, and what it tells.
 #[derive(Clone, Copy)]

@@ -2,11 +2,13 @@
 use Rattle.std.proofs.Common.{◌≡◌, refl, sym, ap, ◌∙◌, subst, ℕ, suc, ◌+◌, ◌-◌, ◌<◌, ◌≤◌, ◌^◌, max, Bool, true, false, ◌&&◌, arith, List, [], ◌∷◌, ◌++◌, length, take, drop, append_assoc, append-nil, length-append, take-append-drop, Option, Some, None, Ok, inl, inr, nat_le, nat_lt, ltb-false, leb-true, leb-false}
 use Rattle.std.specs.Prelude.{if◌then◌else◌, ◌==◌, ◌⊎◌, slice_get}
 use Rattle.std.specs.Option.{option_and_then}
+use Rattle.feed_settings.specs.Limits.{Limits}
+use Rattle.feed_settings.specs.declared.framing.Framing.{Framing}
+use Rattle.feed_settings.specs.declared.framing.Framing.TheVariants.{Close, Chunked}
 use Rattle.feed_note.specs.Lines.{rest}
 use Rattle.feed_note.specs.declared.line.Line.{Line}
 use Rattle.feed_node.specs.declared.fault.FeedFault.{FeedFault}
 use Rattle.feed_node.specs.declared.fault.FeedFault.TheVariants.{NotOpen, LongLine, Line as BadLine, StageFull, Memory as FeedMemory}
-use Rattle.feed_node.specs.Limits.{Limits}
 use Rattle.feed_node.specs.Log.{token_after, tokens_from}
 use Rattle.feed_node.specs.Mirroring.{MirrorState, StandsAt, present_opening, mirror_after, cut_off}
 use Rattle.feed_node.specs.Reading.{Reads, FaultsAt, reads, keep_latest, awaits_reset}
@@ -17,8 +19,6 @@ use Rattle.feed_follow.specs.declared.fault.FollowFault.{FollowFault}
 use Rattle.feed_follow.specs.declared.fault.FollowFault.TheVariants.{Closed, LongHead, BadHead, Status, BadCoding, BadLength, BadChunk, Feed, Memory as FollowMemory}
 use Rattle.feed_follow.specs.Following.{HasReached as Reached, IsCutAfter, Leaves, HasBadLine, HasLostSome, Fails}
 use Rattle.feed_follow.specs.Standing.{Standing, in_head, token_refused, in_body, done, failed, Stands}
-use Rattle.feed_answer.specs.declared.framing.Framing.{Framing}
-use Rattle.feed_answer.specs.declared.framing.Framing.TheVariants.{Close, Chunked}
 use Rattle.feed_answer.specs.declared.refusal.Refusal.{Refusal}
 use Rattle.feed_answer.specs.Answer.{feed_head, refusal_code, refusal_head, refusal_text}
 use Rattle.feed_answer.specs.Answered.{AnswerParts, answer_to, answer_opened}

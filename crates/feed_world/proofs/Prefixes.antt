@@ -3,6 +3,7 @@ use Rattle.std.proofs.Common.{◌≡◌, refl, sym, ap, ◌∙◌, subst, ℕ, s
 use Rattle.std.specs.Prelude.{if◌then◌else◌, ◌==◌, ◌≢◌}
 use Rattle.std.proofs.lemmas.Bool.{le-leb}
 use Rattle.std.proofs.lemmas.List.Sums.{fold-append}
+use Rattle.feed_settings.specs.Limits.{Limits}
 use Rattle.feed_tables.specs.Listings.{ListingIsWithin}
 use Rattle.feed_tables.specs.Tables.{size}
 use Rattle.feed_note.specs.declared.line.Line.{Line}
@@ -10,7 +11,6 @@ use Rattle.feed_note.specs.declared.line.Line.TheVariants.{Note, KeepAlive}
 use Rattle.feed_note.specs.Lines.{lines, rest}
 use Rattle.feed_node.specs.declared.fault.FeedFault.{FeedFault}
 use Rattle.feed_node.specs.declared.fault.FeedFault.TheVariants.{StageFull}
-use Rattle.feed_node.specs.Limits.{Limits}
 use Rattle.feed_node.specs.Log.{token_after, tokens_from}
 use Rattle.feed_node.specs.Sent.{TakesText, TextsGoOn, PublishesNothing, PublishesAtEnd, BatchesPublishAtEnd, SnapshotsPublishAtEnd, fresh_on, renewed_on}
 use Rattle.feed_node.specs.States.{Node, holds_token, published_tables}

@@ -2,7 +2,7 @@
 use Rattle.std.proofs.Common.{◌≡◌, refl, sym, ap, ◌∙◌, subst, ℕ, zero, suc, ◌+◌, ◌-◌, ◌≤◌, Bool, true, false, arith, List, [], ◌∷◌, ◌++◌, length, Option, Some, None, IfSome, nat_le, leb-false, nat_lt, ltb-false, length-append, slice_get}
 use Rattle.std.specs.Prelude.{if◌then◌else◌}
 use Rattle.std.specs.Option.{option_and_then}
-use Rattle.feed_node.specs.Limits.{Limits}
+use Rattle.feed_settings.specs.Limits.{Limits}
 use Rattle.feed_world.specs.Connection.{Part, Snapshot, Commit, Line_feed, Connection, part_text, parts_text, come_by, block_onto, blocks_within, blocks_come, moved_by, GoOn, first_parts}
 use Rattle.feed_world.specs.Log.{Log}
 use Rattle.feed_world.specs.Position.{Position, renewed}

@@ -3,8 +3,8 @@ use Rattle.std.proofs.Common.{◌≡◌, refl, sym, ap, ◌∙◌, subst, ℕ, �
 use Rattle.std.specs.Fmt.{digits}
 use Rattle.std.specs.List.{AllByRecursion, flat_map}
 use Rattle.httparse.specs.Ascii.{crlf_bytes}
-use Rattle.feed_answer.specs.declared.framing.Framing.{Framing}
-use Rattle.feed_answer.specs.declared.framing.Framing.TheVariants.{Close, Chunked}
+use Rattle.feed_settings.specs.declared.framing.Framing.{Framing}
+use Rattle.feed_settings.specs.declared.framing.Framing.TheVariants.{Close, Chunked}
 use Rattle.feed_answer.specs.Answer.{feed_head}
 use Rattle.feed_answer.specs.Framed.{frame}
 use Rattle.feed_answer.specs.FrameLaws.{AreTexts, joined}

@@ -6,6 +6,7 @@ use Rattle.std.specs.Cmp.Lexicographic.{nat_list_cmp_total}
 use Rattle.std.specs.Ordering.{eq_by_cmp, is_eq}
 use Rattle.std.specs.FinMap.{FinMap, empty, entries, entries_sorted, find, from_sorted, entries-from_sorted, get-from_sorted, get-entries, get-remove, same_map, len-entries, len-empty, insert, remove, put, entries-insert, slice_cmp-IsAntisymmetric, nat_cmp-IsAntisymmetric}
 use Rattle.std.specs.FinMap.Entries.{is_sorted-where_key, find-where_key}
+use Rattle.feed_settings.specs.declared.framing.Framing.TheVariants.{Close}
 use Rattle.feed_text.specs.Strings.{written_string}
 use Rattle.feed_tables.specs.Bytes.{byte_order, without}
 use Rattle.feed_tables.specs.Tables.{after}
@@ -20,7 +21,6 @@ use Rattle.feed_world.specs.declared.event.Reply.{Reply}
 use Rattle.feed_world.specs.declared.event.Reply.TheVariants.{Committed, Opened, Refused, NotYet, Sent, Idled, Delivered, Cut, Saved, Restarted}
 use Rattle.feed_world.specs.declared.event.WorldFault.{WorldFault}
 use Rattle.feed_world.specs.declared.event.WorldFault.TheVariants.{NoNode, NoConnection, Commit as CommitRefused}
-use Rattle.feed_answer.specs.declared.framing.Framing.TheVariants.{Close}
 use Rattle.feed_world.specs.Connection.{Connection, Snapshot}
 use Rattle.feed_world.specs.Log.{Log}
 use Rattle.feed_world.specs.Position.{Position}

@@ -1,11 +1,11 @@
 -- The codes of what a world has, which the models need.
 use Rattle.std.specs.Prelude.{refl, ℕ, Bool, List, Option}
 use Rattle.std.specs.Coded.{Coded, code_by, coded×, coded_list, coded_option, coded_ℕ, coded_bool}
+use Rattle.feed_settings.specs.contracts.framing.Framing as framing
+use Rattle.feed_settings.specs.declared.framing.Framing.{Framing}
 use Rattle.feed_tables.specs.Codes.{text_code}
 use Rattle.feed_follow.specs.Codes.{follower_code as reader_code}
 use Rattle.feed_follow.specs.Follower.{FollowerState as ReaderState}
-use Rattle.feed_answer.specs.declared.framing.Framing.{Framing}
-use Rattle.feed_answer.specs.contracts.framing.Framing as framing
 use Rattle.feed_node.specs.declared.commit.Commit.{Commit}
 use Rattle.feed_node.specs.Codes.{commit_code, mirror_code, primary_code}
 use Rattle.feed_node.specs.Log.{PrimaryState}

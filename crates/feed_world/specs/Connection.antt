@@ -1,8 +1,8 @@
 -- A connection between a node and a mirror behind it: what was sent on it, and how much of that
 -- came (CLICS Contest API 2023-06, event feed and reconnection; RFC 9112).
 use Rattle.std.specs.Prelude.{◌≡◌, ℕ, ◌+◌, ◌-◌, Bool, true, false, List, [], ◌∷◌, ◌++◌, length, map, drop, flat_map, fold, Option, Some, None, if◌then◌else◌, nat_le, nat_lt}
+use Rattle.feed_settings.specs.declared.framing.Framing.{Framing}
 use Rattle.feed_text.specs.Ascii.{line_feed}
-use Rattle.feed_answer.specs.declared.framing.Framing.{Framing}
 use Rattle.feed_answer.specs.Carried.{response_text, carried_by}
 use Rattle.feed_world.specs.Log.{Log, state_text, commit_text}
 use Rattle.feed_world.specs.Position.{Position, renewed}

@@ -1,7 +1,8 @@
 -- Where a mirror is that followed what a node sent to it: at a place of the log, whatever prefix of
 -- the bytes came, and after a fault, too (CLICS Contest API 2023-06, reconnection; RFC 9112).
 use Rattle.std.specs.Prelude.{◌≡◌, ◌⊎◌, ◌==◌, ◌&&◌, ℕ, ◌-◌, ◌≤◌, max, Bool, List, ◌++◌, length, take, Option, Some, None, is_none, if◌then◌else◌}
-use Rattle.feed_node.specs.Limits.{Limits}
+use Rattle.feed_settings.specs.Limits.{Limits}
+use Rattle.feed_settings.specs.declared.framing.Framing.{Framing}
 use Rattle.feed_node.specs.Log.{token_after}
 use Rattle.feed_node.specs.Mirroring.{MirrorState, cut_off}
 use Rattle.feed_node.specs.States.{NodeState, published_token}
@@ -10,7 +11,6 @@ use Rattle.feed_follow.specs.declared.fault.FollowFault.TheVariants.{Closed, Sta
 use Rattle.feed_follow.specs.Follower.{FollowerState as ReaderState, FollowsAt}
 use Rattle.feed_follow.specs.Following.{Fails}
 use Rattle.feed_follow.specs.Standing.{Standing, in_head, token_refused, in_body, done, failed}
-use Rattle.feed_answer.specs.declared.framing.Framing.{Framing}
 use Rattle.feed_answer.specs.declared.refusal.Refusal.{Refusal}
 use Rattle.feed_answer.specs.Answer.{refusal_code, refusal_text}
 use Rattle.feed_answer.specs.Answered.{AnswerParts, AnswersTo}

@@ -1,13 +1,13 @@
 -- What stays when a log grows; what deliveries have in common however the text is cut; and what
 -- a node at a place of a log sends (CLICS Contest API 2023-06, reconnection).
 use Rattle.std.specs.Prelude.{◌≡◌, ℕ, ◌+◌, ◌-◌, ◌<◌, ◌≤◌, max, Bool, List, [], ◌∷◌, ◌++◌, length, drop, Option, Some, if◌then◌else◌}
+use Rattle.feed_settings.specs.Limits.{Limits}
+use Rattle.feed_settings.specs.declared.framing.Framing.{Framing}
 use Rattle.feed_tables.specs.declared.change.Change.{Change}
 use Rattle.feed_node.specs.declared.commit.Commit.{Commit as Batch}
-use Rattle.feed_node.specs.Limits.{Limits}
 use Rattle.feed_node.specs.Log.{token_after}
 use Rattle.feed_node.specs.Serving.{commit_after, token_before}
 use Rattle.feed_node.specs.States.{NodeState}
-use Rattle.feed_answer.specs.declared.framing.Framing.{Framing}
 use Rattle.feed_answer.specs.Answered.{AnswerParts, AnswersTo}
 use Rattle.feed_answer.specs.Served.{opening_text}
 use Rattle.feed_world.specs.Connection.{Part, Commit, Line_feed, Connection, GoOn, IsInOrder, sent_text, sent_bytes, blocks_within, moved_by}

@@ -1,7 +1,7 @@
 -- What a mirror makes of what was sent to it, whatever prefix of it came.
 use Rattle.std.specs.Prelude.{◌≡◌, ℕ, ◌≤◌, ◌<◌, ◌^◌, Bool, false, ◌&&◌, List, ◌++◌, length, Option, Some, ◌==◌}
+use Rattle.feed_settings.specs.Limits.{Limits}
 use Rattle.feed_note.specs.declared.line.Line.{Line}
-use Rattle.feed_node.specs.Limits.{Limits}
 use Rattle.feed_node.specs.Log.{token_after}
 use Rattle.feed_node.specs.Mirroring.{publications}
 use Rattle.feed_node.specs.Reading.{Opening, Reads, reads, keep_latest, awaits_reset}

@@ -1,6 +1,8 @@
 -- What a world in memory has, and of which world of numbers it is the state.
 use Rattle.std.specs.Prelude.{◌≡◌, ◌<◌, ◌⊎◌, ℕ, zero, suc, ◌+◌, min, option_map, ◌-◌, ◌≤◌, Bool, false, true, List, [], ◌∷◌, ◌++◌, length, map, take, drop, flat_map, slice_get, Option, Some, None, is_some, IfSome, Result, Ok, Err, if◌then◌else◌}
 use Rattle.std.specs.Option.{option_and_then}
+use Rattle.feed_settings.specs.declared.framing.Framing.{Framing}
+use Rattle.feed_settings.specs.Limits.{Limits}
 use Rattle.feed_tables.specs.Tables.{no_tables, after_all}
 use Rattle.feed_follow.specs.Follower.{FollowerState as ReaderState, FollowsAt}
 use Rattle.feed_follow.specs.Standing.{Standing, token_refused, failed}
@@ -9,7 +11,6 @@ use Rattle.feed_follow.specs.declared.fault.FollowFault.TheVariants.{Status}
 use Rattle.feed_answer.specs.declared.refusal.Refusal.{Refusal}
 use Rattle.feed_answer.specs.Answer.{refusal_code}
 use Rattle.feed_answer.specs.Carried.{refusal_standing}
-use Rattle.feed_answer.specs.declared.framing.Framing.{Framing}
 use Rattle.feed_world.specs.declared.event.Event.{Event}
 use Rattle.feed_world.specs.declared.event.Event.TheVariants.{Connect, Serve}
 use Rattle.feed_world.specs.declared.event.Asks.{Asks}
@@ -21,7 +22,6 @@ use Rattle.feed_world.specs.declared.event.ShapeFault.TheVariants.{BadShape, Mem
 use Rattle.feed_world.specs.declared.event.WorldFault.{WorldFault}
 use Rattle.feed_world.specs.declared.event.WorldFault.TheVariants.{Memory}
 use Rattle.feed_node.specs.declared.commit.Commit.{Commit}
-use Rattle.feed_node.specs.Limits.{Limits}
 use Rattle.feed_node.specs.Log.{PrimaryState, token_after}
 use Rattle.feed_node.specs.Mirroring.{MirrorState, present_opening, new_mirror, cut_off, refused_off}
 use Rattle.feed_node.specs.States.{NodeState, published_token}

@@ -1,12 +1,12 @@
 -- What each event does to a world, and the reply. An event has one reply, but where memory ran out.
 use Rattle.std.specs.Prelude.{◌≡◌, ◌≢◌, ◌⊎◌, ℕ, ◌+◌, ◌-◌, ◌<◌, ◌≤◌, Bool, true, false, ◌&&◌, List, [], ◌∷◌, ◌++◌, length, Option, Some, None, option_map, is_some, Result, Ok, Err, min, if◌then◌else◌, nat_lt, nat_le, ◌==◌, IsSome, IsTrue}
+use Rattle.feed_settings.specs.declared.framing.Framing.{Framing}
 use Rattle.feed_tables.specs.declared.change.Change.{Change}
 use Rattle.feed_node.specs.declared.primary.CommitFault.{CommitFault}
 use Rattle.feed_node.specs.declared.primary.CommitFault.TheVariants.{Memory as CommitMemory}
 use Rattle.feed_node.specs.declared.fault.FeedFault.TheVariants.{Memory as FeedMemory}
 use Rattle.feed_follow.specs.declared.fault.FollowFault.{FollowFault}
 use Rattle.feed_follow.specs.declared.fault.FollowFault.TheVariants.{Feed, Memory as FollowMemory}
-use Rattle.feed_answer.specs.declared.framing.Framing.{Framing}
 use Rattle.feed_node.specs.declared.session.Pulled.{Pulled}
 use Rattle.feed_node.specs.declared.session.Pulled.TheVariants.{More, UpToDate, Gone}
 use Rattle.feed_node.specs.Log.{PrimaryState, token_after, early_fault, commit_fault}

@@ -1,9 +1,9 @@
 -- A world of nodes: a primary, and mirrors that connect to any other node.
 use Rattle.std.specs.Prelude.{ℕ, zero, suc, ◌≤◌, ◌-◌, Bool, false, not, ◌&&◌, nat_le, ◌==◌, List, [], length, replicate, Option, Some, None, slice_get, slice_set}
 use Rattle.std.specs.Option.{option_and_then}
-use Rattle.feed_node.specs.Limits.{Limits}
+use Rattle.feed_settings.specs.Limits.{Limits}
+use Rattle.feed_settings.specs.declared.framing.Framing.{Framing}
 use Rattle.feed_node.specs.States.{NodeState}
-use Rattle.feed_answer.specs.declared.framing.Framing.{Framing}
 use Rattle.feed_world.specs.Log.{Log, state_text}
 use Rattle.feed_world.specs.Position.{Position, node_where}
 use Rattle.feed_world.specs.Connection.{Connection}

@@ -2,7 +2,7 @@
 
 ghost use Rattle.std.specs.Prelude.{◌≡◌, [], IfOk, codes};
 ghost use Rattle.std.specs.Option.{option_copied};
-ghost use Rattle.feed_answer.specs.Place.{make_place};
+ghost use Rattle.feed_settings.specs.Place.{make_place};
 ghost use Rattle.feed_answer.specs.RequestText.{request_text as text_of_request};
 ghost use Rattle.feed_answer.specs.Laws.{MayBeAskedWith};
 ghost use Rattle.feed_answer.specs.Opening.{opens};

@@ -1,7 +1,7 @@
 //! Connections of a world: what a node sent to a mirror, and how much of it came.
 
 ghost use Rattle.std.specs.Prelude.{◌≡◌, ◌<◌, ◌≤◌, ◌^◌, ℕ, List, false, length, Option, IfOk, IfErr, OnOk, OnErr, IsTrue, ◌↔◌, ◌⊎◌, true, Some, None, IfSome, IfNone};
-ghost use Rattle.feed_node.specs.Limits.{Limits as Bounds};
+ghost use Rattle.feed_settings.specs.Limits.{Limits as Bounds};
 ghost use Rattle.feed_node.specs.Log.{token_after};
 ghost use Rattle.feed_node.specs.Mirroring.{MirrorState};
 ghost use Rattle.feed_node.specs.States.{published_token, holds_token};

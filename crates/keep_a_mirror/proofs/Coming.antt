@@ -2,10 +2,10 @@
 use Rattle.std.proofs.Common.{◌≡◌, refl, sym, ap, ◌∙◌, subst, ℕ, List, [], ◌++◌, append_assoc, append-nil, take, drop}
 use Rattle.std.proofs.lemmas.List.{take-append-drop}
 use Rattle.std.specs.Prelude.{Result, Err, IfErr}
+use Rattle.feed_settings.specs.Limits.{Limits}
 use Rattle.feed_note.specs.declared.line.Line.{Line}
 use Rattle.feed_node.specs.declared.fault.FeedFault.{FeedFault}
 use Rattle.feed_node.specs.declared.fault.FeedFault.TheVariants as fault
-use Rattle.feed_node.specs.Limits.{Limits}
 use Rattle.feed_node.specs.Reading.{Opening, Reads, FaultsAt}
 use Rattle.feed_node.specs.Mirroring.{MirrorState, StandsAt, Fed, Faulted, HasStopped, HasLost, present_opening, mirror_after, cut_off}
 use Rattle.keep_a_mirror.specs.Following.{HasFollowed, EndsBy, HasGivenUp, shows_after}

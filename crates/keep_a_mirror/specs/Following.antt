@@ -1,9 +1,9 @@
 -- What a mirror shows after a connection (CLICS Contest API 2023-06, event feed and reconnection).
 use Rattle.std.specs.Prelude.{◌≡◌, ℕ, List, [], ◌++◌}
+use Rattle.feed_settings.specs.Limits.{Limits}
 use Rattle.feed_note.specs.declared.line.Line.{Line}
 use Rattle.feed_node.specs.declared.fault.FeedFault.{FeedFault}
 use Rattle.feed_node.specs.declared.fault.FeedFault.TheVariants.{Memory}
-use Rattle.feed_node.specs.Limits.{Limits}
 use Rattle.feed_node.specs.Reading.{Opening, Reads, FaultsAt}
 use Rattle.feed_node.specs.Mirroring.{MirrorState, present_opening, mirror_after, cut_off}
 

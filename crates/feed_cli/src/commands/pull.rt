@@ -1,12 +1,12 @@
 //! What the feed of the first of several servers publishes, printed.
 ghost use Rattle.std.specs.Prelude.{◌≡◌, ◌⊎◌, ◌++◌, ◌∷◌, [], false, true, map, is_some, string_bytes, IfOk, IfErr, OnOk, Ok, IsErrOf};
+ghost use Rattle.feed_settings.specs.Place.{Place as Named};
 ghost use Rattle.feed_cli.specs.Pull.{host_text, first_address, place_at as place_of, RefusesServer, AreFurther, RefusesFurther};
 ghost use Rattle.feed_cli.specs.Pull.{asked_at, asked_of, AreServers, RefusesOneOf, HasNoServers, StartsFrom, FailsToStart};
 ghost use Rattle.feed_cli.specs.Pull.{outcome_of_attempt, outcome_of_pull, PrintedPulled, PullFails};
 ghost use Rattle.feed_http.specs.Device.{HasFailed};
 ghost use Rattle.feed_http.specs.Exchange.{devices_of, wrote_by};
 ghost use Rattle.feed_relay.specs.Dialing.{dialer_of};
-ghost use Rattle.feed_answer.specs.Place.{Place as Named};
 ghost use Rattle.feed_relay.specs.First.{position};
 
 use crate::fault::Fault;

@@ -14,7 +14,7 @@ use crate::telling::Teller;
 use feed_http::Service;
 use feed_http::device::FeedWrite;
 use feed_node::Mirror;
-use feed_relay::{Accept, Dial, ENGINE_TURNS, Server, follow_first, has_run_out, serve_next};
+use feed_relay::{Accept, Dial, MOST_READS, Server, follow_first, has_run_out, serve_next};
 use feed_words::RelayOptions;
 use std::alloc::Global;
 
@@ -26,7 +26,7 @@ fn service_of<'a>(options: &RelayOptions<'a>) -> Service<'a>
         contest: options.pull.contest,
         framing: options.framing,
         back: 0,
-        turns: ENGINE_TURNS,
+        turns: MOST_READS,
     }
 }
 

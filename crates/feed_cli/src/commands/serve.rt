@@ -16,7 +16,7 @@ use crate::telling::Teller;
 use feed_http::Service;
 use feed_http::device::{FeedRead, FeedWrite};
 use feed_node::Primary;
-use feed_relay::{Accept, ENGINE_TURNS, commit_all, feed_batches, serve_live_next};
+use feed_relay::{Accept, MOST_READS, commit_all, feed_batches, serve_live_next};
 use feed_tables::Change;
 use feed_words::ServeOptions;
 use std::alloc::Global;
@@ -69,7 +69,7 @@ fn service_of<'a>(options: &ServeOptions<'a>) -> Service<'a>
         contest: options.contest,
         framing: options.framing,
         back: options.back,
-        turns: ENGINE_TURNS,
+        turns: MOST_READS,
     }
 }
 

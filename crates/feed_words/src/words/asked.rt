@@ -12,8 +12,7 @@ use super::asked_live::live_options;
 use super::options::{MOST_PORT, MOST_ROUNDS, MOST_SILENCE};
 use crate::request::{Local, PullOptions, RelayOptions, Request, ServeOptions, TablesOptions};
 use clap::ArgMatches;
-use feed_answer::Framing;
-use feed_node::{Limits, MOST_COMMITS};
+use feed_settings::{Framing, Limits, MOST_COMMITS};
 
 /// The number that an option's value says; none where it is out of its range, which its parser has
 /// refused.

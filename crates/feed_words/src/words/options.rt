@@ -7,7 +7,7 @@ ghost use Rattle.feed_words.specs.Options as words;
 
 use clap::builder::ValueParser;
 use clap::{Arg, ArgAction};
-use feed_node::{MOST_CHANGES, MOST_COMMITS};
+use feed_settings::{MOST_CHANGES, MOST_COMMITS};
 use std::alloc::Global;
 
 /// The greatest number of a port.

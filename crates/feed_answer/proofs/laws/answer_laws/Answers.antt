@@ -1,7 +1,7 @@
 use Rattle.std.proofs.Common.{ap, ◌∙◌, refl, List, ℕ}
 use Rattle.std.specs.List.{flat_map}
-use Rattle.feed_answer.specs.declared.framing.Framing.{Framing}
-use Rattle.feed_answer.specs.declared.framing.Framing.TheVariants.{Close, Chunked}
+use Rattle.feed_settings.specs.declared.framing.Framing.{Framing}
+use Rattle.feed_settings.specs.declared.framing.Framing.TheVariants.{Close, Chunked}
 use Rattle.feed_answer.specs.Framed.{frame}
 use Rattle.feed_answer.specs.FrameLaws.{AreTexts, joined, IsUnfinished}
 use Rattle.feed_answer.proofs.FrameLemmas.{frames_end, frames_so_far}

@@ -1,6 +1,6 @@
 use Rattle.feed_http.specs.Exchange.{devices_of, exchange}
 use Rattle.feed_answer.specs.RequestText.{request_text_as}
-use Rattle.feed_relay.proofs.PullingLemmas.{answered}
+use Rattle.feed_relay.proofs.PullingLemmas.{answered, none_failed}
 use Rattle.feed_relay.proofs.pulling.pull_once.Goals as goal
 
 pub returns-clause-pulled : goal.returns-clause-pulled
@@ -11,4 +11,9 @@ returns-clause-pulled g c =
     let start = c.args.mirror.now in
     let request = request_text_as c.args.server.now.place start.since c.args.server.now.identity.now in
     let both = answered request c.args.turns spoken start c.follow.new.mirror c.follow.result c.in_ok-ask.ensures.0 c.follow.ensures.followed in
-    record { asked = both.0; came = both.1; reads = c.follow.ensures.reads }
+    record {
+      asked = both.0;
+      came = both.1;
+      reads = c.follow.ensures.reads;
+      quiet = none_failed spoken c.follow.result c.in_ok-ask.ensures.1 c.follow.ensures.quiet;
+    }

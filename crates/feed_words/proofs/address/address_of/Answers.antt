@@ -1,5 +1,5 @@
 use Rattle.std.proofs.Common.{rules, ◌≡◌, refl, false, None, Some, lit<}
-use Rattle.feed_answer.specs.Place.{is_host}
+use Rattle.feed_settings.specs.Place.{is_host}
 use Rattle.feed_words.proofs.AddressLemmas.{last_cut, bad_without_colon, bad_host, bad_port}
 use Rattle.feed_words.proofs.address.address_of.Goals as goal
 

@@ -1,8 +1,8 @@
 use Rattle.std.proofs.Common.{refl, ◌∙◌, subst, [], codes}
 use Rattle.std.specs.Prelude.{Result, Ok, Err, IfOk}
 use Rattle.std.specs.Option.{option_copied}
+use Rattle.feed_settings.specs.Place.{make_place}
 use Rattle.feed_answer.specs.Answered.{AnswersTo, parts_of}
-use Rattle.feed_answer.specs.Place.{make_place}
 use Rattle.feed_world.proofs.asking.ask_for_feed.Goals as goal
 
 where_ok : {A E : Type 0} (P Q : A → Type 0) (r : Result A E) → ((a : A) → P a → Q a) → IfOk r P → IfOk r Q

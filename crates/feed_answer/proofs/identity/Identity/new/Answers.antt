@@ -1,8 +1,8 @@
 use Rattle.std.proofs.Common.{◌≡◌, refl, rules, List, ℕ, true, ap, ◌∙◌, sym}
 use Rattle.std.specs.Prelude.{Option, Ok, option_map, string_bytes}
 use Rattle.std.specs.Option.{option_copied}
+use Rattle.feed_settings.specs.Place.{is_host}
 use Rattle.feed_answer.specs.Identity.{basic, identity_of, is_user_pass, passes}
-use Rattle.feed_answer.specs.Place.{is_host}
 use Rattle.feed_answer.proofs.identity.Identity.new.Goals as goal
 
 made : (host user named credentials : Option (List ℕ)) → passes is_host host ≡ true

@@ -1,6 +1,6 @@
 -- What is behind has not been fed yet.
 use Rattle.std.proofs.Common.{ℕ, List, Option, length}
-use Rattle.feed_node.specs.Limits.{Limits}
+use Rattle.feed_settings.specs.Limits.{Limits}
 use Rattle.feed_cli.specs.Tables.{Stands}
 use Rattle.feed_cli.proofs.commands.tables.feed_by_lines.Given as goal
 

@@ -1,7 +1,7 @@
 //! How much a node keeps.
 
 ghost use Rattle.std.specs.Prelude.{◌≡◌, IfOk, OnErr};
-ghost use Rattle.feed_node.specs.Limits.{IsInRange};
+ghost use Rattle.feed_settings.specs.Limits.{IsInRange};
 
 use std::marker::Model;
 use thiserror::Error;
@@ -27,7 +27,7 @@ pub struct Limits {
 }
 
 impl Model for Limits {
-    ghost use Rattle.feed_node.specs.Limits.{Limits, IsInRange};
+    ghost use Rattle.feed_settings.specs.Limits.{Limits, IsInRange};
 
     ghost Value = { Limits };
 

@@ -1,8 +1,8 @@
 //! Where a feed is asked for.
 ghost use Rattle.std.specs.Prelude.{◌≡◌, IfOk, IfErr};
 ghost use Rattle.std.specs.List.{list_all};
-ghost use Rattle.feed_answer.specs.Place.{is_host as host_of, is_base as base_of, is_contest as contest_of, is_rooted as rooted, is_text_of as text_of, is_alphanumeric_or as alphanumeric_or, place_of, RefusesPlace};
-ghost use Rattle.feed_answer.specs.declared.place.PlaceFault.TheVariants as place_fault;
+ghost use Rattle.feed_settings.specs.Place.{is_host as host_of, is_base as base_of, is_contest as contest_of, is_rooted as rooted, is_text_of as text_of, is_alphanumeric_or as alphanumeric_or, place_of, RefusesPlace};
+ghost use Rattle.feed_settings.specs.declared.place.PlaceFault.TheVariants as place_fault;
 
 use std::alloc::{AllocError, Global};
 use std::marker::Model;
@@ -45,7 +45,7 @@ pub struct Place {
 
 impl Model for Place {
     ghost use Rattle.std.specs.Prelude.{string_bytes};
-    ghost use Rattle.feed_answer.specs.Place as places;
+    ghost use Rattle.feed_settings.specs.Place as places;
 
     ghost Value = { places.Place };
 
@@ -78,19 +78,22 @@ impl Place {
         })
     }
 
-    pub(crate) fn host(&self) -> &str
+    /// The server's host, and its port where it has one.
+    pub fn host(&self) -> &str
         ensures { result.now ≡ self.now.host }
     {
         self.host.as_str()
     }
 
-    pub(crate) fn base(&self) -> &str
+    /// What stands before `/contests` in the path of the feed.
+    pub fn base(&self) -> &str
         ensures { result.now ≡ self.now.base }
     {
         self.base.as_str()
     }
 
-    pub(crate) fn contest(&self) -> &str
+    /// The contest's id.
+    pub fn contest(&self) -> &str
         ensures { result.now ≡ self.now.contest }
     {
         self.contest.as_str()
@@ -125,7 +128,8 @@ fn is_rooted(text: &[u8]) -> bool
     }
 }
 
-pub(crate) fn is_host(text: &str) -> bool
+/// Whether the text is 1 to 255 letters, digits and characters of `.-:[]`.
+pub fn is_host(text: &str) -> bool
     ensures { result ≡ host_of text.now }
 {
     !text.is_empty() && is_text_of(255, b".-:[]", text)

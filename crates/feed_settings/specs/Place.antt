@@ -2,8 +2,8 @@
 use Rattle.std.specs.Prelude.{◌≡◌, ℕ, ◌-◌, Bool, true, not, ◌&&◌, ◌||◌, ◌==◌, nat_lt, nat_le, List, [], ◌∷◌, length, slice_index, codes, if◌then◌else◌, Result, Ok, Err}
 use Rattle.std.specs.List.{list_all, list_any}
 use Rattle.std.specs.Char.{is_ascii_alphanumeric}
-use Rattle.feed_answer.specs.declared.place.PlaceFault.{PlaceFault}
-use Rattle.feed_answer.specs.declared.place.PlaceFault.TheVariants.{BadHost, BadBase, BadContest, Memory}
+use Rattle.feed_settings.specs.declared.place.PlaceFault.{PlaceFault}
+use Rattle.feed_settings.specs.declared.place.PlaceFault.TheVariants.{BadHost, BadBase, BadContest, Memory}
 
 -- the server's host, the base path of its API, and the id of the contest
 pub record Place : Type 0 where
