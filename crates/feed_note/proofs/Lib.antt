@@ -5,6 +5,7 @@ pub mod Telling
 pub mod Conditions
 pub mod Answering
 pub mod LineRead
+pub mod AtOnce
 pub mod WrittenBatches
 pub mod WrittenLines
 pub mod WrittenSnapshots

@@ -42,7 +42,7 @@ const TOO_DEEP: usize = OBJECT_LEVELS + 1;
 
 /// The text of an object, unless it is too large.
 #[inline(always)]
-fn kept_object(alloc: Global, text: &[u8]) -> Result<Option<ObjectText>, AllocError>
+pub fn kept_object(alloc: Global, text: &[u8]) -> Result<Option<ObjectText>, AllocError>
     requires { HoldsReadable value_depth (text.now, Object) }
     ensures { OfEach Object text.now (λ v. IfOk result (λ object. object ≡ kept v)) }
 {

@@ -11,6 +11,7 @@ mod line;
 mod naming;
 mod pieces;
 mod read;
+mod set_line;
 mod snapshot;
 mod splitter;
 mod stop;
