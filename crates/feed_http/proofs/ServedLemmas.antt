@@ -1,15 +1,16 @@
 -- Lemmas on what a connection came to: what is said of each end, said of the connection.
 use Rattle.std.proofs.Common.{◌≡◌, ◌⊎◌, inl, inr, sym, ap, ◌∙◌, subst, ℕ, List, []}
-use Rattle.std.specs.Prelude.{Result, Ok, Err}
+use Rattle.std.specs.Prelude.{Result, Ok, Err, OnOk}
 use Rattle.std.specs.Io.KnownBytes.{Appends, Consumes, IsAtEnd}
 use Rattle.feed_node.specs.States.{NodeState}
 use Rattle.feed_answer.specs.Answered.{AnswerParts, AnswersTo}
+use Rattle.feed_node.specs.declared.primary.CommitFault.{CommitFault}
 use Rattle.feed_http.specs.declared.fault.EngineFault.{EngineFault}
 use Rattle.feed_http.specs.declared.fault.EngineFault.TheVariants as fault
 use Rattle.feed_http.specs.declared.fault.Served.{Served}
 use Rattle.feed_http.specs.declared.service.Service.{Service}
 use Rattle.feed_http.specs.Device.{RoseAtMost}
-use Rattle.feed_http.specs.Exchange.{Exchange, Wrote, gave_on}
+use Rattle.feed_http.specs.Exchange.{Exchange, Wrote, gave_on, NoneFailed}
 use Rattle.feed_http.specs.HeadReading.{IsReadAsNeeded, IsEnough, HeadFails}
 use Rattle.feed_http.specs.Sending.{WroteAnswer, WroteAll, WroteAllLive}
 use Rattle.feed_http.specs.Serving.{ServedSo, ServesOnce, BrokeBehindHead}
@@ -25,6 +26,14 @@ written_on spoken = record {
   failed_old = spoken.failed_writes_old;
   failed_new = spoken.failed_writes_new;
 }
+
+-- where all was read and written, nothing failed
+none_failed : {A : Type 0} (spoken : Exchange) (All : A → Type 0) (Part : Type 0)
+    (Refused : CommitFault → Type 0)
+    → spoken.failed_reads_new ≡ spoken.failed_reads_old → (r : Result A EngineFault)
+    → WritesBy (written_on spoken) All Part Refused r → OnOk r (NoneFailed spoken)
+none_failed spoken All Part Refused reads (Ok value) (all, writes) = (reads, writes)
+none_failed spoken All Part Refused reads (Err why) w = tt
 
 module _ (service : Service) (node : NodeState) (spoken : Exchange) where
   abbrev IsBrokenBehind : Type 0
@@ -54,7 +63,7 @@ module _ (service : Service) (node : NodeState) (spoken : Exchange) where
       → ServesOnce service node spoken r
   was_unread head {r} {told} {why} is kept needed nothing fails reads =
       subst (ServesOnce service node spoken) (sym (is ∙ ap Err kept))
-      (record { came = unread_so head why needed nothing fails; reads = reads })
+      (record { came = unread_so head why needed nothing fails; reads = reads; quiet = tt })
 
   -- what came of writing a node's answer to what was read
   module _ (head : List ℕ) (answer : AnswerParts) (given : Consumes spoken.source spoken.left head)
@@ -94,11 +103,15 @@ module _ (service : Service) (node : NodeState) (spoken : Exchange) where
     answered_so (Err (fault.Follow why)) none = absurd none
 
     pub was_served : RoseAtMost spoken.reads_old spoken.reads_new service.turns
-        → (r : Result Served EngineFault)
+        → spoken.failed_reads_new ≡ spoken.failed_reads_old → (r : Result Served EngineFault)
         → WritesAll (written_on spoken) (WroteAll node answer (written_on spoken))
         (WroteAnswer node answer spoken.written_old spoken.written_new) r
         → ServesOnce service node spoken r
-    was_served reads r w = record { came = answered_so r w; reads = reads }
+    was_served reads unfailed r w = record {
+      came = answered_so r w;
+      reads = reads;
+      quiet = none_failed spoken _ _ _ unfailed r w;
+    }
 
 module _ (turn : ℕ) (service : Service) (spoken : Exchange) (start now : Intake) where
   -- the head was answered like this
@@ -136,7 +149,11 @@ module _ (turn : ℕ) (service : Service) (spoken : Exchange) (start now : Intak
       → ServesLive turn service spoken start r now
   was_not_heard head {r} {told} {why} is kept needed same nothing fails reads =
       subst (λ s. ServesLive turn service spoken start s now) (sym (is ∙ ap Err kept))
-      (record { came = unread_live head why needed same nothing fails; reads = reads })
+      (record {
+        came = unread_live head why needed same nothing fails;
+        reads = reads;
+        quiet = tt;
+      })
 
   -- what came of writing a primary's answer to what was read
   answered_live : (answer : AnswerParts) → Answers answer → (r : Result Served EngineFault)
@@ -159,9 +176,14 @@ module _ (turn : ℕ) (service : Service) (spoken : Exchange) (start now : Intak
   answered_live answer has (Err (fault.Follow why)) none = absurd none
 
   pub was_live : (answer : AnswerParts) → Answers answer
-      → RoseAtMost spoken.reads_old spoken.reads_new service.turns → (r : Result Served EngineFault)
+      → RoseAtMost spoken.reads_old spoken.reads_new service.turns
+      → spoken.failed_reads_new ≡ spoken.failed_reads_old → (r : Result Served EngineFault)
       → WritesBy (written_on spoken) (WroteAllLive turn start answer now (written_on spoken))
       (WroteLive turn start answer now spoken.written_old spoken.written_new)
       (λ why. WroteRefused turn start answer why now spoken.written_old spoken.written_new) r
       → ServesLive turn service spoken start r now
-  was_live answer has reads r w = record { came = answered_live answer has r w; reads = reads }
+  was_live answer has reads unfailed r w = record {
+    came = answered_live answer has r w;
+    reads = reads;
+    quiet = none_failed spoken _ _ _ unfailed r w;
+  }

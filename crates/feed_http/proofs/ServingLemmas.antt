@@ -11,6 +11,7 @@ use Rattle.std.proofs.lemmas.Option.{option_and_then_some}
 use Rattle.std.proofs.lemmas.Slice.Eq.{bytes_eq-Decides}
 use Rattle.std.proofs.lemmas.Grind.{flat_map-append}
 use Rattle.std.proofs.lemmas.List.{map-append}
+use Rattle.feed_settings.specs.declared.framing.Framing.{Framing}
 use Rattle.feed_note.specs.Publishing.{Published}
 use Rattle.feed_node.specs.declared.commit.Commit.{Commit}
 use Rattle.feed_node.specs.States.{NodeState, nothing_published, published_token, place_of, HoldsItsTokens, IsConsistent, tokens}
@@ -18,7 +19,6 @@ use Rattle.feed_node.specs.Serving.{is_published, commit_after, commit_text}
 use Rattle.feed_http.specs.Sessions.{Next, Nothing_new, Lost, Commit_after, next, or_lost, Pulls}
 use Rattle.feed_node.specs.declared.session.Pulled.{Pulled}
 use Rattle.feed_node.specs.declared.session.Pulled.TheVariants.{More, UpToDate, Gone}
-use Rattle.feed_answer.specs.declared.framing.Framing.{Framing}
 use Rattle.feed_http.specs.Device.{AppendsPrefix, counted}
 use Rattle.feed_answer.specs.Framed.{frame, frame_end}
 use Rattle.feed_answer.specs.Served.{behind_opening, farewell}

@@ -1,5 +1,5 @@
 -- What the reader and the writer of one connection tell, before and after.
-use Rattle.std.specs.Prelude.{ℕ, List, Option}
+use Rattle.std.specs.Prelude.{◌≡◌, ℕ, List, Option}
 
 -- the bytes that are left to read and those that were written, where they are known, how many reads
 -- were made, and how many reads and writes failed
@@ -49,6 +49,12 @@ module _ {R W : Type 0} where
     contents = contents;
     failed_writes = failed_writes;
   }
+
+-- no read and no write of a connection failed
+abbrev pub NoneFailed : Exchange → Type 0
+NoneFailed spoken =
+    (spoken.failed_reads_new ≡ spoken.failed_reads_old)
+    × (spoken.failed_writes_new ≡ spoken.failed_writes_old)
 
 -- What one reader gave: the bytes that are left of it before and after, where they are known, how
 -- many reads were made, and how many failed.

@@ -1,12 +1,12 @@
 -- What a primary that takes batches sends and writes on one connection.
-use Rattle.std.specs.Prelude.{◌≡◌, ◌≢◌, ◌⊎◌, ◌<◌, ◌≤◌, ℕ, Bool, true, false, List, [], ◌∷◌, ◌++◌, length, map, take, drop, Option, Some, None, Result, Ok, Err, Vec}
+use Rattle.std.specs.Prelude.{◌≡◌, ◌≢◌, ◌⊎◌, ◌<◌, ◌≤◌, ℕ, Bool, true, false, List, [], ◌∷◌, ◌++◌, length, map, take, drop, Option, Some, None, Result, Ok, Err, OnOk, Vec}
 use Rattle.std.specs.Io.KnownBytes.{Appends, Consumes, IsAtEnd}
+use Rattle.feed_settings.specs.declared.framing.Framing.{Framing}
 use Rattle.feed_tables.specs.declared.change.Change.{Change}
 use Rattle.feed_node.specs.declared.commit.Commit.{Commit}
 use Rattle.feed_node.specs.declared.primary.CommitFault.{CommitFault}
 use Rattle.feed_node.specs.Log.{PrimaryState, commits, commit_fault, RefusesBatch, last_count}
 use Rattle.feed_node.specs.States.{NodeState}
-use Rattle.feed_answer.specs.declared.framing.Framing.{Framing}
 use Rattle.feed_answer.specs.Answered.{AnswerParts, AnswersTo}
 use Rattle.feed_answer.specs.Framed.{frame_end}
 use Rattle.feed_answer.specs.Served.{farewell}
@@ -15,7 +15,7 @@ use Rattle.feed_http.specs.declared.fault.EngineFault.TheVariants as fault
 use Rattle.feed_http.specs.declared.fault.Served.{Served}
 use Rattle.feed_http.specs.declared.service.Service.{Service}
 use Rattle.feed_http.specs.Device.{AppendsPrefix, HasFailed, RoseBy, RoseAtMost}
-use Rattle.feed_http.specs.Exchange.{Exchange}
+use Rattle.feed_http.specs.Exchange.{Exchange, NoneFailed}
 use Rattle.feed_http.specs.HeadReading.{IsReadAsNeeded, IsEnough}
 use Rattle.feed_http.specs.Sessions.{Nothing_new, Commit_after, next}
 use Rattle.feed_http.specs.Serving.{HasAll, commit_frames, BeginsCommit, answered_text, Tells, BrokeInHead}
@@ -197,3 +197,4 @@ pub record ServesLive (turn : ℕ) (service : Service) (spoken : Exchange) (star
   pub came : ServedLive turn service.contest.now service.framing service.back service.turns spoken
       start served now
   pub reads : RoseAtMost spoken.reads_old spoken.reads_new service.turns
+  pub quiet : OnOk served (NoneFailed spoken)

@@ -1,13 +1,13 @@
 -- How far a server that is sending has come.
 use Rattle.std.specs.Prelude.{◌≡◌, ℕ, Bool, true, List, [], ◌∷◌, ◌++◌, length, map, Option, IfSome}
 use Rattle.std.specs.Io.KnownBytes.{Appends}
+use Rattle.feed_settings.specs.declared.framing.Framing.{Framing}
 use Rattle.feed_node.specs.declared.commit.Commit.{Commit}
 use Rattle.feed_node.specs.Serving.{commit_text}
 use Rattle.feed_node.specs.States.{NodeState}
 use Rattle.feed_node.specs.declared.primary.CommitFault.{CommitFault}
 use Rattle.feed_http.specs.Sessions.{Commit_after, next}
 use Rattle.feed_http.specs.declared.fault.Served.{Served}
-use Rattle.feed_answer.specs.declared.framing.Framing.{Framing}
 use Rattle.feed_answer.specs.Answered.{AnswerParts}
 use Rattle.feed_http.specs.Device.{AppendsPrefix, counted}
 use Rattle.feed_http.specs.Exchange.{Wrote}

@@ -1,7 +1,8 @@
 -- What a server sends and writes on one connection.
-use Rattle.std.specs.Prelude.{◌≡◌, ◌⊎◌, ℕ, Bool, true, false, List, [], ◌∷◌, ◌++◌, length, map, Option, Some, None, Result, Ok, Err}
+use Rattle.std.specs.Prelude.{◌≡◌, ◌⊎◌, ℕ, Bool, true, false, List, [], ◌∷◌, ◌++◌, length, map, Option, Some, None, Result, Ok, Err, OnOk}
 use Rattle.std.specs.List.{flat_map}
 use Rattle.std.specs.Io.KnownBytes.{Appends, Consumes, IsAtEnd}
+use Rattle.feed_settings.specs.declared.framing.Framing.{Framing}
 use Rattle.feed_node.specs.declared.commit.Commit.{Commit}
 use Rattle.feed_node.specs.Serving.{commit_text}
 use Rattle.feed_node.specs.States.{NodeState}
@@ -10,10 +11,9 @@ use Rattle.feed_http.specs.declared.fault.EngineFault.{EngineFault}
 use Rattle.feed_http.specs.declared.fault.EngineFault.TheVariants as fault
 use Rattle.feed_http.specs.declared.fault.Served.{Served}
 use Rattle.feed_http.specs.declared.service.Service.{Service}
-use Rattle.feed_answer.specs.declared.framing.Framing.{Framing}
 use Rattle.feed_answer.specs.Answered.{AnswerParts, AnswersTo}
 use Rattle.feed_http.specs.Device.{counted, AppendsPrefix, HasFailed, RoseBy, RoseAtMost}
-use Rattle.feed_http.specs.Exchange.{Exchange}
+use Rattle.feed_http.specs.Exchange.{Exchange, NoneFailed}
 use Rattle.feed_http.specs.HeadReading.{IsReadAsNeeded, IsStillNeeded, IsEnough}
 use Rattle.feed_answer.specs.Framed.{frame}
 use Rattle.feed_answer.specs.Served.{behind_opening}
@@ -126,3 +126,4 @@ pub record ServesOnce (service : Service) (node : NodeState) (spoken : Exchange)
   pub came : ServedSo service.contest.now node service.framing service.back service.turns spoken
       served
   pub reads : RoseAtMost spoken.reads_old spoken.reads_new service.turns
+  pub quiet : OnOk served (NoneFailed spoken)

@@ -78,6 +78,7 @@ pub(crate) fn read_head<R: FeedRead>(
     requires { bytes.old.items ≡ [] }
     ensures ends { let gave = gave_by R.remaining R.reads R.failures reader.old reader.new in
         HeadEnds turns gave bytes.new.items result }
+    ensures quiet { OnOk result (R.failures reader.new ≡ R.failures reader.old) }
     ensures needed { IsReadAsNeeded bytes.new.items }
     ensures reads { RoseAtMost (R.reads reader.old) (R.reads reader.new) turns }
 {

@@ -123,9 +123,9 @@ fn send_live_answer<W: FeedWrite>(
 /// batches meanwhile: each time that the session is up to date and `input` isn't empty, `turn`
 /// batches from its start, or all that remain, are committed, one after another, and sending goes
 /// on. Without a 200 none is taken. Exactly where a turn has more batches than the primary keeps
-/// commits, and so many wait, the session's token is lost: its frames aren't sent, and the body ends
-/// without a line feed. A refused batch is taken from `input` and ends the call. What was written,
-/// what is published and what is left of `input` always belong together.
+/// commits, and so many wait, the session's token is lost: its frames aren't sent, and the body
+/// ends without a line feed. A refused batch is taken from `input` and ends the call. What was
+/// written, what is published and what is left of `input` always belong together.
 pub fn serve_live<R: FeedRead, W: FeedWrite>(
     alloc: Global,
     reader: &mut R,

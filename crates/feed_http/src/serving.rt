@@ -57,7 +57,8 @@ pub(crate) fn send_commits<W: FeedWrite>(
 ) -> Result<(u64, bool), EngineFault>
     ensures sent { let wrote = wrote_by W.contents W.failures writer.old writer.new in
         let node = node.now.shown in
-        WritesAll wrote (λ told. WroteFrames node session.old session.new framing wrote told.0 told.1)
+        WritesAll wrote
+        (λ told. WroteFrames node session.old session.new framing wrote told.0 told.1)
         (WroteCommits node session.old framing wrote.old wrote.new) result }
     ensures consistent { IsConsistent node.now.shown }
 {

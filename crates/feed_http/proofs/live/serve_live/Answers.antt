@@ -52,4 +52,4 @@ returns g c =
       enough = c.in_ok-read_head.ensures.ends.1;
       answers = subst (λ n. AnswersTo head s.contest.now n s.framing s.back answer) c.node-node.ensures.node asked;
     } in
-    was_live c.args.turn s spoken start now answer has c.read_head.ensures.reads c.send_live_answer.result c.send_live_answer.ensures
+    was_live c.args.turn s spoken start now answer has c.read_head.ensures.reads c.in_ok-read_head.ensures.quiet c.send_live_answer.result c.send_live_answer.ensures

@@ -35,4 +35,4 @@ returns g c =
     let answers = subst (λ h. AnswersTo h s.contest.now c.args.node.now.shown s.framing s.back answer) c.as_slice.ensures.value c.in_ok-answered.ensures.ok in
     was_served s c.args.node.now.shown spoken c.read_head.new.bytes.items answer
     c.in_ok-read_head.ensures.ends.0 c.read_head.ensures.needed c.in_ok-read_head.ensures.ends.1 answers
-    c.read_head.ensures.reads c.send_answer.result c.send_answer.ensures
+    c.read_head.ensures.reads c.in_ok-read_head.ensures.quiet c.send_answer.result c.send_answer.ensures
