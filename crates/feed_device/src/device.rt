@@ -2,6 +2,7 @@
 
 ghost use Rattle.std.specs.Prelude.{◌≡◌, ◌≢◌, ◌<◌, ◌≤◌, ℕ, List, [], Option, None, Some, length, take, IfOk, OnOk, OnErr};
 ghost use Rattle.std.specs.Io.KnownBytes.{Keeps, WriteAppends};
+ghost use Rattle.feed_device.specs.Links.{Exchange, Begins, Asks, Receives};
 ghost use Rattle.feed_device.specs.Sockets.{Socket, Closed, Opened, IsSocket, IsWrite, SameSockets, OtherSockets};
 
 use std::alloc::AllocError;
@@ -61,25 +62,33 @@ pub trait Sockets {
 
 /// The connection to one server of several.
 pub trait Link {
+    // What went over each connection so far, the latest first, where that is known.
+    ghost exchanges: { Self → Option (List Exchange) } = { λ _. None };
+
     /// Begins to connect to the server of this number. One that was open is closed.
-    fn connect(&mut self, server: usize) -> Result<(), Stop>;
+    fn connect(&mut self, server: usize) -> Result<(), Stop>
+        ensures begins { Begins (exchanges self.old) (exchanges self.new) result };
 
     /// Whether the connection that was begun is open. It is asked again after each event until it
     /// is, or fails.
-    fn is_open(&mut self) -> Result<bool, Stop>;
+    fn is_open(&mut self) -> Result<bool, Stop>
+        ensures unchanged { exchanges self.new ≡ exchanges self.old };
 
     /// Reads some bytes to the start of `buf`, and answers how many: none where no more come.
     fn read(&mut self, buf: &mut [u8]) -> Result<usize, Stop>
         requires { 0 < length buf.old }
         ensures same { length buf.new ≡ length buf.old }
-        ensures bound { IfOk result (λ n. n ≤ length buf.new) };
+        ensures bound { IfOk result (λ n. n ≤ length buf.new) }
+        ensures bytes { Receives (exchanges self.old) (exchanges self.new) result buf.new };
 
     /// Writes some of the bytes, from the first on, and answers how many.
     fn write(&mut self, bytes: &[u8]) -> Result<usize, Stop>
-        ensures bound { IfOk result (λ n. n ≤ length bytes.now) };
+        ensures bound { IfOk result (λ n. n ≤ length bytes.now) }
+        ensures bytes { Asks (exchanges self.old) (exchanges self.new) result bytes.now };
 
     /// Closes the connection, where there is one.
-    fn close(&mut self);
+    fn close(&mut self)
+        ensures unchanged { exchanges self.new ≡ exchanges self.old };
 }
 
 /// What becomes of the file that is kept beside the state file, when that is begun again.

@@ -7,15 +7,15 @@ use Rattle.std.proofs.lemmas.Grind.{flat_map-append}
 use Rattle.std.proofs.lemmas.List.{map-append}
 use Rattle.std.proofs.lemmas.Slice.Eq.{bytes_eq-Decides}
 use Rattle.httparse.specs.Ascii.{line_feed}
+use Rattle.feed_settings.specs.Limits.{Limits}
+use Rattle.feed_settings.specs.declared.framing.Framing.{Framing}
 use Rattle.feed_node.specs.declared.commit.Commit.{Commit}
 use Rattle.feed_node.specs.declared.primary.CommitFault.{CommitFault}
-use Rattle.feed_node.specs.Limits.{Limits}
 use Rattle.feed_node.specs.Mirroring.{MirrorState}
 use Rattle.feed_node.specs.Serving.{commit_after, commit_text, is_published}
 use Rattle.feed_node.specs.States.{NodeState, published_token}
 use Rattle.feed_follow.specs.Follower.{FollowerState, FollowsAt}
 use Rattle.feed_follow.specs.Standing.{Standing}
-use Rattle.feed_answer.specs.declared.framing.Framing.{Framing}
 use Rattle.feed_answer.specs.declared.refusal.Refusal.{Refusal}
 use Rattle.feed_answer.specs.declared.refusal.Refusal.TheVariants.{LargeHead, Unreadable, NotGet, OtherPath, NothingPublished, TokenNotHeld}
 use Rattle.feed_answer.specs.Answer.{refusal_code}

@@ -6,9 +6,11 @@ use Rattle.httparse.specs.Ascii.{crlf_bytes}
 use Rattle.std.proofs.Math.Seq.{take-length}
 use Rattle.std.proofs.lemmas.Bool.Decides.{nat_tests}
 use Rattle.std.proofs.lemmas.List.{take_min, take-append-le, take-append-drop}
+use Rattle.feed_settings.specs.Limits.{Limits}
+use Rattle.feed_settings.specs.declared.framing.Framing.{Framing}
+use Rattle.feed_settings.specs.declared.framing.Framing.TheVariants.{Close, Chunked}
 use Rattle.feed_node.specs.declared.session.OpenFault.{OpenFault}
 use Rattle.feed_node.specs.declared.session.OpenFault.TheVariants.{NotYet, NotHeld, Memory}
-use Rattle.feed_node.specs.Limits.{Limits}
 use Rattle.feed_node.specs.Mirroring.{MirrorState}
 use Rattle.feed_node.specs.States.{NodeState, published_token}
 use Rattle.feed_follow.specs.declared.fault.FollowFault.{FollowFault}
@@ -16,8 +18,6 @@ use Rattle.feed_follow.specs.declared.fault.FollowFault.TheVariants.{Closed, Lon
 use Rattle.feed_follow.specs.Follower.{FollowerState, FollowsAt}
 use Rattle.feed_follow.specs.Following.{Leaves, Fails}
 use Rattle.feed_follow.specs.Standing.{Standing, in_head, token_refused, in_body, done, failed, Stands}
-use Rattle.feed_answer.specs.declared.framing.Framing.{Framing}
-use Rattle.feed_answer.specs.declared.framing.Framing.TheVariants.{Close, Chunked}
 use Rattle.feed_answer.specs.declared.refusal.Refusal.{Refusal}
 use Rattle.feed_answer.specs.declared.refusal.Refusal.TheVariants.{NothingPublished, TokenNotHeld}
 use Rattle.feed_answer.specs.Answer.{feed_head, refusal_code, refusal_head, refusal_text}

@@ -7,6 +7,8 @@ use Rattle.std.specs.Option.{option_and_then}
 use Rattle.std.proofs.lemmas.Fmt.{IsAscii-decimal, length-decimal-le}
 use Rattle.std.proofs.lemmas.List.Sums.{fold-append}
 use Rattle.std.proofs.lemmas.Str.{IsUtf8-from_ascii}
+use Rattle.feed_settings.specs.Limits.{Limits}
+use Rattle.feed_settings.specs.declared.framing.Framing.TheVariants.{Close}
 use Rattle.feed_tables.specs.Bytes.{byte_order}
 use Rattle.feed_tables.specs.Changes.{IsChange}
 use Rattle.feed_tables.specs.Listings.{ListingHasSize, ListingIsWithin}
@@ -20,7 +22,6 @@ use Rattle.feed_note.specs.Publishing.{Published}
 use Rattle.feed_note.specs.Texts.{snapshot_text}
 use Rattle.feed_node.specs.declared.commit.Commit.{Commit as Batch}
 use Rattle.feed_node.specs.declared.fault.FeedFault.TheVariants.{StageFull}
-use Rattle.feed_node.specs.Limits.{Limits}
 use Rattle.feed_node.specs.Log.{token_after, tokens_from}
 use Rattle.feed_node.specs.Mirroring.{MirrorState, StandsAt, cut_off, present_opening, first_opening}
 use Rattle.feed_node.specs.Reading.{Opening, Reads, reads, shows, unskipped, batches, has_none, keep_latest, awaits_reset, is_again, AllGoodAfter, has_too_many, publishes_after}
@@ -29,7 +30,6 @@ use Rattle.feed_node.specs.Serving.{HeldTokensStand}
 use Rattle.feed_node.specs.States.{NodeState, holds_token, place_of, published_tables, published_token, token_of}
 use Rattle.feed_node.specs.Staging.{Standing, step, steps, times_published, staging, publishing, without_changes, AllTaken}
 use Rattle.feed_node.specs.Steps.{StepsRead, TakenAreGood, ReadingIsOne, standing_after}
-use Rattle.feed_answer.specs.declared.framing.Framing.TheVariants.{Close}
 use Rattle.feed_answer.specs.FrameLaws.{joined}
 use Rattle.feed_world.specs.Connection.{Connection, Part, Snapshot, Commit, Line_feed, part_text, block_onto, blocks_within, moved_by, GoOn, sent_text}
 use Rattle.feed_world.specs.Following.{PlacesStay, AllIsReached}

@@ -1,8 +1,8 @@
 -- A mirror that answers many.
 use Rattle.std.specs.Prelude.{◌≡◌, ℕ, List, Option, Some}
+use Rattle.feed_settings.specs.declared.framing.Framing.{Framing}
 use Rattle.feed_note.specs.Texts.{published_text}
 use Rattle.feed_node.specs.States.{NodeState}
-use Rattle.feed_answer.specs.declared.framing.Framing.{Framing}
 use Rattle.feed_answer.specs.Served.{opening_text}
 
 -- the text that is kept, if one is, opens an answer of this node with its snapshot, so framed

@@ -1,7 +1,8 @@
 -- THE PROMISE, up to each byte that a screen was handed: what a mirror makes of it (CLICS Contest
 -- API 2023-06, event feed and reconnection; RFC 9112).
 use Rattle.std.specs.Prelude.{◌≡◌, ◌⊎◌, ℕ, List, [], ◌++◌, take, Option, Some, None, is_none, is_some}
-use Rattle.feed_node.specs.Limits.{Limits}
+use Rattle.feed_settings.specs.Limits.{Limits}
+use Rattle.feed_settings.specs.declared.framing.Framing.{Framing}
 use Rattle.feed_node.specs.Log.{token_after}
 use Rattle.feed_node.specs.Mirroring.{MirrorState}
 use Rattle.feed_node.specs.States.{NodeState}
@@ -10,7 +11,6 @@ use Rattle.feed_follow.specs.declared.fault.FollowFault.TheVariants.{Closed, Sta
 use Rattle.feed_follow.specs.Follower.{FollowerState, FollowsAt}
 use Rattle.feed_follow.specs.Following.{Fails}
 use Rattle.feed_follow.specs.Standing.{Standing}
-use Rattle.feed_answer.specs.declared.framing.Framing.{Framing}
 use Rattle.feed_answer.specs.Answered.{AnswerParts, AnswersTo}
 use Rattle.feed_answer.specs.Asked.{Asks, feed}
 use Rattle.feed_answer.specs.FollowLaws.{StandsOnly}

@@ -1,6 +1,7 @@
 -- What screens are sent is what a connection of a world is sent.
 use Rattle.std.specs.Prelude.{◌≡◌, ℕ, ◌≤◌, Bool, false, List, ◌∷◌, ◌++◌, length, take, Option, Some, Contains}
-use Rattle.feed_node.specs.Limits.{Limits}
+use Rattle.feed_settings.specs.Limits.{Limits}
+use Rattle.feed_settings.specs.declared.framing.Framing.{Framing}
 use Rattle.feed_node.specs.Log.{token_after}
 use Rattle.feed_node.specs.Reading.{Reads, reads, keep_latest}
 use Rattle.feed_node.specs.States.{NodeState}
@@ -12,7 +13,6 @@ use Rattle.feed_world.specs.Position.{Position, IsPlace, node_where}
 use Rattle.feed_world.specs.Reading.{opening_at}
 use Rattle.feed_world.specs.States.{HasReached}
 use Rattle.feed_follow.specs.Standing.{Standing, in_head, token_refused, in_body, done, failed}
-use Rattle.feed_answer.specs.declared.framing.Framing.{Framing}
 use Rattle.feed_answer.specs.Carried.{response_text, ended_text}
 use Rattle.feed_answer.specs.FrameLaws.{AreTexts, joined}
 use Rattle.feed_answer.specs.FollowLaws.{StandsOnly}

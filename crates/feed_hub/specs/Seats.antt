@@ -1,7 +1,7 @@
 -- Connections, each at a key that is given once.
 use Rattle.std.specs.Prelude.{◌≡◌, ◌≢◌, ◌⊎◌, ℕ, ◌<◌, ◌≤◌, ◌==◌, List, [], Option, Some, None, if◌then◌else◌}
 use Rattle.slab.specs.Slab.{Slab, get, HasRoomFor}
-use Rattle.feed_answer.specs.declared.framing.Framing.{Framing}
+use Rattle.feed_settings.specs.declared.framing.Framing.{Framing}
 use Rattle.feed_hub.specs.declared.screen.Screen.{Screen}
 use Rattle.feed_hub.specs.declared.screen.Way.TheVariants.{OnLog, Over}
 use Rattle.feed_hub.specs.declared.seats.Key.{Key}

@@ -24,6 +24,9 @@ pub struct Answering {
 }
 
 impl Answering {
+    ghost use Rattle.std.specs.Borrow.{sem};
+    ghost use Rattle.feed_hub.specs.Lending.{LendsMirror};
+
     /// A mirror whose answers are framed so, but to clients whose version of HTTP has no such
     /// frames.
     pub fn new(mirror: Mirror, framing: Framing) -> Answering
@@ -62,7 +65,8 @@ impl Answering {
 
     /// The mirror, to be changed: the text is forgotten, whatever becomes of the mirror.
     pub fn change(&mut self) -> &mut Mirror
-        ensures { result.now ≡ self.old.mirror }
+        ensures* changes { sem 𝓛 (LendsMirror self.entry result) }
+        ensures mirror { result.now ≡ self.old.mirror }
     {
         self.opening = None;
         &mut self.mirror

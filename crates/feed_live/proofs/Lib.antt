@@ -1,2 +1,7 @@
 pub mod Filed
+pub mod SourceLemmas
 pub mod ServingLemmas
+pub mod StateLemmas
+pub mod RelayLemmas
+pub mod TurnLemmas
+pub mod HonestLemmas

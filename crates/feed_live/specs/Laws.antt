@@ -1,15 +1,22 @@
 -- What the sockets of screens were written, and what mirrors make of that.
-use Rattle.std.specs.Prelude.{◌≡◌, ℕ, List, Some}
+use Rattle.std.specs.Prelude.{◌≡◌, ℕ, List, ◌++◌, Some, string_bytes}
 use Rattle.slab.specs.Slab.{Slab}
-use Rattle.feed_node.specs.Limits.{Limits}
+use Rattle.feed_settings.specs.Limits.{Limits}
 use Rattle.feed_node.specs.Mirroring.{MirrorState}
 use Rattle.feed_node.specs.States.{NodeState}
+use Rattle.feed_answer.specs.Answered.{AnswerParts}
+use Rattle.feed_answer.specs.Asked.{Asks, feed}
 use Rattle.feed_world.specs.Log.{Log, IsLog}
 use Rattle.feed_hub.specs.declared.hub.Hub.{Hub}
 use Rattle.feed_hub.specs.Follows.{HasAskedSo, FollowsInLog}
-use Rattle.feed_hub.specs.Laws.{AreInLog}
+use Rattle.feed_hub.specs.Laws.{IsInLog, AreInLog}
+use Rattle.feed_device.specs.Links.{Exchange, Exchanges}
 use Rattle.feed_live.specs.declared.conn.Conn.{Conn}
+use Rattle.feed_live.specs.declared.turn.Live.{Live}
+use Rattle.feed_live.specs.Relaying.{IsRelaying}
 use Rattle.feed_live.specs.Serving.{WasServed, IsFaithful, Serving}
+use Rattle.feed_live.specs.States.{states_of}
+use Rattle.feed_live.specs.Upstream.{IsRequestOf, IsHonest, AreKnownHonest}
 use Rattle.feed_device.specs.Sockets.{Opened, AllSockets}
 
 -- what was written to any socket that is open is faithful
@@ -29,3 +36,38 @@ HandedIsFollowed =
     → IsLog limits log → AreInLog limits log nodes
     → HasAskedSo limits log was.given.head contest begun
     → FollowsInLog limits log was.answer begun handed
+
+-- ---- a relay that follows servers
+
+-- A relay whose servers were honest so far shows nothing or a state of the log at its token. What
+-- was written to any socket that is open is faithful, for nodes that are at places of the log.
+pub record ShowsTheLog (limits : Limits) (log : Log) (live : Live) (sockets : AllSockets)
+    : Type 0 where
+  pub shown : IsInLog limits log live.source.answers.shown.mirror.node
+  pub states : AreInLog limits log (states_of limits log)
+  pub written : (at : ℕ) (bytes : List ℕ) → sockets at ≡ Some (Opened bytes)
+      → IsFaithful (states_of limits log) (string_bytes live.contest) bytes
+
+abbrev pub RelaysShowTheLog : Type 0
+RelaysShowTheLog =
+    (limits : Limits) (log : Log) (exchanges : Exchanges) (live : Live) (sockets : AllSockets)
+    → AreKnownHonest limits log exchanges → IsRelaying limits log exchanges live sockets
+    → ShowsTheLog limits log live sockets
+
+-- a server reads what was asked on a connection as it was meant: with the token of whoever has its
+-- request there
+abbrev pub IsReadAsMeant : List ℕ → List ℕ → List ℕ → Type 0
+IsReadAsMeant head contest asked =
+    (begun : MirrorState) (request more : List ℕ) → IsRequestOf begun request
+    → asked ≡ request ++ more → (minor : ℕ) × Asks head contest (feed minor begun.since)
+
+-- Where each mirror that asked with a head follows a text in the log, as `connection_laws` and
+-- `handed` say of what nodes, primaries and relays write, any prefix of it is an honest response to
+-- a request that was read as that head.
+abbrev pub FollowedIsHonest : Type 0
+FollowedIsHonest =
+    (limits : Limits) (log : Log) (head contest text behind : List ℕ) (exchange : Exchange)
+    → ((begun : MirrorState) → HasAskedSo limits log head contest begun
+    → (answer : AnswerParts) × FollowsInLog limits log answer begun text)
+    → IsReadAsMeant head contest exchange.asked → exchange.received ++ behind ≡ text
+    → IsHonest limits log exchange

@@ -1,3 +1,6 @@
 pub mod Serving
 pub mod Held
 pub mod Laws
+pub mod States
+pub mod Upstream
+pub mod Relaying

@@ -1,23 +1,19 @@
 //! The server that is followed, and the mirror of what it sends.
 
+ghost use Rattle.std.specs.Prelude.{◌≡◌, None, Some, IfOk, IfSome, drop};
+ghost use Rattle.feed_node.specs.States.{published_token};
+
 mod input;
+mod reading;
 
 use crate::figures::{FeedFigures, Following};
 use crate::screens::{Answers, Screens};
 use crate::told::Telling;
 use feed_answer::{Framing, Identity, Place, request_text_as};
 use feed_device::{Link, Stop, Told, Why};
-use feed_follow::{FollowFault, Progress};
 use feed_hub::{Answering, Upstream};
 use feed_node::{Mirror, Node};
-use memchr::memchr;
 use std::alloc::{AllocError, Global};
-use std::mem;
-
-/// How many reads one turn makes before the screens have theirs, and how many bytes each takes.
-const READS: usize = 16;
-
-const PIECE: usize = 16_384;
 
 /// How long a server may take to take a connection, in milliseconds.
 const CONNECT_TIME: u64 = 10_000;
@@ -63,6 +59,11 @@ pub(crate) struct Source {
 }
 
 impl Source {
+    ghost use Rattle.feed_live.specs.Relaying.{StillFollows, SameSource, IsLeft};
+    ghost use Rattle.feed_live.specs.Upstream.{IsRequestOf};
+    ghost use Rattle.feed_live.specs.declared.source.Reach.TheVariants.{Away, Asks as Asked};
+    ghost use Rattle.feed_live.specs.declared.screens.Screens.{Screens};
+
     pub(crate) fn new(
         alloc: Global,
         places: Vec<Place>,
@@ -71,7 +72,12 @@ impl Source {
         blank: Mirror,
         framing: Framing,
         now: u64,
-    ) -> Source {
+    ) -> Source
+        ensures shown { result.answers.shown.mirror ≡ mirror }
+        ensures blank { result.answers.blank.mirror ≡ blank }
+        ensures follower { result.upstream.follower ≡ None }
+        ensures reach { result.reach ≡ Away }
+    {
         // A relay without a state has nothing old to show, nor has one whose feed is the input.
         let is_heard = mirror.node().token().is_none() || places.is_empty();
         Source {
@@ -95,12 +101,16 @@ impl Source {
         }
     }
 
-    pub(crate) fn node(&self) -> &Node {
+    pub(crate) fn node(&self) -> &Node
+        ensures { result.now.shown ≡ self.now.answers.shown.mirror.node }
+    {
         self.answers.shown.node()
     }
 
     /// Forgets the text of the snapshot, where no screen has any of it.
-    pub(crate) fn tidy(&mut self) {
+    pub(crate) fn tidy(&mut self)
+        ensures { SameSource self.old self.new }
+    {
         self.answers.shown.tidy();
     }
 
@@ -122,7 +132,9 @@ impl Source {
     }
 
     /// An event came for the connection.
-    pub(crate) fn wake(&mut self) {
+    pub(crate) fn wake(&mut self)
+        ensures { SameSource self.old self.new }
+    {
         self.has_more = self.reach != Reach::Away;
     }
 
@@ -162,7 +174,11 @@ impl Source {
         told: &mut Telling,
         idle: u64,
         now: u64,
-    ) {
+    )
+        ensures follows { (screens : Screens) → StillFollows self.old self.new
+            (L.exchanges link.old) (L.exchanges link.new) self.old.rest.items
+            self.new.rest.items screens screens }
+    {
         if self.upstream.is_silent(idle, now) {
             self.lost(link, told, Why::Silent, now);
         }
@@ -182,42 +198,54 @@ impl Source {
     }
 
     /// Begins to connect. From here on the silence of the server counts.
-    fn connect<L: Link>(&mut self, alloc: Global, link: &mut L, told: &mut Telling, now: u64) {
-        if self.write_request(alloc).is_err() {
-            self.lost(link, told, Why::Memory, now);
-            return;
-        }
+    fn connect<L: Link>(&mut self, alloc: Global, link: &mut L, told: &mut Telling, now: u64)
+        ensures follows { (screens : Screens) → StillFollows self.old self.new
+            (L.exchanges link.old) (L.exchanges link.new) self.old.rest.items
+            self.new.rest.items screens screens }
+    {
+        let request = match self.request(alloc) {
+            Ok(Some(request)) => request,
+            Ok(None) => return,
+            Err(_) => {
+                self.lost(link, told, Why::Memory, now);
+                return;
+            }
+        };
         if link.connect(self.upstream.place()).is_err() {
             self.lost(link, told, Why::Refuses, now);
             return;
         }
+        self.request = request;
+        // What is unread of the last connection is forgotten.
+        self.rest.clear();
         self.is_fresh = self.answers.shown.mirror().since().is_none();
         self.upstream.opened(self.answers.shown.mirror(), now);
         self.figures.ask(self.upstream.place(), now);
         self.reach = Reach::Connects(now);
     }
 
-    fn write_request(&mut self, alloc: Global) -> Result<(), AllocError> {
+    /// The text that asks the next place for what the mirror lacks; none where there is no place.
+    fn request(&self, alloc: Global) -> Result<Option<Vec<u8>>, AllocError>
+        ensures asks { IfOk result (λ made. IfSome made (λ text.
+            IsRequestOf self.now.answers.shown.mirror text.items)) }
+        ensures since { IfSome self.now.answers.shown.mirror.since (λ token.
+            published_token self.now.answers.shown.mirror.node ≡ Some token) }
+    {
+        let since = self.answers.shown.mirror().since();
+        let Some(place) = self.places.get(self.upstream.place()) else {
+            return Ok(None);
+        };
         let mut text = Vec::new(alloc);
-        if let Some(place) = self.places.get(self.upstream.place()) {
-            request_text_as(
-                place,
-                self.answers.shown.mirror().since(),
-                &self.identity,
-                &mut text,
-            )?;
-        }
-        self.request = text;
-        Ok(())
+        request_text_as(place, since, &self.identity, &mut text)?;
+        Ok(Some(text))
     }
 
     /// The server is left, and the next one is asked: after a pause where each of them failed.
-    fn lost<L: Link>(&mut self, link: &mut L, told: &mut Telling, why: Why, now: u64) {
+    pub(crate) fn lost<L: Link>(&mut self, link: &mut L, told: &mut Telling, why: Why, now: u64)
+        ensures left { IsLeft self.old self.new (L.exchanges link.old) (L.exchanges link.new) }
+    {
         let server = self.upstream.place();
-        // A server that ended its answer has sent all that comes after our token.
-        if matches!(why, Why::Ended) && self.heard_at().is_some() {
-            self.is_heard = true;
-        }
+        self.hear_end(why);
         self.leave(link, now);
         self.figures.lose(now);
         self.upstream.lost(self.answers.shown.change(), now);
@@ -225,7 +253,20 @@ impl Source {
         told.tell(Told::Lost { server, why, pause });
     }
 
-    fn leave<L: Link>(&mut self, link: &mut L, now: u64) {
+    /// A server that ended its answer has sent all that comes after our token.
+    fn hear_end(&mut self, why: Why)
+        ensures { SameSource self.old self.new }
+    {
+        if matches!(why, Why::Ended) && self.heard_at().is_some() {
+            self.is_heard = true;
+        }
+    }
+
+    pub(crate) fn leave<L: Link>(&mut self, link: &mut L, now: u64)
+        ensures exchanges { L.exchanges link.new ≡ L.exchanges link.old }
+        ensures answers { self.new.answers ≡ self.old.answers }
+        ensures away { self.new.reach ≡ Away }
+    {
         link.close();
         if self.body_since.is_some() {
             self.away_since = now;
@@ -233,7 +274,6 @@ impl Source {
         self.reach = Reach::Away;
         self.body_since = None;
         self.has_more = false;
-        self.rest.clear();
     }
 
     /// Goes on with the connection: an event came for it, or there was more.
@@ -244,7 +284,10 @@ impl Source {
         told: &mut Telling,
         screens: &mut Screens,
         now: u64,
-    ) {
+    )
+        ensures follows { StillFollows self.old self.new (L.exchanges link.old)
+            (L.exchanges link.new) self.old.rest.items self.new.rest.items screens.old screens.new }
+    {
         self.has_more = false;
         if let Reach::Connects(_) = self.reach {
             match link.is_open() {
@@ -256,212 +299,62 @@ impl Source {
                 }
             }
         }
-        if let Reach::Asks(count) = self.reach {
-            self.ask(link, told, count, now);
-        }
+        self.ask(link, told, now);
         if self.reach == Reach::Reads {
             self.read_some(alloc, link, told, screens, now);
         }
     }
 
-    /// Writes the rest of the request.
-    fn ask<L: Link>(&mut self, link: &mut L, told: &mut Telling, count: usize, now: u64) {
-        let mut count = count;
-        for _ in 0..self.request.len() {
-            let rest = self.request.get(count..).unwrap_or(&[]);
-            if rest.is_empty() {
-                break;
-            }
-            match link.write(rest) {
-                Ok(more) => count = count.saturating_add(more),
-                Err(Stop::Waits) => {
-                    self.reach = Reach::Asks(count);
-                    return;
-                }
-                Err(_) => {
-                    self.lost(link, told, Why::Broke, now);
-                    return;
-                }
-            }
-        }
-        self.reach = Reach::Reads;
-    }
-
-    /// Reads what came, so many times.
-    fn read_some<L: Link>(
-        &mut self,
-        alloc: Global,
-        link: &mut L,
-        told: &mut Telling,
-        screens: &mut Screens,
-        now: u64,
-    ) {
-        let rest = self.kept(alloc);
-        self.take(alloc, link, told, screens, rest.as_slice(), now);
-        for _ in 0..READS {
-            if screens.says_at().is_some() || self.reach != Reach::Reads {
-                break;
-            }
-            if !self.read(alloc, link, told, screens, now) {
+    /// Writes the rest of the request, where that isn't written yet.
+    fn ask<L: Link>(&mut self, link: &mut L, told: &mut Telling, now: u64)
+        ensures follows { (screens : Screens) → StillFollows self.old self.new
+            (L.exchanges link.old) (L.exchanges link.new) self.old.rest.items
+            self.new.rest.items screens screens }
+    {
+        for _ in 0..self.request.len().saturating_add(1) {
+            let Reach::Asks(count) = self.reach else {
                 return;
-            }
-        }
-        self.has_more = self.reach == Reach::Reads;
-    }
-
-    /// One read. Whether there may be more.
-    fn read<L: Link>(
-        &mut self,
-        alloc: Global,
-        link: &mut L,
-        told: &mut Telling,
-        screens: &mut Screens,
-        now: u64,
-    ) -> bool {
-        let mut buf = [0u8; PIECE];
-        match link.read(&mut buf) {
-            Ok(0) => self.lost(link, told, Why::Ended, now),
-            Ok(count) => {
-                self.figures.hear(count, now);
-                self.take(alloc, link, told, screens, &buf[..count], now);
-            }
-            Err(Stop::Waits) => return false,
-            Err(_) => self.lost(link, told, Why::Broke, now),
-        }
-        self.reach == Reach::Reads
-    }
-
-    /// Bytes came: they are followed up to each line feed, so that one step publishes at most once.
-    fn take<L: Link>(
-        &mut self,
-        alloc: Global,
-        link: &mut L,
-        told: &mut Telling,
-        screens: &mut Screens,
-        piece: &[u8],
-        now: u64,
-    ) {
-        let mut rest = piece;
-        for _ in 0..piece.len() {
-            if rest.is_empty() {
-                return;
-            }
-            // The mirror goes no further than what is said.
-            if screens.says_at().is_some() {
-                if self.keep(rest).is_err() {
-                    self.lost(link, told, Why::Memory, now);
-                }
-                return;
-            }
-            let (line, next) = split_line(rest);
-            rest = next;
-            if !self.take_line(alloc, link, told, screens, line, now) {
+            };
+            if !self.ask_once(link, told, count, now) {
                 return;
             }
         }
     }
 
-    /// Keeps what came until all before it was said.
-    fn keep(&mut self, rest: &[u8]) -> Result<(), AllocError> {
-        self.rest.extend_from_slice(rest)
-    }
-
-    /// What was kept, and nothing is kept then.
-    fn kept(&mut self, alloc: Global) -> Vec<u8> {
-        mem::replace(&mut self.rest, Vec::new(alloc))
-    }
-
-    /// One line came, or a part of one. Whether the connection goes on.
-    fn take_line<L: Link>(
+    /// One write, where so many bytes of the request were written. Whether another may come now.
+    fn ask_once<L: Link>(
         &mut self,
-        alloc: Global,
         link: &mut L,
         told: &mut Telling,
-        screens: &mut Screens,
-        line: &[u8],
+        count: usize,
         now: u64,
-    ) -> bool {
-        let mirror = self.answers.shown.change();
-        match self.upstream.take(alloc, mirror, line, now) {
-            Ok(Progress::Head) => true,
-            Ok(Progress::Body) => {
-                self.found(told, now);
-                self.say(alloc, screens, now);
+    ) -> bool
+        ensures follows { self.old.reach ≡ Asked count → (screens : Screens)
+            → StillFollows self.old self.new (L.exchanges link.old) (L.exchanges link.new)
+            self.old.rest.items self.new.rest.items screens screens }
+    {
+        let rest = behind(&self.request, count);
+        if rest.is_empty() {
+            self.reach = Reach::Reads;
+            return false;
+        }
+        match link.write(rest) {
+            Ok(more) => {
+                self.reach = Reach::Asks(count + more);
                 true
             }
-            Ok(Progress::Done) => {
-                self.found(told, now);
-                self.say(alloc, screens, now);
-                self.lost(link, told, Why::Ended, now);
-                false
-            }
-            Ok(Progress::TokenRefused) => {
-                self.refused(link, told, now);
-                false
-            }
-            Err(fault) => {
-                self.say(alloc, screens, now);
-                self.lost(link, told, why_of(fault), now);
+            Err(Stop::Waits) => false,
+            Err(_) => {
+                self.lost(link, told, Why::Broke, now);
                 false
             }
         }
-    }
-
-    /// The server does not hold the token: the others are asked with it before it is forgotten.
-    fn refused<L: Link>(&mut self, link: &mut L, told: &mut Telling, now: u64) {
-        told.tell(Told::Refused {
-            server: self.upstream.place(),
-        });
-        self.leave(link, now);
-        self.figures.change(Following::Away, now);
-        self.upstream.refused(self.answers.shown.change(), now);
-    }
-
-    /// The server answers with the feed.
-    fn found(&mut self, told: &mut Telling, now: u64) {
-        if self.body_since.is_some() {
-            return;
-        }
-        self.body_since = Some(now);
-        self.figures.find(now);
-        told.tell(Told::Found {
-            server: self.upstream.place(),
-            away: now.saturating_sub(self.away_since),
-        });
-    }
-
-    /// Says what was published. Where a connection published afresh, no screen goes on from what
-    /// it has.
-    fn say(&mut self, alloc: Global, screens: &mut Screens, now: u64) {
-        if self.is_fresh && self.answers.shown.mirror().since().is_some() {
-            self.is_fresh = false;
-            self.epoch = self.epoch.saturating_add(1);
-            screens.end_feeds(alloc, now);
-        }
-        if screens.relay(alloc, self.answers.shown.node(), now) {
-            self.is_heard = true;
-            self.figures.publish();
-            self.upstream.published();
-        }
-    }
-
-    /// Says what had to wait.
-    pub(crate) fn say_more(&mut self, alloc: Global, screens: &mut Screens, now: u64) {
-        screens.relay(alloc, self.answers.shown.node(), now);
     }
 }
 
-/// A piece up to and with its first line feed, or all of it; and what comes after that.
-fn split_line(piece: &[u8]) -> (&[u8], &[u8]) {
-    match memchr(b'\n', piece) {
-        Some(at) => piece.split_at(at + 1),
-        None => (piece, &[]),
-    }
-}
-
-fn why_of(fault: FollowFault) -> Why {
-    match fault {
-        FollowFault::Memory => Why::Memory,
-        _ => Why::Fault(fault),
-    }
+/// What comes behind so many bytes; none where there are not more.
+fn behind(bytes: &[u8], count: usize) -> &[u8]
+    ensures { result.now ≡ drop count bytes.now }
+{
+    bytes.get(count..).unwrap_or(&[])
 }

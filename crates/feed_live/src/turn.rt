@@ -1,10 +1,19 @@
 //! The turn.
 
+ghost use Rattle.std.specs.Prelude.{◌≡◌, ◌≢◌, [], ℕ, false};
+ghost use Rattle.feed_settings.specs.Limits.{Limits};
+ghost use Rattle.feed_node.specs.States.{NodeState};
+ghost use Rattle.feed_world.specs.Log.{Log};
+ghost use Rattle.feed_hub.specs.Laws.{IsInLog};
+ghost use Rattle.feed_device.specs.Links.{Exchanges};
+ghost use Rattle.feed_device.specs.Sockets.{AllSockets, Closed, IsSocket};
+
 use crate::options::{LiveLimits, Start};
 use crate::saved::{Restored, Saved};
 use crate::screens::{HOLD_TIME, Screens, Shown};
 use crate::source::Source;
 use crate::told::Telling;
+use feed_answer::Place;
 use feed_device::{Devices, Link, Ready, Sockets, Store, Told};
 use feed_node::Node;
 use std::alloc::Global;
@@ -58,6 +67,8 @@ pub struct Live {
 }
 
 impl Live {
+    ghost use Rattle.feed_live.specs.Relaying.{IsRelaying, StillRelaying};
+
     /// A relay that starts from what the state files had.
     pub fn new<D: Store>(
         alloc: Global,
@@ -66,7 +77,15 @@ impl Live {
         start: Start,
         store: &mut D,
         now: u64,
-    ) -> Live {
+    ) -> Live
+        // where it follows servers, and the state files had a state of the log, or nothing
+        ensures relaying { (limits : Limits) (log : Log) (exchanges : Exchanges)
+            (sockets : AllSockets) → start.places.items ≢ []
+            → start.restored.mirror.limits ≡ limits
+            → IsInLog limits log start.restored.mirror.node → IsInLog limits log start.blank.node
+            → ((at : ℕ) → IsSocket (sockets at) Closed)
+            → IsRelaying limits log exchanges result sockets }
+    {
         let Start {
             places,
             identity,
@@ -79,11 +98,9 @@ impl Live {
         } else {
             None
         };
-        let feeds = places.is_empty();
+        let feeds = are_none(&places);
         let mut source = Source::new(alloc, places, identity, mirror, blank, limits.framing, now);
-        if feeds {
-            source.begin_input(now);
-        }
+        source.begin_input(feeds, now);
         // What is restored was said before: only what is published from here on is news.
         let mut screens = Screens::new(alloc, limits);
         screens.relay(alloc, source.node(), now);
@@ -119,7 +136,9 @@ impl Live {
     }
 
     /// What the relay shows.
-    pub fn node(&self) -> &Node {
+    pub fn node(&self) -> &Node
+        ensures { result.now.shown ≡ self.now.source.answers.shown.mirror.node }
+    {
         self.source.node()
     }
 
@@ -131,7 +150,12 @@ impl Live {
         events: &[Ready],
         input: Input<'_>,
         now: u64,
-    ) -> Turn {
+    ) -> Turn
+        // what it shows, and what each socket was handed, is still of the log
+        ensures relaying { StillRelaying self.old self.new (L.exchanges devices.old.link)
+            (L.exchanges devices.new.link) (S.socket devices.old.sockets)
+            (S.socket devices.new.sockets) }
+    {
         let had_more = self.screens.begin_turn();
         self.note(events);
         self.say_more(alloc, now);
@@ -149,29 +173,46 @@ impl Live {
     }
 
     /// Marks what became ready.
-    fn note(&mut self, events: &[Ready]) {
+    fn note(&mut self, events: &[Ready])
+        ensures relaying { (exchanges : Exchanges) (sockets : AllSockets)
+            → StillRelaying self.old self.new exchanges exchanges sockets sockets }
+    {
         for event in events {
-            match *event {
-                Ready::Listener => self.screens.is_waited_for = true,
-                Ready::Link => self.source.wake(),
-                Ready::Screen {
-                    at,
-                    is_readable,
-                    is_writable,
-                } => self.screens.wake(at, is_readable, is_writable),
-            }
+            self.note_one(*event);
+        }
+    }
+
+    /// Marks one of them.
+    fn note_one(&mut self, event: Ready)
+        ensures relaying { (exchanges : Exchanges) (sockets : AllSockets)
+            → StillRelaying self.old self.new exchanges exchanges sockets sockets }
+    {
+        match event {
+            Ready::Listener => self.screens.is_waited_for = true,
+            Ready::Link => self.source.wake(),
+            Ready::Screen {
+                at,
+                is_readable,
+                is_writable,
+            } => self.screens.wake(at, is_readable, is_writable),
         }
     }
 
     /// Says what had to wait.
-    fn say_more(&mut self, alloc: Global, now: u64) {
+    fn say_more(&mut self, alloc: Global, now: u64)
+        ensures relaying { (exchanges : Exchanges) (sockets : AllSockets)
+            → StillRelaying self.old self.new exchanges exchanges sockets sockets }
+    {
         if self.screens.says_now(now) {
             self.source.say_more(alloc, &mut self.screens, now);
         }
     }
 
     /// Takes what the input gave: it is the feed, or only its end counts.
-    fn take_input(&mut self, alloc: Global, input: Input<'_>, now: u64) {
+    fn take_input(&mut self, alloc: Global, input: Input<'_>, now: u64)
+        ensures relaying { (exchanges : Exchanges) (sockets : AllSockets)
+            → StillRelaying self.old self.new exchanges exchanges sockets sockets }
+    {
         match input {
             Input::Nothing => self.feed(alloc, &[], now),
             Input::Bytes(piece) => self.feed(alloc, piece, now),
@@ -180,7 +221,10 @@ impl Live {
     }
 
     /// Follows bytes of the input, where that is the feed.
-    fn feed(&mut self, alloc: Global, piece: &[u8], now: u64) {
+    fn feed(&mut self, alloc: Global, piece: &[u8], now: u64)
+        ensures relaying { (exchanges : Exchanges) (sockets : AllSockets)
+            → StillRelaying self.old self.new exchanges exchanges sockets sockets }
+    {
         if self.feeds {
             self.feeds = self
                 .source
@@ -189,7 +233,10 @@ impl Live {
     }
 
     /// The input has ended.
-    fn end(&mut self, alloc: Global, now: u64) {
+    fn end(&mut self, alloc: Global, now: u64)
+        ensures relaying { (exchanges : Exchanges) (sockets : AllSockets)
+            → StillRelaying self.old self.new exchanges exchanges sockets sockets }
+    {
         if self.feeds {
             self.telling.tell(Told::EndOfInput);
             self.source.end_input(now);
@@ -202,24 +249,38 @@ impl Live {
     }
 
     /// Goes on with the server that is followed, unless something is still to be said.
-    fn follow<L: Link>(&mut self, alloc: Global, link: &mut L, now: u64) {
+    fn follow<L: Link>(&mut self, alloc: Global, link: &mut L, now: u64)
+        ensures relaying { (sockets : AllSockets) → StillRelaying self.old self.new
+            (L.exchanges link.old) (L.exchanges link.new) sockets sockets }
+    {
         if self.ends_at.is_some() || !self.source.has_servers() {
             return;
         }
         let was_held = !self.source.is_heard();
         self.source
             .tick(alloc, link, &mut self.telling, self.limits.idle, now);
-        if self.source.has_more() && self.screens.says_at().is_none() {
-            self.source
-                .go_on(alloc, link, &mut self.telling, &mut self.screens, now);
-        }
+        self.go_on(alloc, link, now);
         if was_held && self.source.is_heard() {
             self.screens.has_more = true;
         }
     }
 
+    /// Goes on with the connection, where there may be more.
+    fn go_on<L: Link>(&mut self, alloc: Global, link: &mut L, now: u64)
+        ensures relaying { (sockets : AllSockets) → StillRelaying self.old self.new
+            (L.exchanges link.old) (L.exchanges link.new) sockets sockets }
+    {
+        if self.source.has_more() && self.screens.says_at().is_none() {
+            self.source
+                .go_on(alloc, link, &mut self.telling, &mut self.screens, now);
+        }
+    }
+
     /// Writes a slice of the state file.
-    fn save<D: Store>(&mut self, alloc: Global, store: &mut D, now: u64) {
+    fn save<D: Store>(&mut self, alloc: Global, store: &mut D, now: u64)
+        ensures relaying { (exchanges : Exchanges) (sockets : AllSockets)
+            → StillRelaying self.old self.new exchanges exchanges sockets sockets }
+    {
         let Some(saved) = &mut self.saved else {
             return;
         };
@@ -232,7 +293,10 @@ impl Live {
     }
 
     /// Once a second, looks for who is late; and says a line feed after silence.
-    fn tick<S: Sockets>(&mut self, alloc: Global, sockets: &mut S, now: u64) {
+    fn tick<S: Sockets>(&mut self, alloc: Global, sockets: &mut S, now: u64)
+        ensures relaying { (exchanges : Exchanges) → StillRelaying self.old self.new exchanges
+            exchanges (S.socket sockets.old) (S.socket sockets.new) }
+    {
         if self.screens.conns.is_empty() {
             self.source.tidy();
             return;
@@ -252,7 +316,10 @@ impl Live {
     }
 
     /// Requests wait: those that waited for long enough are looked at again.
-    fn hold(&mut self, now: u64) {
+    fn hold(&mut self, now: u64)
+        ensures relaying { (exchanges : Exchanges) (sockets : AllSockets)
+            → StillRelaying self.old self.new exchanges exchanges sockets sockets }
+    {
         self.screens.has_more = true;
         if now >= HOLD_TIME && !self.is_hold_told {
             self.is_hold_told = true;
@@ -268,25 +335,53 @@ impl Live {
         events: &[Ready],
         had_more: bool,
         now: u64,
-    ) {
+    )
+        ensures relaying { (exchanges : Exchanges) → StillRelaying self.old self.new exchanges
+            exchanges (S.socket sockets.old) (S.socket sockets.new) }
+    {
+        self.serve_more(alloc, sockets, had_more, now);
+        for event in events {
+            if let Ready::Screen { at, .. } = *event {
+                self.serve_one(alloc, sockets, at, now);
+            }
+        }
+    }
+
+    /// Reads from and writes to those that had more, where there were some.
+    fn serve_more<S: Sockets>(&mut self, alloc: Global, sockets: &mut S, had_more: bool, now: u64)
+        ensures relaying { (exchanges : Exchanges) → StillRelaying self.old self.new exchanges
+            exchanges (S.socket sockets.old) (S.socket sockets.new) }
+    {
+        if !had_more {
+            return;
+        }
         let shown = Shown {
             is_held: !self.source.is_heard(),
             contest: self.contest.as_str(),
         };
         let answers = &mut self.source.answers;
-        if had_more {
-            self.screens
-                .serve_more(alloc, sockets, &mut self.telling, answers, &shown, now);
-        }
-        for event in events {
-            if let Ready::Screen { at, .. } = *event {
-                self.screens.serve(alloc, sockets, &mut self.telling, answers, &shown, at, now);
-            }
-        }
+        self.screens
+            .serve_more(alloc, sockets, &mut self.telling, answers, &shown, now);
+    }
+
+    /// Reads from and writes to the one at a place.
+    fn serve_one<S: Sockets>(&mut self, alloc: Global, sockets: &mut S, at: usize, now: u64)
+        ensures relaying { (exchanges : Exchanges) → StillRelaying self.old self.new exchanges
+            exchanges (S.socket sockets.old) (S.socket sockets.new) }
+    {
+        let shown = Shown {
+            is_held: !self.source.is_heard(),
+            contest: self.contest.as_str(),
+        };
+        let answers = &mut self.source.answers;
+        self.screens.serve(alloc, sockets, &mut self.telling, answers, &shown, at, now);
     }
 
     /// Tells how many screens there are, where that has changed.
-    fn report(&mut self, now: u64) {
+    fn report(&mut self, now: u64)
+        ensures relaying { (exchanges : Exchanges) (sockets : AllSockets)
+            → StillRelaying self.old self.new exchanges exchanges sockets sockets }
+    {
         if now.saturating_sub(self.reported) < REPORT {
             return;
         }
@@ -297,7 +392,10 @@ impl Live {
     }
 
     /// What comes next.
-    fn next(&mut self, now: u64) -> Turn {
+    fn next(&mut self, now: u64) -> Turn
+        ensures relaying { (exchanges : Exchanges) (sockets : AllSockets)
+            → StillRelaying self.old self.new exchanges exchanges sockets sockets }
+    {
         self.report(now);
         Turn {
             due: self.due(now),
@@ -348,4 +446,11 @@ impl Live {
         }
         due
     }
+}
+
+/// Whether there is no server to be followed.
+fn are_none(places: &[Place]) -> bool
+    ensures { places.now ≢ [] → result ≡ false }
+{
+    places.is_empty()
 }

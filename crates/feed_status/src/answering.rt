@@ -96,10 +96,7 @@ fn json(alloc: Global, status: &Status<'_>) -> Result<Vec<u8>, AllocError> {
         rows: rows.as_slice(),
         status,
     };
-    match serde_json::to_vec(alloc, &report) {
-        Ok(text) => Ok(text),
-        Err(_) => Err(AllocError),
-    }
+    serde_json::to_vec(alloc, &report).map_err(|_| AllocError)
 }
 
 /// The status code and the body of an answer.
@@ -144,8 +141,8 @@ fn head_of(
 }
 
 /// The whole answer to a request of which this is the head: `/` is the page, `/status.json` the
-/// status, `/metrics` the metrics for Prometheus, `/health` one line, with status 503 where upstream
-/// is silent for too long. For HEAD it has no body. The connection is closed after it.
+/// status, `/metrics` the metrics for Prometheus, `/health` one line, with status 503 where
+/// upstream is silent for too long. For HEAD it has no body. The connection is closed after it.
 pub fn answer(alloc: Global, head: &[u8], status: &Status<'_>) -> Result<Vec<u8>, AllocError> {
     match read_request(head) {
         Ok(Asked { wanted, has_body }) => {

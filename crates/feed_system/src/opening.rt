@@ -70,10 +70,10 @@ pub fn without_brackets(host: &str) -> &str {
 
 /// An address of this machine, with a port.
 fn local_address(address: &str, port: u16) -> Result<SocketAddr, OpenFault> {
-    match without_brackets(address).parse::<IpAddr>() {
-        Ok(address) => Ok(SocketAddr::new(address, port)),
-        Err(_) => Err(OpenFault::Address(AddressFault::BadAddress(0))),
-    }
+    let address = without_brackets(address)
+        .parse::<IpAddr>()
+        .map_err(|_| AddressFault::BadAddress(0))?;
+    Ok(SocketAddr::new(address, port))
 }
 
 /// Listens at a port of an address, where there is one.
@@ -87,9 +87,8 @@ fn listener_of(
     let Some(port) = port else {
         return Ok(None);
     };
-    let Ok(mut listener) = TcpListener::bind(rt, local_address(address, port)?) else {
-        return Err(OpenFault::Bind);
-    };
+    let address = local_address(address, port)?;
+    let mut listener = TcpListener::bind(rt, address).map_err(|_| OpenFault::Bind)?;
     poll.registry()
         .register(&mut listener, token, Interest::READABLE)?;
     Ok(Some(listener))

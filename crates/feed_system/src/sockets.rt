@@ -111,17 +111,11 @@ impl Port {
     }
 
     fn stream(&mut self, at: usize) -> Option<&mut TcpStream> {
-        match self.peers.get_mut(at)? {
-            Some(peer) => Some(&mut peer.stream),
-            None => None,
-        }
+        Some(&mut self.peer(at)?.stream)
     }
 
     fn peer(&mut self, at: usize) -> Option<&mut Peer> {
-        match self.peers.get_mut(at)? {
-            Some(peer) => Some(peer),
-            None => None,
-        }
+        self.peers.get_mut(at)?.as_mut()
     }
 
     /// How many connections somebody has.
@@ -138,8 +132,8 @@ impl Port {
         count
     }
 
-    /// Takes leave of a connection of somebody, if there is one that has ended what it sends. That it
-    /// went away would only be found when it is written to for the second time.
+    /// Takes leave of a connection of somebody, if there is one that has ended what it sends. That
+    /// it went away would only be found when it is written to for the second time.
     fn make_room(&mut self, origin: Origin) {
         for place in &mut self.peers {
             let Some(peer) = place else {
@@ -188,19 +182,14 @@ impl Sockets for Port {
         let Some(listener) = &self.listener else {
             return Err(Stop::Waits);
         };
-        let (stream, peer) = match listener.accept() {
-            Ok(accepted) => accepted,
-            Err(error) => return Err(stop_of(&error)),
-        };
+        let (stream, peer) = listener.accept().map_err(|error| stop_of(&error))?;
         let origin = Origin::of(peer.ip());
         // Who may not connect is closed here, with its socket.
         if !self.lets_in(origin) {
             return Err(Stop::Gone);
         }
-        match self.keep(at, origin, stream) {
-            Ok(()) => Ok(peer),
-            Err(_) => Err(Stop::Failed),
-        }
+        self.keep(at, origin, stream).map_err(|_| Stop::Failed)?;
+        Ok(peer)
     }
 
     fn read(&mut self, at: usize, buf: &mut [u8]) -> Result<usize, Stop> {

@@ -1,17 +1,12 @@
 //! How a command ends.
 
 use crate::errors::{Errors, Reporter};
-use feed_cli::{Fault, NetworkFault, Server, tell, tell_about};
+use feed_cli::{Fault, NetworkFault, REFUSED, Server, tell, tell_about};
 use std::alloc::AllocError;
 use std::net::Ipv4Addr;
 
 /// What a second line says of tables that can't be resumed.
 const SAVED_TABLES: &str = "standard input has no tables to resume from";
-
-/// The status for options that are refused, and for a write that failed.
-const REFUSED: u8 = 1;
-
-const UNTOLD: u8 = 4;
 
 /// Why a command failed.
 #[derive(Drop)]
@@ -115,7 +110,7 @@ pub(crate) fn ended(rt: &HostRuntime, name: &'static str, outcome: Result<(), Fa
             if Reporter::new(rt, name, false).line(text) {
                 REFUSED
             } else {
-                UNTOLD
+                Fault::Write.status()
             }
         }
     }

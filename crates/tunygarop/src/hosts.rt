@@ -54,7 +54,7 @@ impl Hosts {
     /// The servers that these options name. The first one has a name.
     pub(crate) fn new(alloc: Global, options: &PullOptions<'_>) -> Result<Hosts, Fault> {
         if options.host.is_empty() {
-            return Err(Fault::of_place(PlaceFault::BadHost));
+            return Err(Fault::from(PlaceFault::BadHost));
         }
         let mut host = String::new(alloc);
         push_host(&mut host, options.host)?;

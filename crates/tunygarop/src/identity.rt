@@ -65,7 +65,7 @@ fn line_of(text: &[u8]) -> Option<&str> {
 fn failure_of(fault: IdentityFault) -> Failure {
     match fault {
         IdentityFault::BadHost => {
-            Failure::with_more(Fault::of_place(PlaceFault::BadHost), BAD_HEADER)
+            Failure::with_more(Fault::from(PlaceFault::BadHost), BAD_HEADER)
         }
         IdentityFault::BadUser => Failure::refused(BAD_FILE),
         IdentityFault::Memory => Failure::from(Fault::Memory),

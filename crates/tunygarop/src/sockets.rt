@@ -146,7 +146,7 @@ impl<'r> Port<'r> {
                     misses: 0,
                 })
             }
-            Err(_) => Err(Fault::of_network(NetworkFault::Bind)),
+            Err(_) => Err(Fault::from(NetworkFault::Bind)),
         }
     }
 

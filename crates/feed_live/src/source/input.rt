@@ -1,16 +1,26 @@
 //! The input as the feed that is followed.
 
+ghost use Rattle.std.specs.Prelude.{◌≡◌, false};
+
 use crate::figures::Following;
 use crate::screens::Screens;
-use crate::source::{Source, split_line};
+use crate::source::Source;
+use crate::source::reading::split_line;
 use crate::told::Telling;
 use feed_device::Told;
 use feed_node::FeedFault;
 use std::alloc::Global;
 
 impl Source {
-    /// The input is a feed from here on.
-    pub(crate) fn begin_input(&mut self, now: u64) {
+    ghost use Rattle.feed_live.specs.Relaying.{SameSource};
+
+    /// The input is a feed from here on, where it feeds.
+    pub(crate) fn begin_input(&mut self, feeds: bool, now: u64)
+        ensures { feeds ≡ false → SameSource self.old self.new }
+    {
+        if !feeds {
+            return;
+        }
         self.answers.shown.change().begin();
         self.figures.change(Following::Input, now);
     }

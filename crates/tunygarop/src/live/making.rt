@@ -48,8 +48,8 @@ fn named<'a>(options: &PullOptions<'a>, hosts: &'a Hosts) -> PullOptions<'a> {
 /// The first address that a host's name has. The system may ask for it, and waits then.
 fn address_of(rt: &HostRuntime, host: &str, port: u16) -> Result<SocketAddr, Fault> {
     match (without_brackets(host), port).to_socket_addrs(rt) {
-        Ok(mut all) => all.next().ok_or(Fault::of_network(NetworkFault::Connect)),
-        Err(_) => Err(Fault::of_network(NetworkFault::Connect)),
+        Ok(mut all) => all.next().ok_or(Fault::from(NetworkFault::Connect)),
+        Err(_) => Err(Fault::from(NetworkFault::Connect)),
     }
 }
 
@@ -136,8 +136,8 @@ fn fault_of(fault: OpenFault) -> Fault {
     match fault {
         OpenFault::Memory => Fault::Memory,
         OpenFault::System => Fault::Read,
-        OpenFault::Address(fault) => Fault::of_addresses(fault),
-        OpenFault::Bind => Fault::of_network(NetworkFault::Bind),
+        OpenFault::Address(fault) => Fault::from(fault),
+        OpenFault::Bind => Fault::from(NetworkFault::Bind),
     }
 }
 

@@ -1,0 +1,507 @@
+-- How a relay stays at places of the log, step by step.
+use Rattle.std.proofs.Common.{◌≡◌, refl, sym, ap, ◌∙◌, subst, ℕ, ◌+◌, ◌≤◌, arith, List, [], ◌∷◌, ◌++◌, take, drop, length, append-nil, append_assoc, Option, Some, None}
+use Rattle.std.specs.Result.{is_err}
+use Rattle.std.specs.Prelude.{Result, Ok, Err, OnOk, Bool, true, false, Contains, option_map, is_none, is_some, IfSome, if◌then◌else◌}
+use Rattle.std.proofs.lemmas.List.{take-take, drop-take, take-append-drop}
+use Rattle.slab.specs.Slab.{Slab}
+use Rattle.feed_settings.specs.Limits.{Limits}
+use Rattle.feed_node.specs.Mirroring.{MirrorState, cut_off, refused_off, present_opening}
+use Rattle.feed_node.specs.States.{NodeState, published_token}
+use Rattle.feed_follow.specs.declared.fault.FollowFault.{FollowFault}
+use Rattle.feed_follow.specs.declared.fault.Progress.{Progress}
+use Rattle.feed_follow.specs.declared.fault.Progress.TheVariants as reached
+use Rattle.feed_follow.specs.Follower.{FollowerState, FollowsAt, GoesOn, GoesOnOrRefuses}
+use Rattle.feed_follow.specs.Following.{Fails}
+use Rattle.feed_follow.specs.Standing.{Standing, in_head}
+use Rattle.feed_world.specs.Log.{Log}
+use Rattle.feed_world.specs.Position.{Position, node_where}
+use Rattle.feed_world.specs.Reading.{opening_at}
+use Rattle.feed_world.specs.States.{HasAsked}
+use Rattle.feed_hub.specs.declared.hub.Hub.{Hub}
+use Rattle.feed_hub.specs.Laws.{IsInLog}
+use Rattle.feed_hub.specs.Upstream.{IsFollowing, IsPushed}
+use Rattle.feed_device.specs.Links.{Exchange, Exchanges, one_more, asked_more, received_more}
+use Rattle.feed_device.specs.Sockets.{AllSockets}
+use Rattle.feed_live.specs.declared.conn.Conn.{Conn}
+use Rattle.feed_live.specs.declared.source.Reach.{Reach}
+use Rattle.feed_live.specs.declared.source.Reach.TheVariants.{Away, Connects, Asks, Reads}
+use Rattle.feed_live.specs.declared.source.Source.{Source}
+use Rattle.feed_live.specs.Relaying.{IsAsked, Follows, MayFollow, Shows, SameSource, IsKeeping, IsLeft}
+use Rattle.feed_live.specs.Serving.{Serving}
+use Rattle.feed_live.specs.States.{states_of}
+use Rattle.feed_live.specs.Upstream.{AsksInLog, IsRequestOf, StaysInLog, IsHonest, AreHonest, AreKnownHonest}
+use Rattle.feed_live.proofs.StateLemmas.{among_states}
+
+-- what holds where it is no error
+pub where_ok : {A E P : Type 0} (result : Result A E) → is_err result ≡ false → OnOk result P → P
+where_ok (Ok a) none holds = holds
+where_ok (Err e) is holds = absurd (cc)
+
+-- by either case of a test
+pub either : {X : Type 0} (test : Bool) → (test ≡ true → X) → (test ≡ false → X) → X
+either true yes' otherwise = yes' refl
+either false yes' otherwise = otherwise refl
+
+pub head_goes_on : {p : Progress} → p ≡ reached.Head → p ≡ reached.TokenRefused → ⊥
+head_goes_on is refused = let e = sym is ∙ refused in cc
+
+pub body_goes_on : {p : Progress} → p ≡ reached.Body → p ≡ reached.TokenRefused → ⊥
+body_goes_on is refused = let e = sym is ∙ refused in cc
+
+pub done_goes_on : {p : Progress} → p ≡ reached.Done → p ≡ reached.TokenRefused → ⊥
+done_goes_on is refused = let e = sym is ∙ refused in cc
+
+-- bytes were followed, and more may be
+pub record IsTaken (bounds : Limits) (lines : Log) (request next : List ℕ) (exchanges : Exchanges) (follower : Option FollowerState) (mirror : MirrorState) : Type 0 where
+  pub at : IsInLog bounds lines mirror.node
+  pub follows : MayFollow bounds lines Reads request next exchanges follower mirror
+
+module _ (limits : Limits) (log : Log) where
+  -- ---- what is shown
+
+  pub among_shown : {contest : List ℕ} {shown blank : MirrorState} {hub : Hub} {conns : Slab Conn} {sockets : AllSockets}
+      → Shows limits log contest shown blank hub conns sockets → Contains (states_of limits log) shown.node
+  among_shown {shown = shown} shows = among_states limits log shown.node shows.shown_is
+
+  pub among_blank : {contest : List ℕ} {shown blank : MirrorState} {hub : Hub} {conns : Slab Conn} {sockets : AllSockets}
+      → Shows limits log contest shown blank hub conns sockets → Contains (states_of limits log) blank.node
+  among_blank {blank = blank} shows = among_states limits log blank.node shows.blank_is
+
+  -- the screens changed, and are served as before
+  pub shows_still : {contest : List ℕ} {shown blank : MirrorState} {hub hub_new : Hub} {conns conns_new : Slab Conn} {sockets sockets_new : AllSockets}
+      → (Serving (states_of limits log) contest hub conns sockets → Serving (states_of limits log) contest hub_new conns_new sockets_new)
+      → Shows limits log contest shown blank hub conns sockets → Shows limits log contest shown blank hub_new conns_new sockets_new
+  shows_still still shows =
+      record { limits_are = shows.limits_are; shown_is = shows.shown_is; blank_is = shows.blank_is; serving = still shows.serving }
+
+  -- the mirror changed, and is at a place of the log
+  pub shows_at : {contest : List ℕ} {shown shown_new blank blank_new : MirrorState} {hub : Hub} {conns : Slab Conn} {sockets : AllSockets}
+      → shown_new.limits ≡ shown.limits → IsInLog limits log shown_new.node → blank_new ≡ blank
+      → Shows limits log contest shown blank hub conns sockets → Shows limits log contest shown_new blank_new hub conns sockets
+  shows_at bounds at same shows =
+      record {
+        limits_are = bounds ∙ shows.limits_are;
+        shown_is = at;
+        blank_is = subst (λ b. IsInLog limits log b.node) (sym same) shows.blank_is;
+        serving = shows.serving;
+      }
+
+  -- ---- what didn't change
+
+  pub same_shows : {old new : Source} → SameSource old new
+      → {contest : List ℕ} {hub : Hub} {conns : Slab Conn} {sockets : AllSockets}
+      → Shows limits log contest old.answers.shown.mirror old.answers.blank.mirror hub conns sockets
+      → Shows limits log contest new.answers.shown.mirror new.answers.blank.mirror hub conns sockets
+  same_shows {old} {new} same {contest} {hub} {conns} {sockets} shows =
+      subst (λ m. Shows limits log contest m new.answers.blank.mirror hub conns sockets) (sym same.shown)
+      (subst (λ m. Shows limits log contest old.answers.shown.mirror m hub conns sockets) (sym same.blank) shows)
+
+  pub same_follows : {old new : Source} → SameSource old new
+      → (exchanges : Exchanges) (unread left : List ℕ) → left ≡ unread
+      → MayFollow limits log old.reach old.request.items unread exchanges old.upstream.follower old.answers.shown.mirror
+      → MayFollow limits log new.reach new.request.items left exchanges new.upstream.follower new.answers.shown.mirror
+  same_follows {old} {new} same exchanges unread left rest follows =
+      subst (λ m. MayFollow limits log new.reach new.request.items left exchanges new.upstream.follower m) (sym same.shown)
+      (subst (λ f. MayFollow limits log new.reach new.request.items left exchanges f old.answers.shown.mirror) (sym same.follower)
+      (subst (λ u. MayFollow limits log new.reach new.request.items u exchanges old.upstream.follower old.answers.shown.mirror) (sym rest)
+      (subst (λ r. MayFollow limits log new.reach r unread exchanges old.upstream.follower old.answers.shown.mirror) (sym same.request)
+      (subst (λ r. MayFollow limits log r old.request.items unread exchanges old.upstream.follower old.answers.shown.mirror) (sym same.reach) follows))))
+
+  -- ---- a server is left
+
+  pub left_shows : {old new : Source} {before after : Exchanges} → IsLeft old new before after
+      → {contest : List ℕ} {hub : Hub} {conns : Slab Conn} {sockets : AllSockets}
+      → Shows limits log contest old.answers.shown.mirror old.answers.blank.mirror hub conns sockets
+      → Shows limits log contest new.answers.shown.mirror new.answers.blank.mirror hub conns sockets
+  left_shows left shows =
+      shows_at left.limits (subst (λ n. IsInLog limits log n) (sym left.node) shows.shown_is) left.blank shows
+
+  pub left_honest : {old new : Source} {before after : Exchanges} → IsLeft old new before after
+      → AreKnownHonest limits log after → AreKnownHonest limits log before
+  left_honest left honest = subst (λ e. AreKnownHonest limits log e) left.exchanges honest
+
+  pub left_follows : {old new : Source} {before after : Exchanges} → IsLeft old new before after
+      → (request unread : List ℕ) (mirror : MirrorState)
+      → MayFollow limits log new.reach request unread after new.upstream.follower mirror
+  left_follows {old} {new} {before} {after} left request unread mirror =
+      subst (λ f. MayFollow limits log new.reach request unread after f mirror) (sym left.follower) left.reach
+
+  -- there is no connection: whatever is unread
+  pub away_follows : (reach : Reach) (request unread other : List ℕ) (exchanges : Exchanges) (follower : Option FollowerState) (mirror : MirrorState)
+      → reach ≡ Away → MayFollow limits log reach request unread exchanges follower mirror → MayFollow limits log reach request other exchanges follower mirror
+  away_follows reach request unread other exchanges None mirror away follows = follows
+  away_follows reach request unread other exchanges (Some follower) mirror away follows =
+      absurd (subst (λ r. IsAsked r request follows.latest.asked) away follows.asked)
+
+  -- ---- a connection is begun
+
+  pub one_more_honest : (before after : Exchanges) → after ≡ option_map one_more before
+      → AreKnownHonest limits log after → AreKnownHonest limits log before
+  one_more_honest None after is honest = subst (λ e. AreKnownHonest limits log e) is honest
+  one_more_honest (Some before) after is honest = (subst (λ e. AreKnownHonest limits log e) is honest).1
+
+  asks_at : (since : Option (List ℕ)) (node : NodeState) → IfSome since (λ token. published_token node ≡ Some token)
+      → since ≡ (if is_none since then None else published_token node)
+  asks_at None node _ = refl
+  asks_at (Some token) node is = sym is
+
+  asks_in_log : (mirror : MirrorState) → mirror.limits ≡ limits → IsInLog limits log mirror.node
+      → IfSome mirror.since (λ token. published_token mirror.node ≡ Some token) → AsksInLog limits log mirror
+  asks_in_log mirror bounds (place, is_place, is) since =
+      record {
+        place = place;
+        is_place = is_place;
+        asks = record {
+          limits_are = bounds;
+          opening = ap (λ n. record { before = n; fresh = is_none mirror.since }) is;
+          since = subst (λ n. mirror.since ≡ (if is_none mirror.since then None else published_token n)) is (asks_at mirror.since mirror.node since);
+        };
+      }
+
+  pub begun_follows : (request : List ℕ) (before after : Exchanges) (since : ℕ) (follower : Option FollowerState) (mirror : MirrorState)
+      → after ≡ option_map one_more before → AreKnownHonest limits log after
+      → mirror.limits ≡ limits → IsInLog limits log mirror.node
+      → IfSome mirror.since (λ token. published_token mirror.node ≡ Some token)
+      → IsRequestOf mirror request → IsFollowing mirror [] in_head follower mirror
+      → MayFollow limits log (Connects since) request [] after follower mirror
+  begun_follows request before after since None mirror is honest bounds at asks is_request following = absurd following
+  begun_follows request None after since (Some follower) mirror is honest bounds at asks is_request following =
+      absurd (subst (λ e. AreKnownHonest limits log e) is honest)
+  begun_follows request (Some before) after since (Some follower) mirror is honest bounds at asks is_request following =
+      record {
+        start = mirror;
+        asks = asks_in_log mirror bounds at asks;
+        is_request = is_request;
+        latest = record { asked = []; received = [] };
+        before = before;
+        exchanges_are = is;
+        asked = refl;
+        bytes = [];
+        received = refl;
+        standing = in_head;
+        follows = following;
+      }
+
+  -- ---- more is asked
+
+  asked_honest : (bytes : List ℕ) (e : Exchange) → IsHonest limits log (record { asked = e.asked ++ bytes; received = e.received }) → IsHonest limits log e
+  asked_honest bytes e honest =
+      λ begun text more asks is_request is. honest begun text (more ++ bytes) asks is_request (ap (λ a. a ++ bytes) is ∙ append_assoc text more bytes)
+
+  pub asked_more_honest : (bytes : List ℕ) (before after : Exchanges) → after ≡ option_map (asked_more bytes) before
+      → AreKnownHonest limits log after → AreKnownHonest limits log before
+  asked_more_honest bytes None after is honest = subst (λ e. AreKnownHonest limits log e) is honest
+  asked_more_honest bytes (Some []) after is honest = subst (λ e. AreKnownHonest limits log e) is honest
+  asked_more_honest bytes (Some (e ∷ es)) after is honest =
+      let there = subst (λ e. AreKnownHonest limits log e) is honest in
+      (asked_honest bytes e there.0, there.1)
+
+  take_more : (count more : ℕ) (xs : List ℕ) → take count xs ++ take more (drop count xs) ≡ take (count + more) xs
+  take_more count more xs =
+      let front : take count (take (count + more) xs) ≡ take count xs = take-take count (count + more) xs (omega arith) in
+      ap (λ f. f ++ take more (drop count xs)) (sym front) ∙ ap (λ b. take count (take (count + more) xs) ++ b) (sym (drop-take count more xs))
+      ∙ take-append-drop count (take (count + more) xs)
+
+  pub asks_follows : (request unread rest : List ℕ) (before after : Exchanges) (count more : ℕ) (follower : Option FollowerState) (mirror : MirrorState)
+      → after ≡ option_map (asked_more (take more rest)) before → rest ≡ drop count request
+      → MayFollow limits log (Asks count) request unread before follower mirror
+      → MayFollow limits log (Asks (count + more)) request unread after follower mirror
+  asks_follows request unread rest before after count more None mirror is here follows = absurd (no_away follows)
+    where
+      no_away : Asks count ≡ Away → ⊥
+      no_away e = cc
+  asks_follows request unread rest before after count more (Some follower) mirror is here follows =
+      record {
+        start = follows.start;
+        asks = follows.asks;
+        is_request = follows.is_request;
+        latest = record { asked = follows.latest.asked ++ take more rest; received = follows.latest.received };
+        before = follows.before;
+        exchanges_are = is ∙ ap (λ e. option_map (asked_more (take more rest)) e) follows.exchanges_are;
+        asked = ap (λ a. a ++ take more rest) follows.asked ∙ ap (λ r. take count request ++ take more r) here ∙ take_more count more request;
+        bytes = follows.bytes;
+        received = follows.received;
+        standing = follows.standing;
+        follows = follows.follows;
+      }
+
+  take_whole : (count : ℕ) (xs : List ℕ) → [] ≡ drop count xs → take count xs ≡ xs
+  take_whole count xs none = sym (append-nil (take count xs)) ∙ ap (λ b. take count xs ++ b) none ∙ take-append-drop count xs
+
+  -- all was asked
+  pub asked_follows : (request unread rest : List ℕ) (exchanges : Exchanges) (count : ℕ) (follower : Option FollowerState) (mirror : MirrorState)
+      → rest ≡ [] → rest ≡ drop count request
+      → MayFollow limits log (Asks count) request unread exchanges follower mirror
+      → MayFollow limits log Reads request unread exchanges follower mirror
+  asked_follows request unread rest exchanges count None mirror none here follows = absurd (no_away follows)
+    where
+      no_away : Asks count ≡ Away → ⊥
+      no_away e = cc
+  asked_follows request unread rest exchanges count (Some follower) mirror none here follows =
+      record {
+        start = follows.start;
+        asks = follows.asks;
+        is_request = follows.is_request;
+        latest = follows.latest;
+        before = follows.before;
+        exchanges_are = follows.exchanges_are;
+        asked = follows.asked ∙ take_whole count request (sym none ∙ here);
+        bytes = follows.bytes;
+        received = follows.received;
+        standing = follows.standing;
+        follows = follows.follows;
+      }
+
+  -- the connection is open, and nothing is asked yet
+  pub opens_follows : (request unread : List ℕ) (exchanges : Exchanges) (since : ℕ) (follower : Option FollowerState) (mirror : MirrorState)
+      → MayFollow limits log (Connects since) request unread exchanges follower mirror
+      → MayFollow limits log (Asks 0) request unread exchanges follower mirror
+  opens_follows request unread exchanges since None mirror follows = absurd (no_away follows)
+    where
+      no_away : Connects since ≡ Away → ⊥
+      no_away e = cc
+  opens_follows request unread exchanges since (Some follower) mirror follows =
+      record {
+        start = follows.start;
+        asks = follows.asks;
+        is_request = follows.is_request;
+        latest = follows.latest;
+        before = follows.before;
+        exchanges_are = follows.exchanges_are;
+        asked = follows.asked;
+        bytes = follows.bytes;
+        received = follows.received;
+        standing = follows.standing;
+        follows = follows.follows;
+      }
+
+  -- ---- more is received
+
+  received_stays : {begun : MirrorState} (more bytes : List ℕ) → StaysInLog limits log begun (bytes ++ more) → StaysInLog limits log begun bytes
+  received_stays more bytes stays =
+      record {
+        shows = λ before behind standing follower mirror is. stays.shows before (behind ++ more) standing follower mirror (sym (append_assoc before behind more) ∙ ap (λ b. b ++ more) is);
+        fails = λ before piece behind mirror fault is.
+            stays.fails before piece (behind ++ more) mirror fault (sym (append_assoc (before ++ piece) behind more) ∙ ap (λ b. b ++ more) is);
+      }
+
+  pub received_more_honest : (bytes : List ℕ) (before after : Exchanges) → after ≡ option_map (received_more bytes) before
+      → AreKnownHonest limits log after → AreKnownHonest limits log before
+  received_more_honest bytes None after is honest = subst (λ e. AreKnownHonest limits log e) is honest
+  received_more_honest bytes (Some []) after is honest = subst (λ e. AreKnownHonest limits log e) is honest
+  received_more_honest bytes (Some (e ∷ es)) after is honest =
+      let there = subst (λ e. AreKnownHonest limits log e) is honest in
+      (λ begun text more asks is_request asked. received_stays bytes e.received (there.0 begun text more asks is_request asked), there.1)
+
+  pub reads_follows : (reach : Reach) (request bytes : List ℕ) (before after : Exchanges) (follower : Option FollowerState) (mirror : MirrorState)
+      → after ≡ option_map (received_more bytes) before
+      → MayFollow limits log reach request [] before follower mirror
+      → MayFollow limits log reach request bytes after follower mirror
+  reads_follows reach request bytes before after None mirror is follows = follows
+  reads_follows reach request bytes before after (Some follower) mirror is follows =
+      record {
+        start = follows.start;
+        asks = follows.asks;
+        is_request = follows.is_request;
+        latest = record { asked = follows.latest.asked; received = follows.latest.received ++ bytes };
+        before = follows.before;
+        exchanges_are = is ∙ ap (λ e. option_map (received_more bytes) e) follows.exchanges_are;
+        asked = follows.asked;
+        bytes = follows.bytes;
+        received = ap (λ r. r ++ bytes) (follows.received ∙ append-nil follows.bytes);
+        standing = follows.standing;
+        follows = follows.follows;
+      }
+
+  -- ---- what came is taken
+
+  -- what is followed stays in the log, since the exchange is honest
+  stays_in_log : (request unread : List ℕ) (exchanges : Exchanges) (follower : FollowerState) (mirror : MirrorState)
+      → AreKnownHonest limits log exchanges → (follows : Follows limits log Reads request unread exchanges follower mirror)
+      → StaysInLog limits log follows.start (follows.bytes ++ unread)
+  stays_in_log request unread exchanges follower mirror honest follows =
+      let all : AreKnownHonest limits log (Some (follows.latest ∷ follows.before)) = subst (λ e. AreKnownHonest limits log e) follows.exchanges_are honest in
+      subst (λ b. StaysInLog limits log follows.start b) follows.received
+      (all.0 follows.start request [] follows.asks follows.is_request (follows.asked ∙ sym (append-nil request)))
+
+  -- a push that goes on, where a response is followed then
+  abbrev GoesOnSo : MirrorState → List ℕ → Option FollowerState → MirrorState → Progress → Type 0
+  GoesOnSo start bytes None mirror progress = ⊥
+  GoesOnSo start bytes (Some follower) mirror progress = GoesOn start bytes follower mirror progress
+
+  goes_on : (start : MirrorState) (bytes : List ℕ) (follower : Option FollowerState) (mirror : MirrorState) (progress : Progress)
+      → (progress ≡ reached.TokenRefused → ⊥) → IsPushed start bytes follower mirror progress → GoesOnSo start bytes follower mirror progress
+  goes_on start bytes None mirror progress on pushed = pushed
+  goes_on start bytes (Some follower) mirror reached.Head on pushed = pushed
+  goes_on start bytes (Some follower) mirror reached.Body on pushed = pushed
+  goes_on start bytes (Some follower) mirror reached.Done on pushed = pushed
+  goes_on start bytes (Some follower) mirror reached.TokenRefused on pushed = absurd (on refl)
+
+  pub taken : (request line next : List ℕ) (exchanges : Exchanges) (old new : Option FollowerState) (before after : MirrorState) (progress : Progress)
+      → (progress ≡ reached.TokenRefused → ⊥)
+      → ((start : MirrorState) (bytes : List ℕ) (standing : Standing) → IsFollowing start bytes standing old before → IsPushed start (bytes ++ line) new after progress)
+      → AreKnownHonest limits log exchanges → MayFollow limits log Reads request (line ++ next) exchanges old before
+      → IsTaken limits log request next exchanges new after
+  taken request line next exchanges None new before after progress on push honest follows = absurd (no_away follows)
+    where
+      no_away : Reads ≡ Away → ⊥
+      no_away e = cc
+  taken request line next exchanges (Some follower) new before after progress on push honest follows =
+      by new (goes_on follows.start (follows.bytes ++ line) new after progress on (push follows.start follows.bytes follows.standing follows.follows))
+    where
+      by : (now : Option FollowerState) → GoesOnSo follows.start (follows.bytes ++ line) now after progress → IsTaken limits log request next exchanges now after
+      by None goes = absurd goes
+      by (Some now) goes =
+          record {
+            at = (stays_in_log request (line ++ next) exchanges follower before honest follows).shows (follows.bytes ++ line) next goes.0 now after (append_assoc follows.bytes line next) goes.2;
+            follows = record {
+              start = follows.start;
+              asks = follows.asks;
+              is_request = follows.is_request;
+              latest = follows.latest;
+              before = follows.before;
+              exchanges_are = follows.exchanges_are;
+              asked = follows.asked;
+              bytes = follows.bytes ++ line;
+              received = follows.received ∙ sym (append_assoc follows.bytes line next);
+              standing = goes.0;
+              follows = goes.2;
+            };
+          }
+
+  -- the token was refused: the mirror stays where it was
+  pub refused_at : (request line next : List ℕ) (exchanges : Exchanges) (old new : Option FollowerState) (before after : MirrorState) (progress : Progress)
+      → progress ≡ reached.TokenRefused
+      → ((start : MirrorState) (bytes : List ℕ) (standing : Standing) → IsFollowing start bytes standing old before → IsPushed start (bytes ++ line) new after progress)
+      → AreKnownHonest limits log exchanges → MayFollow limits log Reads request (line ++ next) exchanges old before
+      → IsInLog limits log after.node
+  refused_at request line next exchanges None new before after progress is push honest follows = absurd (no_away follows)
+    where
+      no_away : Reads ≡ Away → ⊥
+      no_away e = cc
+  refused_at request line next exchanges (Some follower) new before after progress is push honest follows =
+      by new (subst (λ p. IsPushed follows.start (follows.bytes ++ line) new after p) is (push follows.start follows.bytes follows.standing follows.follows))
+    where
+      by : (now : Option FollowerState) → IsPushed follows.start (follows.bytes ++ line) now after reached.TokenRefused → IsInLog limits log after.node
+      by None pushed = absurd pushed
+      by (Some now) pushed =
+          (stays_in_log request (line ++ next) exchanges follower before honest follows).shows (follows.bytes ++ line) next _ now (refused_off after) (append_assoc follows.bytes line next) pushed.1
+
+  -- a fault
+  pub failed_at : (request line next : List ℕ) (exchanges : Exchanges) (old : Option FollowerState) (before after : MirrorState) (fault : FollowFault)
+      → ((start : MirrorState) (bytes : List ℕ) (standing : Standing) → IsFollowing start bytes standing old before
+      → (had_token : Bool) × (had_token ≡ is_some start.since) × Fails start had_token bytes line after fault)
+      → AreKnownHonest limits log exchanges → MayFollow limits log Reads request (line ++ next) exchanges old before
+      → IsInLog limits log after.node
+  failed_at request line next exchanges None before after fault fail honest follows = absurd (no_away follows)
+    where
+      no_away : Reads ≡ Away → ⊥
+      no_away e = cc
+  failed_at request line next exchanges (Some follower) before after fault fail honest follows =
+      let failed = fail follows.start follows.bytes follows.standing follows.follows in
+      (stays_in_log request (line ++ next) exchanges follower before honest follows).fails follows.bytes line next after fault (append_assoc follows.bytes line next)
+      (subst (λ had. Fails follows.start had follows.bytes line after fault) failed.1 failed.2)
+
+  -- ---- whole states: what is shown and what is followed, as long as all was honest
+
+  -- the screens changed, and are served as before
+  pub with_screens : (exchanges : Exchanges) {contest : List ℕ} {X : Type 0} {shown blank : MirrorState} {hub hub_new : Hub} {conns conns_new : Slab Conn} {sockets sockets_new : AllSockets}
+      → (Shows limits log contest shown blank hub conns sockets → Serving (states_of limits log) contest hub conns sockets → Serving (states_of limits log) contest hub_new conns_new sockets_new)
+      → (AreKnownHonest limits log exchanges → Shows limits log contest shown blank hub conns sockets × X)
+      → AreKnownHonest limits log exchanges → Shows limits log contest shown blank hub_new conns_new sockets_new × X
+  with_screens exchanges still follows honest = let here = follows honest in (shows_still (still here.0) here.0, here.1)
+
+  -- what is followed and shown is the same
+  pub with_same : {contest : List ℕ} {old new : Source} → SameSource old new
+      → (exchanges : Exchanges) {hub : Hub} {conns : Slab Conn} {sockets : AllSockets} (unread left : List ℕ) → left ≡ unread
+      → (AreKnownHonest limits log exchanges → Shows limits log contest old.answers.shown.mirror old.answers.blank.mirror hub conns sockets
+      × MayFollow limits log old.reach old.request.items unread exchanges old.upstream.follower old.answers.shown.mirror)
+      → AreKnownHonest limits log exchanges → Shows limits log contest new.answers.shown.mirror new.answers.blank.mirror hub conns sockets
+      × MayFollow limits log new.reach new.request.items left exchanges new.upstream.follower new.answers.shown.mirror
+  with_same same exchanges unread left rest follows honest = let here = follows honest in (same_shows same here.0, same_follows same exchanges unread left rest here.1)
+
+  -- the server is left
+  pub with_left : {contest : List ℕ} {old new : Source} {before after : Exchanges} → IsLeft old new before after
+      → {hub : Hub} {conns : Slab Conn} {sockets : AllSockets} (unread : List ℕ)
+      → (AreKnownHonest limits log before → Shows limits log contest old.answers.shown.mirror old.answers.blank.mirror hub conns sockets)
+      → AreKnownHonest limits log after → Shows limits log contest new.answers.shown.mirror new.answers.blank.mirror hub conns sockets
+      × MayFollow limits log new.reach new.request.items unread after new.upstream.follower new.answers.shown.mirror
+  with_left {old} {new} left unread shows honest =
+      (left_shows left (shows (left_honest left honest)), left_follows left new.request.items unread new.answers.shown.mirror)
+
+  -- what is unread is this
+  pub with_unread : {X : Type 0} (exchanges : Exchanges) (reach : Reach) (request : List ℕ) (follower : Option FollowerState) (mirror : MirrorState) {unread other : List ℕ} → other ≡ unread
+      → (AreKnownHonest limits log exchanges → X × MayFollow limits log reach request unread exchanges follower mirror)
+      → AreKnownHonest limits log exchanges → X × MayFollow limits log reach request other exchanges follower mirror
+  with_unread exchanges reach request follower mirror is follows honest =
+      let here = follows honest in (here.0, subst (λ u. MayFollow limits log reach request u exchanges follower mirror) (sym is) here.1)
+
+  -- what is kept changed alone
+  pub with_kept : {contest : List ℕ} {hub : Hub} {conns : Slab Conn} {sockets : AllSockets} {old new : Source} → IsKeeping old new
+      → (exchanges : Exchanges) (unread left : List ℕ) → left ≡ unread
+      → (AreKnownHonest limits log exchanges → Shows limits log contest old.answers.shown.mirror old.answers.blank.mirror hub conns sockets
+      × MayFollow limits log old.reach old.request.items unread exchanges old.upstream.follower old.answers.shown.mirror)
+      → AreKnownHonest limits log exchanges → Shows limits log contest new.answers.shown.mirror new.answers.blank.mirror hub conns sockets
+      × MayFollow limits log new.reach new.request.items left exchanges new.upstream.follower new.answers.shown.mirror
+  with_kept {contest} {hub} {conns} {sockets} {old} {new} same exchanges unread left rest follows honest =
+      let here = follows honest in (
+        subst (λ a. Shows limits log contest a.shown.mirror a.blank.mirror hub conns sockets) (sym same.answers) here.0,
+        subst (λ a. MayFollow limits log new.reach new.request.items left exchanges new.upstream.follower a.shown.mirror) (sym same.answers)
+            (subst (λ u. MayFollow limits log new.reach new.request.items left exchanges u.follower old.answers.shown.mirror) (sym same.upstream)
+            (subst (λ u. MayFollow limits log new.reach new.request.items u exchanges old.upstream.follower old.answers.shown.mirror) (sym rest)
+            (subst (λ r. MayFollow limits log new.reach r.items unread exchanges old.upstream.follower old.answers.shown.mirror) (sym same.request)
+            (subst (λ r. MayFollow limits log r old.request.items unread exchanges old.upstream.follower old.answers.shown.mirror) (sym same.reach) here.1)))),
+      )
+
+  -- the mirror is lent
+  pub with_lent : {contest : List ℕ} {hub : Hub} {conns : Slab Conn} {sockets : AllSockets} {blank before lent : MirrorState}
+      (exchanges : Exchanges) (reach : Reach) (request unread : List ℕ) (follower : Option FollowerState) → lent ≡ before
+      → (AreKnownHonest limits log exchanges → Shows limits log contest before blank hub conns sockets × MayFollow limits log reach request unread exchanges follower before)
+      → AreKnownHonest limits log exchanges → Shows limits log contest lent blank hub conns sockets × MayFollow limits log reach request unread exchanges follower lent
+  with_lent {contest} {hub} {conns} {sockets} {blank} exchanges reach request unread follower is follows =
+      subst (λ m. AreKnownHonest limits log exchanges → Shows limits log contest m blank hub conns sockets × MayFollow limits log reach request unread exchanges follower m) (sym is) follows
+
+  -- what came is taken: a push goes on
+  pub with_taken : (exchanges : Exchanges) {contest : List ℕ} {hub : Hub} {conns : Slab Conn} {sockets : AllSockets} {blank : MirrorState}
+      (reach : Reach) (request line next : List ℕ) (old new : Option FollowerState) (before after : MirrorState) (progress : Progress)
+      → reach ≡ Reads → (progress ≡ reached.TokenRefused → ⊥)
+      → ((start : MirrorState) (bytes : List ℕ) (standing : Standing) → IsFollowing start bytes standing old before → IsPushed start (bytes ++ line) new after progress)
+      → after.limits ≡ before.limits
+      → (AreKnownHonest limits log exchanges → Shows limits log contest before blank hub conns sockets × MayFollow limits log reach request (line ++ next) exchanges old before)
+      → AreKnownHonest limits log exchanges → Shows limits log contest after blank hub conns sockets × MayFollow limits log reach request next exchanges new after
+  with_taken exchanges reach request line next old new before after progress reads on push bounds follows honest =
+      let here = follows honest in
+      let is_taken = taken request line next exchanges old new before after progress on push honest (subst (λ r. MayFollow limits log r request (line ++ next) exchanges old before) reads here.1) in
+      (shows_at bounds is_taken.at refl here.0, subst (λ r. MayFollow limits log r request next exchanges new after) (sym reads) is_taken.follows)
+
+  -- or the token was refused
+  pub with_refused : (exchanges : Exchanges) {contest : List ℕ} {hub : Hub} {conns : Slab Conn} {sockets : AllSockets} {blank : MirrorState}
+      (reach : Reach) (request line next : List ℕ) (old new : Option FollowerState) (before after : MirrorState) (progress : Progress)
+      → reach ≡ Reads → progress ≡ reached.TokenRefused
+      → ((start : MirrorState) (bytes : List ℕ) (standing : Standing) → IsFollowing start bytes standing old before → IsPushed start (bytes ++ line) new after progress)
+      → after.limits ≡ before.limits
+      → (AreKnownHonest limits log exchanges → Shows limits log contest before blank hub conns sockets × MayFollow limits log reach request (line ++ next) exchanges old before)
+      → AreKnownHonest limits log exchanges → Shows limits log contest after blank hub conns sockets
+  with_refused exchanges reach request line next old new before after progress reads is push bounds follows honest =
+      let here = follows honest in
+      shows_at bounds (refused_at request line next exchanges old new before after progress is push honest (subst (λ r. MayFollow limits log r request (line ++ next) exchanges old before) reads here.1)) refl here.0
+
+  -- or it failed
+  pub with_failed : (exchanges : Exchanges) {contest : List ℕ} {hub : Hub} {conns : Slab Conn} {sockets : AllSockets} {blank : MirrorState}
+      (reach : Reach) (request line next : List ℕ) (old : Option FollowerState) (before after : MirrorState) (fault : FollowFault)
+      → reach ≡ Reads
+      → ((start : MirrorState) (bytes : List ℕ) (standing : Standing) → IsFollowing start bytes standing old before
+      → (had_token : Bool) × (had_token ≡ is_some start.since) × Fails start had_token bytes line after fault)
+      → after.limits ≡ before.limits
+      → (AreKnownHonest limits log exchanges → Shows limits log contest before blank hub conns sockets × MayFollow limits log reach request (line ++ next) exchanges old before)
+      → AreKnownHonest limits log exchanges → Shows limits log contest after blank hub conns sockets
+  with_failed exchanges reach request line next old before after fault reads fail bounds follows honest =
+      let here = follows honest in
+      shows_at bounds (failed_at request line next exchanges old before after fault fail honest (subst (λ r. MayFollow limits log r request (line ++ next) exchanges old before) reads here.1)) refl here.0
+
+  -- there is no connection: whatever is unread
+  pub with_away : {X : Type 0} (exchanges : Exchanges) (reach : Reach) (request unread other : List ℕ) (follower : Option FollowerState) (mirror : MirrorState)
+      → reach ≡ Away → (AreKnownHonest limits log exchanges → X × MayFollow limits log reach request unread exchanges follower mirror)
+      → AreKnownHonest limits log exchanges → X × MayFollow limits log reach request other exchanges follower mirror
+  with_away exchanges reach request unread other follower mirror away follows honest =
+      let here = follows honest in (here.0, away_follows reach request unread other exchanges follower mirror away here.1)

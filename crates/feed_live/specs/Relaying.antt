@@ -1,0 +1,126 @@
+-- THE PROMISE of a relay that follows servers: what it shows, and what each socket was handed, is of
+-- the primary's log, as long as the servers are honest.
+use Rattle.std.specs.Prelude.{◌≡◌, ℕ, false, List, [], ◌∷◌, ◌++◌, take, Option, Some, None, Contains, string_bytes}
+use Rattle.slab.specs.Slab.{Slab}
+use Rattle.feed_settings.specs.Limits.{Limits}
+use Rattle.feed_node.specs.Mirroring.{MirrorState}
+use Rattle.feed_node.specs.States.{NodeState}
+use Rattle.feed_follow.specs.Follower.{FollowerState, FollowsAt}
+use Rattle.feed_follow.specs.Standing.{Standing}
+use Rattle.feed_world.specs.Log.{Log}
+use Rattle.feed_hub.specs.declared.hub.Hub.{Hub}
+use Rattle.feed_hub.specs.Laws.{IsInLog}
+use Rattle.feed_device.specs.Links.{Exchange, Exchanges}
+use Rattle.feed_device.specs.Sockets.{AllSockets}
+use Rattle.feed_live.specs.declared.conn.Conn.{Conn}
+use Rattle.feed_live.specs.declared.screens.Screens.{Screens}
+use Rattle.feed_live.specs.declared.source.Reach.{Reach}
+use Rattle.feed_live.specs.declared.source.Reach.TheVariants.{Away, Connects, Asks, Reads}
+use Rattle.feed_live.specs.declared.source.Source.{Source}
+use Rattle.feed_live.specs.declared.turn.Live.{Live}
+use Rattle.feed_live.specs.Serving.{Serving, StillServing}
+use Rattle.feed_live.specs.States.{states_of}
+use Rattle.feed_live.specs.Upstream.{AsksInLog, IsRequestOf, AreKnownHonest}
+
+-- so much of the request was written where the connection has come so far
+abbrev pub IsAsked : Reach → List ℕ → List ℕ → Type 0
+IsAsked Away request asked = ⊥
+IsAsked (Connects since) request asked = asked ≡ []
+IsAsked (Asks count) request asked = asked ≡ take count request
+IsAsked Reads request asked = asked ≡ request
+
+-- A response is followed: that to the request of a mirror at a place of the log, which was written
+-- on the latest connection. What was read there came to the mirror, but for what is still unread.
+pub record Follows (limits : Limits) (log : Log) (reach : Reach) (request unread : List ℕ)
+    (exchanges : Exchanges) (follower : FollowerState) (mirror : MirrorState) : Type 0 where
+  pub start : MirrorState
+  pub asks : AsksInLog limits log start
+  pub is_request : IsRequestOf start request
+  pub latest : Exchange
+  pub before : List Exchange
+  pub exchanges_are : exchanges ≡ Some (latest ∷ before)
+  pub asked : IsAsked reach request latest.asked
+  pub bytes : List ℕ
+  pub received : latest.received ≡ bytes ++ unread
+  pub standing : Standing
+  pub follows : FollowsAt start bytes standing follower mirror
+
+-- so it is where one is followed; else there is no connection
+abbrev pub MayFollow : Limits → Log → Reach → List ℕ → List ℕ → Exchanges → Option FollowerState
+    → MirrorState → Type 0
+MayFollow limits log reach request unread exchanges None mirror = reach ≡ Away
+MayFollow limits log reach request unread exchanges (Some follower) mirror =
+    Follows limits log reach request unread exchanges follower mirror
+
+-- What requests are answered with is at places of the log. So each socket was handed a prefix of
+-- what is due to an answer that a state of the log gave.
+pub record Shows (limits : Limits) (log : Log) (contest : List ℕ) (shown blank : MirrorState)
+    (hub : Hub) (conns : Slab Conn) (sockets : AllSockets) : Type 0 where
+  pub limits_are : shown.limits ≡ limits
+  pub shown_is : IsInLog limits log shown.node
+  pub blank_is : IsInLog limits log blank.node
+  pub serving : Serving (states_of limits log) contest hub conns sockets
+
+-- A relay of this contest shows the log where all servers were honest so far, and follows a server as
+-- it should, of whose response this is unread.
+abbrev pub FollowsLog : Limits → Log → List ℕ → Exchanges → Source → List ℕ → Screens → AllSockets
+    → Type 0
+FollowsLog limits log contest exchanges source unread screens sockets =
+    AreKnownHonest limits log exchanges
+    → Shows limits log contest source.answers.shown.mirror source.answers.blank.mirror screens.hub
+    screens.conns sockets
+    × MayFollow limits log source.reach source.request.items unread exchanges
+    source.upstream.follower source.answers.shown.mirror
+
+-- THE PROMISE: so it is with a relay whose feed is not its input
+abbrev pub IsRelaying : Limits → Log → Exchanges → Live → AllSockets → Type 0
+IsRelaying limits log exchanges live sockets =
+    (live.feeds ≡ false)
+    × FollowsLog limits log (string_bytes live.contest) exchanges live.source live.source.rest.items
+    live.screens sockets
+
+-- ---- steps
+
+-- it was so, and still is
+abbrev pub StillFollows : Source → Source → Exchanges → Exchanges → List ℕ → List ℕ → Screens
+    → Screens → Type 0
+StillFollows old new before after unread left screens later =
+    (limits : Limits) (log : Log) (contest : List ℕ) (sockets : AllSockets)
+    → FollowsLog limits log contest before old unread screens sockets
+    → FollowsLog limits log contest after new left later sockets
+
+abbrev pub StillRelaying : Live → Live → Exchanges → Exchanges → AllSockets → AllSockets → Type 0
+StillRelaying old new before after sockets later =
+    (limits : Limits) (log : Log) → IsRelaying limits log before old sockets
+    → IsRelaying limits log after new later
+
+-- all socket screens stay as they are served, where this node is among those that serve them
+abbrev pub StillServes : NodeState → Screens → Screens → Type 0
+StillServes node old new =
+    (nodes : List NodeState) (contest : List ℕ) (sockets : AllSockets) → Contains nodes node
+    → StillServing nodes contest old new sockets sockets
+
+-- nothing changed of what is followed and shown
+pub record SameSource (old new : Source) : Type 0 where
+  pub shown : new.answers.shown.mirror ≡ old.answers.shown.mirror
+  pub blank : new.answers.blank.mirror ≡ old.answers.blank.mirror
+  pub follower : new.upstream.follower ≡ old.upstream.follower
+  pub reach : new.reach ≡ old.reach
+  pub request : new.request.items ≡ old.request.items
+  pub rest : new.rest.items ≡ old.rest.items
+
+-- the same but for what is kept unread
+pub record IsKeeping (old new : Source) : Type 0 where
+  pub answers : new.answers ≡ old.answers
+  pub upstream : new.upstream ≡ old.upstream
+  pub reach : new.reach ≡ old.reach
+  pub request : new.request ≡ old.request
+
+-- the server was left: no response is followed, and what is shown stays
+pub record IsLeft (old new : Source) (before after : Exchanges) : Type 0 where
+  pub exchanges : after ≡ before
+  pub reach : new.reach ≡ Away
+  pub follower : new.upstream.follower ≡ None
+  pub limits : new.answers.shown.mirror.limits ≡ old.answers.shown.mirror.limits
+  pub node : new.answers.shown.mirror.node ≡ old.answers.shown.mirror.node
+  pub blank : new.answers.blank.mirror ≡ old.answers.blank.mirror

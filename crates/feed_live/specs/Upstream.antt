@@ -1,0 +1,58 @@
+-- What is supposed of the servers that a relay follows, of what they sent it alone.
+use Rattle.std.specs.Prelude.{◌≡◌, ℕ, List, [], ◌∷◌, ◌++◌, Option, Some, None, is_none, is_some}
+use Rattle.feed_settings.specs.Limits.{Limits}
+use Rattle.feed_settings.specs.Place.{Place}
+use Rattle.feed_node.specs.Mirroring.{MirrorState}
+use Rattle.feed_follow.specs.declared.fault.FollowFault.{FollowFault}
+use Rattle.feed_follow.specs.Follower.{FollowerState, FollowsAt}
+use Rattle.feed_follow.specs.Following.{Fails}
+use Rattle.feed_follow.specs.Standing.{Standing}
+use Rattle.feed_answer.specs.Identity.{Identity}
+use Rattle.feed_answer.specs.RequestText.{request_text_as}
+use Rattle.feed_world.specs.Log.{Log}
+use Rattle.feed_world.specs.Position.{Position, IsPlace}
+use Rattle.feed_world.specs.States.{HasAsked}
+use Rattle.feed_hub.specs.Laws.{IsInLog}
+use Rattle.feed_device.specs.Links.{Exchange, Exchanges}
+
+-- the mirror is at a place of the log, and asks with the token of that, or with none
+pub record AsksInLog (limits : Limits) (log : Log) (mirror : MirrorState) : Type 0 where
+  pub place : Option Position
+  pub is_place : IsPlace limits log place
+  pub asks : HasAsked limits log place (is_none mirror.since) mirror
+
+-- this is the text with which the mirror asks a server for what it lacks
+pub record IsRequestOf (mirror : MirrorState) (text : List ℕ) : Type 0 where
+  pub place : Place
+  pub identity : Identity
+  pub text_is : text ≡ request_text_as place mirror.since identity
+
+-- Whatever prefix of these bytes comes to the mirror, in any pieces: it shows nothing or a state of
+-- the log at its token, also once it stopped.
+pub record StaysInLog (limits : Limits) (log : Log) (begun : MirrorState) (bytes : List ℕ)
+    : Type 0 where
+  pub shows : (before behind : List ℕ) (standing : Standing) (follower : FollowerState)
+      (mirror : MirrorState) → before ++ behind ≡ bytes
+      → FollowsAt begun before standing follower mirror → IsInLog limits log mirror.node
+  pub fails : (before piece behind : List ℕ) (mirror : MirrorState) (fault : FollowFault)
+      → (before ++ piece) ++ behind ≡ bytes
+      → Fails begun (is_some begun.since) before piece mirror fault
+      → IsInLog limits log mirror.node
+
+-- THE PREMISE: where the request of a mirror at a place of the log was written first, what was read
+-- keeps that mirror at places of the log. So is what `serve_node` and `serve_live` write for a node
+-- of that log, what a relay hands on, and any error that carries no feed.
+abbrev pub IsHonest : Limits → Log → Exchange → Type 0
+IsHonest limits log exchange =
+    (begun : MirrorState) (text more : List ℕ) → AsksInLog limits log begun
+    → IsRequestOf begun text → exchange.asked ≡ text ++ more
+    → StaysInLog limits log begun exchange.received
+
+abbrev pub AreHonest : Limits → Log → List Exchange → Type 0
+AreHonest limits log [] = Unit {0}
+AreHonest limits log (latest ∷ before) = IsHonest limits log latest × AreHonest limits log before
+
+-- the exchanges are known, and honest
+abbrev pub AreKnownHonest : Limits → Log → Exchanges → Type 0
+AreKnownHonest limits log None = ⊥
+AreKnownHonest limits log (Some exchanges) = AreHonest limits log exchanges

@@ -1,0 +1,244 @@
+//! The response is read, followed and said.
+
+ghost use Rattle.std.specs.Prelude.{◌≡◌, ◌++◌, [], List, ℕ, OnOk, false, true};
+
+use crate::figures::Following;
+use crate::screens::Screens;
+use crate::source::{Reach, Source};
+use crate::told::Telling;
+use feed_device::{Link, Stop, Told, Why};
+use feed_follow::{FollowFault, Progress};
+use memchr::memchr;
+use std::alloc::{AllocError, Global};
+use std::mem;
+
+/// How many reads one turn makes before the screens have theirs, and how many bytes each takes.
+const READS: usize = 16;
+
+const PIECE: usize = 16_384;
+
+impl Source {
+    ghost use Rattle.feed_live.specs.Relaying.{StillFollows, StillServes, SameSource};
+    ghost use Rattle.feed_live.specs.Relaying.{IsKeeping, IsLeft};
+    ghost use Rattle.feed_live.specs.declared.source.Reach.TheVariants.{Away, Reads as Read};
+
+    /// Reads what came, so many times.
+    pub(crate) fn read_some<L: Link>(
+        &mut self,
+        alloc: Global,
+        link: &mut L,
+        told: &mut Telling,
+        screens: &mut Screens,
+        now: u64,
+    )
+        ensures follows { self.old.reach ≡ Read → StillFollows self.old self.new
+            (L.exchanges link.old) (L.exchanges link.new) self.old.rest.items
+            self.new.rest.items screens.old screens.new }
+    {
+        let rest = self.kept(alloc);
+        self.take(alloc, link, told, screens, rest.as_slice(), now);
+        for _ in 0..READS {
+            // What is kept comes before what is still to be read.
+            if !self.rest.is_empty() || screens.says_at().is_some() || self.reach != Reach::Reads {
+                break;
+            }
+            if !self.read(alloc, link, told, screens, now) {
+                return;
+            }
+        }
+        self.has_more = self.reach == Reach::Reads;
+    }
+
+    /// One read. Whether there may be more.
+    fn read<L: Link>(
+        &mut self,
+        alloc: Global,
+        link: &mut L,
+        told: &mut Telling,
+        screens: &mut Screens,
+        now: u64,
+    ) -> bool
+        ensures follows { self.old.reach ≡ Read → self.old.rest.items ≡ []
+            → StillFollows self.old self.new (L.exchanges link.old) (L.exchanges link.new) []
+            self.new.rest.items screens.old screens.new }
+    {
+        let mut buf = [0u8; PIECE];
+        match link.read(&mut buf) {
+            Ok(0) => {
+                self.lost(link, told, Why::Ended, now);
+                false
+            }
+            Ok(count) => {
+                self.figures.hear(count, now);
+                self.take(alloc, link, told, screens, &buf[..count], now);
+                self.reach == Reach::Reads
+            }
+            Err(Stop::Waits) => false,
+            Err(_) => {
+                self.lost(link, told, Why::Broke, now);
+                false
+            }
+        }
+    }
+
+    /// Bytes came: they are followed up to each line feed, so that one step publishes at most once.
+    fn take<L: Link>(
+        &mut self,
+        alloc: Global,
+        link: &mut L,
+        told: &mut Telling,
+        screens: &mut Screens,
+        piece: &[u8],
+        now: u64,
+    )
+        ensures follows { self.old.reach ≡ Read → self.old.rest.items ≡ []
+            → StillFollows self.old self.new (L.exchanges link.old) (L.exchanges link.new)
+            piece.now self.new.rest.items screens.old screens.new }
+    {
+        let mut rest = piece;
+        for _ in 0..piece.len() {
+            // The mirror goes no further than what is said.
+            if rest.is_empty() || screens.says_at().is_some() {
+                break;
+            }
+            let (line, next) = split_line(rest);
+            rest = next;
+            if !self.take_line(alloc, link, told, screens, line, now) {
+                return;
+            }
+        }
+        if self.keep(rest).is_err() {
+            self.lost(link, told, Why::Memory, now);
+        }
+    }
+
+    /// Keeps what came until all before it was said.
+    pub(crate) fn keep(&mut self, rest: &[u8]) -> Result<(), AllocError>
+        ensures ok { OnOk result (self.new.rest.items ≡ self.old.rest.items ++ rest.now) }
+        ensures same { IsKeeping self.old self.new }
+    {
+        self.rest.extend_from_slice(rest)
+    }
+
+    /// What was kept, and nothing is kept then.
+    pub(crate) fn kept(&mut self, alloc: Global) -> Vec<u8>
+        ensures kept { result.items ≡ self.old.rest.items }
+        ensures rest { self.new.rest.items ≡ [] }
+        ensures same { IsKeeping self.old self.new }
+    {
+        mem::replace(&mut self.rest, Vec::new(alloc))
+    }
+
+    /// One line came, or a part of one. Whether the connection goes on.
+    fn take_line<L: Link>(
+        &mut self,
+        alloc: Global,
+        link: &mut L,
+        told: &mut Telling,
+        screens: &mut Screens,
+        line: &[u8],
+        now: u64,
+    ) -> bool
+        ensures follows { self.old.reach ≡ Read → (next : List ℕ)
+            → StillFollows self.old self.new (L.exchanges link.old) (L.exchanges link.new)
+            (line.now ++ next) next screens.old screens.new }
+        ensures goes_on { result ≡ true → (self.new.reach ≡ self.old.reach)
+            × (self.new.rest.items ≡ self.old.rest.items) }
+        ensures stops { result ≡ false → self.new.reach ≡ Away }
+    {
+        let mirror = self.answers.shown.change();
+        match self.upstream.take(alloc, mirror, line, now) {
+            Ok(Progress::Head) => true,
+            Ok(Progress::Body) => {
+                self.found(told, now);
+                self.say(alloc, screens, now);
+                true
+            }
+            Ok(Progress::Done) => {
+                self.found(told, now);
+                self.say(alloc, screens, now);
+                self.lost(link, told, Why::Ended, now);
+                false
+            }
+            Ok(Progress::TokenRefused) => {
+                self.refused(link, told, now);
+                false
+            }
+            Err(fault) => {
+                self.say(alloc, screens, now);
+                self.lost(link, told, why_of(fault), now);
+                false
+            }
+        }
+    }
+
+    /// The server does not hold the token: the others are asked with it before it is forgotten.
+    fn refused<L: Link>(&mut self, link: &mut L, told: &mut Telling, now: u64)
+        ensures left { IsLeft self.old self.new (L.exchanges link.old) (L.exchanges link.new) }
+    {
+        told.tell(Told::Refused {
+            server: self.upstream.place(),
+        });
+        self.leave(link, now);
+        self.figures.change(Following::Away, now);
+        self.upstream.refused(self.answers.shown.change(), now);
+    }
+
+    /// The server answers with the feed.
+    fn found(&mut self, told: &mut Telling, now: u64)
+        ensures { SameSource self.old self.new }
+    {
+        if self.body_since.is_some() {
+            return;
+        }
+        self.body_since = Some(now);
+        self.figures.find(now);
+        told.tell(Told::Found {
+            server: self.upstream.place(),
+            away: now.saturating_sub(self.away_since),
+        });
+    }
+
+    /// Says what was published. Where a connection published afresh, no screen goes on from what
+    /// it has.
+    fn say(&mut self, alloc: Global, screens: &mut Screens, now: u64)
+        ensures same { SameSource self.old self.new }
+        ensures serves { StillServes self.old.answers.shown.mirror.node screens.old screens.new }
+    {
+        if self.is_fresh && self.answers.shown.mirror().since().is_some() {
+            self.is_fresh = false;
+            self.epoch = self.epoch.saturating_add(1);
+            screens.end_feeds(alloc, now);
+        }
+        if screens.relay(alloc, self.answers.shown.node(), now) {
+            self.is_heard = true;
+            self.figures.publish();
+            self.upstream.published();
+        }
+    }
+
+    /// Says what had to wait.
+    pub(crate) fn say_more(&mut self, alloc: Global, screens: &mut Screens, now: u64)
+        ensures same { SameSource self.old self.new }
+        ensures serves { StillServes self.old.answers.shown.mirror.node screens.old screens.new }
+    {
+        screens.relay(alloc, self.answers.shown.node(), now);
+    }
+}
+
+/// A piece up to and with its first line feed, or all of it; and what comes after that.
+pub(crate) fn split_line(piece: &[u8]) -> (&[u8], &[u8])
+    ensures { result.0.now ++ result.1.now ≡ piece.now }
+{
+    match memchr(b'\n', piece) {
+        Some(at) => piece.split_at(at + 1),
+        None => (piece, &[]),
+    }
+}
+
+fn why_of(fault: FollowFault) -> Why {
+    match fault {
+        FollowFault::Memory => Why::Memory,
+        _ => Why::Fault(fault),
+    }
+}
