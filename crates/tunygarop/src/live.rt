@@ -3,9 +3,9 @@
 mod making;
 mod watching;
 
-use crate::ending::Failure;
 use feed_cli::{LiveOptions, Verbosity};
 use feed_live::{Following, Input, Live, Turn};
+use feed_network::Failure;
 use feed_system::System;
 use making::{needs_memory, of_system, prepare};
 use std::alloc::AllocError;

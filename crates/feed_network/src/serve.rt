@@ -22,7 +22,7 @@ fn can_be_named(alloc: Global, contest: &str, limits: Limits) -> Result<bool, Fa
 }
 
 /// Serves the feed on standard input.
-pub(crate) fn serve_feed(rt: &HostRuntime, options: &ServeOptions<'_>) -> Result<(), Failure> {
+pub fn serve_feed(rt: &HostRuntime, options: &ServeOptions<'_>) -> Result<(), Failure> {
     let alloc = rt.alloc();
     let mut source = start_source(alloc, options, &mut Stream::new(rt.stdin()))?;
     let reporter = Reporter::new(rt, "serve", options.verbose);
