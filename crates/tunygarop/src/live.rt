@@ -3,9 +3,9 @@
 mod making;
 mod watching;
 
-use crate::ending::Failure;
-use feed_cli::{LiveOptions, Verbosity};
+use feed_cli::{Fault, LiveOptions, Verbosity};
 use feed_live::{Following, Input, Live, Turn};
+use feed_network::Failure;
 use feed_system::System;
 use making::{needs_memory, of_system, prepare};
 use std::alloc::AllocError;
@@ -123,18 +123,31 @@ impl Engine<'_> {
         }
         Ok(())
     }
+
+    /// Says where screens are listened to, where they are.
+    fn tell_port(&mut self, options: &LiveOptions<'_>) -> Result<(), Fault> {
+        if let Some(port) = options.listen {
+            let address = options.address;
+            let text = needs_memory(format!(in self.rt.alloc();
+                "listening at {address}, port {port}"
+            ))?;
+            if options.verbosity != Verbosity::Quiet {
+                self.system.line(text.as_str());
+            }
+        }
+        Ok(())
+    }
+
+    /// Says where it listens, and takes turn after turn.
+    fn serve(&mut self, options: &LiveOptions<'_>) -> Result<(), Failure> {
+        self.tell_port(options)?;
+        let reads_input = options.upstream.is_none() || options.until_eof;
+        Ok(of_system(self.run(reads_input))?)
+    }
 }
 
 /// Follows a server, or standard input, and serves what that publishes.
 pub(crate) fn live_feed(rt: &HostRuntime, options: &LiveOptions<'_>) -> Result<(), Failure> {
     let mut engine = prepare(rt, options)?;
-    if let Some(port) = options.listen {
-        let address = options.address;
-        let text = needs_memory(format!(in rt.alloc(); "listening at {address}, port {port}"))?;
-        if options.verbosity != Verbosity::Quiet {
-            engine.system.line(text.as_str());
-        }
-    }
-    let reads_input = options.upstream.is_none() || options.until_eof;
-    Ok(of_system(engine.run(reads_input))?)
+    engine.serve(options)
 }

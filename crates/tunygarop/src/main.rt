@@ -1,24 +1,12 @@
 //! The program: its arguments, standard streams and sockets, for the commands of `feed_cli`.
 #![tactic(auto)]
 
-mod connection;
-mod ending;
-mod errors;
-mod hosts;
-mod identity;
 mod live;
-mod pull;
-mod relay;
-mod serve;
-mod sockets;
 
-use ending::ended;
 use feed_cli::stream::Stream;
 use feed_cli::{Local, NoCommand, Request, answer_words, parse_words, run};
+use feed_network::{ended, pull_feed, relay_feed, serve_feed};
 use live::live_feed;
-use pull::pull_feed;
-use relay::relay_feed;
-use serve::serve_feed;
 use std::io::ErrorKind;
 use std::process::ExitCode;
 use std::{env, io};

@@ -1,6 +1,6 @@
 //! The commands, as the command line declares them.
 ghost use Rattle.std.specs.Prelude.{◌≡◌, true, false, IfOk};
-ghost use Rattle.clap.specs.Words.{app_of, new_app, rule_of, with_rule, with_subcommand};
+ghost use Rattle.clap.specs.Words.{App, Rule, app_of, new_app, rule_of, with_rule, with_subcommand};
 ghost use Rattle.feed_words.specs.Options.{with_limits as limited};
 ghost use Rattle.feed_words.specs.Words as words;
 
@@ -29,28 +29,28 @@ pub(super) fn command<'a>(alloc: Global, name: &'a str, about: &'a str) -> Comma
     Command::new(alloc, name).about(about)
 }
 
-/// A command with one more option.
+/// A command with one more option; none where there was none.
 pub(super) fn add_option<'a>(
-    command: Command<'a>,
+    command: Result<Command<'a>, AllocError>,
     option: Arg<'a>,
 ) -> Result<Command<'a>, AllocError>
     requires { option.global ≡ false }
-    ensures { IfOk result (λ c. app_of c ≡ with_rule (app_of command.entry) (rule_of option.entry)) }
+    ensures { (app : App) → (rule : Rule) → IfOk command.entry (λ c. app_of c ≡ app)
+        → rule_of option.entry ≡ rule → IfOk result (λ c. app_of c ≡ with_rule app rule) }
 {
-    command.arg(option)
+    command?.arg(option)
 }
 
-/// A command with the limits of its node.
+/// A command with the limits of its node; none where there was none.
 pub(super) fn with_limits<'a>(
     alloc: Global,
-    command: Command<'a>,
+    command: Result<Command<'a>, AllocError>,
 ) -> Result<Command<'a>, AllocError>
-    ensures { IfOk result (λ c. app_of c ≡ limited (app_of command.entry)) }
+    ensures { (app : App) → IfOk command.entry (λ c. app_of c ≡ app)
+        → IfOk result (λ c. app_of c ≡ limited app) }
 {
-    add_option(
-        add_option(command, options::history(alloc))?,
-        options::staged(alloc),
-    )
+    let kept = add_option(command, options::history(alloc));
+    add_option(kept, options::staged(alloc))
 }
 
 /// `tables`.
@@ -58,27 +58,35 @@ fn tables<'a>(alloc: Global) -> Result<Command<'a>, AllocError>
     ensures { IfOk result (λ c. app_of c ≡ words.tables) }
 {
     let about = "Prints the tables that the event feed on standard input has published";
-    let limited = with_limits(alloc, command(alloc, "tables", about))?;
+    let limited = with_limits(alloc, Ok(command(alloc, "tables", about)));
     let help = "Tell the number of the faulty line, too";
     add_option(limited, options::verbose(alloc, help))
 }
 
 /// A command with the options that `serve` needs.
-fn with_served<'a>(alloc: Global, command: Command<'a>) -> Result<Command<'a>, AllocError>
-    ensures { IfOk result (λ c. app_of c ≡ words.with_served (app_of command.entry)) }
+fn with_served<'a>(
+    alloc: Global,
+    command: Result<Command<'a>, AllocError>,
+) -> Result<Command<'a>, AllocError>
+    ensures { (app : App) → IfOk command.entry (λ c. app_of c ≡ app)
+        → IfOk result (λ c. app_of c ≡ words.with_served app) }
 {
     let help = "The port of 127.0.0.1 that the feed is served at";
-    let served = add_option(command, options::port(alloc, help))?;
-    let served = add_option(served, options::contest(alloc))?;
+    let served = add_option(command, options::port(alloc, help));
+    let served = add_option(served, options::contest(alloc));
     add_option(served, options::count(alloc))
 }
 
 /// A command with the options that say what `serve` sends.
-fn with_sent<'a>(alloc: Global, command: Command<'a>) -> Result<Command<'a>, AllocError>
-    ensures { IfOk result (λ c. app_of c ≡ words.with_sent (app_of command.entry)) }
+fn with_sent<'a>(
+    alloc: Global,
+    command: Result<Command<'a>, AllocError>,
+) -> Result<Command<'a>, AllocError>
+    ensures { (app : App) → IfOk command.entry (λ c. app_of c ≡ app)
+        → IfOk result (λ c. app_of c ≡ words.with_sent app) }
 {
-    let sent = add_option(command, options::turn(alloc))?;
-    let sent = add_option(sent, options::chunked(alloc))?;
+    let sent = add_option(command, options::turn(alloc));
+    let sent = add_option(sent, options::chunked(alloc));
     add_option(sent, options::back(alloc))
 }
 
@@ -87,49 +95,65 @@ fn serve<'a>(alloc: Global) -> Result<Command<'a>, AllocError>
     ensures { IfOk result (λ c. app_of c ≡ words.serve) }
 {
     let about = "Serves the event feed on standard input at a port of 127.0.0.1, as a primary";
-    let serve = with_served(alloc, command(alloc, "serve", about))?;
-    let serve = with_sent(alloc, serve)?;
-    let serve = add_option(serve, options::verbose(alloc, CONNECTIONS))?;
+    let serve = with_served(alloc, Ok(command(alloc, "serve", about)));
+    let serve = with_sent(alloc, serve);
+    let serve = add_option(serve, options::verbose(alloc, CONNECTIONS));
     with_limits(alloc, serve)
 }
 
 /// A command with the options that say what is followed.
-fn with_place<'a>(alloc: Global, command: Command<'a>) -> Result<Command<'a>, AllocError>
-    ensures { IfOk result (λ c. app_of c ≡ words.with_place (app_of command.entry)) }
+fn with_place<'a>(
+    alloc: Global,
+    command: Result<Command<'a>, AllocError>,
+) -> Result<Command<'a>, AllocError>
+    ensures { (app : App) → IfOk command.entry (λ c. app_of c ≡ app)
+        → IfOk result (λ c. app_of c ≡ words.with_place app) }
 {
     let help = "The port of the server that is followed";
-    let placed = add_option(command, options::host(alloc))?;
-    let placed = add_option(placed, options::port(alloc, help))?;
-    let placed = add_option(placed, options::from(alloc))?;
+    let placed = add_option(command, options::host(alloc));
+    let placed = add_option(placed, options::port(alloc, help));
+    let placed = add_option(placed, options::from(alloc));
     add_option(placed, options::contest(alloc))
 }
 
 /// A command with the options that say what a server is told of who asks.
-fn with_identity<'a>(alloc: Global, command: Command<'a>) -> Result<Command<'a>, AllocError>
-    ensures { IfOk result (λ c. app_of c ≡ words.with_identity (app_of command.entry)) }
+fn with_identity<'a>(
+    alloc: Global,
+    command: Result<Command<'a>, AllocError>,
+) -> Result<Command<'a>, AllocError>
+    ensures { (app : App) → IfOk command.entry (λ c. app_of c ≡ app)
+        → IfOk result (λ c. app_of c ≡ words.with_identity app) }
 {
-    let named = add_option(command, options::host_header(alloc))?;
+    let named = add_option(command, options::host_header(alloc));
     add_option(named, options::user_file(alloc))
 }
 
 /// A command with the options that say what is followed, and how far.
-fn with_followed<'a>(alloc: Global, command: Command<'a>) -> Result<Command<'a>, AllocError>
-    ensures { IfOk result (λ c. app_of c ≡ words.with_followed (app_of command.entry)) }
+fn with_followed<'a>(
+    alloc: Global,
+    command: Result<Command<'a>, AllocError>,
+) -> Result<Command<'a>, AllocError>
+    ensures { (app : App) → IfOk command.entry (λ c. app_of c ≡ app)
+        → IfOk result (λ c. app_of c ≡ words.with_followed app) }
 {
-    let followed = with_place(alloc, command)?;
-    let followed = add_option(followed, options::base(alloc))?;
-    let followed = with_identity(alloc, followed)?;
-    let followed = add_option(followed, options::turns(alloc))?;
+    let followed = with_place(alloc, command);
+    let followed = add_option(followed, options::base(alloc));
+    let followed = with_identity(alloc, followed);
+    let followed = add_option(followed, options::turns(alloc));
     add_option(followed, options::silence(alloc))
 }
 
 /// A command with the options of `pull`.
-fn with_pull<'a>(alloc: Global, command: Command<'a>) -> Result<Command<'a>, AllocError>
-    ensures { IfOk result (λ c. app_of c ≡ words.with_pull (app_of command.entry)) }
+fn with_pull<'a>(
+    alloc: Global,
+    command: Result<Command<'a>, AllocError>,
+) -> Result<Command<'a>, AllocError>
+    ensures { (app : App) → IfOk command.entry (λ c. app_of c ≡ app)
+        → IfOk result (λ c. app_of c ≡ words.with_pull app) }
 {
-    let pull = with_followed(alloc, command)?;
-    let pull = add_option(pull, options::resume(alloc))?;
-    let pull = add_option(pull, options::verbose(alloc, CONNECTIONS))?;
+    let pull = with_followed(alloc, command);
+    let pull = add_option(pull, options::resume(alloc));
+    let pull = add_option(pull, options::verbose(alloc, CONNECTIONS));
     with_limits(alloc, pull)
 }
 
@@ -139,7 +163,7 @@ fn pull<'a>(alloc: Global) -> Result<Command<'a>, AllocError>
 {
     let about =
         "Follows a server's event feed on one connection, and prints the tables that it has published";
-    with_pull(alloc, command(alloc, "pull", about))
+    with_pull(alloc, Ok(command(alloc, "pull", about)))
 }
 
 /// `relay`.
@@ -148,52 +172,61 @@ fn relay<'a>(alloc: Global) -> Result<Command<'a>, AllocError>
 {
     let about =
         "Follows a server's event feed and serves it at a port of 127.0.0.1, in turns, and prints the tables at the end";
-    let relay = with_pull(alloc, command(alloc, "relay", about))?;
-    let relay = add_option(relay, options::listen(alloc))?;
-    let relay = add_option(relay, options::count(alloc))?;
+    let relay = with_pull(alloc, Ok(command(alloc, "relay", about)));
+    let relay = add_option(relay, options::listen(alloc));
+    let relay = add_option(relay, options::count(alloc));
     add_option(relay, options::chunked(alloc))
 }
 
-/// A command with one more command below it.
-fn with_command<'a>(above: Command<'a>, below: Command<'a>) -> Result<Command<'a>, AllocError>
-    requires { (app_of below).top.is_plain ≡ true }
-    ensures { IfOk result (λ c. app_of c ≡ with_subcommand (app_of above.entry) (app_of below.entry).top) }
+/// A command with one more command below it; none where there was none of the two.
+fn with_command<'a>(
+    above: Result<Command<'a>, AllocError>,
+    below: Result<Command<'a>, AllocError>,
+) -> Result<Command<'a>, AllocError>
+    ensures { (app : App) → (sub : App) → IfOk above.entry (λ c. app_of c ≡ app)
+        → IfOk below.entry (λ c. app_of c ≡ sub) → sub.top.is_plain ≡ true
+        → IfOk result (λ c. app_of c ≡ with_subcommand app sub.top) }
 {
-    above.subcommand(below)
+    let below = below?;
+    above?.subcommand(below)
+}
+
+/// The program, without its commands.
+fn program<'a>(alloc: Global) -> Command<'a>
+    ensures { app_of result ≡ words.program }
+{
+    Command::new(alloc, PROGRAM)
+        .about("Mirrors the event feed of a programming contest (CLICS Contest API 2023-06)")
+        .version(VERSION)
+        .after_help(USUAL_CALLS)
+        .subcommand_required(true)
 }
 
 /// The program, with the commands that open no connection.
 fn local_program<'a>(alloc: Global) -> Result<Command<'a>, AllocError>
     ensures { IfOk result (λ c. app_of c ≡ words.local_program) }
 {
-    let program = Command::new(alloc, PROGRAM)
-        .about("Mirrors the event feed of a programming contest (CLICS Contest API 2023-06)")
-        .version(VERSION)
-        .after_help(USUAL_CALLS)
-        .subcommand_required(true);
     let check =
         "Counts the lines of the event feed on standard input, or names the first that can't be read";
     let play =
         "Plays the script of events on standard input in a world of nodes, and prints what is replied";
-    let program = with_command(program, tables(alloc)?)?;
-    let program = with_command(program, command(alloc, "check", check))?;
-    with_command(program, command(alloc, "play", play))
+    let program = with_command(Ok(program(alloc)), tables(alloc));
+    let program = with_command(program, Ok(command(alloc, "check", check)));
+    with_command(program, Ok(command(alloc, "play", play)))
 }
 
 /// The program, with those and the commands for trying.
 fn program_for_trying<'a>(alloc: Global) -> Result<Command<'a>, AllocError>
     ensures { IfOk result (λ c. app_of c ≡ words.program_for_trying) }
 {
-    let program = local_program(alloc)?;
-    let program = with_command(program, serve(alloc)?)?;
-    let program = with_command(program, pull(alloc)?)?;
-    with_command(program, relay(alloc)?)
+    let program = with_command(local_program(alloc), serve(alloc));
+    let program = with_command(program, pull(alloc));
+    with_command(program, relay(alloc))
 }
 
 /// The command line.
 pub(super) fn command_line<'a>(alloc: Global) -> Result<Command<'a>, AllocError>
     ensures { IfOk result (λ c. app_of c ≡ words.command_line) }
 {
-    let program = program_for_trying(alloc)?;
-    with_command(program, live(alloc)?)
+    with_command(program_for_trying(alloc), live(alloc))
 }

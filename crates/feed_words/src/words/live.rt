@@ -1,6 +1,6 @@
 //! The command `live`, as the command line declares it.
 ghost use Rattle.std.specs.Prelude.{◌≡◌, true, false, IfOk};
-ghost use Rattle.clap.specs.Words.{app_of, rule_of};
+ghost use Rattle.clap.specs.Words.{App, Rule, app_of, rule_of, with_rule};
 ghost use Rattle.feed_words.specs.Live as live;
 
 use super::line::{add_option, command, with_limits};
@@ -203,100 +203,157 @@ fn quiet<'a>(alloc: Global) -> Arg<'a>
     flag(alloc, "quiet").help("Report nothing but why the command ends")
 }
 
-/// A command whose further options stand under a heading in its help.
-fn under<'a>(command: Command<'a>, heading: &'a str) -> Command<'a>
-    ensures { app_of result ≡ app_of command.entry }
+/// A command with one more option, where memory was left for both.
+fn add_tied<'a>(
+    command: Result<Command<'a>, AllocError>,
+    option: Result<Arg<'a>, AllocError>,
+) -> Result<Command<'a>, AllocError>
+    requires { IfOk option (λ o. o.global ≡ false) }
+    ensures { (app : App) → (rule : Rule) → IfOk command.entry (λ c. app_of c ≡ app)
+        → IfOk option.entry (λ o. rule_of o ≡ rule)
+        → IfOk result (λ c. app_of c ≡ with_rule app rule) }
 {
-    command.next_help_heading(heading)
+    add_option(command, option?)
+}
+
+/// A command whose further options stand under a heading in its help.
+fn under<'a>(
+    command: Result<Command<'a>, AllocError>,
+    heading: &'a str,
+) -> Result<Command<'a>, AllocError>
+    ensures { (app : App) → IfOk command.entry (λ c. app_of c ≡ app)
+        → IfOk result (λ c. app_of c ≡ app) }
+{
+    Ok(command?.next_help_heading(heading))
 }
 
 /// A command with the options that name a server.
-fn with_server<'a>(alloc: Global, command: Command<'a>) -> Result<Command<'a>, AllocError>
-    ensures { IfOk result (λ c. app_of c ≡ live.with_server (app_of command.entry)) }
+fn with_server<'a>(
+    alloc: Global,
+    command: Result<Command<'a>, AllocError>,
+) -> Result<Command<'a>, AllocError>
+    ensures { (app : App) → IfOk command.entry (λ c. app_of c ≡ app)
+        → IfOk result (λ c. app_of c ≡ live.with_server app) }
 {
-    let named = add_option(command, host(alloc)?)?;
-    add_option(named, port(alloc)?)
+    let named = add_tied(command, host(alloc));
+    add_tied(named, port(alloc))
 }
 
 /// A command with the options that say what a server is told of who asks.
-fn with_identity<'a>(alloc: Global, command: Command<'a>) -> Result<Command<'a>, AllocError>
-    ensures { IfOk result (λ c. app_of c ≡ live.with_identity (app_of command.entry)) }
+fn with_identity<'a>(
+    alloc: Global,
+    command: Result<Command<'a>, AllocError>,
+) -> Result<Command<'a>, AllocError>
+    ensures { (app : App) → IfOk command.entry (λ c. app_of c ≡ app)
+        → IfOk result (λ c. app_of c ≡ live.with_identity app) }
 {
-    let named = add_option(command, host_header(alloc)?)?;
-    add_option(named, user_file(alloc)?)
+    let named = add_tied(command, host_header(alloc));
+    add_tied(named, user_file(alloc))
 }
 
 /// A command with the options that say which feed is followed.
-fn with_feed<'a>(alloc: Global, command: Command<'a>) -> Result<Command<'a>, AllocError>
-    ensures { IfOk result (λ c. app_of c ≡ live.with_feed (app_of command.entry)) }
+fn with_feed<'a>(
+    alloc: Global,
+    command: Result<Command<'a>, AllocError>,
+) -> Result<Command<'a>, AllocError>
+    ensures { (app : App) → IfOk command.entry (λ c. app_of c ≡ app)
+        → IfOk result (λ c. app_of c ≡ live.with_feed app) }
 {
-    let followed = add_option(command, options::contest(alloc))?;
-    let followed = with_server(alloc, followed)?;
-    let followed = add_option(followed, base(alloc)?)?;
-    add_option(followed, from(alloc)?)
+    let followed = add_option(command, options::contest(alloc));
+    let followed = with_server(alloc, followed);
+    let followed = add_tied(followed, base(alloc));
+    add_tied(followed, from(alloc))
 }
 
 /// A command with the options that say what is followed, as whom, and until when.
-fn with_upstream<'a>(alloc: Global, command: Command<'a>) -> Result<Command<'a>, AllocError>
-    ensures { IfOk result (λ c. app_of c ≡ live.with_upstream (app_of command.entry)) }
+fn with_upstream<'a>(
+    alloc: Global,
+    command: Result<Command<'a>, AllocError>,
+) -> Result<Command<'a>, AllocError>
+    ensures { (app : App) → IfOk command.entry (λ c. app_of c ≡ app)
+        → IfOk result (λ c. app_of c ≡ live.with_upstream app) }
 {
-    let followed = with_feed(alloc, under(command, "Upstream"))?;
-    let followed = with_identity(alloc, followed)?;
+    let followed = with_feed(alloc, under(command, "Upstream"));
+    let followed = with_identity(alloc, followed);
     add_option(followed, until_eof(alloc))
 }
 
 /// A command with the options that say to whom it is served.
-fn with_listener<'a>(alloc: Global, command: Command<'a>) -> Result<Command<'a>, AllocError>
-    ensures { IfOk result (λ c. app_of c ≡ live.with_listener (app_of command.entry)) }
+fn with_listener<'a>(
+    alloc: Global,
+    command: Result<Command<'a>, AllocError>,
+) -> Result<Command<'a>, AllocError>
+    ensures { (app : App) → IfOk command.entry (λ c. app_of c ≡ app)
+        → IfOk result (λ c. app_of c ≡ live.with_listener app) }
 {
-    let served = add_option(command, listen(alloc)?)?;
-    let served = add_option(served, address(alloc)?)?;
+    let served = add_tied(command, listen(alloc));
+    let served = add_tied(served, address(alloc));
     add_option(served, screens(alloc))
 }
 
 /// A command with the options that say who may connect.
-fn with_guard<'a>(alloc: Global, command: Command<'a>) -> Result<Command<'a>, AllocError>
-    ensures { IfOk result (λ c. app_of c ≡ live.with_guard (app_of command.entry)) }
+fn with_guard<'a>(
+    alloc: Global,
+    command: Result<Command<'a>, AllocError>,
+) -> Result<Command<'a>, AllocError>
+    ensures { (app : App) → IfOk command.entry (λ c. app_of c ≡ app)
+        → IfOk result (λ c. app_of c ≡ live.with_guard app) }
 {
-    let guarded = add_option(command, allow(alloc))?;
+    let guarded = add_option(command, allow(alloc));
     add_option(guarded, per_address(alloc))
 }
 
 /// A command with the options that say to whom it is served, and how.
-fn with_screens<'a>(alloc: Global, command: Command<'a>) -> Result<Command<'a>, AllocError>
-    ensures { IfOk result (λ c. app_of c ≡ live.with_screens (app_of command.entry)) }
+fn with_screens<'a>(
+    alloc: Global,
+    command: Result<Command<'a>, AllocError>,
+) -> Result<Command<'a>, AllocError>
+    ensures { (app : App) → IfOk command.entry (λ c. app_of c ≡ app)
+        → IfOk result (λ c. app_of c ≡ live.with_screens app) }
 {
     let served = under(command, "Screens");
-    let served = with_listener(alloc, served)?;
-    let served = with_guard(alloc, served)?;
-    let served = add_option(served, idle(alloc))?;
-    let served = add_option(served, window(alloc))?;
+    let served = with_listener(alloc, served);
+    let served = with_guard(alloc, served);
+    let served = add_option(served, idle(alloc));
+    let served = add_option(served, window(alloc));
     add_option(served, options::chunked(alloc))
 }
 
 /// A command with the options that say what is kept.
-fn with_state<'a>(alloc: Global, command: Command<'a>) -> Result<Command<'a>, AllocError>
-    ensures { IfOk result (λ c. app_of c ≡ live.with_state (app_of command.entry)) }
+fn with_state<'a>(
+    alloc: Global,
+    command: Result<Command<'a>, AllocError>,
+) -> Result<Command<'a>, AllocError>
+    ensures { (app : App) → IfOk command.entry (λ c. app_of c ≡ app)
+        → IfOk result (λ c. app_of c ≡ live.with_state app) }
 {
     let kept = under(command, "State");
-    let kept = add_option(kept, state(alloc))?;
+    let kept = add_option(kept, state(alloc));
     with_limits(alloc, kept)
 }
 
 /// A command with the options that say where it is watched.
-fn with_status<'a>(alloc: Global, command: Command<'a>) -> Result<Command<'a>, AllocError>
-    ensures { IfOk result (λ c. app_of c ≡ live.with_status (app_of command.entry)) }
+fn with_status<'a>(
+    alloc: Global,
+    command: Result<Command<'a>, AllocError>,
+) -> Result<Command<'a>, AllocError>
+    ensures { (app : App) → IfOk command.entry (λ c. app_of c ≡ app)
+        → IfOk result (λ c. app_of c ≡ live.with_status app) }
 {
-    let watched = add_option(command, status(alloc))?;
-    add_option(watched, status_address(alloc)?)
+    let watched = add_option(command, status(alloc));
+    add_tied(watched, status_address(alloc))
 }
 
 /// A command with the options that say where it is watched, and what it reports.
-fn with_watching<'a>(alloc: Global, command: Command<'a>) -> Result<Command<'a>, AllocError>
-    ensures { IfOk result (λ c. app_of c ≡ live.with_watching (app_of command.entry)) }
+fn with_watching<'a>(
+    alloc: Global,
+    command: Result<Command<'a>, AllocError>,
+) -> Result<Command<'a>, AllocError>
+    ensures { (app : App) → IfOk command.entry (λ c. app_of c ≡ app)
+        → IfOk result (λ c. app_of c ≡ live.with_watching app) }
 {
-    let watched = with_status(alloc, under(command, "Watching"))?;
-    let watched = add_option(watched, verbose(alloc)?)?;
+    let watched = with_status(alloc, under(command, "Watching"));
+    let watched = add_tied(watched, verbose(alloc));
     add_option(watched, quiet(alloc))
 }
 
@@ -305,8 +362,8 @@ pub(super) fn live<'a>(alloc: Global) -> Result<Command<'a>, AllocError>
     ensures { IfOk result (λ c. app_of c ≡ live.live) }
 {
     let about = "Follows an event feed for ever and serves it to many screens at once";
-    let live = with_upstream(alloc, command(alloc, "live", about))?;
-    let live = with_screens(alloc, live)?;
-    let live = with_state(alloc, live)?;
+    let live = with_upstream(alloc, Ok(command(alloc, "live", about)));
+    let live = with_screens(alloc, live);
+    let live = with_state(alloc, live);
     with_watching(alloc, live)
 }

@@ -1,8 +1,5 @@
 //! What a relay is made of, before its first turn: state files are read, and ports opened.
 
-use crate::ending::Failure;
-use crate::hosts::Hosts;
-use crate::identity::identity_of;
 use crate::live::Engine;
 use crate::live::watching::Watched;
 use feed_answer::{Identity, Place};
@@ -10,6 +7,7 @@ use feed_cli::{
     Fault, LiveOptions, NetworkFault, PullOptions, Server, UpstreamOptions, Verbosity, servers_of,
 };
 use feed_live::{Live, LiveLimits, Restored, Start, restore};
+use feed_network::{Failure, Hosts, identity_of};
 use feed_node::{Limits, Mirror};
 use feed_system::{Names, OpenFault, System, open, read_file, without_brackets};
 use std::alloc::AllocError;

@@ -74,7 +74,7 @@ fn failure_of(fault: IdentityFault) -> Failure {
 
 /// As whom servers are asked: the name that they are called by, and the file with the user, where
 /// there are such. No failure says what the file has.
-pub(crate) fn identity_of(
+pub fn identity_of(
     rt: &HostRuntime,
     host_header: Option<&str>,
     user_file: Option<&str>,

@@ -5,7 +5,7 @@ use crate::errors::{Errors, Reporter};
 use crate::sockets::Port;
 use feed_answer::{Framing, answer};
 use feed_cli::stream::Stream;
-use feed_cli::{Fault, ServeOptions, serve_all, start_source};
+use feed_cli::{Fault, ServeOptions, Source, serve_all, start_source};
 use feed_node::{Limits, Mirror};
 use std::alloc::Global;
 
@@ -21,18 +21,38 @@ fn can_be_named(alloc: Global, contest: &str, limits: Limits) -> Result<bool, Fa
     Ok(answered.status == NOTHING_PUBLISHED)
 }
 
-/// Serves the feed on standard input.
-pub(crate) fn serve_feed(rt: &HostRuntime, options: &ServeOptions<'_>) -> Result<(), Failure> {
+/// Serves the feed of a source at a port that is open.
+fn serve_at(
+    rt: &HostRuntime,
+    options: &ServeOptions<'_>,
+    reporter: Reporter<'_>,
+    source: &mut Source,
+    port: &mut Port<'_>,
+) -> Result<(), Failure> {
     let alloc = rt.alloc();
-    let mut source = start_source(alloc, options, &mut Stream::new(rt.stdin()))?;
+    if !can_be_named(alloc, options.contest, options.limits)? {
+        reporter.line("no request can name this contest");
+    }
+    serve_all(alloc, options, source, port, &mut Errors::new(rt))?;
+    Ok(())
+}
+
+/// Opens the port, and serves the feed of a source there.
+fn serve_source(
+    rt: &HostRuntime,
+    options: &ServeOptions<'_>,
+    source: &mut Source,
+) -> Result<(), Failure> {
     let reporter = Reporter::new(rt, "serve", options.verbose);
     let mut port = match Port::bind(rt, reporter, options.port) {
         Ok(port) => port,
         Err(fault) => return Err(Failure::at_port(rt, fault, options.port)),
     };
-    if !can_be_named(alloc, options.contest, options.limits)? {
-        reporter.line("no request can name this contest");
-    }
-    serve_all(alloc, options, &mut source, &mut port, &mut Errors::new(rt))?;
-    Ok(())
+    serve_at(rt, options, reporter, source, &mut port)
+}
+
+/// Serves the feed on standard input.
+pub fn serve_feed(rt: &HostRuntime, options: &ServeOptions<'_>) -> Result<(), Failure> {
+    let mut source = start_source(rt.alloc(), options, &mut Stream::new(rt.stdin()))?;
+    serve_source(rt, options, &mut source)
 }

@@ -21,7 +21,7 @@ enum Why {
 
 /// Why a command failed, and what is told of that.
 #[derive(Drop)]
-pub(crate) struct Failure {
+pub struct Failure {
     why: Why,
 }
 
@@ -96,7 +96,7 @@ fn tell_fault(rt: &HostRuntime, name: &'static str, fault: Fault, more: Option<&
 }
 
 /// Tells why the command of this name failed, where it did, and answers the status.
-pub(crate) fn ended(rt: &HostRuntime, name: &'static str, outcome: Result<(), Failure>) -> u8 {
+pub fn ended(rt: &HostRuntime, name: &'static str, outcome: Result<(), Failure>) -> u8 {
     let Err(failure) = outcome else {
         return 0;
     };

@@ -10,7 +10,7 @@ use feed_cli::{PullOptions, RelayOptions, print_relayed, servers_of, start_mirro
 
 /// Follows the feed of the first server that serves, and serves it, in turns, and prints the tables
 /// at the end.
-pub(crate) fn relay_feed(rt: &HostRuntime, options: &RelayOptions<'_>) -> Result<(), Failure> {
+pub fn relay_feed(rt: &HostRuntime, options: &RelayOptions<'_>) -> Result<(), Failure> {
     let hosts = Hosts::new(rt.alloc(), &options.pull)?;
     relay_from(rt, options, &hosts)
 }

@@ -10,7 +10,7 @@ use feed_cli::{PullOptions, print_pulled, servers_of, start_mirror};
 
 /// Follows the feed of the first server that serves to the end of a connection, and prints the
 /// tables.
-pub(crate) fn pull_feed(rt: &HostRuntime, options: &PullOptions<'_>) -> Result<(), Failure> {
+pub fn pull_feed(rt: &HostRuntime, options: &PullOptions<'_>) -> Result<(), Failure> {
     let hosts = Hosts::new(rt.alloc(), options)?;
     pull_from(rt, options, &hosts)
 }

@@ -8,7 +8,7 @@ use std::net::Ipv6Addr;
 
 /// The servers' names, as a request has them.
 #[derive(Drop)]
-pub(crate) struct Hosts {
+pub struct Hosts {
     host: String,
     from: Option<String>,
 }
@@ -52,7 +52,7 @@ fn list_with_brackets(alloc: Global, list: &str) -> Result<String, AllocError> {
 
 impl Hosts {
     /// The servers that these options name. The first one has a name.
-    pub(crate) fn new(alloc: Global, options: &PullOptions<'_>) -> Result<Hosts, Fault> {
+    pub fn new(alloc: Global, options: &PullOptions<'_>) -> Result<Hosts, Fault> {
         if options.host.is_empty() {
             return Err(Fault::from(PlaceFault::BadHost));
         }
@@ -66,12 +66,12 @@ impl Hosts {
     }
 
     /// The first server's name.
-    pub(crate) fn host(&self) -> &str {
+    pub fn host(&self) -> &str {
         self.host.as_str()
     }
 
     /// The addresses of the further ones.
-    pub(crate) fn from(&self) -> Option<&str> {
+    pub fn from(&self) -> Option<&str> {
         match &self.from {
             Some(list) => Some(list.as_str()),
             None => None,

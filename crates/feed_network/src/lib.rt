@@ -1,0 +1,21 @@
+//! The commands that open connections one after another, over TCP and the standard streams; and what
+//! every command of the network has in common: how servers are named, as whom they are asked, and
+//! what is reported of a failure.
+#![tactic(auto)]
+
+mod connection;
+mod ending;
+mod errors;
+mod hosts;
+mod identity;
+mod pull;
+mod relay;
+mod serve;
+mod sockets;
+
+pub use ending::{Failure, ended};
+pub use hosts::Hosts;
+pub use identity::identity_of;
+pub use pull::pull_feed;
+pub use relay::relay_feed;
+pub use serve::serve_feed;

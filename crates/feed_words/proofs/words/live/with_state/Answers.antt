@@ -1,0 +1,5 @@
+use Rattle.feed_words.proofs.words.live.with_state.Goals as goal
+
+pub returns : goal.returns
+returns c =
+    λ app is. c.with_limits.ensures _ (c.add_option-kept.ensures _ _ (c.under-kept.ensures _ is) c.state.ensures.rule)
