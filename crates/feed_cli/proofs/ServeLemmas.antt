@@ -1,5 +1,5 @@
 -- Lemmas on what the command `serve` commits.
-use Rattle.std.proofs.Common.{◌≡◌, ◌⊎◌, inl, inr, refl, sym, ap, ◌∙◌, subst, Bool, true, false, List, [], ◌∷◌, ◌++◌, append_assoc, append-nil, take-append-drop, true≢false, map, ℕ, Ok, Err, Result, take, drop, length, Option, Some, None}
+use Rattle.std.proofs.Common.{◌≡◌, inl, inr, refl, sym, ap, ◌∙◌, subst, Bool, true, false, List, [], ◌∷◌, ◌++◌, append_assoc, append-nil, take-append-drop, true≢false, map, ℕ, Ok, Err, Result, take, Option, Some, None}
 use Rattle.std.specs.Prelude.{◌<◌, Vec, OnOk, IfErr}
 use Rattle.feed_settings.specs.Limits.{Limits}
 use Rattle.feed_tables.specs.declared.change.Change.{Change}

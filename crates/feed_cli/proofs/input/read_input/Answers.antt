@@ -1,4 +1,4 @@
-use Rattle.std.proofs.Common.{rules, ◌≡◌, ◌∙◌, [], refl, sym, subst, arith}
+use Rattle.std.proofs.Common.{rules, ◌∙◌, [], refl, sym, subst}
 use Rattle.std.specs.Io.KnownBytes.{Consumes}
 use Rattle.std.proofs.KnownBytes.{Consumes-nil}
 use Rattle.std.proofs.lemmas.Result.{err_from_is_err_and}
