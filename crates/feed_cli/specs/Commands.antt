@@ -27,10 +27,12 @@ Fails (local.Tables options) why s = TablesFail options.limits why s
 Fails local.Check why s = CheckFails why s
 Fails local.Play why s = PlayFails why s
 
--- where the fault is a device's, that one failed
+-- where the fault is a device's, that one failed; where memory ran out, none did
 abbrev pub IsDeviceFault : Fault → Streams → Type 0
 IsDeviceFault fault.Read s = HasDeviceFailed s.failed_reads_old s.failed_reads_new
 IsDeviceFault fault.Write s = HasDeviceFailed s.failed_writes_old s.failed_writes_new
+IsDeviceFault fault.Memory s =
+    (s.failed_reads_new ≡ s.failed_reads_old) × (s.failed_writes_new ≡ s.failed_writes_old)
 IsDeviceFault why s = Unit {0}
 
 -- the command failed, and this is the status that tells it, behind what was told of it
