@@ -1,5 +1,5 @@
 -- Lemmas on what is done one after another.
-use Rattle.std.proofs.Common.{◌≡◌, refl, ap, ◌∙◌, ℕ, ◌+◌, List, [], ◌∷◌, ◌++◌, length, arith, length-append}
+use Rattle.std.proofs.Common.{◌≡◌, refl, ap, ◌∙◌, ℕ, ◌+◌, List, [], ◌∷◌, ◌++◌, length, length-append}
 use Rattle.feed_cli.specs.InTurn.{InTurn, none_done, one_done}
 
 module _ {S X : Type 0} (Does : S → X → S → Type 0) where

@@ -1,7 +1,6 @@
 -- Lemmas on input that is read whole: where it isn't, a command fails so.
-use Rattle.std.proofs.Common.{◌≡◌, ◌≢◌, ◌⊎◌, inl, inr, refl, sym, ap, ◌∙◌, subst, List, ℕ, Option, Some}
+use Rattle.std.proofs.Common.{◌≡◌, ◌≢◌, ◌⊎◌, inl, inr, refl, sym, subst, List, ℕ, Option}
 use Rattle.std.specs.Io.KnownBytes.{Keeps}
-use Rattle.std.specs.Borrow.{Bor}
 use Rattle.feed_settings.specs.Limits.{Limits}
 use Rattle.feed_note.specs.Counts.{StopsAt}
 use Rattle.feed_note.specs.declared.counts.SurveyFault.{SurveyFault}

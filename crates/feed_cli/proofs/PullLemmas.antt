@@ -1,8 +1,8 @@
 -- Lemmas on what the command `pull` prints.
-use Rattle.std.proofs.Common.{◌≡◌, ◌≢◌, ◌⊎◌, inl, inr, refl, sym, ap, ◌∙◌, subst, Bool, true, false, IfErr, OnErr, [], append-nil, List, ℕ, Option, None, Some, Result, Ok, Err, is_some}
+use Rattle.std.proofs.Common.{◌≡◌, ◌≢◌, ◌⊎◌, inl, inr, refl, sym, ap, ◌∙◌, subst, Bool, true, false, IfErr, List, ℕ, Option, None, Some, Result, Ok, Err, is_some}
 use Rattle.std.specs.Prelude.{if◌then◌else◌, option_map, unwrap_or}
 use Rattle.std.specs.Io.KnownBytes.{Appends, Keeps}
-use Rattle.feed_http.specs.Device.{HasFailed, AppendsPrefix}
+use Rattle.feed_http.specs.Device.{HasFailed}
 use Rattle.feed_http.specs.Exchange.{Wrote}
 use Rattle.feed_note.specs.Publishing.{Published}
 use Rattle.feed_note.specs.Texts.{published_text}

@@ -1,6 +1,6 @@
 -- Lemmas on rounds that are made one after another.
-use Rattle.std.proofs.Common.{◌≡◌, inl, inr, refl, sym, ap, ◌∙◌, subst, ◌<◌, Bool, true, false, IfErr, OnOk, List, ℕ, Option, None, Some, Result, Ok, Err, length}
-use Rattle.std.specs.Io.KnownBytes.{Appends, Keeps}
+use Rattle.std.proofs.Common.{◌≡◌, inl, inr, refl, sym, subst, ◌<◌, true, false, IfErr, OnOk, List, ℕ, Option, None, Some, Result, Ok, Err}
+use Rattle.std.specs.Io.KnownBytes.{Keeps}
 use Rattle.feed_note.specs.Texts.{published_text}
 use Rattle.feed_node.specs.Mirroring.{MirrorState}
 use Rattle.feed_node.specs.States.{NodeState}
@@ -15,7 +15,7 @@ use Rattle.feed_relay.specs.declared.fault.NetworkFault.{NetworkFault}
 use Rattle.feed_relay.specs.declared.server.Server.{Server}
 use Rattle.feed_cli.specs.Fault.{goes_on}
 use Rattle.feed_cli.specs.Pull.{IsCutShort}
-use Rattle.feed_cli.specs.Relay.{Relaying, relaying, MakesRound, MakesRoundOn, MakesRounds, EndsRounds, has_no_room, has_not_served, BreaksOff, RelayFails}
+use Rattle.feed_cli.specs.Relay.{Relaying, relaying, MakesRound, MakesRoundOn, MakesRounds, EndsRounds, has_no_room, has_not_served, RelayFails}
 use Rattle.feed_http.specs.Exchange.{Wrote}
 use Rattle.feed_cli.specs.Telling.{FailsAs}
 use Rattle.feed_cli.specs.declared.fault.Fault.{Fault}

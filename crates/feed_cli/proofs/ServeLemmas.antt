@@ -1,5 +1,5 @@
 -- Lemmas on what the command `serve` commits.
-use Rattle.std.proofs.Common.{◌≡◌, ◌⊎◌, inl, inr, refl, sym, ap, ◌∙◌, subst, Bool, true, false, List, [], ◌∷◌, ◌++◌, append_assoc, append-nil, take-append-drop, true≢false, map, ℕ, Ok, Err, Result, take, drop, length, Option, Some, None}
+use Rattle.std.proofs.Common.{◌≡◌, inl, inr, refl, sym, ap, ◌∙◌, subst, Bool, true, false, List, [], ◌∷◌, ◌++◌, append_assoc, append-nil, take-append-drop, true≢false, map, ℕ, Ok, Err, Result, take, Option, Some, None}
 use Rattle.std.specs.Prelude.{◌<◌, Vec, OnOk, IfErr}
 use Rattle.feed_settings.specs.Limits.{Limits}
 use Rattle.feed_tables.specs.declared.change.Change.{Change}
@@ -133,11 +133,11 @@ fails_served : (turn : ℕ) (service : Service) (spoken : Exchange) (start : Int
     (why : EngineFault) (now : Intake) → ServesLive turn service spoken start (Err why) now
     → FailsTaking (network.Engine why) start now
 fails_served turn service spoken start engine.Read now live =
-    let (broke, same, failed) = live.came in same
+    let (broke, same) = live.came in same
 fails_served turn service spoken start engine.Turns now live =
     let (broke, same, rose) = live.came in same
 fails_served turn service spoken start engine.Write now live =
-    let ((answer, has, wrote), failed) = live.came in
+    let (answer, has, wrote) = live.came in
     takes_wrote turn start answer now spoken.written_old spoken.written_new wrote
 fails_served turn service spoken start (engine.Commit why) now live =
     let (answer, has, wrote) = live.came in

@@ -1,5 +1,5 @@
 -- Lemmas on what is told.
-use Rattle.std.proofs.Common.{◌≡◌, ◌⊎◌, inl, inr, refl, sym, ap, ◌∙◌, ◌+◌, ◌<◌, ◌≤◌, ◌-◌, ◌^◌, ℕ, Bool, true, false, true≢false, arith}
+use Rattle.std.proofs.Common.{◌≡◌, inl, inr, sym, ap, ◌∙◌, ◌+◌, ◌-◌, ◌^◌, ℕ, Bool, true, false, true≢false, arith}
 use Rattle.std.proofs.lemmas.Bool.{cases_lt}
 use Rattle.feed_http.specs.Device.{counted, HasFailed}
 use Rattle.feed_cli.specs.Telling.{HasTold}

@@ -3,11 +3,11 @@ use Rattle.std.specs.Prelude.{◌≡◌, ◌⊎◌, ℕ, List, string_bytes}
 use Rattle.std.specs.Io.KnownBytes.{Appends, Keeps}
 use Rattle.feed_http.specs.Device.{AppendsPrefix, HasFailed as HasDeviceFailed}
 use Rattle.feed_cli.specs.Check.{CountsPrinted, CheckFails}
-use Rattle.feed_cli.specs.Fault.{IsToldStatus}
 use Rattle.feed_cli.specs.Play.{Played, PlayFails}
 use Rattle.feed_cli.specs.Streams.{Streams}
 use Rattle.feed_http.specs.Exchange.{Wrote}
 use Rattle.feed_cli.specs.Tables.{PrintedSome, TablesFail}
+use Rattle.feed_cli.specs.Telling.{IsToldStatus, TellsLines}
 use Rattle.feed_cli.specs.declared.fault.Fault.{Fault}
 use Rattle.feed_cli.specs.declared.fault.Fault.TheVariants as fault
 use Rattle.feed_words.specs.declared.request.Local.{Local}
@@ -27,18 +27,20 @@ Fails (local.Tables options) why s = TablesFail options.limits why s
 Fails local.Check why s = CheckFails why s
 Fails local.Play why s = PlayFails why s
 
--- where the fault is a device's, that one failed
+-- where the fault is a device's, that one failed; where memory ran out, none did
 abbrev pub IsDeviceFault : Fault → Streams → Type 0
 IsDeviceFault fault.Read s = HasDeviceFailed s.failed_reads_old s.failed_reads_new
 IsDeviceFault fault.Write s = HasDeviceFailed s.failed_writes_old s.failed_writes_new
+IsDeviceFault fault.Memory s =
+    (s.failed_reads_new ≡ s.failed_reads_old) × (s.failed_writes_new ≡ s.failed_writes_old)
 IsDeviceFault why s = Unit {0}
 
--- the command failed, and this is the status that tells it; what could not be told is counted
-pub record EndsBy (asked : Local) (status : ℕ) (s : Streams) (untold_old untold_new : ℕ) : Type 0 where
+-- the command failed, and this is the status that tells it, behind what was told of it
+pub record EndsBy (asked : Local) (status : ℕ) (s : Streams) (err : Wrote) : Type 0 where
   pub why : Fault
   pub failed : Fails asked why s
   pub device : IsDeviceFault why s
-  pub told : IsToldStatus why untold_old untold_new status
+  pub told : IsToldStatus why err status
 
 -- all of the text was written, or the device failed, and a prefix of it was
 abbrev pub IsWritten : List ℕ → Wrote → Type 0
@@ -55,7 +57,9 @@ Replies (reply.Shown text) status wrote =
     ⊎ ((status ≡ 4) × HasDeviceFailed wrote.failed_old wrote.failed_new
     × AppendsPrefix wrote.old wrote.new (string_bytes text))
 
--- why they are refused was told
+-- why they are refused was told, and that memory ran out, unless the device failed
 abbrev pub TellsRefusal : NoCommand → Wrote → Type 0
 TellsRefusal (reply.Refused text) wrote = IsWritten (string_bytes text) wrote
-TellsRefusal other wrote = Unit {0}
+TellsRefusal reply.Memory wrote =
+    TellsLines wrote.old wrote.new ⊎ HasDeviceFailed wrote.failed_old wrote.failed_new
+TellsRefusal (reply.Shown text) wrote = Unit {0}

@@ -1,8 +1,7 @@
 -- Why a command fails, for the fault of what it calls, and the statuses that the program ends with.
-use Rattle.std.specs.Prelude.{◌≡◌, ◌⊎◌, ℕ, Bool, true, false, max, Option, Result, Ok, Err, if◌then◌else◌}
+use Rattle.std.specs.Prelude.{ℕ, Bool, true, false, Option, Result, Ok, Err, if◌then◌else◌}
 use Rattle.feed_settings.specs.declared.place.PlaceFault.{PlaceFault}
 use Rattle.feed_settings.specs.declared.place.PlaceFault.TheVariants as place
-use Rattle.feed_http.specs.Device.{HasFailed}
 use Rattle.feed_http.specs.declared.fault.EngineFault.{EngineFault}
 use Rattle.feed_http.specs.declared.fault.Served.{Served}
 use Rattle.feed_http.specs.declared.fault.EngineFault.TheVariants as engine
@@ -92,10 +91,3 @@ status_of (fault.Place why) = 1
 status_of (fault.Address why) = 1
 status_of (fault.Commit why) = 2
 status_of (fault.Network why) = status_of_network why
-
--- the status after a fault was told; where the device failed, between these counts of its failures,
--- it tells of that, too
-abbrev pub IsToldStatus : Fault → ℕ → ℕ → ℕ → Type 0
-IsToldStatus why old new status =
-    (status ≡ status_of why)
-    ⊎ (HasFailed old new × (status ≡ max (status_of why) (status_of fault.Write)))

@@ -1,5 +1,5 @@
 -- What is done one after another.
-use Rattle.std.specs.Prelude.{ℕ, List, [], ◌∷◌, ◌++◌}
+use Rattle.std.specs.Prelude.{List, [], ◌∷◌, ◌++◌}
 
 -- Each of these was done from what those before it left, the first one from the start.
 pub data InTurn {S X : Type 0} (Does : S → X → S → Type 0) (start : S) : List X → S → Type 0 where

@@ -83,7 +83,9 @@ pub fn run<R: FeedRead, W: FeedWrite, E: FeedWrite>(
         result ≡ 0 → Succeeds request streams }
     ensures err { let streams = streams_of R.remaining R.failures W.contents W.failures
         input.old input.new out.old out.new in
-        result ≢ 0 → EndsBy request result streams (E.failures err.old) (E.failures err.new) }
+        let told = wrote_by E.contents E.failures err.old err.new in
+        result ≢ 0 → EndsBy request result streams told }
+    ensures untold { result ≡ 0 → err.new ≡ err.old }
     ensures statuses { (result ≢ 1) × (result ≤ 5) }
 {
     match perform(alloc, request, input, out) {

@@ -23,7 +23,8 @@ fn read_piece<R: FeedRead>(reader: &mut R, bytes: &mut Vec<u8>) -> Result<usize,
     ensures failed { IsErrOf result Fault.Read
         → HasFailed (R.failures reader.old) (R.failures reader.new) }
     ensures faults { IfErr result (λ why. (why ≡ Fault.Read) ⊎ (why ≡ Fault.Memory)) }
-    ensures quiet { OnOk result (R.failures reader.new ≡ R.failures reader.old) }
+    ensures quiet { ¬ (IsErrOf result Fault.Read)
+        → R.failures reader.new ≡ R.failures reader.old }
 {
     let mut piece = [0u8; READ_BYTES];
     let Ok(count) = reader.read_some(&mut piece) else {
@@ -41,6 +42,8 @@ pub(crate) fn read_input<R: FeedRead>(alloc: Global, input: &mut R) -> Result<Ve
         InputFails why (R.remaining input.old) (R.remaining input.new)) }
     ensures read { IsErrOf result Fault.Read
         → HasFailed (R.failures input.old) (R.failures input.new) }
+    ensures quiet { ¬ (IsErrOf result Fault.Read)
+        → R.failures input.new ≡ R.failures input.old }
 {
     let mut bytes = Vec::new(alloc);
     'pieces: while bytes.len() <= INPUT_BYTES {

@@ -1,8 +1,9 @@
 //! What is told of faults.
 ghost use Rattle.std.specs.Prelude.{◌≡◌, true, false, IfErr, OnOk, OnErr};
-ghost use Rattle.feed_http.specs.Device.{counted};
-ghost use Rattle.feed_cli.specs.Fault.{IsToldStatus, goes_on};
-ghost use Rattle.feed_cli.specs.Telling.{HasTold, FailsAs};
+ghost use Rattle.feed_http.specs.Device.{failures_after};
+ghost use Rattle.feed_http.specs.Exchange.{wrote_by};
+ghost use Rattle.feed_cli.specs.Fault.{goes_on};
+ghost use Rattle.feed_cli.specs.Telling.{IsEnded, TellsLines, IsToldStatus, HasTold, FailsAs};
 
 use crate::commands::pull::attempt_outcome;
 use crate::fault::{Fault, FeedStop};
@@ -16,16 +17,21 @@ use std::fmt::Write;
 /// bytes, and has far fewer.
 const ROOM: usize = 512;
 
+/// The most bytes of it before its last line feed.
+const WORDS: usize = ROOM - 1;
+
 /// A host and a port.
 type Address<'h> = (&'h str, u16);
 
 /// What is told of a fault: its text, with the address that it is about where there is one, and on
 /// a second line where in the feed it is, where that was asked for.
-fn text_of(name: &str, fault: Fault, address: Option<Address<'_>>) -> ArrayString<ROOM> {
-    let mut text = ArrayString::new();
+fn text_of(name: &str, fault: Fault, address: Option<Address<'_>>) -> ArrayString<ROOM>
+    ensures { IsEnded result.bytes }
+{
+    let mut words: ArrayString<WORDS> = ArrayString::new();
     let _ = match address {
-        Some((host, port)) => write!(text, "{name}: {fault}: {host}:{port}\n"),
-        None => write!(text, "{name}: {fault}\n"),
+        Some((host, port)) => write!(words, "{name}: {fault}: {host}:{port}"),
+        None => write!(words, "{name}: {fault}"),
     };
     if let Fault::Feed(
         FeedStop {
@@ -34,8 +40,11 @@ fn text_of(name: &str, fault: Fault, address: Option<Address<'_>>) -> ArrayStrin
         },
     ) = fault
     {
-        let _ = write!(text, "{name}: line {line}\n");
+        let _ = write!(words, "\n{name}: line {line}");
     }
+    let mut text = ArrayString::new();
+    text.push_str(words.as_str());
+    text.push_str("\n");
     text
 }
 
@@ -46,8 +55,8 @@ fn print_fault<E: FeedWrite>(
     address: Option<Address<'_>>,
     err: &mut E,
 ) -> Result<(), Failed>
-    ensures quiet { OnOk result (E.failures err.new ≡ E.failures err.old) }
-    ensures once { OnErr result (E.failures err.new ≡ counted (E.failures err.old) 1) }
+    ensures lines { OnOk result (TellsLines (E.contents err.old) (E.contents err.new)) }
+    ensures failures { E.failures err.new ≡ failures_after (E.failures err.old) result }
 {
     let text = text_of(name, fault, address);
     write_all(err, text.as_bytes())
@@ -56,7 +65,7 @@ fn print_fault<E: FeedWrite>(
 /// Tells a fault of the command of this name, and answers the status of the program. Where it can't
 /// be told, a device has failed too.
 pub fn tell<E: FeedWrite>(name: &str, fault: Fault, err: &mut E) -> u8
-    ensures { IsToldStatus fault (E.failures err.old) (E.failures err.new) result }
+    ensures { IsToldStatus fault (wrote_by E.contents E.failures err.old err.new) result }
 {
     tell_about(name, fault, None, err)
 }
@@ -68,7 +77,7 @@ pub fn tell_about<E: FeedWrite>(
     address: Option<(&str, u16)>,
     err: &mut E,
 ) -> u8
-    ensures { IsToldStatus fault (E.failures err.old) (E.failures err.new) result }
+    ensures { IsToldStatus fault (wrote_by E.contents E.failures err.old err.new) result }
 {
     match print_fault(name, fault, address, err) {
         Ok(()) => fault.status(),
@@ -107,8 +116,10 @@ impl Teller {
     /// Tells a fault, with the address that it is about where there is one. Where it can't be told,
     /// the command goes on all the same.
     fn tell<E: FeedWrite>(&mut self, fault: Fault, address: Option<Address<'_>>, err: &mut E)
-        ensures { HasTold (E.failures err.old) (E.failures err.new)
+        ensures told { HasTold (E.failures err.old) (E.failures err.new)
             self.old.has_failed self.new.has_failed }
+        ensures lines { self.new.has_failed ≡ false
+            → TellsLines (E.contents err.old) (E.contents err.new) }
     {
         if print_fault(self.name, fault, address, err).is_err() {
             self.has_failed = true;

@@ -255,8 +255,8 @@ pub cut_behind : (turns : ℕ) (gave : Gave) (start m n : MirrorState)
     (told : Result Followed EngineFault) → n ≡ cut_off m → Comes turns gave start told m
     → Follows turns gave start told n
 cut_behind turns gave start m n (Ok f) is (standing, ends, came) = (standing, ends, (m, came, is))
-cut_behind turns gave start m n (Err fault.Read) is ((standing, going, came), count) =
-    ((standing, going, (m, came, is)), count)
+cut_behind turns gave start m n (Err fault.Read) is (standing, going, came) =
+    (standing, going, (m, came, is))
 cut_behind turns gave start m n (Err fault.Turns) is ((standing, going, came), count) =
     ((standing, going, (m, came, is)), count)
 cut_behind turns gave start m n (Err (fault.Follow why)) is (other, has) = (

@@ -1,6 +1,6 @@
 -- What a session is sent while its primary takes batches.
-use Rattle.std.proofs.Common.{◌≡◌, ◌≢◌, refl, sym, ap, ◌∙◌, subst, ℕ, zero, suc, ◌+◌, ◌-◌, ◌<◌, ◌≤◌, Bool, true, false, true≢false, List, [], ◌∷◌, ◌++◌, length, take, drop, get_or, arith, inl, inr, Option, Some, None, append_assoc, append-nil, length-append, length-drop, length-take, map, cond, not, nat_lt}
-use Rattle.std.specs.Prelude.{◌⊎◌, MatchOption, Vec, min, Result, Ok, Err, IfErr, IfSome, slice_get}
+use Rattle.std.proofs.Common.{◌≡◌, refl, sym, ap, ◌∙◌, subst, ℕ, zero, suc, ◌+◌, ◌-◌, ◌<◌, ◌≤◌, Bool, true, false, true≢false, List, [], ◌∷◌, ◌++◌, length, take, drop, get_or, arith, inl, inr, Option, Some, None, append_assoc, append-nil, length-append, length-drop, length-take, map, cond, not, nat_lt}
+use Rattle.std.specs.Prelude.{◌⊎◌, MatchOption, Vec, min, IfSome, slice_get}
 use Rattle.std.specs.List.{prefix_len}
 use Rattle.std.specs.Option.{option_and_then}
 use Rattle.std.specs.Str.{bytes_eq}

@@ -1,6 +1,6 @@
 -- Where a turn has more batches than are kept, the session's token is lost.
-use Rattle.std.proofs.Common.{◌≡◌, ◌≢◌, refl, sym, ap, ◌∙◌, subst, ℕ, zero, suc, ◌+◌, ◌-◌, ◌<◌, ◌≤◌, ◌^◌, Bool, true, false, true≢false, List, [], ◌∷◌, ◌++◌, length, take, get_or, arith, rules, inl, inr, Option, Some, None, length-append, length-take, cond, not, nat_lt}
-use Rattle.std.specs.Prelude.{◌⊎◌, MatchOption, min, if◌then◌else◌, slice_get, position, ◌==◌}
+use Rattle.std.proofs.Common.{◌≡◌, refl, sym, ap, ◌∙◌, ℕ, zero, suc, ◌+◌, ◌<◌, ◌≤◌, true, false, List, [], ◌∷◌, length, take, get_or, arith, rules, inl, inr, Option, Some, None, length-append, length-take}
+use Rattle.std.specs.Prelude.{MatchOption, min, if◌then◌else◌, slice_get, ◌==◌}
 use Rattle.std.specs.Option.{option_and_then}
 use Rattle.std.specs.Str.{bytes_eq}
 use Rattle.std.proofs.lemmas.Fmt.{decimal_injective}
@@ -10,7 +10,7 @@ use Rattle.std.proofs.lemmas.Slice.Eq.{bytes_eq-Decides}
 use Rattle.feed_tables.specs.declared.change.Change.{Change}
 use Rattle.feed_note.specs.Publishing.{Published}
 use Rattle.feed_node.specs.declared.commit.Commit.{Commit}
-use Rattle.feed_node.specs.Log.{PrimaryState, IsPrimary, token_after, tokens_from, commits, commit_fault, last_count}
+use Rattle.feed_node.specs.Log.{PrimaryState, IsPrimary, token_after, tokens_from, commit_fault, last_count}
 use Rattle.feed_node.specs.States.{NodeState, nothing_published, published_token, token_of, place_of, HoldsItsTokens, IsConsistent}
 use Rattle.feed_node.specs.Serving.{is_published, commit_after}
 use Rattle.feed_http.specs.Sessions.{Nothing_new, Lost, Commit_after, next, or_lost}

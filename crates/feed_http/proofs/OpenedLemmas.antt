@@ -1,12 +1,10 @@
 -- A session is opened at status 200, and at no other.
-use Rattle.std.proofs.Common.{arith, ◌≡◌, ◌≢◌, refl, sym, ◌∙◌, subst, ℕ, Bool, true, false, List, [], ◌∷◌}
-use Rattle.std.specs.Prelude.{Option, Some, None, Result, Ok, Err, Vec, IfOk, IfSome}
+use Rattle.std.proofs.Common.{arith, ◌≡◌, ◌≢◌, refl, sym, ◌∙◌, subst, ℕ, Bool, true, false, List, []}
+use Rattle.std.specs.Prelude.{Option, Some, None, Result, Ok, Err, IfSome}
 use Rattle.feed_settings.specs.declared.framing.Framing.{Framing}
-use Rattle.feed_tables.specs.declared.change.Change.{Change}
 use Rattle.feed_node.specs.declared.commit.Commit.{Commit}
 use Rattle.feed_node.specs.declared.session.OpenFault.{OpenFault}
 use Rattle.feed_node.specs.declared.session.OpenFault.TheVariants.{NotYet, NotHeld, Memory}
-use Rattle.feed_node.specs.Log.{PrimaryState}
 use Rattle.feed_node.specs.States.{NodeState}
 use Rattle.feed_answer.specs.Answered.{AnswerParts, AnswersTo, answer_to, answer_opened}
 use Rattle.feed_answer.specs.Asked.{Asked, refused, feed, framing_for}

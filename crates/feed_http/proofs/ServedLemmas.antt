@@ -1,6 +1,6 @@
 -- Lemmas on what a connection came to: what is said of each end, said of the connection.
 use Rattle.std.proofs.Common.{◌≡◌, ◌⊎◌, inl, inr, sym, ap, ◌∙◌, subst, ℕ, List, []}
-use Rattle.std.specs.Prelude.{Result, Ok, Err, OnOk}
+use Rattle.std.specs.Prelude.{Result, Ok, Err}
 use Rattle.std.specs.Io.KnownBytes.{Appends, Consumes, IsAtEnd}
 use Rattle.feed_node.specs.States.{NodeState}
 use Rattle.feed_answer.specs.Answered.{AnswerParts, AnswersTo}
@@ -10,7 +10,7 @@ use Rattle.feed_http.specs.declared.fault.EngineFault.TheVariants as fault
 use Rattle.feed_http.specs.declared.fault.Served.{Served}
 use Rattle.feed_http.specs.declared.service.Service.{Service}
 use Rattle.feed_http.specs.Device.{RoseAtMost}
-use Rattle.feed_http.specs.Exchange.{Exchange, Wrote, gave_on, NoneFailed}
+use Rattle.feed_http.specs.Exchange.{Exchange, Wrote, gave_on, FailuresAreTold, reads_failed}
 use Rattle.feed_http.specs.HeadReading.{IsReadAsNeeded, IsEnough, HeadFails}
 use Rattle.feed_http.specs.Sending.{WroteAnswer, WroteAll, WroteAllLive}
 use Rattle.feed_http.specs.Serving.{ServedSo, ServesOnce, BrokeBehindHead}
@@ -27,13 +27,32 @@ written_on spoken = record {
   failed_new = spoken.failed_writes_new;
 }
 
--- where all was read and written, nothing failed
-none_failed : {A : Type 0} (spoken : Exchange) (All : A → Type 0) (Part : Type 0)
+-- where no read failed, what failed is a write
+told_writes : {A : Type 0} (spoken : Exchange) (All : A → Type 0) (Part : Type 0)
     (Refused : CommitFault → Type 0)
     → spoken.failed_reads_new ≡ spoken.failed_reads_old → (r : Result A EngineFault)
-    → WritesBy (written_on spoken) All Part Refused r → OnOk r (NoneFailed spoken)
-none_failed spoken All Part Refused reads (Ok value) (all, writes) = (reads, writes)
-none_failed spoken All Part Refused reads (Err why) w = tt
+    → WritesBy (written_on spoken) All Part Refused r → FailuresAreTold spoken r
+told_writes spoken All Part Refused reads (Ok value) (all, writes) = (reads, writes)
+told_writes spoken All Part Refused reads (Err fault.Write) (part, writes) = (reads, writes)
+told_writes spoken All Part Refused reads (Err fault.Memory) (part, writes) = (reads, writes)
+told_writes spoken All Part Refused reads (Err (fault.Commit why)) (denied, writes) =
+    (reads, writes)
+told_writes spoken All Part Refused reads (Err fault.Read) (none, writes) = absurd none
+told_writes spoken All Part Refused reads (Err fault.Turns) (none, writes) = absurd none
+told_writes spoken All Part Refused reads (Err (fault.Follow why)) (none, writes) = absurd none
+
+-- where nothing was written, what failed is a read of the head
+told_reads : (spoken : Exchange) (turns : ℕ) (head : List ℕ) (why : EngineFault)
+    → HeadFails turns (gave_on spoken) head why
+    → spoken.failed_reads_new ≡ reads_failed spoken.failed_reads_old why
+    → spoken.failed_writes_new ≡ spoken.failed_writes_old
+    → FailuresAreTold {A = Served} spoken (Err why)
+told_reads spoken turns head fault.Read fails reads writes = (reads, writes)
+told_reads spoken turns head fault.Turns fails reads writes = (reads, writes)
+told_reads spoken turns head fault.Memory fails reads writes = (reads, writes)
+told_reads spoken turns head fault.Write none reads writes = absurd none
+told_reads spoken turns head (fault.Commit why) none reads writes = absurd none
+told_reads spoken turns head (fault.Follow why) none reads writes = absurd none
 
 module _ (service : Service) (node : NodeState) (spoken : Exchange) where
   abbrev IsBrokenBehind : Type 0
@@ -45,8 +64,7 @@ module _ (service : Service) (node : NodeState) (spoken : Exchange) where
       → Appends spoken.written_old spoken.written_new []
       → HeadFails service.turns (gave_on spoken) head why
       → ServedSo service.contest.now node service.framing service.back service.turns spoken (Err why)
-  unread_so head fault.Read needed nothing (given, still, failed) =
-      ((head, given, needed, still, nothing), failed)
+  unread_so head fault.Read needed nothing (given, still) = (head, given, needed, still, nothing)
   unread_so head fault.Turns needed nothing (given, still, rose) =
       ((head, given, needed, still, nothing), rose)
   unread_so head fault.Memory needed nothing h = inl nothing
@@ -59,11 +77,17 @@ module _ (service : Service) (node : NodeState) (spoken : Exchange) where
       → r ≡ Err told → told ≡ why → IsReadAsNeeded head
       → Appends spoken.written_old spoken.written_new []
       → HeadFails service.turns (gave_on spoken) head why
+      → spoken.failed_reads_new ≡ reads_failed spoken.failed_reads_old why
+      → spoken.failed_writes_new ≡ spoken.failed_writes_old
       → RoseAtMost spoken.reads_old spoken.reads_new service.turns
       → ServesOnce service node spoken r
-  was_unread head {r} {told} {why} is kept needed nothing fails reads =
+  was_unread head {r} {told} {why} is kept needed nothing fails failed quiet reads =
       subst (ServesOnce service node spoken) (sym (is ∙ ap Err kept))
-      (record { came = unread_so head why needed nothing fails; reads = reads; quiet = tt })
+      (record {
+        came = unread_so head why needed nothing fails;
+        reads = reads;
+        failures = told_reads spoken service.turns head why fails failed quiet;
+      })
 
   -- what came of writing a node's answer to what was read
   module _ (head : List ℕ) (answer : AnswerParts) (given : Consumes spoken.source spoken.left head)
@@ -95,12 +119,12 @@ module _ (service : Service) (node : NodeState) (spoken : Exchange) where
           record { answer = answer; answers = answers; sends = sends },
           wrote,
         )
-    answered_so (Err fault.Write) (part, failed) = (wrote_part part, failed)
-    answered_so (Err fault.Memory) part = inr (wrote_part part)
-    answered_so (Err fault.Read) none = absurd none
-    answered_so (Err fault.Turns) none = absurd none
-    answered_so (Err (fault.Commit why)) none = absurd none
-    answered_so (Err (fault.Follow why)) none = absurd none
+    answered_so (Err fault.Write) (part, failed) = wrote_part part
+    answered_so (Err fault.Memory) (part, quiet) = inr (wrote_part part)
+    answered_so (Err fault.Read) (none, quiet) = absurd none
+    answered_so (Err fault.Turns) (none, quiet) = absurd none
+    answered_so (Err (fault.Commit why)) (none, quiet) = absurd none
+    answered_so (Err (fault.Follow why)) (none, quiet) = absurd none
 
     pub was_served : RoseAtMost spoken.reads_old spoken.reads_new service.turns
         → spoken.failed_reads_new ≡ spoken.failed_reads_old → (r : Result Served EngineFault)
@@ -110,7 +134,7 @@ module _ (service : Service) (node : NodeState) (spoken : Exchange) where
     was_served reads unfailed r w = record {
       came = answered_so r w;
       reads = reads;
-      quiet = none_failed spoken _ _ _ unfailed r w;
+      failures = told_writes spoken _ _ _ unfailed r w;
     }
 
 module _ (turn : ℕ) (service : Service) (spoken : Exchange) (start now : Intake) where
@@ -131,8 +155,8 @@ module _ (turn : ℕ) (service : Service) (spoken : Exchange) (start now : Intak
       → HeadFails service.turns (gave_on spoken) head why
       → ServedLive turn service.contest.now service.framing service.back service.turns spoken start
       (Err why) now
-  unread_live head fault.Read needed same nothing (given, still, failed) =
-      ((head, given, needed, still, nothing), same, failed)
+  unread_live head fault.Read needed same nothing (given, still) =
+      ((head, given, needed, still, nothing), same)
   unread_live head fault.Turns needed same nothing (given, still, rose) =
       ((head, given, needed, still, nothing), same, rose)
   unread_live head fault.Memory needed same nothing h = inl (nothing, same)
@@ -145,14 +169,16 @@ module _ (turn : ℕ) (service : Service) (spoken : Exchange) (start now : Intak
       → r ≡ Err told → told ≡ why → IsReadAsNeeded head → now ≡ start
       → Appends spoken.written_old spoken.written_new []
       → HeadFails service.turns (gave_on spoken) head why
+      → spoken.failed_reads_new ≡ reads_failed spoken.failed_reads_old why
+      → spoken.failed_writes_new ≡ spoken.failed_writes_old
       → RoseAtMost spoken.reads_old spoken.reads_new service.turns
       → ServesLive turn service spoken start r now
-  was_not_heard head {r} {told} {why} is kept needed same nothing fails reads =
+  was_not_heard head {r} {told} {why} is kept needed same nothing fails failed quiet reads =
       subst (λ s. ServesLive turn service spoken start s now) (sym (is ∙ ap Err kept))
       (record {
         came = unread_live head why needed same nothing fails;
         reads = reads;
-        quiet = tt;
+        failures = told_reads spoken service.turns head why fails failed quiet;
       })
 
   -- what came of writing a primary's answer to what was read
@@ -168,12 +194,12 @@ module _ (turn : ℕ) (service : Service) (spoken : Exchange) (start now : Intak
         (opened_at has.head service.contest.now start.primary.node service.framing service.back
         answer has.answers) all.sends all.only_long all.each_long,
   )
-  answered_live answer has (Err fault.Write) (part, failed) = ((answer, has, part), failed)
-  answered_live answer has (Err fault.Memory) part = inr (answer, has, part)
-  answered_live answer has (Err (fault.Commit why)) refused = (answer, has, refused)
-  answered_live answer has (Err fault.Read) none = absurd none
-  answered_live answer has (Err fault.Turns) none = absurd none
-  answered_live answer has (Err (fault.Follow why)) none = absurd none
+  answered_live answer has (Err fault.Write) (part, failed) = (answer, has, part)
+  answered_live answer has (Err fault.Memory) (part, quiet) = inr (answer, has, part)
+  answered_live answer has (Err (fault.Commit why)) (refused, quiet) = (answer, has, refused)
+  answered_live answer has (Err fault.Read) (none, quiet) = absurd none
+  answered_live answer has (Err fault.Turns) (none, quiet) = absurd none
+  answered_live answer has (Err (fault.Follow why)) (none, quiet) = absurd none
 
   pub was_live : (answer : AnswerParts) → Answers answer
       → RoseAtMost spoken.reads_old spoken.reads_new service.turns
@@ -185,5 +211,5 @@ module _ (turn : ℕ) (service : Service) (spoken : Exchange) (start now : Intak
   was_live answer has reads unfailed r w = record {
     came = answered_live answer has r w;
     reads = reads;
-    quiet = none_failed spoken _ _ _ unfailed r w;
+    failures = told_writes spoken _ _ _ unfailed r w;
   }

@@ -1,6 +1,6 @@
 -- What sessions are sent.
-use Rattle.std.proofs.Common.{◌≡◌, ◌≢◌, refl, sym, ap, ◌∙◌, ℕ, zero, suc, ◌+◌, ◌-◌, ◌<◌, ◌≤◌, Bool, true, false, List, [], ◌∷◌, ◌++◌, length, get_or, arith, inl, inr, subst, Option, Some, None, append_assoc, append-nil, map, cond, not, nat_lt, Result, Ok, Err}
-use Rattle.std.specs.Prelude.{slice_get, MatchOption, unwrap_or, if◌then◌else◌, position, OnErr, IfSome}
+use Rattle.std.proofs.Common.{◌≡◌, ◌≢◌, refl, sym, ap, ◌∙◌, ℕ, zero, suc, ◌+◌, ◌-◌, ◌<◌, ◌≤◌, Bool, true, false, List, [], ◌∷◌, ◌++◌, length, get_or, arith, inl, inr, subst, Option, Some, None, append_assoc, append-nil, map, cond, not, nat_lt}
+use Rattle.std.specs.Prelude.{slice_get, MatchOption, unwrap_or, if◌then◌else◌, position, IfSome}
 use Rattle.std.specs.List.{flat_map, prefix_len}
 use Rattle.std.proofs.lemmas.Bool.Decides.{nat_tests}
 use Rattle.std.specs.Str.{bytes_eq}

@@ -1,5 +1,8 @@
 -- What the reader and the writer of one connection tell, before and after.
-use Rattle.std.specs.Prelude.{◌≡◌, ℕ, List, Option}
+use Rattle.std.specs.Prelude.{◌≡◌, ℕ, List, Option, Result, Ok, Err}
+use Rattle.feed_http.specs.declared.fault.EngineFault.{EngineFault}
+use Rattle.feed_http.specs.declared.fault.EngineFault.TheVariants.{Read, Write}
+use Rattle.feed_http.specs.Device.{counted}
 
 -- the bytes that are left to read and those that were written, where they are known, how many reads
 -- were made, and how many reads and writes failed
@@ -50,11 +53,30 @@ module _ {R W : Type 0} where
     failed_writes = failed_writes;
   }
 
--- no read and no write of a connection failed
-abbrev pub NoneFailed : Exchange → Type 0
-NoneFailed spoken =
-    (spoken.failed_reads_new ≡ spoken.failed_reads_old)
-    × (spoken.failed_writes_new ≡ spoken.failed_writes_old)
+-- a count of failed reads behind a fault: one more where that is a failed read
+abbrev pub reads_failed : ℕ → EngineFault → ℕ
+reads_failed count Read = counted count 1
+reads_failed count _ = count
+
+-- a count of failed writes behind a fault: one more where that is a failed write
+abbrev pub writes_failed : ℕ → EngineFault → ℕ
+writes_failed count Write = counted count 1
+writes_failed count _ = count
+
+-- the same behind a call, which may have no fault
+abbrev pub failed_reads_after : {A : Type 0} → ℕ → Result A EngineFault → ℕ
+failed_reads_after count (Ok _) = count
+failed_reads_after count (Err fault) = reads_failed count fault
+
+abbrev pub failed_writes_after : {A : Type 0} → ℕ → Result A EngineFault → ℕ
+failed_writes_after count (Ok _) = count
+failed_writes_after count (Err fault) = writes_failed count fault
+
+-- no read and no write of a connection failed but the one that is the fault
+abbrev pub FailuresAreTold : {A : Type 0} → Exchange → Result A EngineFault → Type 0
+FailuresAreTold spoken result =
+    (spoken.failed_reads_new ≡ failed_reads_after spoken.failed_reads_old result)
+    × (spoken.failed_writes_new ≡ failed_writes_after spoken.failed_writes_old result)
 
 -- What one reader gave: the bytes that are left of it before and after, where they are known, how
 -- many reads were made, and how many failed.

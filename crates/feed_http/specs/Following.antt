@@ -11,7 +11,7 @@ use Rattle.feed_http.specs.declared.fault.EngineFault.{EngineFault}
 use Rattle.feed_http.specs.declared.fault.EngineFault.TheVariants as fault
 use Rattle.feed_http.specs.declared.fault.Followed.{Followed}
 use Rattle.feed_http.specs.declared.fault.Followed.TheVariants.{Early, Ended, Done, TokenRefused}
-use Rattle.feed_http.specs.Device.{HasFailed, RoseBy}
+use Rattle.feed_http.specs.Device.{RoseBy}
 use Rattle.feed_http.specs.Exchange.{Gave}
 use Rattle.feed_http.specs.HeadReading.{read_bytes}
 
@@ -73,8 +73,7 @@ pub record MetFault (source left : Option (List ℕ)) (start mirror : MirrorStat
 -- still went on, or it has a fault
 abbrev pub FollowFails : (Standing → Type 0) → (FollowFault → Type 0) → ℕ → Gave → EngineFault → Type 0
 FollowFails Came Met turns gave fault.Read =
-    ((standing : Standing) × IsGoingOn standing × Came standing)
-    × HasFailed gave.failed_old gave.failed_new
+    (standing : Standing) × IsGoingOn standing × Came standing
 FollowFails Came Met turns gave fault.Turns =
     ((standing : Standing) × IsGoingOn standing × Came standing)
     × RoseBy gave.reads_old gave.reads_new turns

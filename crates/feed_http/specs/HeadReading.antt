@@ -6,7 +6,7 @@ use Rattle.feed_follow.specs.Heads.{head_bytes, IsPastLimits}
 use Rattle.feed_answer.specs.Heads.{BeginsWithRequest, HasNoWholeRequest, IsTooLargeRequest}
 use Rattle.feed_http.specs.declared.fault.EngineFault.{EngineFault}
 use Rattle.feed_http.specs.declared.fault.EngineFault.TheVariants as fault
-use Rattle.feed_http.specs.Device.{HasFailed, RoseBy}
+use Rattle.feed_http.specs.Device.{RoseBy}
 use Rattle.feed_http.specs.Exchange.{Gave}
 
 -- how many bytes one read asks for at most
@@ -38,7 +38,6 @@ pub data IsReadAsNeeded : List ℕ → Type 0 where
 abbrev pub HeadFails : ℕ → Gave → List ℕ → EngineFault → Type 0
 HeadFails turns gave head fault.Read =
     Consumes gave.source gave.left head × IsStillNeeded head
-    × HasFailed gave.failed_old gave.failed_new
 HeadFails turns gave head fault.Turns =
     Consumes gave.source gave.left head × IsStillNeeded head
     × RoseBy gave.reads_old gave.reads_new turns

@@ -1,5 +1,5 @@
 -- What a primary that takes batches sends and writes on one connection.
-use Rattle.std.specs.Prelude.{◌≡◌, ◌≢◌, ◌⊎◌, ◌<◌, ◌≤◌, ℕ, Bool, true, false, List, [], ◌∷◌, ◌++◌, length, map, take, drop, Option, Some, None, Result, Ok, Err, OnOk, Vec}
+use Rattle.std.specs.Prelude.{◌≡◌, ◌≢◌, ◌⊎◌, ◌<◌, ◌≤◌, ℕ, Bool, true, false, List, [], ◌∷◌, ◌++◌, length, map, take, drop, Option, Some, None, Result, Ok, Err, Vec}
 use Rattle.std.specs.Io.KnownBytes.{Appends, Consumes, IsAtEnd}
 use Rattle.feed_settings.specs.declared.framing.Framing.{Framing}
 use Rattle.feed_tables.specs.declared.change.Change.{Change}
@@ -14,8 +14,8 @@ use Rattle.feed_http.specs.declared.fault.EngineFault.{EngineFault}
 use Rattle.feed_http.specs.declared.fault.EngineFault.TheVariants as fault
 use Rattle.feed_http.specs.declared.fault.Served.{Served}
 use Rattle.feed_http.specs.declared.service.Service.{Service}
-use Rattle.feed_http.specs.Device.{AppendsPrefix, HasFailed, RoseBy, RoseAtMost}
-use Rattle.feed_http.specs.Exchange.{Exchange, NoneFailed}
+use Rattle.feed_http.specs.Device.{AppendsPrefix, RoseBy, RoseAtMost}
+use Rattle.feed_http.specs.Exchange.{Exchange, FailuresAreTold}
 use Rattle.feed_http.specs.HeadReading.{IsReadAsNeeded, IsEnough}
 use Rattle.feed_http.specs.Sessions.{Nothing_new, Commit_after, next}
 use Rattle.feed_http.specs.Serving.{HasAll, commit_frames, BeginsCommit, answered_text, Tells, BrokeInHead}
@@ -170,16 +170,14 @@ ServedLive turn contest framing back turns spoken start (Ok served) now =
 ServedLive turn contest framing back turns spoken start (Err fault.Read) now =
     BrokeInHead spoken.source spoken.left spoken.written_old spoken.written_new
     × (now ≡ start)
-    × HasFailed spoken.failed_reads_old spoken.failed_reads_new
 ServedLive turn contest framing back turns spoken start (Err fault.Turns) now =
     BrokeInHead spoken.source spoken.left spoken.written_old spoken.written_new
     × (now ≡ start)
     × RoseBy spoken.reads_old spoken.reads_new turns
 ServedLive turn contest framing back turns spoken start (Err fault.Write) now =
-    ((answer : AnswerParts)
+    (answer : AnswerParts)
     × HasAnswer contest start.primary.node framing back spoken.source spoken.left answer
-    × WroteLive turn start answer now spoken.written_old spoken.written_new)
-    × HasFailed spoken.failed_writes_old spoken.failed_writes_new
+    × WroteLive turn start answer now spoken.written_old spoken.written_new
 ServedLive turn contest framing back turns spoken start (Err (fault.Commit why)) now =
     (answer : AnswerParts)
     × HasAnswer contest start.primary.node framing back spoken.source spoken.left answer
@@ -197,4 +195,4 @@ pub record ServesLive (turn : ℕ) (service : Service) (spoken : Exchange) (star
   pub came : ServedLive turn service.contest.now service.framing service.back service.turns spoken
       start served now
   pub reads : RoseAtMost spoken.reads_old spoken.reads_new service.turns
-  pub quiet : OnOk served (NoneFailed spoken)
+  pub failures : FailuresAreTold spoken served

@@ -1,5 +1,5 @@
 -- What a server sends and writes on one connection.
-use Rattle.std.specs.Prelude.{◌≡◌, ◌⊎◌, ℕ, Bool, true, false, List, [], ◌∷◌, ◌++◌, length, map, Option, Some, None, Result, Ok, Err, OnOk}
+use Rattle.std.specs.Prelude.{◌≡◌, ◌⊎◌, ℕ, Bool, true, false, List, [], ◌∷◌, ◌++◌, length, map, Option, Some, None, Result, Ok, Err}
 use Rattle.std.specs.List.{flat_map}
 use Rattle.std.specs.Io.KnownBytes.{Appends, Consumes, IsAtEnd}
 use Rattle.feed_settings.specs.declared.framing.Framing.{Framing}
@@ -12,8 +12,8 @@ use Rattle.feed_http.specs.declared.fault.EngineFault.TheVariants as fault
 use Rattle.feed_http.specs.declared.fault.Served.{Served}
 use Rattle.feed_http.specs.declared.service.Service.{Service}
 use Rattle.feed_answer.specs.Answered.{AnswerParts, AnswersTo}
-use Rattle.feed_http.specs.Device.{counted, AppendsPrefix, HasFailed, RoseBy, RoseAtMost}
-use Rattle.feed_http.specs.Exchange.{Exchange, NoneFailed}
+use Rattle.feed_http.specs.Device.{counted, AppendsPrefix, RoseBy, RoseAtMost}
+use Rattle.feed_http.specs.Exchange.{Exchange, FailuresAreTold}
 use Rattle.feed_http.specs.HeadReading.{IsReadAsNeeded, IsStillNeeded, IsEnough}
 use Rattle.feed_answer.specs.Framed.{frame}
 use Rattle.feed_answer.specs.Served.{behind_opening}
@@ -105,14 +105,12 @@ ServedSo contest node framing back turns spoken (Ok served) =
     × Appends spoken.written_old spoken.written_new text
 ServedSo contest node framing back turns spoken (Err fault.Read) =
     BrokeInHead spoken.source spoken.left spoken.written_old spoken.written_new
-    × HasFailed spoken.failed_reads_old spoken.failed_reads_new
 ServedSo contest node framing back turns spoken (Err fault.Turns) =
     BrokeInHead spoken.source spoken.left spoken.written_old spoken.written_new
     × RoseBy spoken.reads_old spoken.reads_new turns
 ServedSo contest node framing back turns spoken (Err fault.Write) =
     BrokeBehindHead contest node framing back spoken.source spoken.left spoken.written_old
     spoken.written_new
-    × HasFailed spoken.failed_writes_old spoken.failed_writes_new
 ServedSo contest node framing back turns spoken (Err fault.Memory) =
     Appends spoken.written_old spoken.written_new []
     ⊎ BrokeBehindHead contest node framing back spoken.source spoken.left spoken.written_old
@@ -126,4 +124,4 @@ pub record ServesOnce (service : Service) (node : NodeState) (spoken : Exchange)
   pub came : ServedSo service.contest.now node service.framing service.back service.turns spoken
       served
   pub reads : RoseAtMost spoken.reads_old spoken.reads_new service.turns
-  pub quiet : OnOk served (NoneFailed spoken)
+  pub failures : FailuresAreTold spoken served

@@ -4,29 +4,30 @@ use Rattle.std.specs.Io.KnownBytes.{Appends}
 use Rattle.feed_node.specs.declared.primary.CommitFault.{CommitFault}
 use Rattle.feed_http.specs.declared.fault.EngineFault.{EngineFault}
 use Rattle.feed_http.specs.declared.fault.EngineFault.TheVariants as fault
-use Rattle.feed_http.specs.Device.{AppendsPrefix, HasFailed}
-use Rattle.feed_http.specs.Exchange.{Wrote}
+use Rattle.feed_http.specs.Device.{AppendsPrefix}
+use Rattle.feed_http.specs.Exchange.{Wrote, failed_writes_after}
 
--- where not all was written, between these counts of failed writes
-abbrev pub FailsBy : ℕ → ℕ → Type 0 → (CommitFault → Type 0) → EngineFault → Type 0
-FailsBy old new Part Refused fault.Write = Part × HasFailed old new
-FailsBy old new Part Refused fault.Memory = Part
-FailsBy old new Part Refused (fault.Commit why) = Refused why
-FailsBy old new Part Refused fault.Read = ⊥
-FailsBy old new Part Refused fault.Turns = ⊥
-FailsBy old new Part Refused (fault.Follow why) = ⊥
+-- where not all was written
+abbrev pub FailsBy : Type 0 → (CommitFault → Type 0) → EngineFault → Type 0
+FailsBy Part Refused fault.Write = Part
+FailsBy Part Refused fault.Memory = Part
+FailsBy Part Refused (fault.Commit why) = Refused why
+FailsBy Part Refused fault.Read = ⊥
+FailsBy Part Refused fault.Turns = ⊥
+FailsBy Part Refused (fault.Follow why) = ⊥
 
-abbrev pub EndsBy : {A : Type 0} → ℕ → ℕ → (A → Type 0) → Type 0 → (CommitFault → Type 0)
+abbrev pub EndsBy : {A : Type 0} → (A → Type 0) → Type 0 → (CommitFault → Type 0)
     → Result A EngineFault → Type 0
-EndsBy old new All Part Refused (Ok value) = All value × (new ≡ old)
-EndsBy old new All Part Refused (Err why) = FailsBy old new Part Refused why
+EndsBy All Part Refused (Ok value) = All value
+EndsBy All Part Refused (Err why) = FailsBy Part Refused why
 
--- All was written, and no write failed; or a part of it, because a write failed, which the count of
--- failures says, or because memory ran out; or as much as comes before a batch that was refused.
+-- All was written; or a part of it, because a write failed or memory ran out; or as much as comes
+-- before a batch that was refused. No write failed but the one that is the fault.
 abbrev pub WritesBy : {A : Type 0} → Wrote → (A → Type 0) → Type 0 → (CommitFault → Type 0)
     → Result A EngineFault → Type 0
 WritesBy wrote All Part Refused result =
-    EndsBy wrote.failed_old wrote.failed_new All Part Refused result
+    EndsBy All Part Refused result
+    × (wrote.failed_new ≡ failed_writes_after wrote.failed_old result)
 
 -- the same where no batch is taken
 abbrev pub WritesAll : {A : Type 0} → Wrote → (A → Type 0) → Type 0 → Result A EngineFault → Type 0

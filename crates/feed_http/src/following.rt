@@ -1,9 +1,9 @@
 //! The reading of a response, whose feed goes to a mirror.
-ghost use Rattle.std.specs.Prelude.{◌≡◌, [], None, OnOk};
+ghost use Rattle.std.specs.Prelude.{◌≡◌, [], None};
 ghost use Rattle.feed_follow.specs.Standing.{in_head};
 ghost use Rattle.feed_follow.specs.Follower.{FollowsAt};
 ghost use Rattle.feed_http.specs.Device.{RoseAtMost};
-ghost use Rattle.feed_http.specs.Exchange.{gave_by};
+ghost use Rattle.feed_http.specs.Exchange.{gave_by, failed_reads_after};
 ghost use Rattle.feed_http.specs.Following.{Comes, Follows};
 
 use crate::device::{Failed, FeedRead};
@@ -24,7 +24,8 @@ fn push_response<R: FeedRead>(
     requires { FollowsAt mirror.old [] in_head follower.old mirror.old }
     ensures came { let gave = gave_by R.remaining R.reads R.failures reader.old reader.new in
         Comes turns gave mirror.old result mirror.new }
-    ensures quiet { OnOk result (R.failures reader.new ≡ R.failures reader.old) }
+    ensures failures { R.failures reader.new
+        ≡ failed_reads_after (R.failures reader.old) result }
     ensures reads { RoseAtMost (R.reads reader.old) (R.reads reader.new) turns }
 {
     // What no `Closed` rests on.
@@ -61,7 +62,8 @@ pub fn follow<R: FeedRead>(
     ensures followed { let gave = gave_by R.remaining R.reads R.failures reader.old reader.new in
         Follows turns gave mirror.old result mirror.new }
     ensures cut { mirror.new.connection ≡ None }
-    ensures quiet { OnOk result (R.failures reader.new ≡ R.failures reader.old) }
+    ensures failures { R.failures reader.new
+        ≡ failed_reads_after (R.failures reader.old) result }
     ensures reads { RoseAtMost (R.reads reader.old) (R.reads reader.new) turns }
 {
     let mut follower = Follower::new(mirror);

@@ -2,8 +2,8 @@
 ghost use Rattle.std.specs.Prelude.{◌≡◌, ◌⊎◌, ◌<◌, ◌≤◌, ℕ, List, [], ◌++◌, length, IsTrue, IfOk, IfErr, OnOk, OnErr, IsErrOf};
 ghost use Rattle.std.specs.Io.KnownBytes.{Consumes, IsAtEnd};
 ghost use Rattle.feed_http.specs.declared.fault.EngineFault.{EngineFault as Fault};
-ghost use Rattle.feed_http.specs.Device.{counted, HasFailed, RoseAtMost};
-ghost use Rattle.feed_http.specs.Exchange.{gave_by};
+ghost use Rattle.feed_http.specs.Device.{counted, RoseAtMost};
+ghost use Rattle.feed_http.specs.Exchange.{gave_by, failed_reads_after};
 ghost use Rattle.feed_http.specs.HeadReading.{read_bytes, most_after, IsReadAsNeeded, IsStillNeeded, IsEnough, HeadEnds};
 
 use crate::device::FeedRead;
@@ -37,11 +37,10 @@ fn read_piece<R: FeedRead>(reader: &mut R, bytes: &mut Vec<u8>) -> Result<usize,
         × (n ≡ 0 → IsAtEnd (R.remaining reader.new))) }
     ensures unread { IsErrOf result Fault.Read →
         Consumes (R.remaining reader.old) (R.remaining reader.new) [] }
-    ensures quiet { OnOk result (R.failures reader.new ≡ R.failures reader.old) }
     ensures reads { R.reads reader.new ≡ counted (R.reads reader.old) 1 }
     ensures kept { OnErr result (bytes.new.items ≡ bytes.old.items) }
-    ensures read { IsErrOf result Fault.Read → HasFailed (R.failures reader.old)
-        (R.failures reader.new) }
+    ensures failures { R.failures reader.new
+        ≡ failed_reads_after (R.failures reader.old) result }
     ensures faults { IfErr result (λ fault. (fault ≡ Fault.Read) ⊎ (fault ≡ Fault.Memory)) }
 {
     let mut piece = [0u8; READ_BYTES];
@@ -78,7 +77,8 @@ pub(crate) fn read_head<R: FeedRead>(
     requires { bytes.old.items ≡ [] }
     ensures ends { let gave = gave_by R.remaining R.reads R.failures reader.old reader.new in
         HeadEnds turns gave bytes.new.items result }
-    ensures quiet { OnOk result (R.failures reader.new ≡ R.failures reader.old) }
+    ensures failures { R.failures reader.new
+        ≡ failed_reads_after (R.failures reader.old) result }
     ensures needed { IsReadAsNeeded bytes.new.items }
     ensures reads { RoseAtMost (R.reads reader.old) (R.reads reader.new) turns }
 {

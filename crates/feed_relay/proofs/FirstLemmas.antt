@@ -1,13 +1,11 @@
 -- Lemmas on places that are asked one after another.
-use Rattle.std.proofs.Common.{◌≡◌, ◌≢◌, ◌⊎◌, inl, inr, refl, sym, ap, ◌∙◌, subst, ◌+◌, ◌*◌, ◌<◌, ◌≤◌, ◌++◌, ◌∷◌, [], List, ℕ, Bool, true, false, length, take, drop, arith, append_assoc, length-append}
+use Rattle.std.proofs.Common.{◌≡◌, sym, ap, ◌∙◌, subst, ◌+◌, ◌++◌, ◌∷◌, [], List, ℕ, true, false, length, take, drop, append_assoc}
 use Rattle.std.proofs.lemmas.List.{take-append-drop}
 use Rattle.feed_relay.specs.declared.server.Server.{Server}
-use Rattle.feed_http.specs.declared.fault.Followed.TheVariants as followed
 use Rattle.feed_relay.specs.Dialing.{Dialer}
-use Rattle.feed_relay.specs.First.{Position, position, attempt_at, is_last, Attempts, AsksServer, GoesOn, StopsAt, none_asked, one_asked}
+use Rattle.feed_relay.specs.First.{Position, is_last, AsksServer, GoesOn, StopsAt, one_asked}
 use Rattle.feed_relay.specs.declared.first.Attempt.{Attempt}
 use Rattle.feed_relay.specs.declared.first.AttemptEnd.{AttemptEnd}
-use Rattle.feed_relay.specs.declared.first.AttemptEnd.TheVariants.{Followed}
 
 module _ {D R W : Type 0} where
   -- behind a place that ends nothing, the next one is asked

@@ -1,12 +1,12 @@
 -- What a pull came to where asking did not fail.
 use Rattle.std.proofs.Common.{◌≡◌, ℕ, List}
-use Rattle.std.specs.Prelude.{Result, Ok, Err, OnOk}
+use Rattle.std.specs.Prelude.{Result, Ok, Err}
 use Rattle.std.specs.Io.KnownBytes.{Appends}
 use Rattle.feed_node.specs.Mirroring.{MirrorState}
 use Rattle.feed_http.specs.declared.fault.EngineFault.{EngineFault}
 use Rattle.feed_http.specs.declared.fault.EngineFault.TheVariants as fault
 use Rattle.feed_http.specs.declared.fault.Followed.{Followed}
-use Rattle.feed_http.specs.Exchange.{Exchange, gave_on, NoneFailed}
+use Rattle.feed_http.specs.Exchange.{Exchange, gave_on, FailuresAreTold, failed_reads_after}
 use Rattle.feed_http.specs.Following.{Follows}
 use Rattle.feed_relay.specs.Pulling.{HasAsked, IsFollowed}
 
@@ -23,10 +23,16 @@ answered request turns spoken start mirror (Err fault.Write) wrote none = absurd
 answered request turns spoken start mirror (Err fault.Memory) wrote none = absurd none
 answered request turns spoken start mirror (Err (fault.Commit why)) wrote none = absurd none
 
--- where a response was followed, nothing failed: not the asking either
-pub none_failed : (spoken : Exchange) (pulled : Result Followed EngineFault)
-    → spoken.failed_writes_new ≡ spoken.failed_writes_old
-    → OnOk pulled (spoken.failed_reads_new ≡ spoken.failed_reads_old)
-    → OnOk pulled (NoneFailed spoken)
-none_failed spoken (Ok followed) writes reads = (reads, writes)
-none_failed spoken (Err why) writes reads = tt
+-- where the request was written, what failed is a read
+pub told_reads : (turns : ℕ) (spoken : Exchange) (start mirror : MirrorState)
+    (pulled : Result Followed EngineFault)
+    → Follows turns (gave_on spoken) start pulled mirror
+    → spoken.failed_reads_new ≡ failed_reads_after spoken.failed_reads_old pulled
+    → spoken.failed_writes_new ≡ spoken.failed_writes_old → FailuresAreTold spoken pulled
+told_reads turns spoken start mirror (Ok followed) came reads writes = (reads, writes)
+told_reads turns spoken start mirror (Err fault.Read) came reads writes = (reads, writes)
+told_reads turns spoken start mirror (Err fault.Turns) came reads writes = (reads, writes)
+told_reads turns spoken start mirror (Err (fault.Follow why)) came reads writes = (reads, writes)
+told_reads turns spoken start mirror (Err fault.Write) none reads writes = absurd none
+told_reads turns spoken start mirror (Err fault.Memory) none reads writes = absurd none
+told_reads turns spoken start mirror (Err (fault.Commit why)) none reads writes = absurd none

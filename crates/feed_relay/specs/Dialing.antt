@@ -1,5 +1,5 @@
 -- What a contract says of what opens connections.
-use Rattle.std.specs.Prelude.{◌≡◌, ℕ, List, Option, None, Some}
+use Rattle.std.specs.Prelude.{◌≡◌, ℕ, Option, None, Some}
 use Rattle.feed_http.specs.Device.{counted}
 use Rattle.feed_http.specs.Exchange.{Devices, Exchange, exchange}
 

@@ -1,6 +1,6 @@
 -- How the first of several servers that serves is found, and followed.
 use Rattle.std.specs.Prelude.{◌≡◌, ◌≢◌, ◌⊎◌, ℕ, ◌-◌, Bool, true, false, List, [], ◌∷◌, ◌++◌, length, Result, Ok, Err}
-use Rattle.std.specs.Prelude.{Option, Some, None, option_map, slice_get, unwrap_or}
+use Rattle.std.specs.Prelude.{Option, option_map, slice_get, unwrap_or}
 use Rattle.feed_node.specs.Mirroring.{MirrorState}
 use Rattle.feed_http.specs.declared.fault.EngineFault.{EngineFault}
 use Rattle.feed_http.specs.declared.fault.Followed.{Followed as End}

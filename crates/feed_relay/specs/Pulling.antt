@@ -1,14 +1,14 @@
 -- How a mirror pulls what it lacks from a server (CLICS Contest API 2023-06, reconnection).
-use Rattle.std.specs.Prelude.{◌≡◌, ℕ, List, Result, Err, OnOk}
+use Rattle.std.specs.Prelude.{◌≡◌, ℕ, List, Result, Err}
 use Rattle.std.specs.Io.KnownBytes.{Appends}
 use Rattle.feed_node.specs.Mirroring.{MirrorState}
 use Rattle.feed_answer.specs.RequestText.{request_text_as}
 use Rattle.feed_http.specs.declared.fault.EngineFault.{EngineFault}
 use Rattle.feed_http.specs.declared.fault.EngineFault.TheVariants.{Write, Memory}
 use Rattle.feed_http.specs.declared.fault.Followed.{Followed}
-use Rattle.feed_http.specs.Device.{HasFailed, AppendsPrefix, RoseAtMost}
+use Rattle.feed_http.specs.Device.{AppendsPrefix, RoseAtMost}
 use Rattle.feed_http.specs.Following.{Follows}
-use Rattle.feed_http.specs.Exchange.{Exchange, gave_on, NoneFailed}
+use Rattle.feed_http.specs.Exchange.{Exchange, gave_on, FailuresAreTold}
 use Rattle.feed_relay.specs.declared.server.Server.{Server}
 
 -- the request was written; where asking failed, a prefix of it
@@ -25,9 +25,7 @@ IsUnanswered spoken start mirror = (spoken.left ≡ spoken.source) × (mirror �
 -- asking failed
 abbrev pub IsFollowed : ℕ → Exchange → MirrorState → Result Followed EngineFault → MirrorState
     → Type 0
-IsFollowed turns spoken start (Err Write) mirror =
-    IsUnanswered spoken start mirror
-    × HasFailed spoken.failed_writes_old spoken.failed_writes_new
+IsFollowed turns spoken start (Err Write) mirror = IsUnanswered spoken start mirror
 IsFollowed turns spoken start (Err Memory) mirror = IsUnanswered spoken start mirror
 IsFollowed turns spoken start pulled mirror = Follows turns (gave_on spoken) start pulled mirror
 
@@ -38,4 +36,4 @@ pub record PullsOnce (server : Server) (turns : ℕ) (spoken : Exchange) (start 
   pub asked : HasAsked (request_text_as server.place start.since server.identity.now) spoken pulled
   pub came : IsFollowed turns spoken start pulled mirror
   pub reads : RoseAtMost spoken.reads_old spoken.reads_new turns
-  pub quiet : OnOk pulled (NoneFailed spoken)
+  pub failures : FailuresAreTold spoken pulled

@@ -145,6 +145,8 @@ pub fn start_mirror<R: FeedRead>(
         (R.remaining input.old) (R.remaining input.new)) }
     ensures read { IsErrOf result Fault.Read
         → HasFailed (R.failures input.old) (R.failures input.new) }
+    ensures quiet { ¬ (IsErrOf result Fault.Read)
+        → R.failures input.new ≡ R.failures input.old }
 {
     if !options.resume {
         return Ok(Mirror::new(alloc, options.limits)?);

@@ -43,6 +43,8 @@ pub fn start_source<R: FeedRead>(
         (R.remaining input.old) (R.remaining input.new)) }
     ensures read { IsErrOf result Fault.Read
         → HasFailed (R.failures input.old) (R.failures input.new) }
+    ensures quiet { ¬ (IsErrOf result Fault.Read)
+        → R.failures input.new ≡ R.failures input.old }
 {
     let feed = read_input(alloc, input)?;
     let mut waiting = feed_batches(alloc, feed.as_slice())?;

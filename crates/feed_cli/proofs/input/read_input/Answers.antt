@@ -1,4 +1,4 @@
-use Rattle.std.proofs.Common.{rules, ◌≡◌, ◌∙◌, [], refl, sym, subst, arith}
+use Rattle.std.proofs.Common.{rules, ◌∙◌, [], refl, sym, subst}
 use Rattle.std.specs.Io.KnownBytes.{Consumes}
 use Rattle.std.proofs.KnownBytes.{Consumes-nil}
 use Rattle.std.proofs.lemmas.Result.{err_from_is_err_and}
@@ -12,7 +12,7 @@ pieces-init g c = record { given = ([], c.new-bytes.ensures.items, Consumes-nil 
 pub pieces-preserved : goal.pieces-preserved
 pieces-preserved g c = record {
   given = Moved-trans _ _ _ [] _ _ c.pieces.invariant.given c.in_ok-read_piece.ensures.given;
-  quiet = c.in_ok-read_piece.ensures.quiet ∙ c.pieces.invariant.quiet;
+  quiet = c.in_ok-read_piece.ensures.quiet (λ e. absurd (cc)) ∙ c.pieces.invariant.quiet;
 }
 
 pub returns-in_err-read_piece-clause-err : goal.returns-in_err-read_piece-clause-err

@@ -1,10 +1,11 @@
-use Rattle.std.proofs.Common.{rules, ◌≡◌, ◌≤◌, ◌+◌, ◌<◌, refl, sym, ◌∙◌, subst, arith, inl, inr, take}
+use Rattle.std.proofs.Common.{rules, ◌≡◌, ◌≤◌, ◌+◌, ◌<◌, refl, sym, ap, ◌∙◌, subst, arith, inl, take}
 use Rattle.std.proofs.Common.{◌++◌, length, length-take}
 use Rattle.std.proofs.KnownBytes.{Keeps-refl}
 use Rattle.std.proofs.lemmas.Result.{err_from_is_err_and}
 use Rattle.feed_follow.specs.Follower.{GoesOn}
 use Rattle.feed_http.specs.HeadReading.{read_bytes}
-use Rattle.feed_http.proofs.DeviceLemmas.{failed_once, rose_more}
+use Rattle.feed_http.specs.Device.{counted}
+use Rattle.feed_http.proofs.DeviceLemmas.{rose_more}
 use Rattle.feed_http.proofs.FollowingLemmas.{GoesOnAt, goes_at_first, broke_off, ended, met}
 use Rattle.feed_http.proofs.FollowingLemmas.{not_closed, on_in_head, on_in_body, over_done}
 use Rattle.feed_http.proofs.FollowingLemmas.{over_refused}
@@ -29,10 +30,12 @@ returns-in-Ok-eq0-clause-reads g c =
     (c.pieces.counter + 1, omega arith, reads)
 
 pub returns-in-Err-clause-came : goal.returns-in-Err-clause-came
-returns-in-Err-clause-came g c = (
-  broke_off _ _ _ _ _ _ _ c.pieces.invariant.goes c.in-Err.ensures.bytes,
-  failed_once _ _ _ c.pieces.invariant.quiet c.in-Err.ensures.failures,
-)
+returns-in-Err-clause-came g c =
+    broke_off _ _ _ _ _ _ _ c.pieces.invariant.goes c.in-Err.ensures.bytes
+
+pub returns-in-Err-clause-failures : goal.returns-in-Err-clause-failures
+returns-in-Err-clause-failures g c =
+    c.in-Err.ensures.failures ∙ ap (λ n. counted n 1) c.pieces.invariant.quiet
 
 pub returns-in-Err-clause-reads : goal.returns-in-Err-clause-reads
 returns-in-Err-clause-reads g c =

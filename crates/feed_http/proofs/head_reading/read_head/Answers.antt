@@ -6,7 +6,7 @@ use Rattle.std.proofs.KnownBytes.{Consumes-nil, Consumes-trans}
 use Rattle.feed_http.specs.Exchange.{gave_by}
 use Rattle.feed_http.specs.HeadReading.{IsReadAsNeeded, IsStillNeeded, IsEnough, none_read, more_read}
 use Rattle.feed_http.proofs.DeviceLemmas.{rose_more}
-use Rattle.feed_http.proofs.HeadLemmas.{fails_at}
+use Rattle.feed_http.proofs.HeadLemmas.{fails_at, reads_passed}
 use Rattle.feed_http.proofs.head_reading.read_head.Goals as goal
 
 pub pieces-init : goal.pieces-init
@@ -27,7 +27,7 @@ pieces-preserved g c =
       needed = subst IsReadAsNeeded (sym grown) (more_read c.pieces.bytes.items given c.pieces.invariant.needed lacking (omega arith));
       within = omega arith;
       reads = rose_more _ _ _ _ c.pieces.invariant.reads c.read_piece.ensures.reads;
-      quiet = c.in_ok-read_piece.ensures.quiet ∙ c.pieces.invariant.quiet;
+      quiet = c.in_ok-read_piece.ensures.failures ∙ c.pieces.invariant.quiet;
     }
 
 pub returns-in_err-read_piece-clause-reads : goal.returns-in_err-read_piece-clause-reads
@@ -43,9 +43,14 @@ returns-in_err-read_piece-clause-ends g c =
     let gave = gave_by reader.remaining reader.reads reader.failures c.args.reader.now c.read_piece.new.reader in
     let why = c.in_err-read_piece.field-0.0 in
     let lacking : IsStillNeeded c.pieces.bytes.items = subst IsStillNeeded c.as_slice.ensures.value (c.is_needed.ensures.needed c.pieces-test.true) in
-    rw (p.1, p.2) (fails_at c.args.turns gave _ _ c.pieces.bytes.items _ why c.in_err-read_piece.ensures.kept
-    c.pieces.invariant.given lacking c.pieces.invariant.quiet c.in_err-read_piece.ensures.faults
-    (λ is. c.in_err-read_piece.ensures.unread (ap Err is)) (λ is. c.in_err-read_piece.ensures.read (ap Err is)))
+    rw (p.1, p.2) (fails_at c.args.turns gave _ c.pieces.bytes.items _ why c.in_err-read_piece.ensures.kept
+    c.pieces.invariant.given lacking c.in_err-read_piece.ensures.faults
+    (λ is. c.in_err-read_piece.ensures.unread (ap Err is)))
+
+pub returns-in_err-read_piece-clause-failures : goal.returns-in_err-read_piece-clause-failures
+returns-in_err-read_piece-clause-failures g c =
+    let p = err_from_is_err_and c.from_residual.result c.from_residual.ensures.1 in
+    reads_passed c.in_err-read_piece.field-0.0 p.1 p.2 c.pieces.invariant.quiet c.in_err-read_piece.ensures.failures
 
 pub returns-then-branch-eq0-clause-ends : goal.returns-then-branch-eq0-clause-ends
 returns-then-branch-eq0-clause-ends g c =

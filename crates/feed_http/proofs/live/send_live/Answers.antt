@@ -115,15 +115,18 @@ returns-in_err-take_turn g c =
     let new = all_new c.node.result.now.shown c.turns.primary.node c.send_commits.new.session c.in_ok-sent.gone node_is c.if-gone.false all in
     let p = err_from_is_err_and c.from_residual-in_err-take_turn.result c.from_residual-in_err-take_turn.ensures.1 in
     rw (p.1, p.2) (
-      commit_frames c.args.framing (sent ++ more),
-      record {
-        sent = sent ++ more;
-        before = before;
-        token = c.send_commits.new.session;
-        has_sent = sent_on c.args.turn start c.args.session.now sent before c.turns.session c.send_commits.new.session more run goes_on;
-        nothing_new = new;
-        refuses = c.in_err-take_turn.ensures.err;
-        text_is = refl;
-      },
-      frames_on c.args.framing sent more _ _ _ wrote appended,
+      (
+        commit_frames c.args.framing (sent ++ more),
+        record {
+          sent = sent ++ more;
+          before = before;
+          token = c.send_commits.new.session;
+          has_sent = sent_on c.args.turn start c.args.session.now sent before c.turns.session c.send_commits.new.session more run goes_on;
+          nothing_new = new;
+          refuses = c.in_err-take_turn.ensures.err;
+          text_is = refl;
+        },
+        frames_on c.args.framing sent more _ _ _ wrote appended,
+      ),
+      quiet ∙ c.turns.invariant.quiet,
     )

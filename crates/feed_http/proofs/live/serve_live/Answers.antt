@@ -16,7 +16,7 @@ returns-in_err-read_head g c =
     let start = intake_of c.args.primary.now c.args.input.now.items in
     let p = err_from_is_err_and c.from_residual.result c.from_residual.ensures.1 in
     was_not_heard c.args.turn c.args.service.now spoken start start c.read_head.new.bytes.items p.1 p.2
-    c.read_head.ensures.needed refl (Appends-nil _) c.in_err-read_head.ensures.ends c.read_head.ensures.reads
+    c.read_head.ensures.needed refl (Appends-nil _) c.in_err-read_head.ensures.ends c.in_err-read_head.ensures.failures refl c.read_head.ensures.reads
 
 pub returns-in_err-answered : goal.returns-in_err-answered
 returns-in_err-answered g c =
@@ -26,7 +26,7 @@ returns-in_err-answered g c =
     let start = intake_of c.args.primary.now c.args.input.now.items in
     let p = err_from_is_err_and c.from_residual-in_err-answered.result c.from_residual-in_err-answered.ensures.1 in
     was_not_heard c.args.turn c.args.service.now spoken start start c.read_head.new.bytes.items p.1 p.2
-    c.read_head.ensures.needed refl (Appends-nil _) tt c.read_head.ensures.reads
+    c.read_head.ensures.needed refl (Appends-nil _) tt c.in_ok-read_head.ensures.failures refl c.read_head.ensures.reads
 
 pub send_live_answer-requires-clause-held : goal.send_live_answer-requires-clause-held
 send_live_answer-requires-clause-held g c =
@@ -52,4 +52,4 @@ returns g c =
       enough = c.in_ok-read_head.ensures.ends.1;
       answers = subst (λ n. AnswersTo head s.contest.now n s.framing s.back answer) c.node-node.ensures.node asked;
     } in
-    was_live c.args.turn s spoken start now answer has c.read_head.ensures.reads c.in_ok-read_head.ensures.quiet c.send_live_answer.result c.send_live_answer.ensures
+    was_live c.args.turn s spoken start now answer has c.read_head.ensures.reads c.in_ok-read_head.ensures.failures c.send_live_answer.result c.send_live_answer.ensures

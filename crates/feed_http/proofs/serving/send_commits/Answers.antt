@@ -18,7 +18,7 @@ pub returns-in_err-pull_next-clause-sent : goal.returns-in_err-pull_next-clause-
 returns-in_err-pull_next-clause-sent g c =
     let (sent, run, count, wrote) = c.commits.invariant.run in
     let p = err_from_is_err_and c.from_residual.result c.from_residual.ensures.1 in
-    ran_out _ _ _ _ p.1 p.2 (wrote_these c.args.node.now.shown c.args.session.now c.commits.session sent c.args.framing _ _ run wrote)
+    ran_out _ _ _ _ p.1 p.2 (wrote_these c.args.node.now.shown c.args.session.now c.commits.session sent c.args.framing _ _ run wrote) c.commits.invariant.quiet
 
 pub returns-in_err-write_framed-in-More-clause-sent : goal.returns-in_err-write_framed-in-More-clause-sent
 returns-in_err-write_framed-in-More-clause-sent g c =

@@ -1,4 +1,4 @@
-use Rattle.std.proofs.Common.{rules, ◌≡◌, ap, ◌∙◌, subst, inr, refl, ◌++◌, ◌∷◌, [], arith, append_assoc}
+use Rattle.std.proofs.Common.{rules, ◌≡◌, ap, ◌∙◌, subst, inr, ◌++◌, ◌∷◌, [], arith, append_assoc}
 use Rattle.feed_http.specs.declared.fault.Followed.TheVariants.{TokenRefused}
 use Rattle.feed_http.specs.Exchange.{devices_of}
 use Rattle.feed_relay.specs.Dialing.{dialer_of}

@@ -1,4 +1,4 @@
-use Rattle.std.proofs.Common.{rules, sym, ap, ◌∙◌, subst, inl, inr, ◌+◌, ◌<◌, ◌≤◌, ◌++◌, ◌∷◌, [], length, take, arith, length-append}
+use Rattle.std.proofs.Common.{rules, sym, ap, ◌∙◌, subst, inr, ◌<◌, ◌++◌, ◌∷◌, [], length, take, arith, length-append}
 use Rattle.std.proofs.lemmas.List.{take_more, length-take-le}
 use Rattle.feed_relay.specs.First.{GoesOn, none_asked, position}
 use Rattle.feed_http.specs.Exchange.{devices_of}

@@ -1,5 +1,5 @@
 -- The servers so far were asked, and there is room for two attempts at each of the others.
-use Rattle.std.proofs.Common.{◌≡◌, ◌≤◌, ◌+◌, ◌*◌, length, take, None, vec_capacity}
+use Rattle.std.proofs.Common.{◌≡◌, ◌≤◌, ◌*◌, length, take, None, vec_capacity}
 use Rattle.feed_http.specs.Exchange.{devices_of}
 use Rattle.feed_relay.specs.Dialing.{dialer_of}
 use Rattle.feed_relay.specs.First.{GoesOn, position}

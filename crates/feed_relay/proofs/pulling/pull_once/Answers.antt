@@ -1,6 +1,6 @@
 use Rattle.feed_http.specs.Exchange.{devices_of, exchange}
 use Rattle.feed_answer.specs.RequestText.{request_text_as}
-use Rattle.feed_relay.proofs.PullingLemmas.{answered, none_failed}
+use Rattle.feed_relay.proofs.PullingLemmas.{answered, told_reads}
 use Rattle.feed_relay.proofs.pulling.pull_once.Goals as goal
 
 pub returns-clause-pulled : goal.returns-clause-pulled
@@ -15,5 +15,5 @@ returns-clause-pulled g c =
       asked = both.0;
       came = both.1;
       reads = c.follow.ensures.reads;
-      quiet = none_failed spoken c.follow.result c.in_ok-ask.ensures.1 c.follow.ensures.quiet;
+      failures = told_reads c.args.turns spoken start c.follow.new.mirror c.follow.result c.follow.ensures.followed c.follow.ensures.failures c.in_ok-ask.ensures.1;
     }

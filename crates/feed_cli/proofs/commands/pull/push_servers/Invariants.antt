@@ -1,5 +1,5 @@
 -- The servers so far are those that were there, and those at the addresses so far.
-use Rattle.std.proofs.Common.{◌≡◌, ◌++◌, Ok, take, map, string_bytes}
+use Rattle.std.proofs.Common.{◌≡◌, ◌++◌, take, map, string_bytes}
 use Rattle.feed_cli.specs.Pull.{asked_at, asked_of}
 use Rattle.feed_cli.proofs.commands.pull.push_servers.Given as goal
 

@@ -1,8 +1,7 @@
-use Rattle.std.proofs.Common.{rules, subst}
+use Rattle.std.proofs.Common.{rules}
 use Rattle.std.proofs.lemmas.Result.{err_from_is_err_and}
 use Rattle.feed_cli.proofs.InputLemmas.{start_fails, start_stops}
 use Rattle.feed_cli.proofs.ServeLemmas.{refused_at_start}
-use Rattle.feed_cli.specs.Check.{IsWhole}
 use Rattle.feed_cli.proofs.commands.serve.start_source.Goals as goal
 
 pub returns-in_err-feed-clause-err : goal.returns-in_err-feed-clause-err

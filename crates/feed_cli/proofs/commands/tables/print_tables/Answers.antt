@@ -1,4 +1,4 @@
-use Rattle.std.proofs.Common.{rules, ◌≡◌, refl, sym, ap, ◌∙◌, is_some}
+use Rattle.std.proofs.Common.{rules, ◌≡◌, ◌≢◌, Err, refl, sym, ap, ◌∙◌, is_some}
 use Rattle.feed_node.specs.States.{published_token}
 use Rattle.feed_note.specs.Texts.{published_text}
 use Rattle.feed_cli.proofs.TablesLemmas.{is_some_kept, printed_ok, printed_err, came_of_feeding, feeding_writes_nothing}
@@ -30,3 +30,8 @@ returns-clause-read g c = λ told.
 pub returns-clause-write : goal.returns-clause-write
 returns-clause-write g c = λ told.
     absurd (feeding_writes_nothing _ c.feed_all-fed.result _ _ _ c.feed_all-fed.ensures.fed (came_of_feeding c.feed_all-fed.result c.is_some-is_published.result fault.Write (λ e. absurd (cc)) (sym c.outcome.ensures ∙ told)))
+
+pub returns-clause-memory : goal.returns-clause-memory
+returns-clause-memory g c = λ told.
+    let other : c.feed_all-fed.result ≢ Err fault.Memory = search rules in
+    absurd (other (came_of_feeding c.feed_all-fed.result c.is_some-is_published.result fault.Memory (λ e. absurd (cc)) (sym c.outcome.ensures ∙ told)))
