@@ -1,22 +1,19 @@
 -- How a relay stays at places of the log, step by step.
-use Rattle.std.proofs.Common.{◌≡◌, refl, sym, ap, ◌∙◌, subst, ℕ, ◌+◌, ◌≤◌, arith, List, [], ◌∷◌, ◌++◌, take, drop, length, append-nil, append_assoc, Option, Some, None}
+use Rattle.std.proofs.Common.{◌≡◌, refl, sym, ap, ◌∙◌, subst, ℕ, ◌+◌, arith, List, [], ◌∷◌, ◌++◌, take, drop, append-nil, append_assoc, Option, Some, None}
 use Rattle.std.specs.Result.{is_err}
 use Rattle.std.specs.Prelude.{Result, Ok, Err, OnOk, Bool, true, false, Contains, option_map, is_none, is_some, IfSome, if◌then◌else◌}
 use Rattle.std.proofs.lemmas.List.{take-take, drop-take, take-append-drop}
 use Rattle.slab.specs.Slab.{Slab}
 use Rattle.feed_settings.specs.Limits.{Limits}
-use Rattle.feed_node.specs.Mirroring.{MirrorState, cut_off, refused_off, present_opening}
+use Rattle.feed_node.specs.Mirroring.{MirrorState, refused_off}
 use Rattle.feed_node.specs.States.{NodeState, published_token}
 use Rattle.feed_follow.specs.declared.fault.FollowFault.{FollowFault}
 use Rattle.feed_follow.specs.declared.fault.Progress.{Progress}
 use Rattle.feed_follow.specs.declared.fault.Progress.TheVariants as reached
-use Rattle.feed_follow.specs.Follower.{FollowerState, FollowsAt, GoesOn, GoesOnOrRefuses}
+use Rattle.feed_follow.specs.Follower.{FollowerState, GoesOn}
 use Rattle.feed_follow.specs.Following.{Fails}
 use Rattle.feed_follow.specs.Standing.{Standing, in_head}
 use Rattle.feed_world.specs.Log.{Log}
-use Rattle.feed_world.specs.Position.{Position, node_where}
-use Rattle.feed_world.specs.Reading.{opening_at}
-use Rattle.feed_world.specs.States.{HasAsked}
 use Rattle.feed_hub.specs.declared.hub.Hub.{Hub}
 use Rattle.feed_hub.specs.Laws.{IsInLog}
 use Rattle.feed_hub.specs.Upstream.{IsFollowing, IsPushed}
@@ -29,7 +26,7 @@ use Rattle.feed_live.specs.declared.source.Source.{Source}
 use Rattle.feed_live.specs.Relaying.{IsAsked, Follows, MayFollow, Shows, SameSource, IsKeeping, IsLeft}
 use Rattle.feed_live.specs.Serving.{Serving}
 use Rattle.feed_live.specs.States.{states_of}
-use Rattle.feed_live.specs.Upstream.{AsksInLog, IsRequestOf, StaysInLog, IsHonest, AreHonest, AreKnownHonest}
+use Rattle.feed_live.specs.Upstream.{AsksInLog, IsRequestOf, StaysInLog, IsHonest, AreKnownHonest}
 use Rattle.feed_live.proofs.StateLemmas.{among_states}
 
 -- what holds where it is no error

@@ -100,8 +100,9 @@ StillServes node old new =
     (nodes : List NodeState) (contest : List ℕ) (sockets : AllSockets) → Contains nodes node
     → StillServing nodes contest old new sockets sockets
 
--- nothing changed of what is followed and shown
+-- nothing changed of what is followed and shown, nor of where that is asked for
 pub record SameSource (old new : Source) : Type 0 where
+  pub places : new.places.items ≡ old.places.items
   pub shown : new.answers.shown.mirror ≡ old.answers.shown.mirror
   pub blank : new.answers.blank.mirror ≡ old.answers.blank.mirror
   pub follower : new.upstream.follower ≡ old.upstream.follower
@@ -111,6 +112,7 @@ pub record SameSource (old new : Source) : Type 0 where
 
 -- the same but for what is kept unread
 pub record IsKeeping (old new : Source) : Type 0 where
+  pub places : new.places.items ≡ old.places.items
   pub answers : new.answers ≡ old.answers
   pub upstream : new.upstream ≡ old.upstream
   pub reach : new.reach ≡ old.reach
@@ -124,3 +126,13 @@ pub record IsLeft (old new : Source) (before after : Exchanges) : Type 0 where
   pub limits : new.answers.shown.mirror.limits ≡ old.answers.shown.mirror.limits
   pub node : new.answers.shown.mirror.node ≡ old.answers.shown.mirror.node
   pub blank : new.answers.blank.mirror ≡ old.answers.blank.mirror
+
+-- Only screens were served, from what the relay shows or from what shows nothing. All else is as it
+-- was.
+pub record OnlyServes (old new : Live) (before after : AllSockets) : Type 0 where
+  pub contest : new.contest ≡ old.contest
+  pub feeds : new.feeds ≡ old.feeds
+  pub source : SameSource old.source new.source
+  pub serves : (nodes : List NodeState) → Contains nodes old.source.answers.shown.mirror.node
+      → Contains nodes old.source.answers.blank.mirror.node
+      → StillServing nodes (string_bytes old.contest) old.screens new.screens before after

@@ -1,6 +1,6 @@
 //! The server that is followed, and the mirror of what it sends.
 
-ghost use Rattle.std.specs.Prelude.{◌≡◌, None, Some, IfOk, IfSome, drop};
+ghost use Rattle.std.specs.Prelude.{◌≡◌, [], None, Some, IfOk, IfSome, drop, false};
 ghost use Rattle.feed_node.specs.States.{published_token};
 
 mod input;
@@ -77,6 +77,8 @@ impl Source {
         ensures blank { result.answers.blank.mirror ≡ blank }
         ensures follower { result.upstream.follower ≡ None }
         ensures reach { result.reach ≡ Away }
+        ensures places { result.places ≡ places }
+        ensures rest { result.rest.items ≡ [] }
     {
         // A relay without a state has nothing old to show, nor has one whose feed is the input.
         let is_heard = mirror.node().token().is_none() || places.is_empty();
@@ -162,7 +164,9 @@ impl Source {
     }
 
     /// Whether there is a server to be asked.
-    pub(crate) fn has_servers(&self) -> bool {
+    pub(crate) fn has_servers(&self) -> bool
+        ensures { self.now.places.items ≡ [] → result ≡ false }
+    {
         !self.places.is_empty()
     }
 
