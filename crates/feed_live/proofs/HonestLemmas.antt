@@ -37,15 +37,15 @@ stays {begun = begun} answer received behind text is follows =
     }
 
 pub followed_is_honest : FollowedIsHonest
-followed_is_honest limits log head contest text behind exchange followed meant is =
+followed_is_honest limits log servers head contest text behind exchange followed meant is =
     λ begun request more asks is_request asked.
     let reads = meant begun request more is_request asked in
     let there = followed begun (record { minor = reads.0; asks = reads.1; place = asks.place; is_place = asks.is_place; asked = asks.asks }) in
     stays there.0 exchange.received behind text is there.1
 
 pub relays_show_the_log : RelaysShowTheLog
-relays_show_the_log limits log exchanges live sockets honest relaying =
-    let here = (relaying.1 honest).0 in
+relays_show_the_log limits log servers exchanges live sockets honest relaying =
+    let here = (relaying.1.1 honest).0 in
     record {
       shown = here.shown_is;
       states = states_in_log limits log;

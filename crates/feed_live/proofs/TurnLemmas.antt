@@ -21,19 +21,19 @@ use Rattle.feed_live.specs.Relaying.{MayFollow, Shows, FollowsLog, IsRelaying, S
 use Rattle.feed_live.specs.Serving.{Serving, StillServing}
 use Rattle.feed_live.specs.States.{states_of}
 use Rattle.feed_live.specs.Taking.{IsTakingInput, ShowsInput, BeginsInput}
-use Rattle.feed_live.specs.Upstream.{AreKnownHonest}
+use Rattle.feed_live.specs.Upstream.{Servers, AreKnownHonest}
 use Rattle.feed_live.proofs.InputLemmas.{takes_so}
 use Rattle.feed_live.proofs.RelayLemmas.{either, among_shown, among_blank, shows_still, same_shows, with_same, with_screens}
 
 -- ---- only screens are served
 
 pub same_none : (source : Source) → SameSource source source
-same_none source = record { places = refl; shown = refl; blank = refl; follower = refl; reach = refl; request = refl; rest = refl }
+same_none source = record { servers = refl; shown = refl; blank = refl; follower = refl; reach = refl; request = refl; rest = refl }
 
 pub same_then : {a b c : Source} → SameSource b c → SameSource a b → SameSource a c
 same_then two one =
     record {
-      places = two.places ∙ one.places;
+      servers = two.servers ∙ one.servers;
       shown = two.shown ∙ one.shown;
       blank = two.blank ∙ one.blank;
       follower = two.follower ∙ one.follower;
@@ -66,22 +66,6 @@ pub screens_only : (live : Live) (screens : Screens) (telling : Telling) {before
 screens_only live screens telling serves = record { contest = refl; feeds = refl; source = same_none live.source; serves = serves }
 
 module _ (limits : Limits) (log : Log) where
-  -- a relay begins: no server is followed
-  pub with_begun : (exchanges : Exchanges) {contest : List ℕ} {hub : Hub} {conns : Slab Conn} {sockets : AllSockets} (source : Source) (mirror blank : MirrorState)
-      → source.answers.shown.mirror ≡ mirror → source.answers.blank.mirror ≡ blank → source.upstream.follower ≡ None → source.reach ≡ Away
-      → mirror.limits ≡ limits → IsInLog limits log mirror.node → IsInLog limits log blank.node → Serving (states_of limits log) contest hub conns sockets
-      → AreKnownHonest limits log exchanges → Shows limits log contest source.answers.shown.mirror source.answers.blank.mirror hub conns sockets
-      × MayFollow limits log source.reach source.request.items source.rest.items exchanges source.upstream.follower source.answers.shown.mirror
-  with_begun exchanges source mirror blank shown blank_is follower away bounds at blank_at serving honest = (
-    record {
-      limits_are = ap (λ m. m.limits) shown ∙ bounds;
-      shown_is = subst (λ m. IsInLog limits log m.node) (sym shown) at;
-      blank_is = subst (λ m. IsInLog limits log m.node) (sym blank_is) blank_at;
-      serving = serving;
-    },
-    subst (λ f. MayFollow limits log source.reach source.request.items source.rest.items exchanges f source.answers.shown.mirror) (sym follower) away,
-  )
-
   -- its feed is its input
   pub input_begun : {contest : List ℕ} {hub : Hub} {conns : Slab Conn} {sockets : AllSockets} {old new : Source} (mirror blank : MirrorState)
       → BeginsInput old new → old.answers.shown.mirror ≡ mirror → old.answers.blank.mirror ≡ blank
@@ -97,20 +81,11 @@ module _ (limits : Limits) (log : Log) where
 
   -- ---- a whole turn
 
-  pub relays_on : {old new : Live} {before after : AllSockets} (exchanges : Exchanges) → OnlyServes old new before after
-      → IsRelaying limits log exchanges old before → IsRelaying limits log exchanges new after
-  relays_on {old} {new} {before} {after} exchanges only is = (
-    only.feeds ∙ is.0,
-    subst (λ c. FollowsLog limits log (string_bytes c) exchanges new.source new.source.rest.items new.screens after) (sym only.contest)
-        (with_same limits log only.source exchanges old.source.rest.items new.source.rest.items only.source.rest
-        (with_screens limits log exchanges (λ shows serving. only.serves (states_of limits log) (among_shown limits log shows) (among_blank limits log shows) serving) is.1)),
-  )
-
   pub takes_only : {begun : MirrorState} {input : List ℕ} {old new : Live} {before after : AllSockets} → OnlyServes old new before after
       → IsTakingInput limits log begun input old before → IsTakingInput limits log begun input new after
   takes_only {begun} {input} {old} {new} {before} {after} only is =
       record {
-        no_places = only.source.places ∙ is.no_places;
+        no_places = ap (λ s. s.places) only.source.servers ∙ is.no_places;
         shows = subst (λ c. ShowsInput limits log (string_bytes c) begun input new.source new.screens after) (sym only.contest)
             (λ honest. let here = is.shows honest in
             same_shows limits log only.source
@@ -122,6 +97,36 @@ module _ (limits : Limits) (log : Log) where
   pub takes_still : {begun : MirrorState} {input : List ℕ} {old new : Live} {sockets : AllSockets} → new ≡ old
       → IsTakingInput limits log begun input old sockets → IsTakingInput limits log begun input new sockets
   takes_still {begun} {input} {old} {new} {sockets} same is = subst (λ live. IsTakingInput limits log begun input live sockets) (sym same) is
+
+module _ (limits : Limits) (log : Log) (servers : Servers) where
+  -- a relay begins: no server is followed
+  pub with_begun : (exchanges : Exchanges) {contest : List ℕ} {hub : Hub} {conns : Slab Conn} {sockets : AllSockets} (source : Source) (mirror blank : MirrorState)
+      → source.answers.shown.mirror ≡ mirror → source.answers.blank.mirror ≡ blank → source.upstream.follower ≡ None → source.reach ≡ Away
+      → mirror.limits ≡ limits → IsInLog limits log mirror.node → IsInLog limits log blank.node → Serving (states_of limits log) contest hub conns sockets
+      → AreKnownHonest limits log servers exchanges → Shows limits log contest source.answers.shown.mirror source.answers.blank.mirror hub conns sockets
+      × MayFollow limits log servers source.reach source.request.items source.rest.items exchanges source.upstream.follower source.answers.shown.mirror
+  with_begun exchanges source mirror blank shown blank_is follower away bounds at blank_at serving honest = (
+    record {
+      limits_are = ap (λ m. m.limits) shown ∙ bounds;
+      shown_is = subst (λ m. IsInLog limits log m.node) (sym shown) at;
+      blank_is = subst (λ m. IsInLog limits log m.node) (sym blank_is) blank_at;
+      serving = serving;
+    },
+    subst (λ f. MayFollow limits log servers source.reach source.request.items source.rest.items exchanges f source.answers.shown.mirror) (sym follower) away,
+  )
+
+  -- a whole turn
+  pub relays_on : {old new : Live} {before after : AllSockets} (exchanges : Exchanges) → OnlyServes old new before after
+      → IsRelaying limits log servers exchanges old before → IsRelaying limits log servers exchanges new after
+  relays_on {old} {new} {before} {after} exchanges only is =
+      let follows : FollowsLog limits log servers (string_bytes old.contest) exchanges new.source new.source.rest.items new.screens after = (
+        only.source.servers ∙ is.1.0,
+        with_same limits log servers only.source exchanges old.source.rest.items new.source.rest.items only.source.rest
+            (with_screens limits log servers exchanges (λ shows serving. only.serves (states_of limits log) (among_shown limits log shows) (among_blank limits log shows) serving) is.1.1),
+      ) in (
+        only.feeds ∙ is.0,
+        subst (λ c. FollowsLog limits log servers (string_bytes c) exchanges new.source new.source.rest.items new.screens after) (sym only.contest) follows,
+      )
 
 -- a list that is not empty is not found to be
 pub not_empty : {A : Type 0} (found : Bool) (xs : List A) → found ≡ nat_eq (length xs) 0 → xs ≢ [] → found ≡ false

@@ -23,7 +23,7 @@ use Rattle.feed_live.specs.Relaying.{IsRelaying}
 use Rattle.feed_live.specs.Serving.{WasServed, IsFaithful, Serving}
 use Rattle.feed_live.specs.States.{states_of}
 use Rattle.feed_live.specs.Taking.{IsTakingInput}
-use Rattle.feed_live.specs.Upstream.{IsRequestOf, IsHonest, AreKnownHonest, IsHonestInput}
+use Rattle.feed_live.specs.Upstream.{Servers, IsRequestOf, IsHonest, AreKnownHonest, IsHonestInput}
 use Rattle.feed_device.specs.Sockets.{Opened, AllSockets}
 
 -- what was written to any socket that is open is faithful
@@ -57,27 +57,29 @@ pub record ShowsTheLog (limits : Limits) (log : Log) (live : Live) (sockets : Al
 
 abbrev pub RelaysShowTheLog : Type 0
 RelaysShowTheLog =
-    (limits : Limits) (log : Log) (exchanges : Exchanges) (live : Live) (sockets : AllSockets)
-    → AreKnownHonest limits log exchanges → IsRelaying limits log exchanges live sockets
-    → ShowsTheLog limits log live sockets
+    (limits : Limits) (log : Log) (servers : Servers) (exchanges : Exchanges) (live : Live)
+    (sockets : AllSockets) → AreKnownHonest limits log servers exchanges
+    → IsRelaying limits log servers exchanges live sockets → ShowsTheLog limits log live sockets
 
--- a server reads what was asked on a connection as it was meant: with the token of whoever has its
--- request there
-abbrev pub IsReadAsMeant : List ℕ → List ℕ → List ℕ → Type 0
-IsReadAsMeant head contest asked =
-    (begun : MirrorState) (request more : List ℕ) → IsRequestOf begun request
-    → asked ≡ request ++ more → (minor : ℕ) × Asks head contest (feed minor begun.since)
+-- the server reads what was asked on a connection as it was meant: with the token of whoever has
+-- its request there
+abbrev pub IsReadAsMeant : Servers → List ℕ → List ℕ → Exchange → Type 0
+IsReadAsMeant servers head contest exchange =
+    (begun : MirrorState) (request more : List ℕ)
+    → IsRequestOf servers exchange.server begun request → exchange.asked ≡ request ++ more
+    → (minor : ℕ) × Asks head contest (feed minor begun.since)
 
 -- Where each mirror that asked with a head follows a text in the log, as `connection_laws` and
 -- `handed` say of what nodes, primaries and relays write, any prefix of it is an honest response to
 -- a request that was read as that head.
 abbrev pub FollowedIsHonest : Type 0
 FollowedIsHonest =
-    (limits : Limits) (log : Log) (head contest text behind : List ℕ) (exchange : Exchange)
+    (limits : Limits) (log : Log) (servers : Servers) (head contest text behind : List ℕ)
+    (exchange : Exchange)
     → ((begun : MirrorState) → HasAskedSo limits log head contest begun
     → (answer : AnswerParts) × FollowsInLog limits log answer begun text)
-    → IsReadAsMeant head contest exchange.asked → exchange.received ++ behind ≡ text
-    → IsHonest limits log exchange
+    → IsReadAsMeant servers head contest exchange → exchange.received ++ behind ≡ text
+    → IsHonest limits log servers exchange
 
 -- ---- a relay whose feed is its input
 

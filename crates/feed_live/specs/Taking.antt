@@ -11,7 +11,7 @@ use Rattle.feed_live.specs.declared.source.Source.{Source}
 use Rattle.feed_live.specs.declared.turn.Input.{Input}
 use Rattle.feed_live.specs.declared.turn.Input.TheVariants.{Nothing, Bytes, End}
 use Rattle.feed_live.specs.declared.turn.Live.{Live}
-use Rattle.feed_live.specs.Relaying.{Shows}
+use Rattle.feed_live.specs.Relaying.{Shows, servers_of}
 use Rattle.feed_live.specs.Upstream.{IsHonestInput}
 
 -- the bytes that came
@@ -79,7 +79,7 @@ StillTakesMore old new more screens later goes_on =
 
 -- the input is a feed from here on
 pub record BeginsInput (old new : Source) : Type 0 where
-  pub places : new.places.items ≡ old.places.items
+  pub servers : servers_of new ≡ servers_of old
   pub stands : StandsAt (present_opening old.answers.shown.mirror) [] [] new.answers.shown.mirror
   pub limits : new.answers.shown.mirror.limits ≡ old.answers.shown.mirror.limits
   pub node : new.answers.shown.mirror.node ≡ old.answers.shown.mirror.node

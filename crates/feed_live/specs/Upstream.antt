@@ -1,6 +1,6 @@
 -- What is supposed of the servers that a relay follows, of what they sent it alone; and of its
 -- input, where that is the feed.
-use Rattle.std.specs.Prelude.{◌≡◌, ℕ, List, [], ◌∷◌, ◌++◌, Option, Some, None, is_none, is_some}
+use Rattle.std.specs.Prelude.{◌≡◌, ℕ, List, [], ◌∷◌, ◌++◌, Option, Some, None, is_none, is_some, slice_get}
 use Rattle.feed_settings.specs.Limits.{Limits}
 use Rattle.feed_settings.specs.Place.{Place}
 use Rattle.feed_note.specs.declared.line.Line.{Line}
@@ -24,11 +24,17 @@ pub record AsksInLog (limits : Limits) (log : Log) (mirror : MirrorState) : Type
   pub is_place : IsPlace limits log place
   pub asks : HasAsked limits log place (is_none mirror.since) mirror
 
--- this is the text with which the mirror asks a server for what it lacks
-pub record IsRequestOf (mirror : MirrorState) (text : List ℕ) : Type 0 where
-  pub place : Place
+-- the servers that are asked, by their places, and as whom
+pub record Servers : Type 0 where
+  pub places : List Place
   pub identity : Identity
-  pub text_is : text ≡ request_text_as place mirror.since identity
+
+-- this is the text with which the mirror asks the server of this number for what it lacks
+pub record IsRequestOf (servers : Servers) (server : ℕ) (mirror : MirrorState) (text : List ℕ)
+    : Type 0 where
+  pub place : Place
+  pub is_place : slice_get servers.places server ≡ Some place
+  pub text_is : text ≡ request_text_as place mirror.since servers.identity
 
 -- Whatever prefix of these bytes comes to the mirror, in any pieces: it shows nothing or a state of
 -- the log at its token, also once it stopped.
@@ -42,23 +48,25 @@ pub record StaysInLog (limits : Limits) (log : Log) (begun : MirrorState) (bytes
       → Fails begun (is_some begun.since) before piece mirror fault
       → IsInLog limits log mirror.node
 
--- THE PREMISE: where the request of a mirror at a place of the log was written first, what was read
--- keeps that mirror at places of the log. So is what `serve_node` and `serve_live` write for a node
--- of that log, what a relay hands on, and any error that carries no feed.
-abbrev pub IsHonest : Limits → Log → Exchange → Type 0
-IsHonest limits log exchange =
+-- THE PREMISE: where the request of a mirror at a place of the log was written first, as it is asked
+-- of that server, what was read keeps that mirror at places of the log. So is what `serve_node` and
+-- `serve_live` write for a node of that log, what a relay hands on, and any error that carries no
+-- feed.
+abbrev pub IsHonest : Limits → Log → Servers → Exchange → Type 0
+IsHonest limits log servers exchange =
     (begun : MirrorState) (text more : List ℕ) → AsksInLog limits log begun
-    → IsRequestOf begun text → exchange.asked ≡ text ++ more
+    → IsRequestOf servers exchange.server begun text → exchange.asked ≡ text ++ more
     → StaysInLog limits log begun exchange.received
 
-abbrev pub AreHonest : Limits → Log → List Exchange → Type 0
-AreHonest limits log [] = Unit {0}
-AreHonest limits log (latest ∷ before) = IsHonest limits log latest × AreHonest limits log before
+abbrev pub AreHonest : Limits → Log → Servers → List Exchange → Type 0
+AreHonest limits log servers [] = Unit {0}
+AreHonest limits log servers (latest ∷ before) =
+    IsHonest limits log servers latest × AreHonest limits log servers before
 
 -- the exchanges are known, and honest
-abbrev pub AreKnownHonest : Limits → Log → Exchanges → Type 0
-AreKnownHonest limits log None = ⊥
-AreKnownHonest limits log (Some exchanges) = AreHonest limits log exchanges
+abbrev pub AreKnownHonest : Limits → Log → Servers → Exchanges → Type 0
+AreKnownHonest limits log servers None = ⊥
+AreKnownHonest limits log servers (Some exchanges) = AreHonest limits log servers exchanges
 
 -- ---- the input as the feed
 

@@ -59,7 +59,7 @@ pub(crate) struct Source {
 }
 
 impl Source {
-    ghost use Rattle.feed_live.specs.Relaying.{StillFollows, SameSource, IsLeft};
+    ghost use Rattle.feed_live.specs.Relaying.{StillFollows, SameSource, IsLeft, servers_of};
     ghost use Rattle.feed_live.specs.Upstream.{IsRequestOf};
     ghost use Rattle.feed_live.specs.declared.source.Reach.TheVariants.{Away, Asks as Asked};
     ghost use Rattle.feed_live.specs.declared.screens.Screens.{Screens};
@@ -78,6 +78,7 @@ impl Source {
         ensures follower { result.upstream.follower ≡ None }
         ensures reach { result.reach ≡ Away }
         ensures places { result.places ≡ places }
+        ensures identity { result.identity ≡ identity }
         ensures rest { result.rest.items ≡ [] }
     {
         // A relay without a state has nothing old to show, nor has one whose feed is the input.
@@ -230,8 +231,8 @@ impl Source {
 
     /// The text that asks the next place for what the mirror lacks; none where there is no place.
     fn request(&self, alloc: Global) -> Result<Option<Vec<u8>>, AllocError>
-        ensures asks { IfOk result (λ made. IfSome made (λ text.
-            IsRequestOf self.now.answers.shown.mirror text.items)) }
+        ensures asks { IfOk result (λ made. IfSome made (λ text. IsRequestOf (servers_of self.now)
+            self.now.upstream.place self.now.answers.shown.mirror text.items)) }
         ensures since { IfSome self.now.answers.shown.mirror.since (λ token.
             published_token self.now.answers.shown.mirror.node ≡ Some token) }
     {
@@ -268,6 +269,7 @@ impl Source {
 
     pub(crate) fn leave<L: Link>(&mut self, link: &mut L, now: u64)
         ensures exchanges { L.exchanges link.new ≡ L.exchanges link.old }
+        ensures servers { servers_of self.new ≡ servers_of self.old }
         ensures answers { self.new.answers ≡ self.old.answers }
         ensures away { self.new.reach ≡ Away }
     {

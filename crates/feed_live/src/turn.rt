@@ -7,6 +7,7 @@ ghost use Rattle.feed_world.specs.Log.{Log};
 ghost use Rattle.feed_hub.specs.Laws.{IsInLog};
 ghost use Rattle.feed_device.specs.Links.{Exchanges};
 ghost use Rattle.feed_device.specs.Sockets.{AllSockets, Closed, IsSocket};
+ghost use Rattle.feed_live.specs.Upstream.{Servers};
 
 use crate::options::{LiveLimits, Start};
 use crate::saved::{Restored, Saved};
@@ -80,12 +81,14 @@ impl Live {
         now: u64,
     ) -> Live
         // where it follows servers, and the state files had a state of the log, or nothing
-        ensures relaying { (limits : Limits) (log : Log) (exchanges : Exchanges)
-            (sockets : AllSockets) → start.places.items ≢ []
+        ensures relaying { (limits : Limits) (log : Log) (servers : Servers)
+            (exchanges : Exchanges) (sockets : AllSockets)
+            → servers.places ≡ start.places.items → servers.identity ≡ start.identity
+            → start.places.items ≢ []
             → start.restored.mirror.limits ≡ limits
             → IsInLog limits log start.restored.mirror.node → IsInLog limits log start.blank.node
             → ((at : ℕ) → IsSocket (sockets at) Closed)
-            → IsRelaying limits log exchanges result sockets }
+            → IsRelaying limits log servers exchanges result sockets }
 
         // where its feed is the input, and the state files had a state of the log, or nothing
         ensures taking { (limits : Limits) (log : Log) (sockets : AllSockets)

@@ -12,7 +12,7 @@ use feed_node::FeedFault;
 use std::alloc::Global;
 
 impl Source {
-    ghost use Rattle.feed_live.specs.Relaying.{SameSource};
+    ghost use Rattle.feed_live.specs.Relaying.{SameSource, servers_of};
     ghost use Rattle.feed_live.specs.Taking.{BeginsInput, StillTakes, StillTakesMore};
 
     /// The input is a feed from here on, where it feeds.
@@ -37,7 +37,7 @@ impl Source {
         now: u64,
     ) -> bool
         ensures takes { StillTakesMore self.old self.new piece.now screens.old screens.new result }
-        ensures places { self.new.places.items ≡ self.old.places.items }
+        ensures servers { servers_of self.new ≡ servers_of self.old }
     {
         self.hear(piece, now);
         match self.feed_all(alloc, screens, piece, now) {
@@ -69,7 +69,7 @@ impl Source {
     ) -> Result<(), FeedFault>
         ensures takes { StillTakesMore self.old self.new piece.now screens.old screens.new
             (is_ok result) }
-        ensures places { self.new.places.items ≡ self.old.places.items }
+        ensures servers { servers_of self.new ≡ servers_of self.old }
     {
         let kept = self.kept(alloc);
         let bytes = kept.as_slice();
@@ -87,7 +87,7 @@ impl Source {
     ) -> Result<(), FeedFault>
         ensures takes { StillTakes self.old self.new (self.old.rest.items ++ piece.now)
             self.new.rest.items screens.old screens.new result }
-        ensures places { self.new.places.items ≡ self.old.places.items }
+        ensures servers { servers_of self.new ≡ servers_of self.old }
     {
         if !self.rest.is_empty() {
             self.keep(piece)?;
@@ -107,7 +107,7 @@ impl Source {
     ) -> Result<(), FeedFault>
         ensures takes { self.old.rest.items ≡ [] → StillTakes self.old self.new piece.now
             self.new.rest.items screens.old screens.new result }
-        ensures places { self.new.places.items ≡ self.old.places.items }
+        ensures servers { servers_of self.new ≡ servers_of self.old }
     {
         let mut rest = piece;
         for _ in 0..piece.len() {
@@ -132,7 +132,7 @@ impl Source {
     ) -> Result<(), FeedFault>
         ensures takes { (next : List ℕ) → StillTakes self.old self.new (line.now ++ next) next
             screens.old screens.new result }
-        ensures places { self.new.places.items ≡ self.old.places.items }
+        ensures servers { servers_of self.new ≡ servers_of self.old }
         ensures rest { self.new.rest.items ≡ self.old.rest.items }
     {
         self.answers.shown.change().feed(alloc, line)?;

@@ -11,7 +11,7 @@ returns-in_err-feed_line-clause-takes c =
 
 pub loop-preserved : goal.loop-preserved
 loop-preserved c = (
-  c.feed_line.ensures.places ∙ c.loop.invariant.0,
+  c.feed_line.ensures.servers ∙ c.loop.invariant.0,
   c.feed_line.ensures.rest ∙ c.loop.invariant.1,
   λ limits log contest begun input sockets shows takes.
       let here = c.loop.invariant.2 limits log contest begun input sockets shows takes in

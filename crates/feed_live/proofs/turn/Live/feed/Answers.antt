@@ -1,4 +1,4 @@
-use Rattle.std.proofs.Common.{◌≡◌, sym, ◌∙◌}
+use Rattle.std.proofs.Common.{◌≡◌, sym, ap, ◌∙◌}
 use Rattle.std.specs.Prelude.{true, false}
 use Rattle.feed_live.proofs.InputLemmas.{honest_before}
 use Rattle.feed_live.proofs.turn.Live.feed.Goals as goal
@@ -7,7 +7,7 @@ pub returns-then-self-clause-taking : goal.returns-then-self-clause-taking
 returns-then-self-clause-taking c =
     λ sockets limits log begun input is.
     let fed = c.take_input-self.ensures.takes limits log _ begun input sockets is.shows (is.takes c.if-self.true) in
-    record { no_places = c.take_input-self.ensures.places ∙ is.no_places; shows = fed.0; takes = fed.1 }
+    record { no_places = ap (λ s. s.places) c.take_input-self.ensures.servers ∙ is.no_places; shows = fed.0; takes = fed.1 }
 
 pub returns-else-self-clause-taking : goal.returns-else-self-clause-taking
 returns-else-self-clause-taking c =

@@ -13,8 +13,8 @@ returns g c =
     let accepted = screens_only c.serve.new.self c.accept.new.self c.accept.new.told (λ nodes shown blank serving. c.accept.ensures.serving nodes _ serving) in
     let served = serves_then (c.next.ensures.serves _) (serves_then accepted (serves_then c.serve.ensures.serves (serves_then drained (serves_then c.tick.ensures.serves (c.save.ensures.serves _))))) in
     record {
-      relaying = λ limits log is.
-          relays_on limits log _ served (c.follow.ensures.relaying _ limits log (c.take_input.ensures.relaying _ _ limits log (relays_on limits log _ said is)));
+      relaying = λ limits log servers is.
+          relays_on limits log servers _ served (c.follow.ensures.relaying _ limits log servers (c.take_input.ensures.relaying _ _ limits log servers (relays_on limits log servers _ said is)));
       taking = λ limits log begun input is.
           let taken = c.take_input.ensures.taking _ limits log begun input (takes_only limits log said is) in
           takes_only limits log served (takes_still limits log (c.follow.ensures.nothing taken.no_places) taken);
