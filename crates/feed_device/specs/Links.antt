@@ -1,8 +1,10 @@
 -- The connections to servers, one after another.
 use Rattle.std.specs.Prelude.{◌≡◌, ℕ, List, [], ◌∷◌, ◌++◌, take, Option, option_map, Result, MatchResult}
 
--- what went over one connection: the bytes that were written to it, and those that were read from it
+-- what went over one connection: the number of the server, the bytes that were written to it, and
+-- those that were read from it
 pub record Exchange : Type 0 where
+  pub server : ℕ
   pub asked : List ℕ
   pub received : List ℕ
 
@@ -10,25 +12,28 @@ pub record Exchange : Type 0 where
 abbrev pub Exchanges : Type 0
 Exchanges = Option (List Exchange)
 
--- one more is begun, over which nothing went
-abbrev pub one_more : List Exchange → List Exchange
-one_more before = record { asked = []; received = [] } ∷ before
+-- one more is begun, to this server, over which nothing went
+abbrev pub one_more : ℕ → List Exchange → List Exchange
+one_more server before = record { server = server; asked = []; received = [] } ∷ before
 
 -- these bytes more were written to the latest one
 abbrev pub asked_more : List ℕ → List Exchange → List Exchange
 asked_more bytes [] = []
 asked_more bytes (latest ∷ before) =
-    record { asked = latest.asked ++ bytes; received = latest.received } ∷ before
+    record { server = latest.server; asked = latest.asked ++ bytes; received = latest.received }
+    ∷ before
 
 -- these bytes more were read from it
 abbrev pub received_more : List ℕ → List Exchange → List Exchange
 received_more bytes [] = []
 received_more bytes (latest ∷ before) =
-    record { asked = latest.asked; received = latest.received ++ bytes } ∷ before
+    record { server = latest.server; asked = latest.asked; received = latest.received ++ bytes }
+    ∷ before
 
--- a connection was begun, or nothing was
-abbrev pub Begins : {A E : Type 0} → Exchanges → Exchanges → Result A E → Type 0
-Begins old new result = MatchResult result (λ _. new ≡ option_map one_more old) (λ _. new ≡ old)
+-- a connection to this server was begun, or nothing was
+abbrev pub Begins : {A E : Type 0} → Exchanges → Exchanges → Result A E → ℕ → Type 0
+Begins old new result server =
+    MatchResult result (λ _. new ≡ option_map (one_more server) old) (λ _. new ≡ old)
 
 -- a write took so many of these bytes, from the first on, or it took nothing
 abbrev pub Asks : {E : Type 0} → Exchanges → Exchanges → Result ℕ E → List ℕ → Type 0

@@ -67,7 +67,7 @@ pub trait Link {
 
     /// Begins to connect to the server of this number. One that was open is closed.
     fn connect(&mut self, server: usize) -> Result<(), Stop>
-        ensures begins { Begins (exchanges self.old) (exchanges self.new) result };
+        ensures begins { Begins (exchanges self.old) (exchanges self.new) result server };
 
     /// Whether the connection that was begun is open. It is asked again after each event until it
     /// is, or fails.

@@ -5,3 +5,4 @@ pub mod StateLemmas
 pub mod RelayLemmas
 pub mod TurnLemmas
 pub mod HonestLemmas
+pub mod InputLemmas

@@ -1,22 +1,19 @@
 -- How a relay stays at places of the log, step by step.
-use Rattle.std.proofs.Common.{◌≡◌, refl, sym, ap, ◌∙◌, subst, ℕ, ◌+◌, ◌≤◌, arith, List, [], ◌∷◌, ◌++◌, take, drop, length, append-nil, append_assoc, Option, Some, None}
+use Rattle.std.proofs.Common.{◌≡◌, refl, sym, ap, ◌∙◌, subst, ℕ, ◌+◌, arith, List, [], ◌∷◌, ◌++◌, take, drop, append-nil, append_assoc, Option, Some, None}
 use Rattle.std.specs.Result.{is_err}
 use Rattle.std.specs.Prelude.{Result, Ok, Err, OnOk, Bool, true, false, Contains, option_map, is_none, is_some, IfSome, if◌then◌else◌}
 use Rattle.std.proofs.lemmas.List.{take-take, drop-take, take-append-drop}
 use Rattle.slab.specs.Slab.{Slab}
 use Rattle.feed_settings.specs.Limits.{Limits}
-use Rattle.feed_node.specs.Mirroring.{MirrorState, cut_off, refused_off, present_opening}
+use Rattle.feed_node.specs.Mirroring.{MirrorState, refused_off}
 use Rattle.feed_node.specs.States.{NodeState, published_token}
 use Rattle.feed_follow.specs.declared.fault.FollowFault.{FollowFault}
 use Rattle.feed_follow.specs.declared.fault.Progress.{Progress}
 use Rattle.feed_follow.specs.declared.fault.Progress.TheVariants as reached
-use Rattle.feed_follow.specs.Follower.{FollowerState, FollowsAt, GoesOn, GoesOnOrRefuses}
+use Rattle.feed_follow.specs.Follower.{FollowerState, GoesOn}
 use Rattle.feed_follow.specs.Following.{Fails}
 use Rattle.feed_follow.specs.Standing.{Standing, in_head}
 use Rattle.feed_world.specs.Log.{Log}
-use Rattle.feed_world.specs.Position.{Position, node_where}
-use Rattle.feed_world.specs.Reading.{opening_at}
-use Rattle.feed_world.specs.States.{HasAsked}
 use Rattle.feed_hub.specs.declared.hub.Hub.{Hub}
 use Rattle.feed_hub.specs.Laws.{IsInLog}
 use Rattle.feed_hub.specs.Upstream.{IsFollowing, IsPushed}
@@ -26,10 +23,10 @@ use Rattle.feed_live.specs.declared.conn.Conn.{Conn}
 use Rattle.feed_live.specs.declared.source.Reach.{Reach}
 use Rattle.feed_live.specs.declared.source.Reach.TheVariants.{Away, Connects, Asks, Reads}
 use Rattle.feed_live.specs.declared.source.Source.{Source}
-use Rattle.feed_live.specs.Relaying.{IsAsked, Follows, MayFollow, Shows, SameSource, IsKeeping, IsLeft}
+use Rattle.feed_live.specs.Relaying.{servers_of, IsAsked, Follows, MayFollow, Shows, SameSource, IsKeeping, IsLeft}
 use Rattle.feed_live.specs.Serving.{Serving}
 use Rattle.feed_live.specs.States.{states_of}
-use Rattle.feed_live.specs.Upstream.{AsksInLog, IsRequestOf, StaysInLog, IsHonest, AreHonest, AreKnownHonest}
+use Rattle.feed_live.specs.Upstream.{AsksInLog, Servers, IsRequestOf, StaysInLog, IsHonest, AreKnownHonest}
 use Rattle.feed_live.proofs.StateLemmas.{among_states}
 
 -- what holds where it is no error
@@ -42,6 +39,17 @@ pub either : {X : Type 0} (test : Bool) → (test ≡ true → X) → (test ≡ 
 either true yes' otherwise = yes' refl
 either false yes' otherwise = otherwise refl
 
+-- the second part changes alone
+pub within : {A B C : Type 0} → (B → C) → A × B → A × C
+within change both = (both.0, change both.1)
+
+-- these are the servers
+pub servers_are : (source : Source) (servers : Servers) → source.places.items ≡ servers.places → source.identity ≡ servers.identity → servers_of source ≡ servers
+servers_are source servers places identity =
+    let first : servers_of source ≡ record { places = servers.places; identity = source.identity } = ap (λ p. record { places = p; identity = source.identity }) places in
+    let second : record { places = servers.places; identity = source.identity } ≡ servers = ap (λ i. record { places = servers.places; identity = i }) identity in
+    first ∙ second
+
 pub head_goes_on : {p : Progress} → p ≡ reached.Head → p ≡ reached.TokenRefused → ⊥
 head_goes_on is refused = let e = sym is ∙ refused in cc
 
@@ -52,9 +60,9 @@ pub done_goes_on : {p : Progress} → p ≡ reached.Done → p ≡ reached.Token
 done_goes_on is refused = let e = sym is ∙ refused in cc
 
 -- bytes were followed, and more may be
-pub record IsTaken (bounds : Limits) (lines : Log) (request next : List ℕ) (exchanges : Exchanges) (follower : Option FollowerState) (mirror : MirrorState) : Type 0 where
+pub record IsTaken (bounds : Limits) (lines : Log) (asked : Servers) (request next : List ℕ) (exchanges : Exchanges) (follower : Option FollowerState) (mirror : MirrorState) : Type 0 where
   pub at : IsInLog bounds lines mirror.node
-  pub follows : MayFollow bounds lines Reads request next exchanges follower mirror
+  pub follows : MayFollow bounds lines asked Reads request next exchanges follower mirror
 
 module _ (limits : Limits) (log : Log) where
   -- ---- what is shown
@@ -96,16 +104,18 @@ module _ (limits : Limits) (log : Log) where
       subst (λ m. Shows limits log contest m new.answers.blank.mirror hub conns sockets) (sym same.shown)
       (subst (λ m. Shows limits log contest old.answers.shown.mirror m hub conns sockets) (sym same.blank) shows)
 
+module _ (limits : Limits) (log : Log) (servers : Servers) where
+  -- it is followed as before
   pub same_follows : {old new : Source} → SameSource old new
       → (exchanges : Exchanges) (unread left : List ℕ) → left ≡ unread
-      → MayFollow limits log old.reach old.request.items unread exchanges old.upstream.follower old.answers.shown.mirror
-      → MayFollow limits log new.reach new.request.items left exchanges new.upstream.follower new.answers.shown.mirror
+      → MayFollow limits log servers old.reach old.request.items unread exchanges old.upstream.follower old.answers.shown.mirror
+      → MayFollow limits log servers new.reach new.request.items left exchanges new.upstream.follower new.answers.shown.mirror
   same_follows {old} {new} same exchanges unread left rest follows =
-      subst (λ m. MayFollow limits log new.reach new.request.items left exchanges new.upstream.follower m) (sym same.shown)
-      (subst (λ f. MayFollow limits log new.reach new.request.items left exchanges f old.answers.shown.mirror) (sym same.follower)
-      (subst (λ u. MayFollow limits log new.reach new.request.items u exchanges old.upstream.follower old.answers.shown.mirror) (sym rest)
-      (subst (λ r. MayFollow limits log new.reach r unread exchanges old.upstream.follower old.answers.shown.mirror) (sym same.request)
-      (subst (λ r. MayFollow limits log r old.request.items unread exchanges old.upstream.follower old.answers.shown.mirror) (sym same.reach) follows))))
+      subst (λ m. MayFollow limits log servers new.reach new.request.items left exchanges new.upstream.follower m) (sym same.shown)
+      (subst (λ f. MayFollow limits log servers new.reach new.request.items left exchanges f old.answers.shown.mirror) (sym same.follower)
+      (subst (λ u. MayFollow limits log servers new.reach new.request.items u exchanges old.upstream.follower old.answers.shown.mirror) (sym rest)
+      (subst (λ r. MayFollow limits log servers new.reach r unread exchanges old.upstream.follower old.answers.shown.mirror) (sym same.request)
+      (subst (λ r. MayFollow limits log servers r old.request.items unread exchanges old.upstream.follower old.answers.shown.mirror) (sym same.reach) follows))))
 
   -- ---- a server is left
 
@@ -114,31 +124,31 @@ module _ (limits : Limits) (log : Log) where
       → Shows limits log contest old.answers.shown.mirror old.answers.blank.mirror hub conns sockets
       → Shows limits log contest new.answers.shown.mirror new.answers.blank.mirror hub conns sockets
   left_shows left shows =
-      shows_at left.limits (subst (λ n. IsInLog limits log n) (sym left.node) shows.shown_is) left.blank shows
+      shows_at limits log left.limits (subst (λ n. IsInLog limits log n) (sym left.node) shows.shown_is) left.blank shows
 
   pub left_honest : {old new : Source} {before after : Exchanges} → IsLeft old new before after
-      → AreKnownHonest limits log after → AreKnownHonest limits log before
-  left_honest left honest = subst (λ e. AreKnownHonest limits log e) left.exchanges honest
+      → AreKnownHonest limits log servers after → AreKnownHonest limits log servers before
+  left_honest left honest = subst (λ e. AreKnownHonest limits log servers e) left.exchanges honest
 
   pub left_follows : {old new : Source} {before after : Exchanges} → IsLeft old new before after
       → (request unread : List ℕ) (mirror : MirrorState)
-      → MayFollow limits log new.reach request unread after new.upstream.follower mirror
+      → MayFollow limits log servers new.reach request unread after new.upstream.follower mirror
   left_follows {old} {new} {before} {after} left request unread mirror =
-      subst (λ f. MayFollow limits log new.reach request unread after f mirror) (sym left.follower) left.reach
+      subst (λ f. MayFollow limits log servers new.reach request unread after f mirror) (sym left.follower) left.reach
 
   -- there is no connection: whatever is unread
   pub away_follows : (reach : Reach) (request unread other : List ℕ) (exchanges : Exchanges) (follower : Option FollowerState) (mirror : MirrorState)
-      → reach ≡ Away → MayFollow limits log reach request unread exchanges follower mirror → MayFollow limits log reach request other exchanges follower mirror
+      → reach ≡ Away → MayFollow limits log servers reach request unread exchanges follower mirror → MayFollow limits log servers reach request other exchanges follower mirror
   away_follows reach request unread other exchanges None mirror away follows = follows
   away_follows reach request unread other exchanges (Some follower) mirror away follows =
       absurd (subst (λ r. IsAsked r request follows.latest.asked) away follows.asked)
 
   -- ---- a connection is begun
 
-  pub one_more_honest : (before after : Exchanges) → after ≡ option_map one_more before
-      → AreKnownHonest limits log after → AreKnownHonest limits log before
-  one_more_honest None after is honest = subst (λ e. AreKnownHonest limits log e) is honest
-  one_more_honest (Some before) after is honest = (subst (λ e. AreKnownHonest limits log e) is honest).1
+  pub one_more_honest : (server : ℕ) (before after : Exchanges) → after ≡ option_map (one_more server) before
+      → AreKnownHonest limits log servers after → AreKnownHonest limits log servers before
+  one_more_honest server None after is honest = subst (λ e. AreKnownHonest limits log servers e) is honest
+  one_more_honest server (Some before) after is honest = (subst (λ e. AreKnownHonest limits log servers e) is honest).1
 
   asks_at : (since : Option (List ℕ)) (node : NodeState) → IfSome since (λ token. published_token node ≡ Some token)
       → since ≡ (if is_none since then None else published_token node)
@@ -158,21 +168,21 @@ module _ (limits : Limits) (log : Log) where
         };
       }
 
-  pub begun_follows : (request : List ℕ) (before after : Exchanges) (since : ℕ) (follower : Option FollowerState) (mirror : MirrorState)
-      → after ≡ option_map one_more before → AreKnownHonest limits log after
+  pub begun_follows : (server : ℕ) (request : List ℕ) (before after : Exchanges) (since : ℕ) (follower : Option FollowerState) (mirror : MirrorState)
+      → after ≡ option_map (one_more server) before → AreKnownHonest limits log servers after
       → mirror.limits ≡ limits → IsInLog limits log mirror.node
       → IfSome mirror.since (λ token. published_token mirror.node ≡ Some token)
-      → IsRequestOf mirror request → IsFollowing mirror [] in_head follower mirror
-      → MayFollow limits log (Connects since) request [] after follower mirror
-  begun_follows request before after since None mirror is honest bounds at asks is_request following = absurd following
-  begun_follows request None after since (Some follower) mirror is honest bounds at asks is_request following =
-      absurd (subst (λ e. AreKnownHonest limits log e) is honest)
-  begun_follows request (Some before) after since (Some follower) mirror is honest bounds at asks is_request following =
+      → IsRequestOf servers server mirror request → IsFollowing mirror [] in_head follower mirror
+      → MayFollow limits log servers (Connects since) request [] after follower mirror
+  begun_follows server request before after since None mirror is honest bounds at asks is_request following = absurd following
+  begun_follows server request None after since (Some follower) mirror is honest bounds at asks is_request following =
+      absurd (subst (λ e. AreKnownHonest limits log servers e) is honest)
+  begun_follows server request (Some before) after since (Some follower) mirror is honest bounds at asks is_request following =
       record {
         start = mirror;
         asks = asks_in_log mirror bounds at asks;
         is_request = is_request;
-        latest = record { asked = []; received = [] };
+        latest = record { server = server; asked = []; received = [] };
         before = before;
         exchanges_are = is;
         asked = refl;
@@ -184,16 +194,16 @@ module _ (limits : Limits) (log : Log) where
 
   -- ---- more is asked
 
-  asked_honest : (bytes : List ℕ) (e : Exchange) → IsHonest limits log (record { asked = e.asked ++ bytes; received = e.received }) → IsHonest limits log e
+  asked_honest : (bytes : List ℕ) (e : Exchange) → IsHonest limits log servers (record { server = e.server; asked = e.asked ++ bytes; received = e.received }) → IsHonest limits log servers e
   asked_honest bytes e honest =
       λ begun text more asks is_request is. honest begun text (more ++ bytes) asks is_request (ap (λ a. a ++ bytes) is ∙ append_assoc text more bytes)
 
   pub asked_more_honest : (bytes : List ℕ) (before after : Exchanges) → after ≡ option_map (asked_more bytes) before
-      → AreKnownHonest limits log after → AreKnownHonest limits log before
-  asked_more_honest bytes None after is honest = subst (λ e. AreKnownHonest limits log e) is honest
-  asked_more_honest bytes (Some []) after is honest = subst (λ e. AreKnownHonest limits log e) is honest
+      → AreKnownHonest limits log servers after → AreKnownHonest limits log servers before
+  asked_more_honest bytes None after is honest = subst (λ e. AreKnownHonest limits log servers e) is honest
+  asked_more_honest bytes (Some []) after is honest = subst (λ e. AreKnownHonest limits log servers e) is honest
   asked_more_honest bytes (Some (e ∷ es)) after is honest =
-      let there = subst (λ e. AreKnownHonest limits log e) is honest in
+      let there = subst (λ e. AreKnownHonest limits log servers e) is honest in
       (asked_honest bytes e there.0, there.1)
 
   take_more : (count more : ℕ) (xs : List ℕ) → take count xs ++ take more (drop count xs) ≡ take (count + more) xs
@@ -204,8 +214,8 @@ module _ (limits : Limits) (log : Log) where
 
   pub asks_follows : (request unread rest : List ℕ) (before after : Exchanges) (count more : ℕ) (follower : Option FollowerState) (mirror : MirrorState)
       → after ≡ option_map (asked_more (take more rest)) before → rest ≡ drop count request
-      → MayFollow limits log (Asks count) request unread before follower mirror
-      → MayFollow limits log (Asks (count + more)) request unread after follower mirror
+      → MayFollow limits log servers (Asks count) request unread before follower mirror
+      → MayFollow limits log servers (Asks (count + more)) request unread after follower mirror
   asks_follows request unread rest before after count more None mirror is here follows = absurd (no_away follows)
     where
       no_away : Asks count ≡ Away → ⊥
@@ -215,7 +225,7 @@ module _ (limits : Limits) (log : Log) where
         start = follows.start;
         asks = follows.asks;
         is_request = follows.is_request;
-        latest = record { asked = follows.latest.asked ++ take more rest; received = follows.latest.received };
+        latest = record { server = follows.latest.server; asked = follows.latest.asked ++ take more rest; received = follows.latest.received };
         before = follows.before;
         exchanges_are = is ∙ ap (λ e. option_map (asked_more (take more rest)) e) follows.exchanges_are;
         asked = ap (λ a. a ++ take more rest) follows.asked ∙ ap (λ r. take count request ++ take more r) here ∙ take_more count more request;
@@ -231,8 +241,8 @@ module _ (limits : Limits) (log : Log) where
   -- all was asked
   pub asked_follows : (request unread rest : List ℕ) (exchanges : Exchanges) (count : ℕ) (follower : Option FollowerState) (mirror : MirrorState)
       → rest ≡ [] → rest ≡ drop count request
-      → MayFollow limits log (Asks count) request unread exchanges follower mirror
-      → MayFollow limits log Reads request unread exchanges follower mirror
+      → MayFollow limits log servers (Asks count) request unread exchanges follower mirror
+      → MayFollow limits log servers Reads request unread exchanges follower mirror
   asked_follows request unread rest exchanges count None mirror none here follows = absurd (no_away follows)
     where
       no_away : Asks count ≡ Away → ⊥
@@ -254,8 +264,8 @@ module _ (limits : Limits) (log : Log) where
 
   -- the connection is open, and nothing is asked yet
   pub opens_follows : (request unread : List ℕ) (exchanges : Exchanges) (since : ℕ) (follower : Option FollowerState) (mirror : MirrorState)
-      → MayFollow limits log (Connects since) request unread exchanges follower mirror
-      → MayFollow limits log (Asks 0) request unread exchanges follower mirror
+      → MayFollow limits log servers (Connects since) request unread exchanges follower mirror
+      → MayFollow limits log servers (Asks 0) request unread exchanges follower mirror
   opens_follows request unread exchanges since None mirror follows = absurd (no_away follows)
     where
       no_away : Connects since ≡ Away → ⊥
@@ -286,24 +296,24 @@ module _ (limits : Limits) (log : Log) where
       }
 
   pub received_more_honest : (bytes : List ℕ) (before after : Exchanges) → after ≡ option_map (received_more bytes) before
-      → AreKnownHonest limits log after → AreKnownHonest limits log before
-  received_more_honest bytes None after is honest = subst (λ e. AreKnownHonest limits log e) is honest
-  received_more_honest bytes (Some []) after is honest = subst (λ e. AreKnownHonest limits log e) is honest
+      → AreKnownHonest limits log servers after → AreKnownHonest limits log servers before
+  received_more_honest bytes None after is honest = subst (λ e. AreKnownHonest limits log servers e) is honest
+  received_more_honest bytes (Some []) after is honest = subst (λ e. AreKnownHonest limits log servers e) is honest
   received_more_honest bytes (Some (e ∷ es)) after is honest =
-      let there = subst (λ e. AreKnownHonest limits log e) is honest in
+      let there = subst (λ e. AreKnownHonest limits log servers e) is honest in
       (λ begun text more asks is_request asked. received_stays bytes e.received (there.0 begun text more asks is_request asked), there.1)
 
   pub reads_follows : (reach : Reach) (request bytes : List ℕ) (before after : Exchanges) (follower : Option FollowerState) (mirror : MirrorState)
       → after ≡ option_map (received_more bytes) before
-      → MayFollow limits log reach request [] before follower mirror
-      → MayFollow limits log reach request bytes after follower mirror
+      → MayFollow limits log servers reach request [] before follower mirror
+      → MayFollow limits log servers reach request bytes after follower mirror
   reads_follows reach request bytes before after None mirror is follows = follows
   reads_follows reach request bytes before after (Some follower) mirror is follows =
       record {
         start = follows.start;
         asks = follows.asks;
         is_request = follows.is_request;
-        latest = record { asked = follows.latest.asked; received = follows.latest.received ++ bytes };
+        latest = record { server = follows.latest.server; asked = follows.latest.asked; received = follows.latest.received ++ bytes };
         before = follows.before;
         exchanges_are = is ∙ ap (λ e. option_map (received_more bytes) e) follows.exchanges_are;
         asked = follows.asked;
@@ -317,10 +327,10 @@ module _ (limits : Limits) (log : Log) where
 
   -- what is followed stays in the log, since the exchange is honest
   stays_in_log : (request unread : List ℕ) (exchanges : Exchanges) (follower : FollowerState) (mirror : MirrorState)
-      → AreKnownHonest limits log exchanges → (follows : Follows limits log Reads request unread exchanges follower mirror)
+      → AreKnownHonest limits log servers exchanges → (follows : Follows limits log servers Reads request unread exchanges follower mirror)
       → StaysInLog limits log follows.start (follows.bytes ++ unread)
   stays_in_log request unread exchanges follower mirror honest follows =
-      let all : AreKnownHonest limits log (Some (follows.latest ∷ follows.before)) = subst (λ e. AreKnownHonest limits log e) follows.exchanges_are honest in
+      let all : AreKnownHonest limits log servers (Some (follows.latest ∷ follows.before)) = subst (λ e. AreKnownHonest limits log servers e) follows.exchanges_are honest in
       subst (λ b. StaysInLog limits log follows.start b) follows.received
       (all.0 follows.start request [] follows.asks follows.is_request (follows.asked ∙ sym (append-nil request)))
 
@@ -340,8 +350,8 @@ module _ (limits : Limits) (log : Log) where
   pub taken : (request line next : List ℕ) (exchanges : Exchanges) (old new : Option FollowerState) (before after : MirrorState) (progress : Progress)
       → (progress ≡ reached.TokenRefused → ⊥)
       → ((start : MirrorState) (bytes : List ℕ) (standing : Standing) → IsFollowing start bytes standing old before → IsPushed start (bytes ++ line) new after progress)
-      → AreKnownHonest limits log exchanges → MayFollow limits log Reads request (line ++ next) exchanges old before
-      → IsTaken limits log request next exchanges new after
+      → AreKnownHonest limits log servers exchanges → MayFollow limits log servers Reads request (line ++ next) exchanges old before
+      → IsTaken limits log servers request next exchanges new after
   taken request line next exchanges None new before after progress on push honest follows = absurd (no_away follows)
     where
       no_away : Reads ≡ Away → ⊥
@@ -349,7 +359,7 @@ module _ (limits : Limits) (log : Log) where
   taken request line next exchanges (Some follower) new before after progress on push honest follows =
       by new (goes_on follows.start (follows.bytes ++ line) new after progress on (push follows.start follows.bytes follows.standing follows.follows))
     where
-      by : (now : Option FollowerState) → GoesOnSo follows.start (follows.bytes ++ line) now after progress → IsTaken limits log request next exchanges now after
+      by : (now : Option FollowerState) → GoesOnSo follows.start (follows.bytes ++ line) now after progress → IsTaken limits log servers request next exchanges now after
       by None goes = absurd goes
       by (Some now) goes =
           record {
@@ -373,7 +383,7 @@ module _ (limits : Limits) (log : Log) where
   pub refused_at : (request line next : List ℕ) (exchanges : Exchanges) (old new : Option FollowerState) (before after : MirrorState) (progress : Progress)
       → progress ≡ reached.TokenRefused
       → ((start : MirrorState) (bytes : List ℕ) (standing : Standing) → IsFollowing start bytes standing old before → IsPushed start (bytes ++ line) new after progress)
-      → AreKnownHonest limits log exchanges → MayFollow limits log Reads request (line ++ next) exchanges old before
+      → AreKnownHonest limits log servers exchanges → MayFollow limits log servers Reads request (line ++ next) exchanges old before
       → IsInLog limits log after.node
   refused_at request line next exchanges None new before after progress is push honest follows = absurd (no_away follows)
     where
@@ -391,7 +401,7 @@ module _ (limits : Limits) (log : Log) where
   pub failed_at : (request line next : List ℕ) (exchanges : Exchanges) (old : Option FollowerState) (before after : MirrorState) (fault : FollowFault)
       → ((start : MirrorState) (bytes : List ℕ) (standing : Standing) → IsFollowing start bytes standing old before
       → (had_token : Bool) × (had_token ≡ is_some start.since) × Fails start had_token bytes line after fault)
-      → AreKnownHonest limits log exchanges → MayFollow limits log Reads request (line ++ next) exchanges old before
+      → AreKnownHonest limits log servers exchanges → MayFollow limits log servers Reads request (line ++ next) exchanges old before
       → IsInLog limits log after.node
   failed_at request line next exchanges None before after fault fail honest follows = absurd (no_away follows)
     where
@@ -407,59 +417,59 @@ module _ (limits : Limits) (log : Log) where
   -- the screens changed, and are served as before
   pub with_screens : (exchanges : Exchanges) {contest : List ℕ} {X : Type 0} {shown blank : MirrorState} {hub hub_new : Hub} {conns conns_new : Slab Conn} {sockets sockets_new : AllSockets}
       → (Shows limits log contest shown blank hub conns sockets → Serving (states_of limits log) contest hub conns sockets → Serving (states_of limits log) contest hub_new conns_new sockets_new)
-      → (AreKnownHonest limits log exchanges → Shows limits log contest shown blank hub conns sockets × X)
-      → AreKnownHonest limits log exchanges → Shows limits log contest shown blank hub_new conns_new sockets_new × X
-  with_screens exchanges still follows honest = let here = follows honest in (shows_still (still here.0) here.0, here.1)
+      → (AreKnownHonest limits log servers exchanges → Shows limits log contest shown blank hub conns sockets × X)
+      → AreKnownHonest limits log servers exchanges → Shows limits log contest shown blank hub_new conns_new sockets_new × X
+  with_screens exchanges still follows honest = let here = follows honest in (shows_still limits log (still here.0) here.0, here.1)
 
   -- what is followed and shown is the same
   pub with_same : {contest : List ℕ} {old new : Source} → SameSource old new
       → (exchanges : Exchanges) {hub : Hub} {conns : Slab Conn} {sockets : AllSockets} (unread left : List ℕ) → left ≡ unread
-      → (AreKnownHonest limits log exchanges → Shows limits log contest old.answers.shown.mirror old.answers.blank.mirror hub conns sockets
-      × MayFollow limits log old.reach old.request.items unread exchanges old.upstream.follower old.answers.shown.mirror)
-      → AreKnownHonest limits log exchanges → Shows limits log contest new.answers.shown.mirror new.answers.blank.mirror hub conns sockets
-      × MayFollow limits log new.reach new.request.items left exchanges new.upstream.follower new.answers.shown.mirror
-  with_same same exchanges unread left rest follows honest = let here = follows honest in (same_shows same here.0, same_follows same exchanges unread left rest here.1)
+      → (AreKnownHonest limits log servers exchanges → Shows limits log contest old.answers.shown.mirror old.answers.blank.mirror hub conns sockets
+      × MayFollow limits log servers old.reach old.request.items unread exchanges old.upstream.follower old.answers.shown.mirror)
+      → AreKnownHonest limits log servers exchanges → Shows limits log contest new.answers.shown.mirror new.answers.blank.mirror hub conns sockets
+      × MayFollow limits log servers new.reach new.request.items left exchanges new.upstream.follower new.answers.shown.mirror
+  with_same same exchanges unread left rest follows honest = let here = follows honest in (same_shows limits log same here.0, same_follows same exchanges unread left rest here.1)
 
   -- the server is left
   pub with_left : {contest : List ℕ} {old new : Source} {before after : Exchanges} → IsLeft old new before after
       → {hub : Hub} {conns : Slab Conn} {sockets : AllSockets} (unread : List ℕ)
-      → (AreKnownHonest limits log before → Shows limits log contest old.answers.shown.mirror old.answers.blank.mirror hub conns sockets)
-      → AreKnownHonest limits log after → Shows limits log contest new.answers.shown.mirror new.answers.blank.mirror hub conns sockets
-      × MayFollow limits log new.reach new.request.items unread after new.upstream.follower new.answers.shown.mirror
+      → (AreKnownHonest limits log servers before → Shows limits log contest old.answers.shown.mirror old.answers.blank.mirror hub conns sockets)
+      → AreKnownHonest limits log servers after → Shows limits log contest new.answers.shown.mirror new.answers.blank.mirror hub conns sockets
+      × MayFollow limits log servers new.reach new.request.items unread after new.upstream.follower new.answers.shown.mirror
   with_left {old} {new} left unread shows honest =
       (left_shows left (shows (left_honest left honest)), left_follows left new.request.items unread new.answers.shown.mirror)
 
   -- what is unread is this
   pub with_unread : {X : Type 0} (exchanges : Exchanges) (reach : Reach) (request : List ℕ) (follower : Option FollowerState) (mirror : MirrorState) {unread other : List ℕ} → other ≡ unread
-      → (AreKnownHonest limits log exchanges → X × MayFollow limits log reach request unread exchanges follower mirror)
-      → AreKnownHonest limits log exchanges → X × MayFollow limits log reach request other exchanges follower mirror
+      → (AreKnownHonest limits log servers exchanges → X × MayFollow limits log servers reach request unread exchanges follower mirror)
+      → AreKnownHonest limits log servers exchanges → X × MayFollow limits log servers reach request other exchanges follower mirror
   with_unread exchanges reach request follower mirror is follows honest =
-      let here = follows honest in (here.0, subst (λ u. MayFollow limits log reach request u exchanges follower mirror) (sym is) here.1)
+      let here = follows honest in (here.0, subst (λ u. MayFollow limits log servers reach request u exchanges follower mirror) (sym is) here.1)
 
   -- what is kept changed alone
   pub with_kept : {contest : List ℕ} {hub : Hub} {conns : Slab Conn} {sockets : AllSockets} {old new : Source} → IsKeeping old new
       → (exchanges : Exchanges) (unread left : List ℕ) → left ≡ unread
-      → (AreKnownHonest limits log exchanges → Shows limits log contest old.answers.shown.mirror old.answers.blank.mirror hub conns sockets
-      × MayFollow limits log old.reach old.request.items unread exchanges old.upstream.follower old.answers.shown.mirror)
-      → AreKnownHonest limits log exchanges → Shows limits log contest new.answers.shown.mirror new.answers.blank.mirror hub conns sockets
-      × MayFollow limits log new.reach new.request.items left exchanges new.upstream.follower new.answers.shown.mirror
+      → (AreKnownHonest limits log servers exchanges → Shows limits log contest old.answers.shown.mirror old.answers.blank.mirror hub conns sockets
+      × MayFollow limits log servers old.reach old.request.items unread exchanges old.upstream.follower old.answers.shown.mirror)
+      → AreKnownHonest limits log servers exchanges → Shows limits log contest new.answers.shown.mirror new.answers.blank.mirror hub conns sockets
+      × MayFollow limits log servers new.reach new.request.items left exchanges new.upstream.follower new.answers.shown.mirror
   with_kept {contest} {hub} {conns} {sockets} {old} {new} same exchanges unread left rest follows honest =
       let here = follows honest in (
         subst (λ a. Shows limits log contest a.shown.mirror a.blank.mirror hub conns sockets) (sym same.answers) here.0,
-        subst (λ a. MayFollow limits log new.reach new.request.items left exchanges new.upstream.follower a.shown.mirror) (sym same.answers)
-            (subst (λ u. MayFollow limits log new.reach new.request.items left exchanges u.follower old.answers.shown.mirror) (sym same.upstream)
-            (subst (λ u. MayFollow limits log new.reach new.request.items u exchanges old.upstream.follower old.answers.shown.mirror) (sym rest)
-            (subst (λ r. MayFollow limits log new.reach r.items unread exchanges old.upstream.follower old.answers.shown.mirror) (sym same.request)
-            (subst (λ r. MayFollow limits log r old.request.items unread exchanges old.upstream.follower old.answers.shown.mirror) (sym same.reach) here.1)))),
+        subst (λ a. MayFollow limits log servers new.reach new.request.items left exchanges new.upstream.follower a.shown.mirror) (sym same.answers)
+            (subst (λ u. MayFollow limits log servers new.reach new.request.items left exchanges u.follower old.answers.shown.mirror) (sym same.upstream)
+            (subst (λ u. MayFollow limits log servers new.reach new.request.items u exchanges old.upstream.follower old.answers.shown.mirror) (sym rest)
+            (subst (λ r. MayFollow limits log servers new.reach r.items unread exchanges old.upstream.follower old.answers.shown.mirror) (sym same.request)
+            (subst (λ r. MayFollow limits log servers r old.request.items unread exchanges old.upstream.follower old.answers.shown.mirror) (sym same.reach) here.1)))),
       )
 
   -- the mirror is lent
   pub with_lent : {contest : List ℕ} {hub : Hub} {conns : Slab Conn} {sockets : AllSockets} {blank before lent : MirrorState}
       (exchanges : Exchanges) (reach : Reach) (request unread : List ℕ) (follower : Option FollowerState) → lent ≡ before
-      → (AreKnownHonest limits log exchanges → Shows limits log contest before blank hub conns sockets × MayFollow limits log reach request unread exchanges follower before)
-      → AreKnownHonest limits log exchanges → Shows limits log contest lent blank hub conns sockets × MayFollow limits log reach request unread exchanges follower lent
+      → (AreKnownHonest limits log servers exchanges → Shows limits log contest before blank hub conns sockets × MayFollow limits log servers reach request unread exchanges follower before)
+      → AreKnownHonest limits log servers exchanges → Shows limits log contest lent blank hub conns sockets × MayFollow limits log servers reach request unread exchanges follower lent
   with_lent {contest} {hub} {conns} {sockets} {blank} exchanges reach request unread follower is follows =
-      subst (λ m. AreKnownHonest limits log exchanges → Shows limits log contest m blank hub conns sockets × MayFollow limits log reach request unread exchanges follower m) (sym is) follows
+      subst (λ m. AreKnownHonest limits log servers exchanges → Shows limits log contest m blank hub conns sockets × MayFollow limits log servers reach request unread exchanges follower m) (sym is) follows
 
   -- what came is taken: a push goes on
   pub with_taken : (exchanges : Exchanges) {contest : List ℕ} {hub : Hub} {conns : Slab Conn} {sockets : AllSockets} {blank : MirrorState}
@@ -467,12 +477,12 @@ module _ (limits : Limits) (log : Log) where
       → reach ≡ Reads → (progress ≡ reached.TokenRefused → ⊥)
       → ((start : MirrorState) (bytes : List ℕ) (standing : Standing) → IsFollowing start bytes standing old before → IsPushed start (bytes ++ line) new after progress)
       → after.limits ≡ before.limits
-      → (AreKnownHonest limits log exchanges → Shows limits log contest before blank hub conns sockets × MayFollow limits log reach request (line ++ next) exchanges old before)
-      → AreKnownHonest limits log exchanges → Shows limits log contest after blank hub conns sockets × MayFollow limits log reach request next exchanges new after
+      → (AreKnownHonest limits log servers exchanges → Shows limits log contest before blank hub conns sockets × MayFollow limits log servers reach request (line ++ next) exchanges old before)
+      → AreKnownHonest limits log servers exchanges → Shows limits log contest after blank hub conns sockets × MayFollow limits log servers reach request next exchanges new after
   with_taken exchanges reach request line next old new before after progress reads on push bounds follows honest =
       let here = follows honest in
-      let is_taken = taken request line next exchanges old new before after progress on push honest (subst (λ r. MayFollow limits log r request (line ++ next) exchanges old before) reads here.1) in
-      (shows_at bounds is_taken.at refl here.0, subst (λ r. MayFollow limits log r request next exchanges new after) (sym reads) is_taken.follows)
+      let is_taken = taken request line next exchanges old new before after progress on push honest (subst (λ r. MayFollow limits log servers r request (line ++ next) exchanges old before) reads here.1) in
+      (shows_at limits log bounds is_taken.at refl here.0, subst (λ r. MayFollow limits log servers r request next exchanges new after) (sym reads) is_taken.follows)
 
   -- or the token was refused
   pub with_refused : (exchanges : Exchanges) {contest : List ℕ} {hub : Hub} {conns : Slab Conn} {sockets : AllSockets} {blank : MirrorState}
@@ -480,11 +490,11 @@ module _ (limits : Limits) (log : Log) where
       → reach ≡ Reads → progress ≡ reached.TokenRefused
       → ((start : MirrorState) (bytes : List ℕ) (standing : Standing) → IsFollowing start bytes standing old before → IsPushed start (bytes ++ line) new after progress)
       → after.limits ≡ before.limits
-      → (AreKnownHonest limits log exchanges → Shows limits log contest before blank hub conns sockets × MayFollow limits log reach request (line ++ next) exchanges old before)
-      → AreKnownHonest limits log exchanges → Shows limits log contest after blank hub conns sockets
+      → (AreKnownHonest limits log servers exchanges → Shows limits log contest before blank hub conns sockets × MayFollow limits log servers reach request (line ++ next) exchanges old before)
+      → AreKnownHonest limits log servers exchanges → Shows limits log contest after blank hub conns sockets
   with_refused exchanges reach request line next old new before after progress reads is push bounds follows honest =
       let here = follows honest in
-      shows_at bounds (refused_at request line next exchanges old new before after progress is push honest (subst (λ r. MayFollow limits log r request (line ++ next) exchanges old before) reads here.1)) refl here.0
+      shows_at limits log bounds (refused_at request line next exchanges old new before after progress is push honest (subst (λ r. MayFollow limits log servers r request (line ++ next) exchanges old before) reads here.1)) refl here.0
 
   -- or it failed
   pub with_failed : (exchanges : Exchanges) {contest : List ℕ} {hub : Hub} {conns : Slab Conn} {sockets : AllSockets} {blank : MirrorState}
@@ -493,15 +503,15 @@ module _ (limits : Limits) (log : Log) where
       → ((start : MirrorState) (bytes : List ℕ) (standing : Standing) → IsFollowing start bytes standing old before
       → (had_token : Bool) × (had_token ≡ is_some start.since) × Fails start had_token bytes line after fault)
       → after.limits ≡ before.limits
-      → (AreKnownHonest limits log exchanges → Shows limits log contest before blank hub conns sockets × MayFollow limits log reach request (line ++ next) exchanges old before)
-      → AreKnownHonest limits log exchanges → Shows limits log contest after blank hub conns sockets
+      → (AreKnownHonest limits log servers exchanges → Shows limits log contest before blank hub conns sockets × MayFollow limits log servers reach request (line ++ next) exchanges old before)
+      → AreKnownHonest limits log servers exchanges → Shows limits log contest after blank hub conns sockets
   with_failed exchanges reach request line next old before after fault reads fail bounds follows honest =
       let here = follows honest in
-      shows_at bounds (failed_at request line next exchanges old before after fault fail honest (subst (λ r. MayFollow limits log r request (line ++ next) exchanges old before) reads here.1)) refl here.0
+      shows_at limits log bounds (failed_at request line next exchanges old before after fault fail honest (subst (λ r. MayFollow limits log servers r request (line ++ next) exchanges old before) reads here.1)) refl here.0
 
   -- there is no connection: whatever is unread
   pub with_away : {X : Type 0} (exchanges : Exchanges) (reach : Reach) (request unread other : List ℕ) (follower : Option FollowerState) (mirror : MirrorState)
-      → reach ≡ Away → (AreKnownHonest limits log exchanges → X × MayFollow limits log reach request unread exchanges follower mirror)
-      → AreKnownHonest limits log exchanges → X × MayFollow limits log reach request other exchanges follower mirror
+      → reach ≡ Away → (AreKnownHonest limits log servers exchanges → X × MayFollow limits log servers reach request unread exchanges follower mirror)
+      → AreKnownHonest limits log servers exchanges → X × MayFollow limits log servers reach request other exchanges follower mirror
   with_away exchanges reach request unread other follower mirror away follows honest =
       let here = follows honest in (here.0, away_follows reach request unread other exchanges follower mirror away here.1)

@@ -4,7 +4,7 @@ use Rattle.std.specs.Prelude.{Bool, ◌==◌, Contains, Result, Ok, Err, IfOk, O
 use Rattle.std.proofs.lemmas.Bool.Decides.{eqb_tells}
 use Rattle.slab.specs.Slab.{Slab, get, Updates}
 use Rattle.feed_node.specs.States.{NodeState}
-use Rattle.feed_answer.specs.Answered.{AnswerParts, AnswersTo}
+use Rattle.feed_answer.specs.Answered.{AnswerParts}
 use Rattle.feed_hub.specs.declared.asking.Asking.{Asking}
 use Rattle.feed_hub.specs.declared.hub.Hub.{Hub}
 use Rattle.feed_hub.specs.declared.screen.Screen.{Screen}
@@ -13,8 +13,7 @@ use Rattle.feed_hub.specs.declared.seats.Seat.{Seat}
 use Rattle.feed_hub.specs.declared.seats.Seat.TheVariants.{Asks, Watches}
 use Rattle.feed_hub.specs.Broadcast.{IsServedBy}
 use Rattle.feed_hub.specs.declared.hub.Heard.{Heard}
-use Rattle.feed_hub.specs.Hub.{IsSeated, IsStillSeated, ChangesOnly, prefix_of, prefix_at, IsAnsweredBy, HearsAt, HearsOf}
-use Rattle.feed_hub.specs.Screen.{IsServed}
+use Rattle.feed_hub.specs.Hub.{IsSeated, IsStillSeated, ChangesOnly, prefix_of, prefix_at, IsAnsweredBy, HearsAt}
 use Rattle.feed_hub.specs.Log.{Log}
 use Rattle.feed_hub.specs.Seats.{seat_at, Watched, KeepsThose, Ends}
 use Rattle.feed_hub.specs.Steps.{taken}

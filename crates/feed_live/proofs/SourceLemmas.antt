@@ -1,5 +1,5 @@
 -- How the steps of a source stay at places of the log.
-use Rattle.std.proofs.Common.{◌≡◌, sym, subst, ℕ, List, Option}
+use Rattle.std.proofs.Common.{◌≡◌, sym, ◌∙◌, subst, ℕ, List, Option}
 use Rattle.feed_settings.specs.Limits.{Limits}
 use Rattle.feed_node.specs.Mirroring.{MirrorState}
 use Rattle.feed_follow.specs.Follower.{FollowerState}
@@ -10,24 +10,24 @@ use Rattle.feed_live.specs.declared.source.Reach.{Reach}
 use Rattle.feed_live.specs.declared.source.Reach.TheVariants.{Connects, Asks}
 use Rattle.feed_live.specs.declared.source.Source.{Source}
 use Rattle.feed_live.specs.Relaying.{MayFollow, IsLeft, StillFollows}
-use Rattle.feed_live.specs.Upstream.{AreKnownHonest}
+use Rattle.feed_live.specs.Upstream.{Servers, AreKnownHonest}
 use Rattle.feed_live.proofs.RelayLemmas.{with_left, opens_follows}
 
 -- the server was left
 pub left_still : {old new : Source} {before after : Exchanges} → IsLeft old new before after
     → (screens : Screens) → StillFollows old new before after old.rest.items new.rest.items screens screens
-left_still {old} {new} left screens limits log contest sockets follows =
-    with_left limits log left new.rest.items (λ honest. (follows honest).0)
+left_still {old} {new} left screens limits log servers contest sockets follows =
+    (left.servers ∙ follows.0, with_left limits log servers left new.rest.items (λ honest. (follows.1 honest).0))
 
 -- the connection is open
-pub with_open : (limits : Limits) (log : Log) {X : Type 0} (reach : Reach) (request unread : List ℕ) (before after : Exchanges) (since : ℕ) (follower : Option FollowerState) (mirror : MirrorState)
+pub with_open : (limits : Limits) (log : Log) (servers : Servers) {X : Type 0} (reach : Reach) (request unread : List ℕ) (before after : Exchanges) (since : ℕ) (follower : Option FollowerState) (mirror : MirrorState)
     → reach ≡ Connects since → after ≡ before
-    → (AreKnownHonest limits log before → X × MayFollow limits log reach request unread before follower mirror)
-    → AreKnownHonest limits log after → X × MayFollow limits log (Asks 0) request unread after follower mirror
-with_open limits log reach request unread before after since follower mirror is same follows honest =
-    let here = follows (subst (λ e. AreKnownHonest limits log e) same honest) in (
+    → (AreKnownHonest limits log servers before → X × MayFollow limits log servers reach request unread before follower mirror)
+    → AreKnownHonest limits log servers after → X × MayFollow limits log servers (Asks 0) request unread after follower mirror
+with_open limits log servers reach request unread before after since follower mirror is same follows honest =
+    let here = follows (subst (λ e. AreKnownHonest limits log servers e) same honest) in (
       here.0,
-      subst (λ e. MayFollow limits log (Asks 0) request unread e follower mirror) (sym same)
-          (opens_follows limits log request unread before since follower mirror
-          (subst (λ r. MayFollow limits log r request unread before follower mirror) is here.1)),
+      subst (λ e. MayFollow limits log servers (Asks 0) request unread e follower mirror) (sym same)
+          (opens_follows limits log servers request unread before since follower mirror
+          (subst (λ r. MayFollow limits log servers r request unread before follower mirror) is here.1)),
     )

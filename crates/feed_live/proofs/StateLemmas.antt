@@ -1,11 +1,11 @@
 -- The states of a log are all that nodes at its places show, and nothing else.
-use Rattle.std.proofs.Common.{◌≡◌, ◌≢◌, refl, sym, ap, ◌∙◌, subst, ℕ, zero, suc, ◌+◌, ◌-◌, ◌≤◌, ◌⊎◌, inl, inr, arith, List, [], ◌∷◌, ◌++◌, length, Option, Some, None}
+use Rattle.std.proofs.Common.{◌≡◌, ◌≢◌, sym, subst, ℕ, zero, suc, ◌+◌, ◌-◌, ◌≤◌, ◌⊎◌, inl, inr, arith, List, [], ◌∷◌, length, Some, None}
 use Rattle.std.specs.Prelude.{Contains}
 use Rattle.std.proofs.lemmas.List.Elements.{Contains-append_left, Contains-append_right, Contains-append_cases, Contains-push, Contains-push_cases}
 use Rattle.feed_settings.specs.Limits.{Limits}
 use Rattle.feed_node.specs.States.{NodeState, nothing_published}
 use Rattle.feed_world.specs.Log.{Log}
-use Rattle.feed_world.specs.Position.{Position, IsPosition, node_at, node_where}
+use Rattle.feed_world.specs.Position.{Position, node_at}
 use Rattle.feed_hub.specs.Laws.{IsInLog, AreInLog}
 use Rattle.feed_live.specs.States.{states_at, states_to, states_of}
 use Rattle.feed_live.proofs.ServingLemmas.{number_tells}

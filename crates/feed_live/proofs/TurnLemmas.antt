@@ -1,52 +1,110 @@
 -- How a turn stays at places of the log.
-use Rattle.std.proofs.Common.{◌≡◌, ◌≢◌, eqb-true, sym, ap, ◌∙◌, subst, ℕ, List, [], length, nat_eq, Bool, None}
-use Rattle.std.specs.Prelude.{Contains, false}
+use Rattle.std.proofs.Common.{◌≡◌, ◌≢◌, refl, eqb-true, sym, ap, ◌∙◌, subst, ℕ, List, [], length, nat_eq, Bool, None}
+use Rattle.std.specs.Prelude.{Contains, false, string_bytes}
 use Rattle.std.proofs.lemmas.List.{nil_from_length}
 use Rattle.slab.specs.Slab.{Slab}
 use Rattle.feed_settings.specs.Limits.{Limits}
 use Rattle.feed_node.specs.Mirroring.{MirrorState}
+use Rattle.feed_node.specs.States.{NodeState}
 use Rattle.feed_world.specs.Log.{Log}
 use Rattle.feed_hub.specs.declared.hub.Hub.{Hub}
 use Rattle.feed_hub.specs.Laws.{IsInLog}
 use Rattle.feed_device.specs.Links.{Exchanges}
 use Rattle.feed_device.specs.Sockets.{AllSockets}
 use Rattle.feed_live.specs.declared.conn.Conn.{Conn}
-use Rattle.feed_live.specs.declared.screens.Answers.{Answers}
 use Rattle.feed_live.specs.declared.screens.Screens.{Screens}
 use Rattle.feed_live.specs.declared.source.Reach.TheVariants.{Away}
 use Rattle.feed_live.specs.declared.source.Source.{Source}
-use Rattle.feed_live.specs.Held.{SameMirrors}
-use Rattle.feed_live.specs.Relaying.{MayFollow, Shows}
+use Rattle.feed_live.specs.declared.told.Telling.{Telling}
+use Rattle.feed_live.specs.declared.turn.Live.{Live}
+use Rattle.feed_live.specs.Relaying.{MayFollow, Shows, FollowsLog, IsRelaying, SameSource, OnlyServes}
 use Rattle.feed_live.specs.Serving.{Serving, StillServing}
 use Rattle.feed_live.specs.States.{states_of}
-use Rattle.feed_live.specs.Upstream.{AreKnownHonest}
-use Rattle.feed_live.proofs.RelayLemmas.{either, among_shown, among_blank, shows_still}
+use Rattle.feed_live.specs.Taking.{IsTakingInput, ShowsInput, BeginsInput}
+use Rattle.feed_live.specs.Upstream.{Servers, AreKnownHonest}
+use Rattle.feed_live.proofs.InputLemmas.{takes_so}
+use Rattle.feed_live.proofs.RelayLemmas.{either, among_shown, among_blank, shows_still, same_shows, with_same, with_screens}
+
+-- ---- only screens are served
+
+pub same_none : (source : Source) → SameSource source source
+same_none source = record { servers = refl; shown = refl; blank = refl; follower = refl; reach = refl; request = refl; rest = refl }
+
+pub same_then : {a b c : Source} → SameSource b c → SameSource a b → SameSource a c
+same_then two one =
+    record {
+      servers = two.servers ∙ one.servers;
+      shown = two.shown ∙ one.shown;
+      blank = two.blank ∙ one.blank;
+      follower = two.follower ∙ one.follower;
+      reach = two.reach ∙ one.reach;
+      request = two.request ∙ one.request;
+      rest = two.rest ∙ one.rest;
+    }
+
+pub serves_none : (live : Live) (sockets : AllSockets) → OnlyServes live live sockets sockets
+serves_none live sockets =
+    record { contest = refl; feeds = refl; source = same_none live.source; serves = λ nodes shown blank serving. serving }
+
+pub serves_then : {a b c : Live} {before between after : AllSockets} → OnlyServes b c between after → OnlyServes a b before between → OnlyServes a c before after
+serves_then {a} {b} {c} {before} {between} {after} two one =
+    record {
+      contest = two.contest ∙ one.contest;
+      feeds = two.feeds ∙ one.feeds;
+      source = same_then two.source one.source;
+      serves = λ nodes shown blank serving.
+          let later : StillServing nodes (string_bytes b.contest) b.screens c.screens between after =
+          two.serves nodes (subst (λ m. Contains nodes m.node) (sym one.source.shown) shown) (subst (λ m. Contains nodes m.node) (sym one.source.blank) blank) in
+          subst (λ t. StillServing nodes (string_bytes t) b.screens c.screens between after) one.contest later (one.serves nodes shown blank serving);
+    }
+
+-- the screens changed alone, and what was told
+pub screens_only : (live : Live) (screens : Screens) (telling : Telling) {before after : AllSockets}
+    → ((nodes : List NodeState) → Contains nodes live.source.answers.shown.mirror.node → Contains nodes live.source.answers.blank.mirror.node
+    → StillServing nodes (string_bytes live.contest) live.screens screens before after)
+    → OnlyServes live (record live { screens = screens; telling = telling }) before after
+screens_only live screens telling serves = record { contest = refl; feeds = refl; source = same_none live.source; serves = serves }
 
 module _ (limits : Limits) (log : Log) where
-  -- requests were answered, for this contest, and what answers shows what it did
-  pub with_served : (exchanges : Exchanges) {contest said : List ℕ} (source : Source) (answers : Answers) (old new : Screens) (sockets later : AllSockets)
-      → said ≡ contest → SameMirrors source.answers answers
-      → (Contains (states_of limits log) source.answers.shown.mirror.node → Contains (states_of limits log) source.answers.blank.mirror.node
-      → StillServing (states_of limits log) said old new sockets later)
-      → (AreKnownHonest limits log exchanges → Shows limits log contest source.answers.shown.mirror source.answers.blank.mirror old.hub old.conns sockets
-      × MayFollow limits log source.reach source.request.items source.rest.items exchanges source.upstream.follower source.answers.shown.mirror)
-      → AreKnownHonest limits log exchanges → Shows limits log contest answers.shown.mirror answers.blank.mirror new.hub new.conns later
-      × MayFollow limits log source.reach source.request.items source.rest.items exchanges source.upstream.follower answers.shown.mirror
-  with_served exchanges {contest} source answers old new sockets later is same still follows honest =
-      let here = follows honest in
-      let serves : StillServing (states_of limits log) contest old new sockets later =
-      subst (λ c. StillServing (states_of limits log) c old new sockets later) is (still (among_shown limits log here.0) (among_blank limits log here.0)) in (
-        subst (λ m. Shows limits log contest m answers.blank.mirror new.hub new.conns later) (sym same.shown)
-            (subst (λ m. Shows limits log contest source.answers.shown.mirror m new.hub new.conns later) (sym same.blank) (shows_still limits log serves here.0)),
-        subst (λ m. MayFollow limits log source.reach source.request.items source.rest.items exchanges source.upstream.follower m) (sym same.shown) here.1,
-      )
+  -- its feed is its input
+  pub input_begun : {contest : List ℕ} {hub : Hub} {conns : Slab Conn} {sockets : AllSockets} {old new : Source} (mirror blank : MirrorState)
+      → BeginsInput old new → old.answers.shown.mirror ≡ mirror → old.answers.blank.mirror ≡ blank
+      → mirror.limits ≡ limits → IsInLog limits log mirror.node → IsInLog limits log blank.node → Serving (states_of limits log) contest hub conns sockets
+      → Shows limits log contest new.answers.shown.mirror new.answers.blank.mirror hub conns sockets
+  input_begun mirror blank begins shown blank_is bounds at blank_at serving =
+      record {
+        limits_are = begins.limits ∙ ap (λ m. m.limits) shown ∙ bounds;
+        shown_is = subst (λ n. IsInLog limits log n) (sym (begins.node ∙ ap (λ m. m.node) shown)) at;
+        blank_is = subst (λ m. IsInLog limits log m.node) (sym (begins.blank ∙ blank_is)) blank_at;
+        serving = serving;
+      }
 
+  -- ---- a whole turn
+
+  pub takes_only : {begun : MirrorState} {input : List ℕ} {old new : Live} {before after : AllSockets} → OnlyServes old new before after
+      → IsTakingInput limits log begun input old before → IsTakingInput limits log begun input new after
+  takes_only {begun} {input} {old} {new} {before} {after} only is =
+      record {
+        no_places = ap (λ s. s.places) only.source.servers ∙ is.no_places;
+        shows = subst (λ c. ShowsInput limits log (string_bytes c) begun input new.source new.screens after) (sym only.contest)
+            (λ honest. let here = is.shows honest in
+            same_shows limits log only.source
+            (shows_still limits log (only.serves (states_of limits log) (among_shown limits log here) (among_blank limits log here)) here));
+        takes = λ feeds. takes_so only.source.rest only.source.shown (is.takes (sym only.feeds ∙ feeds));
+      }
+
+  -- nothing changed
+  pub takes_still : {begun : MirrorState} {input : List ℕ} {old new : Live} {sockets : AllSockets} → new ≡ old
+      → IsTakingInput limits log begun input old sockets → IsTakingInput limits log begun input new sockets
+  takes_still {begun} {input} {old} {new} {sockets} same is = subst (λ live. IsTakingInput limits log begun input live sockets) (sym same) is
+
+module _ (limits : Limits) (log : Log) (servers : Servers) where
   -- a relay begins: no server is followed
   pub with_begun : (exchanges : Exchanges) {contest : List ℕ} {hub : Hub} {conns : Slab Conn} {sockets : AllSockets} (source : Source) (mirror blank : MirrorState)
       → source.answers.shown.mirror ≡ mirror → source.answers.blank.mirror ≡ blank → source.upstream.follower ≡ None → source.reach ≡ Away
       → mirror.limits ≡ limits → IsInLog limits log mirror.node → IsInLog limits log blank.node → Serving (states_of limits log) contest hub conns sockets
-      → AreKnownHonest limits log exchanges → Shows limits log contest source.answers.shown.mirror source.answers.blank.mirror hub conns sockets
-      × MayFollow limits log source.reach source.request.items source.rest.items exchanges source.upstream.follower source.answers.shown.mirror
+      → AreKnownHonest limits log servers exchanges → Shows limits log contest source.answers.shown.mirror source.answers.blank.mirror hub conns sockets
+      × MayFollow limits log servers source.reach source.request.items source.rest.items exchanges source.upstream.follower source.answers.shown.mirror
   with_begun exchanges source mirror blank shown blank_is follower away bounds at blank_at serving honest = (
     record {
       limits_are = ap (λ m. m.limits) shown ∙ bounds;
@@ -54,8 +112,21 @@ module _ (limits : Limits) (log : Log) where
       blank_is = subst (λ m. IsInLog limits log m.node) (sym blank_is) blank_at;
       serving = serving;
     },
-    subst (λ f. MayFollow limits log source.reach source.request.items source.rest.items exchanges f source.answers.shown.mirror) (sym follower) away,
+    subst (λ f. MayFollow limits log servers source.reach source.request.items source.rest.items exchanges f source.answers.shown.mirror) (sym follower) away,
   )
+
+  -- a whole turn
+  pub relays_on : {old new : Live} {before after : AllSockets} (exchanges : Exchanges) → OnlyServes old new before after
+      → IsRelaying limits log servers exchanges old before → IsRelaying limits log servers exchanges new after
+  relays_on {old} {new} {before} {after} exchanges only is =
+      let follows : FollowsLog limits log servers (string_bytes old.contest) exchanges new.source new.source.rest.items new.screens after = (
+        only.source.servers ∙ is.1.0,
+        with_same limits log servers only.source exchanges old.source.rest.items new.source.rest.items only.source.rest
+            (with_screens limits log servers exchanges (λ shows serving. only.serves (states_of limits log) (among_shown limits log shows) (among_blank limits log shows) serving) is.1.1),
+      ) in (
+        only.feeds ∙ is.0,
+        subst (λ c. FollowsLog limits log servers (string_bytes c) exchanges new.source new.source.rest.items new.screens after) (sym only.contest) follows,
+      )
 
 -- a list that is not empty is not found to be
 pub not_empty : {A : Type 0} (found : Bool) (xs : List A) → found ≡ nat_eq (length xs) 0 → xs ≢ [] → found ≡ false

@@ -1,5 +1,5 @@
 -- Requests wait until a server was heard.
-use Rattle.std.specs.Prelude.{◌≡◌, ℕ, ◌+◌, ◌-◌, ◌*◌, ◌<◌, ◌^◌, min, Bool, true, false, nat_le, Option, Some, None}
+use Rattle.std.specs.Prelude.{◌≡◌, ℕ, ◌+◌, ◌-◌, ◌<◌, ◌^◌, min, Bool, true, false, nat_le, Option, Some, None}
 use Rattle.feed_live.specs.declared.conn.Conn.{Conn}
 use Rattle.feed_live.specs.declared.conn.Stage.TheVariants.{Asks}
 use Rattle.feed_live.specs.declared.screens.Answers.{Answers}

@@ -1,22 +1,29 @@
 -- What the sockets of screens were written, and what mirrors make of that.
-use Rattle.std.specs.Prelude.{◌≡◌, ℕ, List, ◌++◌, Some, string_bytes}
+use Rattle.std.specs.Prelude.{◌≡◌, ℕ, ◌≤◌, Bool, false, List, ◌++◌, length, Option, Some, string_bytes}
 use Rattle.slab.specs.Slab.{Slab}
 use Rattle.feed_settings.specs.Limits.{Limits}
-use Rattle.feed_node.specs.Mirroring.{MirrorState}
+use Rattle.feed_node.specs.Log.{token_after}
+use Rattle.feed_node.specs.Mirroring.{MirrorState, present_opening}
 use Rattle.feed_node.specs.States.{NodeState}
 use Rattle.feed_answer.specs.Answered.{AnswerParts}
 use Rattle.feed_answer.specs.Asked.{Asks, feed}
+use Rattle.feed_answer.specs.FrameLaws.{joined}
+use Rattle.feed_world.specs.Laws.{opened_text}
 use Rattle.feed_world.specs.Log.{Log, IsLog}
+use Rattle.feed_world.specs.Position.{Position, IsPlace}
+use Rattle.feed_world.specs.Reading.{opening_at}
 use Rattle.feed_hub.specs.declared.hub.Hub.{Hub}
 use Rattle.feed_hub.specs.Follows.{HasAskedSo, FollowsInLog}
-use Rattle.feed_hub.specs.Laws.{IsInLog, AreInLog}
+use Rattle.feed_hub.specs.Laws.{IsInLog, AreInLog, ShowsState}
+use Rattle.feed_hub.specs.Told.{Told}
 use Rattle.feed_device.specs.Links.{Exchange, Exchanges}
 use Rattle.feed_live.specs.declared.conn.Conn.{Conn}
 use Rattle.feed_live.specs.declared.turn.Live.{Live}
 use Rattle.feed_live.specs.Relaying.{IsRelaying}
 use Rattle.feed_live.specs.Serving.{WasServed, IsFaithful, Serving}
 use Rattle.feed_live.specs.States.{states_of}
-use Rattle.feed_live.specs.Upstream.{IsRequestOf, IsHonest, AreKnownHonest}
+use Rattle.feed_live.specs.Taking.{IsTakingInput}
+use Rattle.feed_live.specs.Upstream.{Servers, IsRequestOf, IsHonest, AreKnownHonest, IsHonestInput}
 use Rattle.feed_device.specs.Sockets.{Opened, AllSockets}
 
 -- what was written to any socket that is open is faithful
@@ -50,24 +57,57 @@ pub record ShowsTheLog (limits : Limits) (log : Log) (live : Live) (sockets : Al
 
 abbrev pub RelaysShowTheLog : Type 0
 RelaysShowTheLog =
-    (limits : Limits) (log : Log) (exchanges : Exchanges) (live : Live) (sockets : AllSockets)
-    → AreKnownHonest limits log exchanges → IsRelaying limits log exchanges live sockets
-    → ShowsTheLog limits log live sockets
+    (limits : Limits) (log : Log) (servers : Servers) (exchanges : Exchanges) (live : Live)
+    (sockets : AllSockets) → AreKnownHonest limits log servers exchanges
+    → IsRelaying limits log servers exchanges live sockets → ShowsTheLog limits log live sockets
 
--- a server reads what was asked on a connection as it was meant: with the token of whoever has its
--- request there
-abbrev pub IsReadAsMeant : List ℕ → List ℕ → List ℕ → Type 0
-IsReadAsMeant head contest asked =
-    (begun : MirrorState) (request more : List ℕ) → IsRequestOf begun request
-    → asked ≡ request ++ more → (minor : ℕ) × Asks head contest (feed minor begun.since)
+-- the server reads what was asked on a connection as it was meant: with the token of whoever has
+-- its request there
+abbrev pub IsReadAsMeant : Servers → List ℕ → List ℕ → Exchange → Type 0
+IsReadAsMeant servers head contest exchange =
+    (begun : MirrorState) (request more : List ℕ)
+    → IsRequestOf servers exchange.server begun request → exchange.asked ≡ request ++ more
+    → (minor : ℕ) × Asks head contest (feed minor begun.since)
 
 -- Where each mirror that asked with a head follows a text in the log, as `connection_laws` and
 -- `handed` say of what nodes, primaries and relays write, any prefix of it is an honest response to
 -- a request that was read as that head.
 abbrev pub FollowedIsHonest : Type 0
 FollowedIsHonest =
-    (limits : Limits) (log : Log) (head contest text behind : List ℕ) (exchange : Exchange)
+    (limits : Limits) (log : Log) (servers : Servers) (head contest text behind : List ℕ)
+    (exchange : Exchange)
     → ((begun : MirrorState) → HasAskedSo limits log head contest begun
     → (answer : AnswerParts) × FollowsInLog limits log answer begun text)
-    → IsReadAsMeant head contest exchange.asked → exchange.received ++ behind ≡ text
-    → IsHonest limits log exchange
+    → IsReadAsMeant servers head contest exchange → exchange.received ++ behind ≡ text
+    → IsHonest limits log servers exchange
+
+-- ---- a relay whose feed is its input
+
+-- so it is with a relay whose input was honest so far
+abbrev pub InputShowsTheLog : Type 0
+InputShowsTheLog =
+    (limits : Limits) (log : Log) (begun : MirrorState) (input : List ℕ) (live : Live)
+    (sockets : AllSockets) → IsHonestInput limits log begun input
+    → IsTakingInput limits log begun input live sockets → ShowsTheLog limits log live sockets
+
+-- An input is honest where each prefix of it shows a state of the log to a mirror that begins so.
+abbrev pub ShownIsHonest : Type 0
+ShownIsHonest =
+    (limits : Limits) (log : Log) (place : Option Position) (fresh : Bool) (begun : MirrorState)
+    (input : List ℕ) → present_opening begun ≡ opening_at log place fresh
+    → ((prefix behind : List ℕ) → prefix ++ behind ≡ input
+    → ShowsState limits log place fresh prefix) → IsHonestInput limits log begun input
+
+-- So it is with any prefix of what nodes at places of the log send: from the start on, where the
+-- mirror begins with nothing; or after a token that the mirror holds.
+abbrev pub SentIsHonest : Type 0
+SentIsHonest =
+    (limits : Limits) (log : Log) (nodes : List NodeState) (k : ℕ) (texts : List (List ℕ))
+    (token : List ℕ) (place : Option Position) (fresh : Bool) (begun : MirrorState)
+    (input behind : List ℕ)
+    → IsLog limits log → AreInLog limits log nodes → k ≤ length log
+    → Told nodes (token_after k) texts token → IsPlace limits log place
+    → (fresh ≡ false → (own : Position) × (place ≡ Some own) × (own.low ≤ k) × (k ≤ own.at))
+    → present_opening begun ≡ opening_at log place fresh
+    → input ++ behind ≡ opened_text log fresh k ++ joined texts
+    → IsHonestInput limits log begun input

@@ -4,3 +4,4 @@ pub mod Laws
 pub mod States
 pub mod Upstream
 pub mod Relaying
+pub mod Taking

@@ -20,7 +20,7 @@ use Rattle.feed_live.specs.declared.source.Source.{Source}
 use Rattle.feed_live.specs.declared.turn.Live.{Live}
 use Rattle.feed_live.specs.Serving.{Serving, StillServing}
 use Rattle.feed_live.specs.States.{states_of}
-use Rattle.feed_live.specs.Upstream.{AsksInLog, IsRequestOf, AreKnownHonest}
+use Rattle.feed_live.specs.Upstream.{AsksInLog, Servers, IsRequestOf, AreKnownHonest}
 
 -- so much of the request was written where the connection has come so far
 abbrev pub IsAsked : Reach → List ℕ → List ℕ → Type 0
@@ -30,13 +30,15 @@ IsAsked (Asks count) request asked = asked ≡ take count request
 IsAsked Reads request asked = asked ≡ request
 
 -- A response is followed: that to the request of a mirror at a place of the log, which was written
--- on the latest connection. What was read there came to the mirror, but for what is still unread.
-pub record Follows (limits : Limits) (log : Log) (reach : Reach) (request unread : List ℕ)
-    (exchanges : Exchanges) (follower : FollowerState) (mirror : MirrorState) : Type 0 where
+-- on the latest connection, as it is asked of that server. What was read there came to the mirror,
+-- but for what is still unread.
+pub record Follows (limits : Limits) (log : Log) (servers : Servers) (reach : Reach)
+    (request unread : List ℕ) (exchanges : Exchanges) (follower : FollowerState)
+    (mirror : MirrorState) : Type 0 where
   pub start : MirrorState
   pub asks : AsksInLog limits log start
-  pub is_request : IsRequestOf start request
   pub latest : Exchange
+  pub is_request : IsRequestOf servers latest.server start request
   pub before : List Exchange
   pub exchanges_are : exchanges ≡ Some (latest ∷ before)
   pub asked : IsAsked reach request latest.asked
@@ -46,11 +48,11 @@ pub record Follows (limits : Limits) (log : Log) (reach : Reach) (request unread
   pub follows : FollowsAt start bytes standing follower mirror
 
 -- so it is where one is followed; else there is no connection
-abbrev pub MayFollow : Limits → Log → Reach → List ℕ → List ℕ → Exchanges → Option FollowerState
-    → MirrorState → Type 0
-MayFollow limits log reach request unread exchanges None mirror = reach ≡ Away
-MayFollow limits log reach request unread exchanges (Some follower) mirror =
-    Follows limits log reach request unread exchanges follower mirror
+abbrev pub MayFollow : Limits → Log → Servers → Reach → List ℕ → List ℕ → Exchanges
+    → Option FollowerState → MirrorState → Type 0
+MayFollow limits log servers reach request unread exchanges None mirror = reach ≡ Away
+MayFollow limits log servers reach request unread exchanges (Some follower) mirror =
+    Follows limits log servers reach request unread exchanges follower mirror
 
 -- What requests are answered with is at places of the log. So each socket was handed a prefix of
 -- what is due to an answer that a state of the log gave.
@@ -61,23 +63,28 @@ pub record Shows (limits : Limits) (log : Log) (contest : List ℕ) (shown blank
   pub blank_is : IsInLog limits log blank.node
   pub serving : Serving (states_of limits log) contest hub conns sockets
 
--- A relay of this contest shows the log where all servers were honest so far, and follows a server as
--- it should, of whose response this is unread.
-abbrev pub FollowsLog : Limits → Log → List ℕ → Exchanges → Source → List ℕ → Screens → AllSockets
-    → Type 0
-FollowsLog limits log contest exchanges source unread screens sockets =
-    AreKnownHonest limits log exchanges
+-- the servers that are asked
+abbrev pub servers_of : Source → Servers
+servers_of source = record { places = source.places.items; identity = source.identity }
+
+-- A relay of this contest asks these servers. It shows the log where all of them were honest so
+-- far, and follows one as it should, of whose response this is unread.
+abbrev pub FollowsLog : Limits → Log → Servers → List ℕ → Exchanges → Source → List ℕ → Screens
+    → AllSockets → Type 0
+FollowsLog limits log servers contest exchanges source unread screens sockets =
+    (servers_of source ≡ servers)
+    × (AreKnownHonest limits log servers exchanges
     → Shows limits log contest source.answers.shown.mirror source.answers.blank.mirror screens.hub
     screens.conns sockets
-    × MayFollow limits log source.reach source.request.items unread exchanges
-    source.upstream.follower source.answers.shown.mirror
+    × MayFollow limits log servers source.reach source.request.items unread exchanges
+    source.upstream.follower source.answers.shown.mirror)
 
 -- THE PROMISE: so it is with a relay whose feed is not its input
-abbrev pub IsRelaying : Limits → Log → Exchanges → Live → AllSockets → Type 0
-IsRelaying limits log exchanges live sockets =
+abbrev pub IsRelaying : Limits → Log → Servers → Exchanges → Live → AllSockets → Type 0
+IsRelaying limits log servers exchanges live sockets =
     (live.feeds ≡ false)
-    × FollowsLog limits log (string_bytes live.contest) exchanges live.source live.source.rest.items
-    live.screens sockets
+    × FollowsLog limits log servers (string_bytes live.contest) exchanges live.source
+    live.source.rest.items live.screens sockets
 
 -- ---- steps
 
@@ -85,14 +92,15 @@ IsRelaying limits log exchanges live sockets =
 abbrev pub StillFollows : Source → Source → Exchanges → Exchanges → List ℕ → List ℕ → Screens
     → Screens → Type 0
 StillFollows old new before after unread left screens later =
-    (limits : Limits) (log : Log) (contest : List ℕ) (sockets : AllSockets)
-    → FollowsLog limits log contest before old unread screens sockets
-    → FollowsLog limits log contest after new left later sockets
+    (limits : Limits) (log : Log) (servers : Servers) (contest : List ℕ) (sockets : AllSockets)
+    → FollowsLog limits log servers contest before old unread screens sockets
+    → FollowsLog limits log servers contest after new left later sockets
 
 abbrev pub StillRelaying : Live → Live → Exchanges → Exchanges → AllSockets → AllSockets → Type 0
 StillRelaying old new before after sockets later =
-    (limits : Limits) (log : Log) → IsRelaying limits log before old sockets
-    → IsRelaying limits log after new later
+    (limits : Limits) (log : Log) (servers : Servers)
+    → IsRelaying limits log servers before old sockets
+    → IsRelaying limits log servers after new later
 
 -- all socket screens stay as they are served, where this node is among those that serve them
 abbrev pub StillServes : NodeState → Screens → Screens → Type 0
@@ -100,8 +108,9 @@ StillServes node old new =
     (nodes : List NodeState) (contest : List ℕ) (sockets : AllSockets) → Contains nodes node
     → StillServing nodes contest old new sockets sockets
 
--- nothing changed of what is followed and shown
+-- nothing changed of what is followed and shown, nor of the servers that are asked
 pub record SameSource (old new : Source) : Type 0 where
+  pub servers : servers_of new ≡ servers_of old
   pub shown : new.answers.shown.mirror ≡ old.answers.shown.mirror
   pub blank : new.answers.blank.mirror ≡ old.answers.blank.mirror
   pub follower : new.upstream.follower ≡ old.upstream.follower
@@ -111,6 +120,7 @@ pub record SameSource (old new : Source) : Type 0 where
 
 -- the same but for what is kept unread
 pub record IsKeeping (old new : Source) : Type 0 where
+  pub servers : servers_of new ≡ servers_of old
   pub answers : new.answers ≡ old.answers
   pub upstream : new.upstream ≡ old.upstream
   pub reach : new.reach ≡ old.reach
@@ -118,9 +128,20 @@ pub record IsKeeping (old new : Source) : Type 0 where
 
 -- the server was left: no response is followed, and what is shown stays
 pub record IsLeft (old new : Source) (before after : Exchanges) : Type 0 where
+  pub servers : servers_of new ≡ servers_of old
   pub exchanges : after ≡ before
   pub reach : new.reach ≡ Away
   pub follower : new.upstream.follower ≡ None
   pub limits : new.answers.shown.mirror.limits ≡ old.answers.shown.mirror.limits
   pub node : new.answers.shown.mirror.node ≡ old.answers.shown.mirror.node
   pub blank : new.answers.blank.mirror ≡ old.answers.blank.mirror
+
+-- Only screens were served, from what the relay shows or from what shows nothing. All else is as it
+-- was.
+pub record OnlyServes (old new : Live) (before after : AllSockets) : Type 0 where
+  pub contest : new.contest ≡ old.contest
+  pub feeds : new.feeds ≡ old.feeds
+  pub source : SameSource old.source new.source
+  pub serves : (nodes : List NodeState) → Contains nodes old.source.answers.shown.mirror.node
+      → Contains nodes old.source.answers.blank.mirror.node
+      → StillServing nodes (string_bytes old.contest) old.screens new.screens before after

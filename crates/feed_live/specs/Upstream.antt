@@ -1,8 +1,11 @@
--- What is supposed of the servers that a relay follows, of what they sent it alone.
-use Rattle.std.specs.Prelude.{◌≡◌, ℕ, List, [], ◌∷◌, ◌++◌, Option, Some, None, is_none, is_some}
+-- What is supposed of the servers that a relay follows, of what they sent it alone; and of its
+-- input, where that is the feed.
+use Rattle.std.specs.Prelude.{◌≡◌, ℕ, List, [], ◌∷◌, ◌++◌, Option, Some, None, is_none, is_some, slice_get}
 use Rattle.feed_settings.specs.Limits.{Limits}
 use Rattle.feed_settings.specs.Place.{Place}
-use Rattle.feed_node.specs.Mirroring.{MirrorState}
+use Rattle.feed_note.specs.declared.line.Line.{Line}
+use Rattle.feed_node.specs.declared.fault.FeedFault.{FeedFault}
+use Rattle.feed_node.specs.Mirroring.{MirrorState, StandsAt, Faulted, present_opening}
 use Rattle.feed_follow.specs.declared.fault.FollowFault.{FollowFault}
 use Rattle.feed_follow.specs.Follower.{FollowerState, FollowsAt}
 use Rattle.feed_follow.specs.Following.{Fails}
@@ -21,11 +24,17 @@ pub record AsksInLog (limits : Limits) (log : Log) (mirror : MirrorState) : Type
   pub is_place : IsPlace limits log place
   pub asks : HasAsked limits log place (is_none mirror.since) mirror
 
--- this is the text with which the mirror asks a server for what it lacks
-pub record IsRequestOf (mirror : MirrorState) (text : List ℕ) : Type 0 where
-  pub place : Place
+-- the servers that are asked, by their places, and as whom
+pub record Servers : Type 0 where
+  pub places : List Place
   pub identity : Identity
-  pub text_is : text ≡ request_text_as place mirror.since identity
+
+-- this is the text with which the mirror asks the server of this number for what it lacks
+pub record IsRequestOf (servers : Servers) (server : ℕ) (mirror : MirrorState) (text : List ℕ)
+    : Type 0 where
+  pub place : Place
+  pub is_place : slice_get servers.places server ≡ Some place
+  pub text_is : text ≡ request_text_as place mirror.since servers.identity
 
 -- Whatever prefix of these bytes comes to the mirror, in any pieces: it shows nothing or a state of
 -- the log at its token, also once it stopped.
@@ -39,20 +48,36 @@ pub record StaysInLog (limits : Limits) (log : Log) (begun : MirrorState) (bytes
       → Fails begun (is_some begun.since) before piece mirror fault
       → IsInLog limits log mirror.node
 
--- THE PREMISE: where the request of a mirror at a place of the log was written first, what was read
--- keeps that mirror at places of the log. So is what `serve_node` and `serve_live` write for a node
--- of that log, what a relay hands on, and any error that carries no feed.
-abbrev pub IsHonest : Limits → Log → Exchange → Type 0
-IsHonest limits log exchange =
+-- THE PREMISE: where the request of a mirror at a place of the log was written first, as it is asked
+-- of that server, what was read keeps that mirror at places of the log. So is what `serve_node` and
+-- `serve_live` write for a node of that log, what a relay hands on, and any error that carries no
+-- feed.
+abbrev pub IsHonest : Limits → Log → Servers → Exchange → Type 0
+IsHonest limits log servers exchange =
     (begun : MirrorState) (text more : List ℕ) → AsksInLog limits log begun
-    → IsRequestOf begun text → exchange.asked ≡ text ++ more
+    → IsRequestOf servers exchange.server begun text → exchange.asked ≡ text ++ more
     → StaysInLog limits log begun exchange.received
 
-abbrev pub AreHonest : Limits → Log → List Exchange → Type 0
-AreHonest limits log [] = Unit {0}
-AreHonest limits log (latest ∷ before) = IsHonest limits log latest × AreHonest limits log before
+abbrev pub AreHonest : Limits → Log → Servers → List Exchange → Type 0
+AreHonest limits log servers [] = Unit {0}
+AreHonest limits log servers (latest ∷ before) =
+    IsHonest limits log servers latest × AreHonest limits log servers before
 
 -- the exchanges are known, and honest
-abbrev pub AreKnownHonest : Limits → Log → Exchanges → Type 0
-AreKnownHonest limits log None = ⊥
-AreKnownHonest limits log (Some exchanges) = AreHonest limits log exchanges
+abbrev pub AreKnownHonest : Limits → Log → Servers → Exchanges → Type 0
+AreKnownHonest limits log servers None = ⊥
+AreKnownHonest limits log servers (Some exchanges) = AreHonest limits log servers exchanges
+
+-- ---- the input as the feed
+
+-- THE PREMISE of an input: whatever prefix of it comes to the mirror that began so, in any pieces,
+-- that shows nothing or a state of the log at its token, also once it stopped. So is what a node of
+-- that log sends from the start on, to a mirror that has published nothing.
+pub record IsHonestInput (limits : Limits) (log : Log) (begun : MirrorState) (input : List ℕ)
+    : Type 0 where
+  pub stands : (before behind : List ℕ) (notes : List Line) (mirror : MirrorState)
+      → before ++ behind ≡ input → mirror.limits ≡ limits
+      → StandsAt (present_opening begun) before notes mirror → IsInLog limits log mirror.node
+  pub stops : (before piece behind : List ℕ) (old new : MirrorState) (fault : FeedFault)
+      → (before ++ piece) ++ behind ≡ input → old.limits ≡ limits
+      → Faulted (present_opening begun) before piece old new fault → IsInLog limits log new.node

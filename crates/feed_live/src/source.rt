@@ -1,6 +1,6 @@
 //! The server that is followed, and the mirror of what it sends.
 
-ghost use Rattle.std.specs.Prelude.{◌≡◌, None, Some, IfOk, IfSome, drop};
+ghost use Rattle.std.specs.Prelude.{◌≡◌, [], None, Some, IfOk, IfSome, drop, false};
 ghost use Rattle.feed_node.specs.States.{published_token};
 
 mod input;
@@ -59,7 +59,7 @@ pub(crate) struct Source {
 }
 
 impl Source {
-    ghost use Rattle.feed_live.specs.Relaying.{StillFollows, SameSource, IsLeft};
+    ghost use Rattle.feed_live.specs.Relaying.{StillFollows, SameSource, IsLeft, servers_of};
     ghost use Rattle.feed_live.specs.Upstream.{IsRequestOf};
     ghost use Rattle.feed_live.specs.declared.source.Reach.TheVariants.{Away, Asks as Asked};
     ghost use Rattle.feed_live.specs.declared.screens.Screens.{Screens};
@@ -77,6 +77,9 @@ impl Source {
         ensures blank { result.answers.blank.mirror ≡ blank }
         ensures follower { result.upstream.follower ≡ None }
         ensures reach { result.reach ≡ Away }
+        ensures places { result.places ≡ places }
+        ensures identity { result.identity ≡ identity }
+        ensures rest { result.rest.items ≡ [] }
     {
         // A relay without a state has nothing old to show, nor has one whose feed is the input.
         let is_heard = mirror.node().token().is_none() || places.is_empty();
@@ -162,7 +165,9 @@ impl Source {
     }
 
     /// Whether there is a server to be asked.
-    pub(crate) fn has_servers(&self) -> bool {
+    pub(crate) fn has_servers(&self) -> bool
+        ensures { self.now.places.items ≡ [] → result ≡ false }
+    {
         !self.places.is_empty()
     }
 
@@ -226,8 +231,8 @@ impl Source {
 
     /// The text that asks the next place for what the mirror lacks; none where there is no place.
     fn request(&self, alloc: Global) -> Result<Option<Vec<u8>>, AllocError>
-        ensures asks { IfOk result (λ made. IfSome made (λ text.
-            IsRequestOf self.now.answers.shown.mirror text.items)) }
+        ensures asks { IfOk result (λ made. IfSome made (λ text. IsRequestOf (servers_of self.now)
+            self.now.upstream.place self.now.answers.shown.mirror text.items)) }
         ensures since { IfSome self.now.answers.shown.mirror.since (λ token.
             published_token self.now.answers.shown.mirror.node ≡ Some token) }
     {
@@ -264,6 +269,7 @@ impl Source {
 
     pub(crate) fn leave<L: Link>(&mut self, link: &mut L, now: u64)
         ensures exchanges { L.exchanges link.new ≡ L.exchanges link.old }
+        ensures servers { servers_of self.new ≡ servers_of self.old }
         ensures answers { self.new.answers ≡ self.old.answers }
         ensures away { self.new.reach ≡ Away }
     {

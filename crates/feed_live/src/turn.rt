@@ -1,12 +1,13 @@
 //! The turn.
 
-ghost use Rattle.std.specs.Prelude.{◌≡◌, ◌≢◌, [], ℕ, false};
+ghost use Rattle.std.specs.Prelude.{◌≡◌, ◌≢◌, [], ℕ, false, true};
 ghost use Rattle.feed_settings.specs.Limits.{Limits};
 ghost use Rattle.feed_node.specs.States.{NodeState};
 ghost use Rattle.feed_world.specs.Log.{Log};
 ghost use Rattle.feed_hub.specs.Laws.{IsInLog};
 ghost use Rattle.feed_device.specs.Links.{Exchanges};
 ghost use Rattle.feed_device.specs.Sockets.{AllSockets, Closed, IsSocket};
+ghost use Rattle.feed_live.specs.Upstream.{Servers};
 
 use crate::options::{LiveLimits, Start};
 use crate::saved::{Restored, Saved};
@@ -67,7 +68,8 @@ pub struct Live {
 }
 
 impl Live {
-    ghost use Rattle.feed_live.specs.Relaying.{IsRelaying, StillRelaying};
+    ghost use Rattle.feed_live.specs.Relaying.{IsRelaying, StillRelaying, OnlyServes};
+    ghost use Rattle.feed_live.specs.Taking.{IsTakingInput, StillTaking, bytes_in};
 
     /// A relay that starts from what the state files had.
     pub fn new<D: Store>(
@@ -79,12 +81,21 @@ impl Live {
         now: u64,
     ) -> Live
         // where it follows servers, and the state files had a state of the log, or nothing
-        ensures relaying { (limits : Limits) (log : Log) (exchanges : Exchanges)
-            (sockets : AllSockets) → start.places.items ≢ []
+        ensures relaying { (limits : Limits) (log : Log) (servers : Servers)
+            (exchanges : Exchanges) (sockets : AllSockets)
+            → servers.places ≡ start.places.items → servers.identity ≡ start.identity
+            → start.places.items ≢ []
             → start.restored.mirror.limits ≡ limits
             → IsInLog limits log start.restored.mirror.node → IsInLog limits log start.blank.node
             → ((at : ℕ) → IsSocket (sockets at) Closed)
-            → IsRelaying limits log exchanges result sockets }
+            → IsRelaying limits log servers exchanges result sockets }
+
+        // where its feed is the input, and the state files had a state of the log, or nothing
+        ensures taking { (limits : Limits) (log : Log) (sockets : AllSockets)
+            → start.places.items ≡ [] → start.restored.mirror.limits ≡ limits
+            → IsInLog limits log start.restored.mirror.node → IsInLog limits log start.blank.node
+            → ((at : ℕ) → IsSocket (sockets at) Closed)
+            → IsTakingInput limits log start.restored.mirror [] result sockets }
     {
         let Start {
             places,
@@ -155,6 +166,10 @@ impl Live {
         ensures relaying { StillRelaying self.old self.new (L.exchanges devices.old.link)
             (L.exchanges devices.new.link) (S.socket devices.old.sockets)
             (S.socket devices.new.sockets) }
+
+        // so it is where the input is the feed, and these bytes of it came
+        ensures taking { StillTaking self.old self.new (bytes_in input.entry)
+            (S.socket devices.old.sockets) (S.socket devices.new.sockets) }
     {
         let had_more = self.screens.begin_turn();
         self.note(events);
@@ -174,8 +189,7 @@ impl Live {
 
     /// Marks what became ready.
     fn note(&mut self, events: &[Ready])
-        ensures relaying { (exchanges : Exchanges) (sockets : AllSockets)
-            → StillRelaying self.old self.new exchanges exchanges sockets sockets }
+        ensures serves { (sockets : AllSockets) → OnlyServes self.old self.new sockets sockets }
     {
         for event in events {
             self.note_one(*event);
@@ -184,8 +198,7 @@ impl Live {
 
     /// Marks one of them.
     fn note_one(&mut self, event: Ready)
-        ensures relaying { (exchanges : Exchanges) (sockets : AllSockets)
-            → StillRelaying self.old self.new exchanges exchanges sockets sockets }
+        ensures serves { (sockets : AllSockets) → OnlyServes self.old self.new sockets sockets }
     {
         match event {
             Ready::Listener => self.screens.is_waited_for = true,
@@ -200,8 +213,7 @@ impl Live {
 
     /// Says what had to wait.
     fn say_more(&mut self, alloc: Global, now: u64)
-        ensures relaying { (exchanges : Exchanges) (sockets : AllSockets)
-            → StillRelaying self.old self.new exchanges exchanges sockets sockets }
+        ensures serves { (sockets : AllSockets) → OnlyServes self.old self.new sockets sockets }
     {
         if self.screens.says_now(now) {
             self.source.say_more(alloc, &mut self.screens, now);
@@ -212,6 +224,8 @@ impl Live {
     fn take_input(&mut self, alloc: Global, input: Input<'_>, now: u64)
         ensures relaying { (exchanges : Exchanges) (sockets : AllSockets)
             → StillRelaying self.old self.new exchanges exchanges sockets sockets }
+        ensures taking { (sockets : AllSockets) → StillTaking self.old self.new
+            (bytes_in input.entry) sockets sockets }
     {
         match input {
             Input::Nothing => self.feed(alloc, &[], now),
@@ -224,6 +238,8 @@ impl Live {
     fn feed(&mut self, alloc: Global, piece: &[u8], now: u64)
         ensures relaying { (exchanges : Exchanges) (sockets : AllSockets)
             → StillRelaying self.old self.new exchanges exchanges sockets sockets }
+        ensures taking { (sockets : AllSockets) → StillTaking self.old self.new piece.now
+            sockets sockets }
     {
         if self.feeds {
             self.feeds = self
@@ -236,6 +252,8 @@ impl Live {
     fn end(&mut self, alloc: Global, now: u64)
         ensures relaying { (exchanges : Exchanges) (sockets : AllSockets)
             → StillRelaying self.old self.new exchanges exchanges sockets sockets }
+        ensures taking { (sockets : AllSockets) → StillTaking self.old self.new []
+            sockets sockets }
     {
         if self.feeds {
             self.telling.tell(Told::EndOfInput);
@@ -252,6 +270,8 @@ impl Live {
     fn follow<L: Link>(&mut self, alloc: Global, link: &mut L, now: u64)
         ensures relaying { (sockets : AllSockets) → StillRelaying self.old self.new
             (L.exchanges link.old) (L.exchanges link.new) sockets sockets }
+        // where there is no server
+        ensures nothing { self.old.source.places.items ≡ [] → self.new ≡ self.old }
     {
         if self.ends_at.is_some() || !self.source.has_servers() {
             return;
@@ -278,8 +298,7 @@ impl Live {
 
     /// Writes a slice of the state file.
     fn save<D: Store>(&mut self, alloc: Global, store: &mut D, now: u64)
-        ensures relaying { (exchanges : Exchanges) (sockets : AllSockets)
-            → StillRelaying self.old self.new exchanges exchanges sockets sockets }
+        ensures serves { (sockets : AllSockets) → OnlyServes self.old self.new sockets sockets }
     {
         let Some(saved) = &mut self.saved else {
             return;
@@ -294,8 +313,8 @@ impl Live {
 
     /// Once a second, looks for who is late; and says a line feed after silence.
     fn tick<S: Sockets>(&mut self, alloc: Global, sockets: &mut S, now: u64)
-        ensures relaying { (exchanges : Exchanges) → StillRelaying self.old self.new exchanges
-            exchanges (S.socket sockets.old) (S.socket sockets.new) }
+        ensures serves { OnlyServes self.old self.new (S.socket sockets.old)
+            (S.socket sockets.new) }
     {
         if self.screens.conns.is_empty() {
             self.source.tidy();
@@ -317,8 +336,7 @@ impl Live {
 
     /// Requests wait: those that waited for long enough are looked at again.
     fn hold(&mut self, now: u64)
-        ensures relaying { (exchanges : Exchanges) (sockets : AllSockets)
-            → StillRelaying self.old self.new exchanges exchanges sockets sockets }
+        ensures serves { (sockets : AllSockets) → OnlyServes self.old self.new sockets sockets }
     {
         self.screens.has_more = true;
         if now >= HOLD_TIME && !self.is_hold_told {
@@ -336,8 +354,8 @@ impl Live {
         had_more: bool,
         now: u64,
     )
-        ensures relaying { (exchanges : Exchanges) → StillRelaying self.old self.new exchanges
-            exchanges (S.socket sockets.old) (S.socket sockets.new) }
+        ensures serves { OnlyServes self.old self.new (S.socket sockets.old)
+            (S.socket sockets.new) }
     {
         self.serve_more(alloc, sockets, had_more, now);
         for event in events {
@@ -349,8 +367,8 @@ impl Live {
 
     /// Reads from and writes to those that had more, where there were some.
     fn serve_more<S: Sockets>(&mut self, alloc: Global, sockets: &mut S, had_more: bool, now: u64)
-        ensures relaying { (exchanges : Exchanges) → StillRelaying self.old self.new exchanges
-            exchanges (S.socket sockets.old) (S.socket sockets.new) }
+        ensures serves { OnlyServes self.old self.new (S.socket sockets.old)
+            (S.socket sockets.new) }
     {
         if !had_more {
             return;
@@ -366,8 +384,8 @@ impl Live {
 
     /// Reads from and writes to the one at a place.
     fn serve_one<S: Sockets>(&mut self, alloc: Global, sockets: &mut S, at: usize, now: u64)
-        ensures relaying { (exchanges : Exchanges) → StillRelaying self.old self.new exchanges
-            exchanges (S.socket sockets.old) (S.socket sockets.new) }
+        ensures serves { OnlyServes self.old self.new (S.socket sockets.old)
+            (S.socket sockets.new) }
     {
         let shown = Shown {
             is_held: !self.source.is_heard(),
@@ -379,8 +397,7 @@ impl Live {
 
     /// Tells how many screens there are, where that has changed.
     fn report(&mut self, now: u64)
-        ensures relaying { (exchanges : Exchanges) (sockets : AllSockets)
-            → StillRelaying self.old self.new exchanges exchanges sockets sockets }
+        ensures serves { (sockets : AllSockets) → OnlyServes self.old self.new sockets sockets }
     {
         if now.saturating_sub(self.reported) < REPORT {
             return;
@@ -393,8 +410,7 @@ impl Live {
 
     /// What comes next.
     fn next(&mut self, now: u64) -> Turn
-        ensures relaying { (exchanges : Exchanges) (sockets : AllSockets)
-            → StillRelaying self.old self.new exchanges exchanges sockets sockets }
+        ensures serves { (sockets : AllSockets) → OnlyServes self.old self.new sockets sockets }
     {
         self.report(now);
         Turn {
@@ -450,7 +466,8 @@ impl Live {
 
 /// Whether there is no server to be followed.
 fn are_none(places: &[Place]) -> bool
-    ensures { places.now ≢ [] → result ≡ false }
+    ensures some { places.now ≢ [] → result ≡ false }
+    ensures none { places.now ≡ [] → result ≡ true }
 {
     places.is_empty()
 }

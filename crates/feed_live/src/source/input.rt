@@ -1,6 +1,6 @@
 //! The input as the feed that is followed.
 
-ghost use Rattle.std.specs.Prelude.{◌≡◌, false};
+ghost use Rattle.std.specs.Prelude.{◌≡◌, ◌++◌, [], List, ℕ, false, true, is_ok};
 
 use crate::figures::Following;
 use crate::screens::Screens;
@@ -12,11 +12,13 @@ use feed_node::FeedFault;
 use std::alloc::Global;
 
 impl Source {
-    ghost use Rattle.feed_live.specs.Relaying.{SameSource};
+    ghost use Rattle.feed_live.specs.Relaying.{SameSource, servers_of};
+    ghost use Rattle.feed_live.specs.Taking.{BeginsInput, StillTakes, StillTakesMore};
 
     /// The input is a feed from here on, where it feeds.
     pub(crate) fn begin_input(&mut self, feeds: bool, now: u64)
-        ensures { feeds ≡ false → SameSource self.old self.new }
+        ensures same { feeds ≡ false → SameSource self.old self.new }
+        ensures begins { feeds ≡ true → BeginsInput self.old self.new }
     {
         if !feeds {
             return;
@@ -33,16 +35,12 @@ impl Source {
         screens: &mut Screens,
         piece: &[u8],
         now: u64,
-    ) -> bool {
-        if !piece.is_empty() {
-            self.figures.hear(piece.len(), now);
-        }
-        let kept = self.kept(alloc);
-        let fed = match self.feed(alloc, screens, kept.as_slice(), now) {
-            Ok(()) => self.feed(alloc, screens, piece, now),
-            Err(fault) => Err(fault),
-        };
-        match fed {
+    ) -> bool
+        ensures takes { StillTakesMore self.old self.new piece.now screens.old screens.new result }
+        ensures servers { servers_of self.new ≡ servers_of self.old }
+    {
+        self.hear(piece, now);
+        match self.feed_all(alloc, screens, piece, now) {
             Ok(()) => true,
             Err(fault) => {
                 told.tell(Told::BadInput(fault));
@@ -52,35 +50,102 @@ impl Source {
         }
     }
 
+    /// Bytes of the input came, or none.
+    fn hear(&mut self, piece: &[u8], now: u64)
+        ensures { SameSource self.old self.new }
+    {
+        if !piece.is_empty() {
+            self.figures.hear(piece.len(), now);
+        }
+    }
+
+    /// Follows what was kept, and then bytes that came.
+    fn feed_all(
+        &mut self,
+        alloc: Global,
+        screens: &mut Screens,
+        piece: &[u8],
+        now: u64,
+    ) -> Result<(), FeedFault>
+        ensures takes { StillTakesMore self.old self.new piece.now screens.old screens.new
+            (is_ok result) }
+        ensures servers { servers_of self.new ≡ servers_of self.old }
+    {
+        let kept = self.kept(alloc);
+        let bytes = kept.as_slice();
+        self.feed(alloc, screens, bytes, now)?;
+        self.feed_behind(alloc, screens, piece, now)
+    }
+
+    /// Follows bytes that came behind what is kept.
+    fn feed_behind(
+        &mut self,
+        alloc: Global,
+        screens: &mut Screens,
+        piece: &[u8],
+        now: u64,
+    ) -> Result<(), FeedFault>
+        ensures takes { StillTakes self.old self.new (self.old.rest.items ++ piece.now)
+            self.new.rest.items screens.old screens.new result }
+        ensures servers { servers_of self.new ≡ servers_of self.old }
+    {
+        if !self.rest.is_empty() {
+            self.keep(piece)?;
+            return Ok(());
+        }
+        self.feed(alloc, screens, piece, now)
+    }
+
     /// Follows bytes of the input, up to a commit after which nothing more can be said for now.
+    /// What comes after that is kept.
     fn feed(
         &mut self,
         alloc: Global,
         screens: &mut Screens,
         piece: &[u8],
         now: u64,
-    ) -> Result<(), FeedFault> {
+    ) -> Result<(), FeedFault>
+        ensures takes { self.old.rest.items ≡ [] → StillTakes self.old self.new piece.now
+            self.new.rest.items screens.old screens.new result }
+        ensures servers { servers_of self.new ≡ servers_of self.old }
+    {
         let mut rest = piece;
         for _ in 0..piece.len() {
-            if rest.is_empty() {
-                break;
-            }
-            if screens.says_at().is_some() {
-                self.keep(rest)?;
+            if rest.is_empty() || screens.says_at().is_some() {
                 break;
             }
             let (line, next) = split_line(rest);
             rest = next;
-            self.answers.shown.change().feed(alloc, line)?;
-            if screens.relay(alloc, self.answers.shown.node(), now) {
-                self.figures.publish();
-            }
+            self.feed_line(alloc, screens, line, now)?;
+        }
+        self.keep(rest)?;
+        Ok(())
+    }
+
+    /// Follows one line, or a part of one.
+    fn feed_line(
+        &mut self,
+        alloc: Global,
+        screens: &mut Screens,
+        line: &[u8],
+        now: u64,
+    ) -> Result<(), FeedFault>
+        ensures takes { (next : List ℕ) → StillTakes self.old self.new (line.now ++ next) next
+            screens.old screens.new result }
+        ensures servers { servers_of self.new ≡ servers_of self.old }
+        ensures rest { self.new.rest.items ≡ self.old.rest.items }
+    {
+        self.answers.shown.change().feed(alloc, line)?;
+        if screens.relay(alloc, self.answers.shown.node(), now) {
+            self.figures.publish();
         }
         Ok(())
     }
 
     /// Nothing more of the input is a feed.
-    pub(crate) fn end_input(&mut self, now: u64) {
+    pub(crate) fn end_input(&mut self, now: u64)
+        ensures { SameSource self.old self.new }
+    {
         self.figures.change(Following::Ended, now);
     }
 }

@@ -1,7 +1,5 @@
 use Rattle.std.proofs.Common.{ℕ, List}
-use Rattle.std.specs.Prelude.{Contains}
 use Rattle.feed_node.specs.States.{NodeState}
-use Rattle.feed_device.specs.Sockets.{AllSockets}
 use Rattle.feed_live.specs.Serving.{StillServing}
 use Rattle.feed_live.proofs.screens.Screens.close_past.Given as goal
 

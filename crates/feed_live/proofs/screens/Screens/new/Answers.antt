@@ -1,4 +1,4 @@
-use Rattle.std.proofs.Common.{◌≡◌, ℕ, None, ap, List}
+use Rattle.std.proofs.Common.{None, ap, List}
 use Rattle.std.specs.Prelude.{Option, slice_index_or}
 use Rattle.feed_live.specs.declared.conn.Conn.{Conn}
 use Rattle.feed_live.proofs.ServingLemmas.{serving_none}

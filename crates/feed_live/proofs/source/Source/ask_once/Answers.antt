@@ -6,11 +6,14 @@ use Rattle.feed_live.proofs.source.Source.ask_once.Goals as goal
 pub returns-in-Ok : goal.returns-in-Ok
 returns-in-Ok g c =
     record {
-      follows = λ asks screens limits log contest sockets follows honest.
-          let here = follows (asked_more_honest limits log _ _ _ c.in-Ok.ensures.bytes honest) in (
-            here.0,
-            asks_follows limits log c.args.self.now.request.items c.args.self.now.rest.items c.behind-rest.result.now _ _ c.args.count c.in-Ok.more _ _
-                c.in-Ok.ensures.bytes (c.behind-rest.ensures ∙ ap (drop c.args.count) c.deref.ensures.value)
-                (subst (λ r. MayFollow limits log r c.args.self.now.request.items c.args.self.now.rest.items (g.L.Link.exchanges c.args.link.now) c.args.self.now.upstream.follower c.args.self.now.answers.shown.mirror) asks here.1),
-          );
+      follows = λ asks screens limits log servers contest sockets follows. (
+        follows.0,
+        λ honest.
+            let here = follows.1 (asked_more_honest limits log servers _ _ _ c.in-Ok.ensures.bytes honest) in (
+              here.0,
+              asks_follows limits log servers c.args.self.now.request.items c.args.self.now.rest.items c.behind-rest.result.now _ _ c.args.count c.in-Ok.more _ _
+                  c.in-Ok.ensures.bytes (c.behind-rest.ensures ∙ ap (drop c.args.count) c.deref.ensures.value)
+                  (subst (λ r. MayFollow limits log servers r c.args.self.now.request.items c.args.self.now.rest.items (g.L.Link.exchanges c.args.link.now) c.args.self.now.upstream.follower c.args.self.now.answers.shown.mirror) asks here.1),
+            ),
+      );
     }

@@ -2,6 +2,7 @@ use Rattle.std.proofs.Common.{rules, ◌≡◌}
 use Rattle.feed_live.specs.Relaying.{StillFollows}
 use Rattle.feed_live.specs.declared.source.Reach.TheVariants.{Reads}
 use Rattle.feed_live.proofs.SourceLemmas.{with_open}
+use Rattle.feed_live.proofs.RelayLemmas.{within}
 use Rattle.feed_live.proofs.source.Source.go_on.Goals as goal
 use Rattle.feed_live.proofs.source.Source.go_on.Goals.{in-Connects+in-Ok-true, in_default}
 
@@ -10,24 +11,24 @@ returns-then-eq g c =
     let reads : c.ask.new.self.reach ≡ Reads = search rules in
     let opened : StillFollows c.args.self.now c.match-self.self (g.L.Link.exchanges c.args.link.now) (g.L.Link.exchanges c.match-self.link) c.args.self.now.rest.items c.match-self.self.rest.items c.args.screens.now c.args.screens.now =
     elim c.match-self.branch [
-      | in-Connects+in-Ok-true w ↦ rw (w.self-is, w.link-is) (λ limits log contest sockets follows.
-          with_open limits log c.args.self.now.reach c.args.self.now.request.items c.args.self.now.rest.items _ _ _ c.args.self.now.upstream.follower c.args.self.now.answers.shown.mirror w.in-Connects.is w.is_open.ensures.unchanged follows)
-      | in_default w ↦ rw (w.self-is, w.link-is) (λ limits log contest sockets follows. follows)
+      | in-Connects+in-Ok-true w ↦ rw (w.self-is, w.link-is) (λ limits log servers contest sockets follows. within (
+          with_open limits log servers c.args.self.now.reach c.args.self.now.request.items c.args.self.now.rest.items _ _ _ c.args.self.now.upstream.follower c.args.self.now.answers.shown.mirror w.in-Connects.is w.is_open.ensures.unchanged) follows)
+      | in_default w ↦ rw (w.self-is, w.link-is) (λ limits log servers contest sockets follows. follows)
     ] in
     record {
-      follows = λ limits log contest sockets follows.
-          c.read_some.ensures.follows reads limits log contest sockets (c.ask.ensures.follows c.args.screens.now limits log contest sockets (opened limits log contest sockets follows));
+      follows = λ limits log servers contest sockets follows.
+          c.read_some.ensures.follows reads limits log servers contest sockets (c.ask.ensures.follows c.args.screens.now limits log servers contest sockets (opened limits log servers contest sockets follows));
     }
 
 pub returns-else-eq : goal.returns-else-eq
 returns-else-eq g c =
     let opened : StillFollows c.args.self.now c.match-self.self (g.L.Link.exchanges c.args.link.now) (g.L.Link.exchanges c.match-self.link) c.args.self.now.rest.items c.match-self.self.rest.items c.args.screens.now c.args.screens.now =
     elim c.match-self.branch [
-      | in-Connects+in-Ok-true w ↦ rw (w.self-is, w.link-is) (λ limits log contest sockets follows.
-          with_open limits log c.args.self.now.reach c.args.self.now.request.items c.args.self.now.rest.items _ _ _ c.args.self.now.upstream.follower c.args.self.now.answers.shown.mirror w.in-Connects.is w.is_open.ensures.unchanged follows)
-      | in_default w ↦ rw (w.self-is, w.link-is) (λ limits log contest sockets follows. follows)
+      | in-Connects+in-Ok-true w ↦ rw (w.self-is, w.link-is) (λ limits log servers contest sockets follows. within (
+          with_open limits log servers c.args.self.now.reach c.args.self.now.request.items c.args.self.now.rest.items _ _ _ c.args.self.now.upstream.follower c.args.self.now.answers.shown.mirror w.in-Connects.is w.is_open.ensures.unchanged) follows)
+      | in_default w ↦ rw (w.self-is, w.link-is) (λ limits log servers contest sockets follows. follows)
     ] in
     record {
-      follows = λ limits log contest sockets follows.
-          c.ask.ensures.follows c.args.screens.now limits log contest sockets (opened limits log contest sockets follows);
+      follows = λ limits log servers contest sockets follows.
+          c.ask.ensures.follows c.args.screens.now limits log servers contest sockets (opened limits log servers contest sockets follows);
     }

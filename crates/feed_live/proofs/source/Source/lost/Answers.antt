@@ -8,6 +8,7 @@ returns g c =
     c.lost.ensures.mirror ∙ ap cut_off (c.change.ensures.mirror ∙ ap (λ a. a.shown.mirror) c.leave.ensures.answers ∙ c.hear_end.ensures.shown) in
     record {
       left = record {
+        servers = c.leave.ensures.servers ∙ c.hear_end.ensures.servers;
         exchanges = c.leave.ensures.exchanges;
         reach = c.leave.ensures.away;
         follower = c.lost.ensures.paused.0;

@@ -1,19 +1,23 @@
+use Rattle.std.proofs.Common.{◌∙◌}
 use Rattle.feed_live.proofs.RelayLemmas.{with_left, received_more_honest, reads_follows}
 use Rattle.feed_live.proofs.source.Source.read.Goals as goal
 
 pub returns-in-Ok-eq0 : goal.returns-in-Ok-eq0
 returns-in-Ok-eq0 g c =
     record {
-      follows = λ reads none limits log contest sockets follows.
-          with_left limits log c.lost.ensures.left c.lost.new.self.rest.items
-          (λ honest. (follows (received_more_honest limits log _ _ _ c.in-Ok-eq0.ensures.bytes honest)).0);
+      follows = λ reads none limits log servers contest sockets follows. (
+        c.lost.ensures.left.servers ∙ follows.0,
+        with_left limits log servers c.lost.ensures.left c.lost.new.self.rest.items (λ honest. (follows.1 (received_more_honest limits log servers _ _ _ c.in-Ok-eq0.ensures.bytes honest)).0),
+      );
     }
 
 pub returns-in-Ok : goal.returns-in-Ok
 returns-in-Ok g c =
     record {
-      follows = λ reads none limits log contest sockets follows.
-          c.take.ensures.follows reads none limits log contest sockets
-          (λ honest. let here = follows (received_more_honest limits log _ _ _ c.in-Ok.ensures.bytes honest) in
-          (here.0, reads_follows limits log c.args.self.now.reach c.args.self.now.request.items _ _ _ c.args.self.now.upstream.follower c.args.self.now.answers.shown.mirror c.in-Ok.ensures.bytes here.1));
+      follows = λ reads none limits log servers contest sockets follows.
+          c.take.ensures.follows reads none limits log servers contest sockets (
+            follows.0,
+            λ honest. let here = follows.1 (received_more_honest limits log servers _ _ _ c.in-Ok.ensures.bytes honest) in
+                (here.0, reads_follows limits log servers c.args.self.now.reach c.args.self.now.request.items _ _ _ c.args.self.now.upstream.follower c.args.self.now.answers.shown.mirror c.in-Ok.ensures.bytes here.1),
+          );
     }

@@ -8,6 +8,7 @@ returns g c =
     let shown : c.change-2.result.now ≡ c.args.self.now.answers.shown.mirror = c.change-2.ensures.mirror ∙ ap (λ a. a.shown.mirror) c.leave.ensures.answers in
     record {
       left = record {
+        servers = c.leave.ensures.servers;
         exchanges = c.leave.ensures.exchanges;
         reach = c.leave.ensures.away;
         follower = either (has_another c.leave.new.self.upstream.refused c.leave.new.self.upstream.places) (λ is. (c.refused.ensures.next is).0.0) (λ is. (c.refused.ensures.fresh is).0.0);

@@ -1,6 +1,5 @@
 use Rattle.std.proofs.Common.{sym, subst}
 use Rattle.std.specs.Prelude.{Contains}
-use Rattle.feed_live.proofs.RelayLemmas.{among_shown}
 use Rattle.feed_live.proofs.source.Source.say_more.Goals as goal
 
 pub returns-clause-serves : goal.returns-clause-serves

@@ -1,16 +1,16 @@
 use Rattle.std.proofs.Common.{refl, sym, ap, ◌∙◌, subst, ◌++◌}
 use Rattle.feed_live.specs.Relaying.{Shows}
-use Rattle.feed_live.proofs.RelayLemmas.{with_left, with_away, with_unread, with_kept, where_ok}
+use Rattle.feed_live.proofs.RelayLemmas.{with_left, with_away, with_unread, with_kept, where_ok, within}
 use Rattle.feed_live.proofs.source.Source.take.Goals as goal
 
 pub returns-then-not-take_line : goal.returns-then-not-take_line
 returns-then-not-take_line g c =
     record {
-      follows = λ reads none limits log contest sockets follows.
+      follows = λ reads none limits log servers contest sockets follows.
           let now = c.loop.invariant reads none in
-          with_away limits log _ _ _ c.split_line.result.1.now c.take_line.new.self.rest.items _ _ (c.if-not-take_line.ensures.stops refl)
-          (c.take_line.ensures.follows now.0 c.split_line.result.1.now limits log contest sockets
-          (with_unread limits log _ _ _ _ _ c.split_line.ensures (now.2 limits log contest sockets follows)));
+          within (with_away limits log servers _ _ _ c.split_line.result.1.now c.take_line.new.self.rest.items _ _ (c.if-not-take_line.ensures.stops refl))
+          (c.take_line.ensures.follows now.0 c.split_line.result.1.now limits log servers contest sockets
+          (within (with_unread limits log servers _ _ _ _ _ c.split_line.ensures) (now.2 limits log servers contest sockets follows)));
     }
 
 pub loop-preserved : goal.loop-preserved
@@ -19,25 +19,30 @@ loop-preserved g c =
     let now = c.loop.invariant reads none in (
       (c.take_line.ensures.goes_on c.if-not-take_line.false).0 ∙ now.0,
       (c.take_line.ensures.goes_on c.if-not-take_line.false).1 ∙ now.1,
-      λ limits log contest sockets follows.
-          c.take_line.ensures.follows now.0 c.split_line.result.1.now limits log contest sockets
-          (with_unread limits log _ _ _ _ _ c.split_line.ensures (now.2 limits log contest sockets follows)),
+      λ limits log servers contest sockets follows.
+          c.take_line.ensures.follows now.0 c.split_line.result.1.now limits log servers contest sockets
+          (within (with_unread limits log servers _ _ _ _ _ c.split_line.ensures) (now.2 limits log servers contest sockets follows)),
     )
 
 pub returns-then-is_err : goal.returns-then-is_err
 returns-then-is_err g c =
     record {
-      follows = λ reads none limits log contest sockets follows.
-          with_left limits log c.lost.ensures.left c.lost.new.self.rest.items
-          (λ honest. subst (λ a. Shows limits log contest a.shown.mirror a.blank.mirror c.loop.screens.hub c.loop.screens.conns sockets) (sym c.keep.ensures.same.answers) ((c.loop.invariant reads none).2 limits log contest sockets follows honest).0);
+      follows = λ reads none limits log servers contest sockets follows.
+          let now = (c.loop.invariant reads none).2 limits log servers contest sockets follows in (
+            c.lost.ensures.left.servers ∙ c.keep.ensures.same.servers ∙ now.0,
+            with_left limits log servers c.lost.ensures.left c.lost.new.self.rest.items (λ honest. subst (λ a. Shows limits log contest a.shown.mirror a.blank.mirror c.loop.screens.hub c.loop.screens.conns sockets) (sym c.keep.ensures.same.answers) (now.1 honest).0),
+          );
     }
 
 pub returns-else-is_err : goal.returns-else-is_err
 returns-else-is_err g c =
     record {
-      follows = λ reads none limits log contest sockets follows.
+      follows = λ reads none limits log servers contest sockets follows.
           let now = c.loop.invariant reads none in
-          with_kept limits log c.keep.ensures.same _ c.loop.rest.now c.keep.new.self.rest.items
-          (where_ok c.keep.result (sym c.is_err.ensures.value ∙ c.if-is_err.false) c.keep.ensures.ok ∙ ap (λ r. r ++ c.loop.rest.now) now.1)
-          (now.2 limits log contest sockets follows);
+          let here = now.2 limits log servers contest sockets follows in (
+            c.keep.ensures.same.servers ∙ here.0,
+            with_kept limits log servers c.keep.ensures.same _ c.loop.rest.now c.keep.new.self.rest.items
+                (where_ok c.keep.result (sym c.is_err.ensures.value ∙ c.if-is_err.false) c.keep.ensures.ok ∙ ap (λ r. r ++ c.loop.rest.now) now.1)
+                here.1,
+          );
     }

@@ -1,20 +1,36 @@
-use Rattle.std.proofs.Common.{◌≡◌, ◌∙◌, sym, subst}
-use Rattle.std.specs.Prelude.{Contains, false}
+use Rattle.std.proofs.Common.{◌≡◌, ◌∙◌, refl, ap, sym, subst, []}
+use Rattle.std.specs.Prelude.{Contains, false, true}
+use Rattle.feed_node.specs.Mirroring.{StandsAt, present_opening}
 use Rattle.feed_live.specs.States.{states_of}
-use Rattle.feed_live.proofs.RelayLemmas.{among_shown, with_same, with_screens}
-use Rattle.feed_live.proofs.TurnLemmas.{with_begun}
+use Rattle.feed_live.proofs.InputLemmas.{takes_so, takes_nothing}
+use Rattle.feed_live.proofs.RelayLemmas.{among_shown, with_same, with_screens, shows_still, servers_are}
+use Rattle.feed_live.proofs.TurnLemmas.{with_begun, input_begun}
 use Rattle.feed_live.proofs.turn.Live.new.Goals as goal
 
 pub returns : goal.returns
 returns g c =
     record {
-      relaying = λ limits log exchanges sockets some bounds at blank_at closed.
-          let no : c.are_none-feeds.result ≡ false = c.are_none-feeds.ensures (λ none. some (sym c.deref.ensures.value ∙ none)) in (
+      relaying = λ limits log servers exchanges sockets places identity some bounds at blank_at closed.
+          let no : c.are_none-feeds.result ≡ false = c.are_none-feeds.ensures.some (λ none. some (sym c.deref.ensures.value ∙ none)) in (
             no,
-            with_screens limits log exchanges (λ shows serving. c.relay.ensures.serving (states_of limits log) _ sockets
-                (subst (λ n. Contains (states_of limits log) n) (sym c.node-2.ensures) (among_shown limits log shows)) serving)
-                (with_same limits log (c.begin_input.ensures no) exchanges _ _ (c.begin_input.ensures no).rest
-                (with_begun limits log exchanges c.new-source.result _ _ c.new-source.ensures.shown c.new-source.ensures.blank c.new-source.ensures.follower c.new-source.ensures.reach
-                bounds at blank_at (c.new-screens.ensures.serving (states_of limits log) _ sockets closed))),
+            (
+              (c.begin_input.ensures.same no).servers ∙ servers_are c.new-source.result servers (ap (λ p. p.items) c.new-source.ensures.places ∙ sym places) (c.new-source.ensures.identity ∙ sym identity),
+              with_screens limits log servers exchanges (λ shows serving. c.relay.ensures.serving (states_of limits log) _ sockets
+                  (subst (λ n. Contains (states_of limits log) n) (sym c.node-2.ensures) (among_shown limits log shows)) serving)
+                  (with_same limits log servers (c.begin_input.ensures.same no) exchanges _ _ (c.begin_input.ensures.same no).rest
+                  (with_begun limits log servers exchanges c.new-source.result _ _ c.new-source.ensures.shown c.new-source.ensures.blank c.new-source.ensures.follower c.new-source.ensures.reach
+                  bounds at blank_at (c.new-screens.ensures.serving (states_of limits log) _ sockets closed))),
+            ),
           );
+      taking = λ limits log sockets none bounds at blank_at closed.
+          let yes' : c.are_none-feeds.result ≡ true = c.are_none-feeds.ensures.none (c.deref.ensures.value ∙ none) in
+          let begins = c.begin_input.ensures.begins yes' in
+          record {
+            no_places = ap (λ s. s.places) begins.servers ∙ ap (λ p. p.items) c.new-source.ensures.places ∙ none;
+            shows = λ honest.
+                let shows = input_begun limits log _ _ begins c.new-source.ensures.shown c.new-source.ensures.blank bounds at blank_at (c.new-screens.ensures.serving (states_of limits log) _ sockets closed) in
+                shows_still limits log (λ serving. c.relay.ensures.serving (states_of limits log) _ sockets
+                (subst (λ n. Contains (states_of limits log) n) (sym c.node-2.ensures) (among_shown limits log shows)) serving) shows;
+            takes = λ feeds. takes_so (begins.rest ∙ c.new-source.ensures.rest) refl (takes_nothing (subst (λ m. StandsAt (present_opening m) [] [] c.begin_input.new.self.answers.shown.mirror) c.new-source.ensures.shown begins.stands));
+          };
     }

@@ -1,4 +1,5 @@
+use Rattle.feed_live.proofs.TurnLemmas.{serves_then}
 use Rattle.feed_live.proofs.turn.Live.note.Goals as goal
 
 pub loop-event-preserved : goal.loop-event-preserved
-loop-event-preserved c = λ exchanges sockets limits log is. c.note_one.ensures.relaying exchanges sockets limits log (c.loop-event.invariant exchanges sockets limits log is)
+loop-event-preserved c = λ sockets. serves_then (c.note_one.ensures.serves sockets) (c.loop-event.invariant sockets)

@@ -1,13 +1,14 @@
-use Rattle.feed_live.specs.States.{states_of}
-use Rattle.feed_live.proofs.TurnLemmas.{with_served}
+use Rattle.std.proofs.Common.{subst, refl}
+use Rattle.feed_live.specs.Serving.{StillServing}
 use Rattle.feed_live.proofs.turn.Live.serve_one.Goals as goal
 
 pub returns : goal.returns
 returns g c =
     record {
-      relaying = λ exchanges limits log is. (
-        is.0,
-        with_served limits log exchanges c.args.self.now.source c.serve.new.answers c.args.self.now.screens c.serve.new.self _ _ c.as_str.ensures.value c.serve.ensures.mirrors
-            (c.serve.ensures.serving (states_of limits log)) is.1,
-      );
+      serves = record {
+        contest = refl;
+        feeds = refl;
+        source = record { servers = refl; shown = c.serve.ensures.mirrors.shown; blank = c.serve.ensures.mirrors.blank; follower = refl; reach = refl; request = refl; rest = refl };
+        serves = λ nodes shown blank. subst (λ t. StillServing nodes t c.args.self.now.screens c.serve.new.self (g.S.Sockets.socket c.args.sockets.now) (g.S.Sockets.socket c.serve.new.sockets)) c.as_str.ensures.value (c.serve.ensures.serving nodes shown blank);
+      };
     }

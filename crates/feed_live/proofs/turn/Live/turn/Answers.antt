@@ -1,23 +1,21 @@
 use Rattle.std.proofs.Common.{sym, subst}
 use Rattle.std.specs.Prelude.{Contains}
-use Rattle.feed_live.specs.States.{states_of}
-use Rattle.feed_live.proofs.RelayLemmas.{among_shown, with_screens}
 use Rattle.feed_live.proofs.ServingLemmas.{serving_noted}
+use Rattle.feed_live.proofs.TurnLemmas.{serves_then, screens_only, relays_on, takes_only, takes_still}
 use Rattle.feed_live.proofs.turn.Live.turn.Goals as goal
 
 pub returns : goal.returns
 returns g c =
+    let begun = screens_only c.args.self.now c.begin_turn-had_more.new.self c.args.self.now.telling (λ nodes shown blank serving. serving_noted c.begin_turn-had_more.ensures serving) in
+    let said = serves_then (c.say_more.ensures.serves _) (serves_then (c.note.ensures.serves _) begun) in
+    let drained = screens_only c.tick.new.self c.drain_due.new.self c.drain_due.new.told
+    (λ nodes shown blank serving. c.drain_due.ensures.serving nodes _ (subst (λ n. Contains nodes n) (sym c.node-node.ensures) shown) serving) in
+    let accepted = screens_only c.serve.new.self c.accept.new.self c.accept.new.told (λ nodes shown blank serving. c.accept.ensures.serving nodes _ serving) in
+    let served = serves_then (c.next.ensures.serves _) (serves_then accepted (serves_then c.serve.ensures.serves (serves_then drained (serves_then c.tick.ensures.serves (c.save.ensures.serves _))))) in
     record {
-      relaying = λ limits log is.
-          let noted = c.note.ensures.relaying _ _ limits log (is.0, with_screens limits log _ (λ shows serving. serving_noted c.begin_turn-had_more.ensures serving) is.1) in
-          let taken = c.take_input.ensures.relaying _ _ limits log (c.say_more.ensures.relaying _ _ limits log noted) in
-          let saved = c.save.ensures.relaying _ _ limits log (c.follow.ensures.relaying _ limits log taken) in
-          let ticked = c.tick.ensures.relaying _ limits log saved in
-          let served = c.serve.ensures.relaying _ limits log (
-            ticked.0,
-            with_screens limits log _ (λ shows serving. c.drain_due.ensures.serving (states_of limits log) _
-                (subst (λ n. Contains (states_of limits log) n) (sym c.node-node.ensures) (among_shown limits log shows)) serving) ticked.1,
-          ) in
-          c.next.ensures.relaying _ _ limits log
-          (served.0, with_screens limits log _ (λ shows serving. c.accept.ensures.serving (states_of limits log) _ serving) served.1);
+      relaying = λ limits log servers is.
+          relays_on limits log servers _ served (c.follow.ensures.relaying _ limits log servers (c.take_input.ensures.relaying _ _ limits log servers (relays_on limits log servers _ said is)));
+      taking = λ limits log begun input is.
+          let taken = c.take_input.ensures.taking _ limits log begun input (takes_only limits log said is) in
+          takes_only limits log served (takes_still limits log (c.follow.ensures.nothing taken.no_places) taken);
     }
