@@ -47,10 +47,9 @@ pub(super) fn with_limits<'a>(
 ) -> Result<Command<'a>, AllocError>
     ensures { IfOk result (λ c. app_of c ≡ limited (app_of command.entry)) }
 {
-    add_option(
-        add_option(command, options::history(alloc))?,
-        options::staged(alloc),
-    )
+    let kept = add_option(command, options::history(alloc))?;
+    let staged = add_option(kept, options::staged(alloc))?;
+    add_option(staged, options::memory(alloc))
 }
 
 /// `tables`.
