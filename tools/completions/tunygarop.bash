@@ -28,7 +28,7 @@ _tunygarop() {
             mapfile -t COMPREPLY < <(compgen -f -- "$word")
             return
             ;;
-        --history | --back | --staged | --turns | --turn | --count | --port | --listen | --status)
+        --history | --back | --staged | --memory | --turns | --turn | --count | --port | --listen | --status)
             return
             ;;
         --contest | --from | --base | --address | --screens | --idle | --window | --silence)
@@ -45,16 +45,16 @@ _tunygarop() {
     fi
 
     case $command in
-        tables) names="history staged verbose" ;;
+        tables) names="history staged memory verbose" ;;
         check) names="" ;;
         play) names="" ;;
-        serve) names="port contest count turn chunked back verbose history staged" ;;
-        pull) names="host port from contest base host-header user-file turns silence resume verbose history staged" ;;
+        serve) names="port contest count turn chunked back verbose history staged memory" ;;
+        pull) names="host port from contest base host-header user-file turns silence resume verbose history staged memory" ;;
         relay)
-            names="host port from contest base host-header user-file turns silence resume verbose history staged listen count chunked"
+            names="host port from contest base host-header user-file turns silence resume verbose history staged memory listen count chunked"
             ;;
         live)
-            names="contest host port base from host-header user-file until-eof listen address screens allow per-address idle window chunked state history staged status status-address verbose quiet"
+            names="contest host port base from host-header user-file until-eof listen address screens allow per-address idle window chunked state history staged memory status status-address verbose quiet"
             ;;
         help)
             [ "$COMP_CWORD" -eq 2 ] && mapfile -t COMPREPLY < <(compgen -W "$commands" -- "$word")

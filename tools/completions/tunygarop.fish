@@ -33,6 +33,7 @@ complete -c tunygarop -n '__fish_seen_subcommand_from serve' -l back -x -d 'Comm
 complete -c tunygarop -n '__fish_seen_subcommand_from serve relay live' -l chunked -d 'Send chunks, to readers of HTTP/1.1'
 complete -c tunygarop -n '__fish_seen_subcommand_from tables serve pull relay live' -l history -x -d 'How many commits are kept, 1 to 65536'
 complete -c tunygarop -n '__fish_seen_subcommand_from tables serve pull relay live' -l staged -x -d 'How many changes may wait for a token, 1 to 1000000'
+complete -c tunygarop -n '__fish_seen_subcommand_from tables serve pull relay live' -l memory -x -d 'How many bytes may wait, and be published, 1 to 1000000000000'
 complete -c tunygarop -n '__fish_seen_subcommand_from tables' -l verbose -d 'Report the number of the faulty line, too'
 complete -c tunygarop -n '__fish_seen_subcommand_from serve pull relay' -l verbose -d 'Report each connection, too'
 complete -c tunygarop -n '__fish_seen_subcommand_from live' -l listen -x -d 'Port that screens come to, 1 to 65535'

@@ -1,5 +1,5 @@
 -- What a mirror makes of a file that it is fed after another.
-use Rattle.std.proofs.Common.{◌≡◌, ◌≢◌, ◌⊎◌, inl, inr, refl, sym, ap, ◌∙◌, subst, ℕ, zero, suc, ◌+◌, ◌-◌, ◌<◌, ◌≤◌, ◌^◌, max, Bool, true, false, true≢false, not, ◌&&◌, ◌||◌, arith, List, [], ◌∷◌, ◌++◌, length, take, map, sum_by, decimal, Option, Some, None, append_assoc, append-nil, nat_lt, nat_le, ltb-true}
+use Rattle.std.proofs.Common.{◌≡◌, ◌≢◌, ◌⊎◌, inl, inr, refl, sym, ap, ◌∙◌, subst, ℕ, zero, suc, ◌+◌, ◌-◌, ◌<◌, ◌≤◌, ◌^◌, max, Bool, true, false, true≢false, not, ◌&&◌, ◌||◌, arith, List, [], ◌∷◌, ◌++◌, length, take, map, sum_by, decimal, Option, Some, None, append_assoc, append-nil, nat_lt, nat_le, ltb-true, ltb-false}
 use Rattle.std.specs.Prelude.{if◌then◌else◌, slice_get, is_none}
 use Rattle.std.specs.FinMap.{entries, values, len, len-entries, len-empty}
 use Rattle.std.specs.List.{AllByRecursion}
@@ -9,10 +9,14 @@ use Rattle.std.proofs.lemmas.List.Sums.{fold-append}
 use Rattle.std.proofs.lemmas.Str.{IsUtf8-from_ascii}
 use Rattle.feed_settings.specs.Limits.{Limits}
 use Rattle.feed_settings.specs.declared.framing.Framing.TheVariants.{Close}
+use Rattle.std.proofs.lemmas.Bool.{le-ltb}
+use Rattle.std.proofs.lemmas.List.{nil_from_length}
+use Rattle.feed_tables.specs.Amounts.{bytes, by_bytes}
 use Rattle.feed_tables.specs.Bytes.{byte_order}
+use Rattle.feed_tables.specs.Walks.{weighed}
 use Rattle.feed_tables.specs.Changes.{IsChange}
-use Rattle.feed_tables.specs.Listings.{ListingHasSize, ListingIsWithin}
-use Rattle.feed_tables.specs.Tables.{no_tables, listing, size, object_count}
+use Rattle.feed_tables.specs.Listings.{ListingHasSize, ListingHasBytes, ListingIsWithin}
+use Rattle.feed_tables.specs.Tables.{Contents, no_tables, listing, size, object_count}
 use Rattle.feed_tables.specs.declared.change.Change.{Change}
 use Rattle.feed_tables.specs.declared.tables.Table.{Table}
 use Rattle.feed_note.specs.declared.line.Line.{Line}
@@ -22,6 +26,7 @@ use Rattle.feed_note.specs.Publishing.{Published}
 use Rattle.feed_note.specs.Texts.{snapshot_text}
 use Rattle.feed_node.specs.declared.commit.Commit.{Commit as Batch}
 use Rattle.feed_node.specs.declared.fault.FeedFault.TheVariants.{StageFull}
+use Rattle.feed_node.specs.Bounds.{passes, is_full, is_large}
 use Rattle.feed_node.specs.Log.{token_after, tokens_from}
 use Rattle.feed_node.specs.Mirroring.{MirrorState, StandsAt, cut_off, present_opening, first_opening}
 use Rattle.feed_node.specs.Reading.{Opening, Reads, reads, shows, unskipped, batches, has_none, keep_latest, awaits_reset, is_again, AllGoodAfter, has_too_many, publishes_after}
@@ -67,7 +72,7 @@ module _ (read : StepsRead) (limits : Limits) (opening : Opening) where
         record {
           short = g.0.short;
           means = g.0.means;
-          fits = ap (λ z. if has_too_many limits earlier n || (publishes_after limits opening earlier n && nat_lt limits.staged (size (published_tables z.node.shown)))
+          fits = ap (λ z. if has_too_many limits earlier n || (publishes_after limits opening earlier n && is_large limits (published_tables z.node.shown))
               then Some StageFull else None) stepped ∙ g.0.fits;
         },
         subst (λ z. AllTaken limits z xs ns) (sym stepped) (good_taken (earlier ++ n ∷ []) xs ns g.1),
@@ -132,9 +137,56 @@ held_is_in stand log own token order holds =
     let to : r.0 < own.low + suc (own.at - own.low) = r.2 in
     (r.0, r.1, omega (arith, to, order), r.3)
 
+-- tables without a type
+size_none : size no_tables ≡ 0
+size_none =
+    let types : len no_tables ≡ 0 = len-empty byte_order Table in
+    let objects : sum_by object_count (values no_tables) ≡ 0 = by (entries no_tables) (sym (len-entries no_tables) ∙ types) in
+    omega arith
+  where
+    by : (es : List (List ℕ × Table)) → length es ≡ 0 → sum_by object_count (map (λ e. e.1) es) ≡ 0
+    by [] e = refl
+    by (x ∷ xs) e = absurd (omega arith)
+
+-- ---- within the limits
+not_under : (m n : ℕ) → n ≤ m → nat_lt m n ≡ false
+not_under m n le = le-ltb m n le
+
+neither : (a b : Bool) → a ≡ false → b ≡ false → (a || b) ≡ false
+neither true b p q = p
+neither false b p q = q
+
+none_passes : (limit : Option ℕ) (n : ℕ) → n ≡ 0 → passes limit n ≡ false
+none_passes None n is = refl
+none_passes (Some most) n is = not_under most n (omega (arith, is))
+
+none_large : (limits : Limits) → is_large limits no_tables ≡ false
+unfolding is_large
+none_large limits =
+    let none : entries no_tables ≡ [] = nil_from_length (entries no_tables) (sym (len-entries no_tables) ∙ len-empty byte_order Table) in
+    neither _ _ (not_under limits.staged (size no_tables) (omega (arith, size_none)))
+    (none_passes limits.memory (bytes no_tables) (ap (weighed by_bytes) none))
+
+in_first : (a b : Bool) → (a || b) ≡ false → a ≡ false
+in_first true b e = e
+in_first false b e = refl
+
+in_second : (a b : Bool) → (a || b) ≡ false → b ≡ false
+in_second true b e = absurd (true≢false e)
+in_second false b e = e
+
+large_listing : ListingHasSize → ListingHasBytes → (limits : Limits) (tables : Contents)
+    → 1 ≤ limits.staged → is_large limits tables ≡ false → is_full limits (listing tables) ≡ false
+unfolding is_full is_large
+large_listing sized weighs limits tables one e =
+    let first = in_first _ _ e in
+    let small : size tables ≤ limits.staged = omega (arith, ltb-false limits.staged (size tables) first) in
+    neither _ _ (not_under limits.staged (length (listing tables)) (omega (arith, small, sized tables)))
+    (ap (passes limits.memory) (weighs tables) ∙ in_second _ _ e)
+
 -- such a batch is dropped, and nothing is published
-module _ (batches : BatchesPublishAtEnd) (sized : ListingHasSize) (limits : Limits) (s : Standing) (p : Published)
-    (few : 1 ≤ limits.staged) (small : size p.tables ≤ limits.staged) (fits : size (published_tables s.node.shown) ≤ limits.staged)
+module _ (batches : BatchesPublishAtEnd) (sized : ListingHasSize) (weighs : ListingHasBytes) (limits : Limits) (s : Standing) (p : Published)
+    (few : 1 ≤ limits.staged) (small : is_large limits p.tables ≡ false) (fits : is_large limits (published_tables s.node.shown) ≡ false)
     (sendable : IsSendable p) (nothing : s.changes ≡ []) (goes_on : s.afresh ≡ false) (holds : holds_token s.node.shown p.token ≡ true) where
   abbrev its_changes : List Change
   its_changes = listing p.tables
@@ -159,8 +211,8 @@ module _ (batches : BatchesPublishAtEnd) (sized : ListingHasSize) (limits : Limi
         some = λ e. let zero_long : length its_changes ≡ 0 = ap length e in omega (arith, long, zero_long);
         within = sendable.within;
         name = sendable.token;
-        few = subst (λ cs. length (cs ++ its_changes) ≤ limits.staged) (sym nothing) (omega (arith, long, few, small));
-        small = subst (λ z. size (published_tables z.node.shown) ≤ limits.staged) (sym stays) fits;
+        few = subst (λ cs. is_full limits (cs ++ its_changes) ≡ false) (sym nothing) (large_listing sized weighs limits p.tables few small);
+        small = subst (λ z. is_large limits (published_tables z.node.shown) ≡ false) (sym stays) fits;
       }) in
       record {
         notes = r.notes;
@@ -218,16 +270,6 @@ one_more [] k h = absurd (omega arith)
 one_more (x ∷ xs) zero h = append-nil x
 one_more (x ∷ xs) (suc k) h = ap (λ ys. x ++ ys) (one_more xs k (omega (arith, h))) ∙ sym (append_assoc x _ _)
 
-size_none : size no_tables ≡ 0
-size_none =
-    let types : len no_tables ≡ 0 = len-empty byte_order Table in
-    let objects : sum_by object_count (values no_tables) ≡ 0 = by (entries no_tables) (sym (len-entries no_tables) ∙ types) in
-    omega arith
-  where
-    by : (es : List (List ℕ × Table)) → length es ≡ 0 → sum_by object_count (map (λ e. e.1) es) ≡ 0
-    by [] e = refl
-    by (x ∷ xs) e = absurd (omega arith)
-
 module _ (limits : Limits) (log : Log) (is_log : IsLog limits log) where
   all_within : (k : ℕ) → k ≤ length log → AllByRecursion IsChange (all_changes (take k log))
   all_within zero within = tt
@@ -235,8 +277,8 @@ module _ (limits : Limits) (log : Log) (is_log : IsLog limits log) where
       subst (AllByRecursion IsChange) (sym (one_more log k (omega arith)))
       (all_of IsChange _ _ (all_within k (omega arith)) (is_log.accepted (suc k) (omega arith) within).changes)
 
-  pub is_small : (k : ℕ) → k ≤ length log → size (state_after log k) ≤ limits.staged
-  is_small zero within = let none = size_none in omega arith
+  pub is_small : (k : ℕ) → k ≤ length log → is_large limits (state_after log k) ≡ false
+  is_small zero within = none_large limits
   is_small (suc k) within = (is_log.accepted (suc k) (omega arith) within).small
 
   pub is_sendable : ListingIsWithin → (k : ℕ) → k ≤ length log → IsSendable (record { tables = state_after log k; token = token_after k })
@@ -295,6 +337,7 @@ pub record Given : Type 0 where
   pub goes_on : TextsGoOn
   pub batches : BatchesPublishAtEnd
   pub sized : ListingHasSize
+  pub weighs : ListingHasBytes
   pub listed : ListingIsWithin
   pub stand : HeldTokensStand
   pub prefixes : PrefixesAreRead
@@ -341,9 +384,9 @@ module _ (g : Given) (limits : Limits) (log : Log) (nodes : List NodeState) (own
 
   dropped : PublishesAtEnd limits before text before 0
   dropped =
-      is_dropped g.batches g.sized limits before p is_log.range.staged_from
-      (subst (λ x. size x.tables ≤ limits.staged) (sym begins.2) (is_small limits log is_log begins.0 begins.1))
-      (subst (λ n. size (published_tables n) ≤ limits.staged) (sym shown_latest) (is_small limits log is_log own.at is_position.in_log))
+      is_dropped g.batches g.sized g.weighs limits before p is_log.range.staged_from
+      (subst (λ x. is_large limits x.tables ≡ false) (sym begins.2) (is_small limits log is_log begins.0 begins.1))
+      (subst (λ n. is_large limits (published_tables n) ≡ false) (sym shown_latest) (is_small limits log is_log own.at is_position.in_log))
       (subst IsSendable (sym begins.2) (is_sendable limits log is_log g.listed begins.0 begins.1))
       refl refl (subst (λ n. holds_token n p.token ≡ true) (sym shown_latest) holds)
 

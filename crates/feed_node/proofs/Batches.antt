@@ -13,12 +13,13 @@ use Rattle.feed_note.specs.declared.line.Line.TheVariants.{Note}
 use Rattle.feed_note.specs.Lines.{ended}
 use Rattle.feed_note.specs.Texts.{batch_text}
 use Rattle.feed_note.specs.Written.{written, written_line, WrittenLineMeans}
+use Rattle.feed_node.specs.Bounds.{is_full, is_large}
+use Rattle.feed_node.proofs.Bounds.{full_before}
 use Rattle.feed_node.specs.declared.fault.FeedFault.{FeedFault}
 use Rattle.feed_node.specs.declared.fault.FeedFault.TheVariants.{StageFull}
 use Rattle.feed_node.specs.Sent.{PublishesNothing}
 use Rattle.feed_node.specs.States.{published_tables}
 use Rattle.feed_node.specs.Staging.{Standing, staging, with_changes, then_token, publishes, times_published, step, steps, AllTaken}
-use Rattle.feed_node.proofs.Going.{not_below}
 use Rattle.feed_node.proofs.TextLines.{AreShort}
 
 -- the lines of a batch
@@ -66,29 +67,29 @@ fits_by false false false p r = refl
 
 pub taken_batch : WrittenLineMeans → (limits : Limits) (s : Standing) (cs : List Change)
     (token : List ℕ) → AllByRecursion IsChange cs → IsName token
-    → length (s.changes ++ cs) ≤ limits.staged
-    → size (published_tables (step s (Note cs (Some token))).node.shown) ≤ limits.staged
+    → is_full limits (s.changes ++ cs) ≡ false
+    → is_large limits (published_tables (step s (Note cs (Some token))).node.shown) ≡ false
     → AllTaken limits s (batch_lines cs token) (batch_notes cs token)
 taken_batch means limits s [] token h n few small = tt
 taken_batch means limits s (c ∷ []) token h n few small =
     let l = means c (Some token) h.0 n in
-    let fits = fits_by _ (publishes s (Note (c ∷ []) (Some token))) _ (not_below _ _ few) (not_below _ _ small) in
+    let fits = fits_by _ (publishes s (Note (c ∷ []) (Some token))) _ few small in
     (record { short = l.size; means = l.means; fits = fits }, tt)
 taken_batch means limits s (c ∷ d ∷ cs) token h n few small =
     let l = means c None h.0 tt in
     let whole : (s.changes ++ c ∷ []) ++ d ∷ cs ≡ s.changes ++ c ∷ d ∷ cs =
     append_assoc s.changes (c ∷ []) (d ∷ cs) in
-    let more = ap length whole in
-    let less : length (s.changes ++ c ∷ []) ≤ limits.staged =
-    let a = length-append (s.changes ++ c ∷ []) (d ∷ cs) in
-    omega arith in
-    let fits = fits_by _ false _ (not_below _ _ less) refl in
-    let still : size (published_tables (step (staging s (c ∷ [])) (Note (d ∷ cs) (Some token))).node.shown)
-    ≤ limits.staged =
-    subst (λ waiting. size (published_tables (then_token (Some token) (with_changes s waiting)).node.shown)
-    ≤ limits.staged) (sym whole) small in (
+    let more : is_full limits ((s.changes ++ c ∷ []) ++ d ∷ cs) ≡ false =
+    subst (λ waiting. is_full limits waiting ≡ false) (sym whole) few in
+    let less : is_full limits (s.changes ++ c ∷ []) ≡ false =
+    full_before limits (s.changes ++ c ∷ []) (d ∷ cs) more in
+    let fits = fits_by _ false _ less refl in
+    let still : is_large limits (published_tables (step (staging s (c ∷ [])) (Note (d ∷ cs) (Some token))).node.shown)
+    ≡ false =
+    subst (λ waiting. is_large limits (published_tables (then_token (Some token) (with_changes s waiting)).node.shown)
+    ≡ false) (sym whole) small in (
       record { short = l.size; means = l.means; fits = fits },
-      taken_batch means limits (staging s (c ∷ [])) (d ∷ cs) token h.1 n (omega arith) still,
+      taken_batch means limits (staging s (c ∷ [])) (d ∷ cs) token h.1 n more still,
     )
 
 -- the last line does what one line that said all would

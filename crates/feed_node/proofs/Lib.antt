@@ -1,4 +1,5 @@
 pub mod Batches
+pub mod Bounds
 pub mod Cuts
 pub mod FeedBatches
 pub mod Going

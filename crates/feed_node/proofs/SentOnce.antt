@@ -4,13 +4,15 @@ use Rattle.std.specs.Prelude.{◌≢◌}
 use Rattle.feed_settings.specs.Limits.{Limits}
 use Rattle.feed_text.specs.Limits.{line_bytes}
 use Rattle.feed_tables.specs.declared.change.Change.{Change}
-use Rattle.feed_tables.specs.Listings.{ListingRestores, ListingHasSize}
-use Rattle.feed_tables.specs.Tables.{listing, size}
+use Rattle.feed_tables.specs.Listings.{ListingRestores, ListingHasSize, ListingHasBytes}
+use Rattle.feed_tables.specs.Tables.{listing}
 use Rattle.feed_note.specs.declared.line.Line.{Line}
 use Rattle.feed_note.specs.declared.line.Line.TheVariants.{Note}
 use Rattle.feed_note.specs.Lines.{lines, rest, ended, LinesCut, LinesAreTheOnlyCut}
 use Rattle.feed_note.specs.Texts.{batch_text, snapshot_text}
 use Rattle.feed_note.specs.Written.{WrittenLineMeans}
+use Rattle.feed_node.specs.Bounds.{is_large}
+use Rattle.feed_node.proofs.Bounds.{large_listing}
 use Rattle.feed_node.specs.Sent.{TakesText, TextsGoOn, PublishesNothing, PublishesAtEnd, FitsBatch, BatchesPublishAtEnd, fresh_on, renewed_on, SnapshotsPublishAtEnd}
 use Rattle.feed_node.specs.Staging.{Standing, step, times_published, AllTaken}
 use Rattle.feed_node.specs.States.{reset_to}
@@ -92,8 +94,8 @@ batches_publish cut only_cut means limits s cs token f =
 
 -- a snapshot is a batch that makes its tables of empty ones
 pub snapshot_publishes : LinesCut → LinesAreTheOnlyCut → WrittenLineMeans → ListingRestores
-    → ListingHasSize → SnapshotsPublishAtEnd
-snapshot_publishes cut only_cut means restores sized limits node p sendable one small =
+    → ListingHasSize → ListingHasBytes → SnapshotsPublishAtEnd
+snapshot_publishes cut only_cut means restores sized weighed limits node p sendable one small =
     let cs = listing p.tables in
     let many = sized p.tables in
     let tables = restores p.tables in
@@ -103,8 +105,8 @@ snapshot_publishes cut only_cut means restores sized limits node p sendable one 
       some = some;
       within = sendable.within;
       name = sendable.token;
-      few = omega arith;
-      small = subst (λ t. size t ≤ limits.staged) (sym tables) small;
+      few = large_listing sized weighed limits p.tables one small;
+      small = subst (λ t. is_large limits t ≡ false) (sym tables) small;
     } in
     let leads : step (fresh_on node) (Note cs (Some p.token)) ≡ renewed_on node p =
     (λ i. record {

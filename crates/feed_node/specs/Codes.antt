@@ -27,7 +27,9 @@ abbrev pub node_code : Coded Node
 node_code = code_by (NodeState × ℕ) (coded× state_code coded_ℕ) (λ n. (n.shown, n.history)) (λ p. record { shown = p.0; history = p.1 }) (λ _. refl)
 
 abbrev pub limits_code : Coded Limits
-limits_code = code_by (ℕ × ℕ) (coded× coded_ℕ coded_ℕ) (λ l. (l.history, l.staged)) (λ p. record { history = p.0; staged = p.1 }) (λ _. refl)
+limits_code =
+    code_by (ℕ × (ℕ × Option ℕ)) (coded× coded_ℕ (coded× coded_ℕ (coded_option coded_ℕ)))
+    (λ l. (l.history, (l.staged, l.memory))) (λ p. record { history = p.0; staged = p.1.0; memory = p.1.1 }) (λ _. refl)
 
 abbrev pub standing_code : Coded Standing
 standing_code =

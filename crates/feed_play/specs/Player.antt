@@ -37,13 +37,14 @@ pub record IsShaped (asked : Asked) : Type 0 where
   pub nodes : HasShape asked.nodes
   pub ordered : IsOrdered asked.upstreams
 
--- the line says this of a world that there is: its limits are in range, and it has a shape
+-- the line says this of a world that there is: its limits are in range, memory is not limited, and
+-- it has a shape
 pub record Makes (line : List ℕ) (asked : Asked) (w : World) : Type 0 where
   pub says : shape_in line ≡ Some asked
   pub limits : IsInRange asked.history asked.staged
   pub shape : IsShaped asked
-  pub is : w ≡ new_world (record { history = asked.history; staged = asked.staged }) asked.framing
-      asked.nodes
+  pub is : w ≡ new_world (record { history = asked.history; staged = asked.staged; memory = None })
+      asked.framing asked.nodes
 
 -- the line says limits that are out of range
 pub record HasBadLimits (line : List ℕ) : Type 0 where

@@ -7,5 +7,5 @@ mod limits;
 mod place;
 
 pub use framing::Framing;
-pub use limits::{BadLimits, Limits, MOST_CHANGES, MOST_COMMITS};
+pub use limits::{BadLimits, Limits, MOST_CHANGES, MOST_COMMITS, MOST_MEMORY};
 pub use place::{Place, PlaceFault, is_host};

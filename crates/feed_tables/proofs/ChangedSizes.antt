@@ -8,7 +8,7 @@ use Rattle.std.specs.FinMap.{FinMap, find, get, entries, entries_sorted, from_so
 use Rattle.std.specs.FinMap.Entries.{below_all}
 use Rattle.feed_tables.specs.Bytes.{byte_order, IsInOrder}
 use Rattle.feed_tables.specs.Map.{map_over, map_less}
-use Rattle.feed_tables.specs.Patches.{over_ids, merged, merged_at, with_ids, with_all_ids, count_after, after_ids, sets_in}
+use Rattle.feed_tables.specs.Patches.{over_ids, merged, changed_table, merged_at, with_ids, with_all_ids, count_after, after_ids, sets_in}
 use Rattle.feed_tables.specs.Tables.{Objects, Contents, object_count, size}
 use Rattle.feed_tables.specs.Tree.{entries_of}
 use Rattle.feed_tables.specs.declared.tree.Fork.{Fork}
@@ -58,7 +58,7 @@ module _ (changed : Changed) where
             )
       ] refl
 
-  in_stepped : (scale : Scale Table) (c : Contents) (e : List ℕ × Ids) (es : List (List ℕ × Ids))
+  pub in_stepped : (scale : Scale Table) (c : Contents) (e : List ℕ × Ids) (es : List (List ℕ × Ids))
       → T (below_all byte_order e.0 es)
       → weighed_in scale (step c e) es ≡ weighed_in scale c es
   in_stepped scale c e es h =
@@ -91,11 +91,7 @@ module _ (changed : Changed) where
       )
 
   -- the entries after objects changed
-  abbrev changed_table : Table → Option Ids → Table
-  changed_table table None = table
-  changed_table table (Some ids) = merged table ids
-
-  abbrev changed_entry : List ℕ × Table → List ℕ × Table
+  abbrev pub changed_entry : List ℕ × Table → List ℕ × Table
   changed_entry e = (e.0, changed_table e.1 (get changed e.0))
 
   below_same : (k : List ℕ) (es : List (List ℕ × Table))
@@ -139,9 +135,8 @@ module _ (changed : Changed) where
   weighed_same [] = refl
   weighed_same (e ∷ es) = omega (arith, weighed_same es, counted_same e.1 (get changed e.0))
 
-  pub weighed_changed : (c : Contents)
-      → size (with_all_ids changed c) ≡ weighed (after_ids changed) (entries c)
-  weighed_changed c =
+  pub entries_changed : (c : Contents) → entries (with_all_ids changed c) ≡ map changed_entry (entries c)
+  entries_changed c =
       let sorted : IsInOrder (map changed_entry (entries c)) =
       subst (λ (b : Bool). T b) (sym (sorted_same (entries c))) (entries_sorted c) in
       let same : with_all_ids changed c ≡ from_sorted (map changed_entry (entries c)) =
@@ -150,9 +145,14 @@ module _ (changed : Changed) where
       ∙ ap (λ (o : Option Table). merged_at o (get changed q)) (get-entries c q)
       ∙ sym (find_changed q (entries c))
       ∙ sym (get-from_sorted byte_order (map changed_entry (entries c)) q sorted)) in
+      ap (λ (m : Contents). entries m) same
+      ∙ entries-from_sorted byte_order (map changed_entry (entries c)) sorted
+
+  pub weighed_changed : (c : Contents)
+      → size (with_all_ids changed c) ≡ weighed (after_ids changed) (entries c)
+  weighed_changed c =
       size_is (with_all_ids changed c)
-      ∙ ap (λ (m : Contents). weighed by_objects (entries m)) same
-      ∙ ap (weighed by_objects) (entries-from_sorted byte_order (map changed_entry (entries c)) sorted)
+      ∙ ap (weighed by_objects) (entries_changed c)
       ∙ weighed_same (entries c)
 
   -- no more objects come than are put in

@@ -65,7 +65,7 @@ get-map_less {V} {W} names m q = get-fold_remove (entries names) m q ∙ ap (λ 
 pub entries_are : {V : Type 0} (es : List (List ℕ × V)) (m : FinMap byte_order V) → IsInOrder es → from_sorted es ≡ m → es ≡ entries m
 entries_are es m h is = sym (entries-from_sorted byte_order es h) ∙ ap entries is
 
-none_counted : {V : Type 0} (es : List (List ℕ × V)) → count_of es ≡ 0 → es ≡ []
+pub none_counted : {V : Type 0} (es : List (List ℕ × V)) → count_of es ≡ 0 → es ≡ []
 none_counted [] h = refl
 none_counted (e ∷ es) h = absurd (omega (arith, h))
 

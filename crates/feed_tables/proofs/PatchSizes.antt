@@ -78,16 +78,15 @@ module _ {V : Type 0} (scale : Scale V) where
   weighed_over items m = fold_insert (entries items) m (entries_sorted items)
 
   -- what items weigh by what is lost of it and what comes to it
-  pub weighed_moved : (held lost items : FinMap byte_order V) (s a b g come r x y z : ℕ)
+  pub weighed_moved : (held lost items : FinMap byte_order V) (s a b g come r z : ℕ)
       → weighed scale (entries lost) + a ≡ weighed scale (entries held)
       → b ≡ weighed_in scale lost (entries items)
       → s ≡ min (weighed scale (entries held)) 18446744073709551615 → s < 18446744073709551615
-      → x ≡ min a 18446744073709551615 → y ≡ min b 18446744073709551615
-      → g ≡ min (x + y) 18446744073709551615
+      → g ≡ min (a + b) 18446744073709551615
       → come ≡ min (weighed scale (entries items)) 18446744073709551615 → z ≡ s - g
       → r ≡ min (z + come) 18446744073709551615
       → r ≡ min (weighed scale (entries (map_over items lost))) 18446744073709551615
-  weighed_moved held lost items s a b g come r x y z less_is b_is s_is fits x_is y_is g_is come_is z_is r_is =
+  weighed_moved held lost items s a b g come r z less_is b_is s_is fits g_is come_is z_is r_is =
       omega (
         arith,
         weighed_over items lost,
@@ -96,8 +95,6 @@ module _ {V : Type 0} (scale : Scale V) where
         b_is,
         s_is,
         fits,
-        x_is,
-        y_is,
         g_is,
         come_is,
         z_is,

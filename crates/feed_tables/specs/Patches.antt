@@ -19,6 +19,11 @@ abbrev pub merged : Table → Ids → Table
 merged (One object) ids = One object
 merged (Many objects) ids = Many (over_ids objects ids)
 
+-- the same where objects change in it
+abbrev pub changed_table : Table → Option Ids → Table
+changed_table table None = table
+changed_table table (Some ids) = merged table ids
+
 -- the same of what is held under a type, where there are such objects
 abbrev pub merged_at : Option Table → Option Ids → Option Table
 merged_at None ids = None

@@ -43,6 +43,16 @@ abbrev pub FirstTaken : {V : Type 0} → List (List ℕ × V) → List (List ℕ
 FirstTaken es fs None = (es ≡ []) × (fs ≡ [])
 FirstTaken es fs (Some node) = es ≡ (node.value.id, node.value.item) ∷ fs
 
+-- the name and the item of a node, where there is one
+abbrev pub handed : {V : Type 0} → Option (Box (ForkOf V) Global) → Option (List ℕ × V)
+handed None = None
+handed (Some node) = Some (node.value.id, node.value.item)
+
+-- an item with the name that it was found under, where there is one
+abbrev pub named : {V : Type 0} → List ℕ → Option V → Option (List ℕ × V)
+named id None = None
+named id (Some item) = Some (id, item)
+
 -- a map with each item put under its name
 abbrev pub put_all : {V : Type 0} → List (List ℕ × V) → FinMap byte_order V → FinMap byte_order V
 put_all es m = fold (λ n e. insert n e.0 e.1) m es

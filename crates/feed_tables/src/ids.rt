@@ -2,12 +2,14 @@
 
 ghost use Rattle.std.specs.Prelude.{◌≡◌, min, OnOk, OnErr};
 ghost use Rattle.std.specs.FinMap as map;
+ghost use Rattle.feed_tables.specs.Amounts.{in_type, lost_in};
 ghost use Rattle.feed_tables.specs.Patches.{over_ids};
 ghost use Rattle.feed_tables.specs.Tables.{Objects};
+ghost use Rattle.feed_tables.specs.Walks.{weighed};
 
-use crate::map::{Map, weigh_over};
+use crate::map::{Map, weigh_lost, weigh_names, weigh_over};
 use crate::name::Name;
-use crate::scale::EachOne;
+use crate::scale::{EachOne, InType, Shift};
 use crate::tree::Fork;
 use feed_text::ObjectText;
 use std::alloc::{AllocError, Global};
@@ -84,12 +86,48 @@ impl Ids {
         weigh_over(objects.count(), objects, &self.gone, &self.sets, &EachOne)
     }
 
-    /// Makes the objects those over them. It takes no memory.
-    pub fn put_into(self, objects: &mut Map<ObjectText>)
-        ensures { objects.new ≡ over_ids objects.old self }
+    /// How many bytes of a collection's objects go, or `usize::MAX` where they are more.
+    pub fn bytes_lost(&self, objects: &Map<ObjectText>, scale: &InType) -> usize
+        ensures { result ≡ min (lost_in (in_type scale.now.kind) self.now.gone self.now.sets
+            objects.now) usize.MAX }
+    {
+        weigh_lost(objects, &self.gone, &self.sets, scale)
+    }
+
+    /// How many bytes come with the objects that are put in, or `usize::MAX` where they are more.
+    pub fn bytes_come(&self, scale: &InType) -> usize
+        ensures { result ≡ min (weighed (in_type scale.now.kind) (map.entries self.now.sets))
+            usize.MAX }
+    {
+        self.sets.weigh(scale)
+    }
+
+    /// How many bytes the objects over these have, or `usize::MAX` where they are more. It walks
+    /// through all of them.
+    pub fn bytes_over(&self, objects: &Map<ObjectText>, scale: &InType) -> usize
+        ensures { result ≡ min (weighed (in_type scale.now.kind)
+            (map.entries (over_ids objects.now self.now))) usize.MAX }
+    {
+        let kept = objects.weigh_besides(&self.gone, &self.sets, scale);
+        kept.saturating_add(self.sets.weigh(scale))
+    }
+
+    /// Makes the objects those over them, and answers how many bytes went and came. It takes no
+    /// memory.
+    pub fn put_into(self, objects: &mut Map<ObjectText>, scale: &InType) -> Shift
+        ensures put { objects.new ≡ over_ids objects.old self }
+        ensures lost { result.lost ≡ min (lost_in (in_type scale.now.kind) self.gone self.sets
+            objects.old) usize.MAX }
+        ensures come { result.come
+            ≡ min (weighed (in_type scale.now.kind) (map.entries self.sets)) usize.MAX }
     {
         let Ids { gone, sets } = self;
+        let left = weigh_names(&gone, objects, scale);
         gone.take_from(objects);
-        sets.put_into(objects);
+        let shift = sets.put_into(objects, scale);
+        Shift {
+            lost: left.saturating_add(shift.lost),
+            come: shift.come,
+        }
     }
 }

@@ -1,12 +1,15 @@
 //! Laws of the definitions.
 
-ghost use Rattle.feed_tables.specs.Listings.{ListingRestores, ListingHasSize, ListingIsWithin};
+ghost use Rattle.feed_tables.specs.Listings.{ListingRestores, ListingHasSize, ListingHasBytes, ListingIsWithin, ChangesAddBytes};
 
 /// A listing, taken from empty tables, restores its tables. It has one change for each type and
-/// each object of a collection, or one where there is no type, and is within the limits where the
-/// changes that made the tables are.
+/// each object of a collection, or one where there is no type, and as many bytes as the tables. It
+/// is within the limits where the changes that made the tables are. Changes add no more bytes to
+/// tables than they put in.
 pub fn table_laws()
     ensures restores { ListingRestores }
     ensures sized { ListingHasSize }
+    ensures weighed { ListingHasBytes }
     ensures within { ListingIsWithin }
+    ensures adds { ChangesAddBytes }
 {}

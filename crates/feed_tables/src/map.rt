@@ -1,21 +1,23 @@
 //! Items by name, seen as a finite map.
 
-ghost use Rattle.std.specs.Prelude.{◌≡◌, ◌+◌, ◌↔◌, min, length, flat_map, IfOk, OnOk, OnErr, IsTrue};
+ghost use Rattle.std.specs.Prelude.{◌≡◌, ℕ, ◌+◌, ◌↔◌, min, length, flat_map, IfOk, OnOk, OnErr, IsTrue};
 ghost use Rattle.std.specs.List.{FoldsTo};
 ghost use Rattle.std.specs.Option.{option_copied};
 ghost use Rattle.std.specs.FinMap as map;
+ghost use Rattle.feed_tables.specs.Amounts.{lost_in};
 ghost use Rattle.feed_tables.specs.Changes.{sets};
 ghost use Rattle.feed_tables.specs.Listers.{FailsIn};
 ghost use Rattle.feed_tables.specs.Map.{Exchanges, map_over, map_less, TakesFirst};
 ghost use Rattle.feed_tables.specs.Objects.{AreObjects};
 ghost use Rattle.feed_tables.specs.Patches.{sets_in};
 ghost use Rattle.feed_tables.specs.Tables.{listed, AreTypes};
-ghost use Rattle.feed_tables.specs.Walks.{weighed, weighed_in};
+ghost use Rattle.feed_tables.specs.Tree.{handed, named};
+ghost use Rattle.feed_tables.specs.Walks.{weight, weighed, weighed_in};
 
 use crate::ids::Ids;
 use crate::lister::Lister;
 use crate::name::{Key, Name};
-use crate::scale::Scale;
+use crate::scale::{Scale, Shift};
 use crate::tables::Table;
 use crate::tree::{Fork, Tree};
 use feed_text::ObjectText;
@@ -82,8 +84,35 @@ impl<V: Drop> Map<V> {
     pub fn insert(&mut self, node: Box<Fork<V>>)
         ensures { self.new ≡ map.insert self.old node.value.id node.value.item }
     {
-        let added = self.tree.insert(node);
+        let _old = self.exchange(node);
+    }
+
+    // The same, and gives the node back with the item that went, where one did.
+    fn exchange(&mut self, node: Box<Fork<V>>) -> Option<Box<Fork<V>>>
+        ensures put { self.new ≡ map.insert self.old node.value.id node.value.item }
+        ensures back { handed result ≡ named node.value.id (map.get self.old node.value.id) }
+    {
+        let mut spare = None;
+        let added = self.tree.insert(node, &mut spare);
         self.count = self.count.saturating_add(added);
+        spare
+    }
+
+    /// Puts a node's item under its name, and adds up what goes and comes.
+    pub fn put<S: Scale<V>>(&mut self, node: Box<Fork<V>>, scale: &S, shift: &mut Shift)
+        ensures put { self.new ≡ map.insert self.old node.value.id node.value.item }
+        ensures lost { (n : ℕ) → shift.old.lost ≡ min n usize.MAX → shift.new.lost
+            ≡ min (n + weight (S.weight scale.now) node.value.id
+            (map.get self.old node.value.id)) usize.MAX }
+        ensures come { (n : ℕ) → shift.old.come ≡ min n usize.MAX → shift.new.come
+            ≡ min (n + S.weight scale.now node.value.id node.value.item) usize.MAX }
+    {
+        shift.come = shift.come.saturating_add(node.weigh(scale));
+        let lost = match self.exchange(node) {
+            None => 0,
+            Some(old) => old.weigh(scale),
+        };
+        shift.lost = shift.lost.saturating_add(lost);
     }
 
     /// Takes the item of this name away, where there is one.
@@ -103,15 +132,22 @@ impl<V: Drop> Map<V> {
         Some(first)
     }
 
-    /// Puts all items into another map.
-    pub fn put_into(self, other: &mut Map<V>)
-        ensures { other.new ≡ map_over self other.old }
+    /// Puts all items into another map, and answers how much went and came.
+    pub fn put_into<S: Scale<V>>(self, other: &mut Map<V>, scale: &S) -> Shift
+        ensures put { other.new ≡ map_over self other.old }
+        ensures lost { result.lost ≡ min (weighed_in (S.weight scale.now) other.old
+            (map.entries self)) usize.MAX }
+        ensures come { result.come ≡ min (weighed (S.weight scale.now) (map.entries self))
+            usize.MAX }
     {
+        let mut shift = Shift { lost: 0, come: 0 };
         if other.count == 0 {
+            shift.come = self.weigh(scale);
             *other = self;
-            return;
+            return shift;
         }
-        self.tree.put_into(other);
+        self.tree.put_into(other, scale, &mut shift);
+        shift
     }
 
     /// Takes the items of these names out of another map.
@@ -214,12 +250,38 @@ pub fn weigh_over<V: Drop, S: Scale<V>>(
     if total >= usize::MAX {
         return held.weigh_besides(gone, items, scale).saturating_add(come);
     }
+    let lost = weigh_lost(held, gone, items, scale);
+    total.saturating_sub(lost).saturating_add(come)
+}
+
+/// How much of what items weigh goes where some are taken away and then some put in, or
+/// `usize::MAX` where it is more.
+pub fn weigh_lost<V: Drop, S: Scale<V>>(
+    held: &Map<V>,
+    gone: &Map<()>,
+    items: &Map<V>,
+    scale: &S,
+) -> usize
+    ensures { result ≡ min (lost_in (S.weight scale.now) gone.now items.now held.now) usize.MAX }
+{
     let none = Map::new();
     let nothing = Map::new();
     let left = gone.weigh_in(&none, &nothing, held, scale);
     let replaced = items.weigh_in(&none, gone, held, scale);
-    let lost = left.saturating_add(replaced);
-    total.saturating_sub(lost).saturating_add(come)
+    left.saturating_add(replaced)
+}
+
+/// How much is held under these names, or `usize::MAX` where it is more.
+pub fn weigh_names<V: Drop, S: Scale<V>>(names: &Map<()>, held: &Map<V>, scale: &S) -> usize
+    ensures { result ≡ min (weighed_in (S.weight scale.now) held.now (map.entries names.now))
+        usize.MAX }
+{
+    if names.count() == 0 {
+        return 0;
+    }
+    let none = Map::new();
+    let nothing = Map::new();
+    names.weigh_in(&none, &nothing, held, scale)
 }
 
 /// What maps hold.

@@ -3,6 +3,7 @@
 ghost use Rattle.std.specs.Prelude.{◌≡◌, OnOk, OnErr, min, nat_lt, None};
 ghost use Rattle.std.specs.Option.{option_copied};
 ghost use Rattle.std.specs.FinMap as map;
+ghost use Rattle.feed_tables.specs.Amounts.{bytes};
 ghost use Rattle.feed_tables.specs.Map.{map_over, map_less};
 ghost use Rattle.feed_tables.specs.Patches.{below, over, adds, with_all_ids};
 ghost use Rattle.feed_tables.specs.Tables.{Contents, after, with_object, without_id, size, collection_of};
@@ -11,7 +12,7 @@ use crate::change::Change;
 use crate::ids::Ids;
 use crate::map::{Map, held_in};
 use crate::name::{Key, Name};
-use crate::scale::{AfterIds, ByObjects};
+use crate::scale::{AfterIds, ByObjects, BytesAfter, BytesCome, BytesLost};
 use crate::tables::{Table, Tables};
 use crate::tree::Fork;
 use feed_text::ObjectText;
@@ -195,6 +196,24 @@ impl Patch {
         let (tables, gone) = (&self.tables, &self.gone);
         let left = self.ids.weigh_in(tables, gone, base.types(), &ByObjects);
         let come = self.ids.weigh_in(tables, gone, base.types(), &after);
+        below.saturating_sub(left).saturating_add(come)
+    }
+
+    /// The bytes of all objects after the patch, as `Tables::bytes`, or `usize::MAX` where they are
+    /// more. It takes time by what the patch changes, and by the collections that it takes away.
+    pub fn bytes_over(&self, base: &Tables) -> usize
+        ensures { result ≡ min (bytes (over base.now.contents self.now)) usize.MAX }
+    {
+        let below = base.bytes_with(&self.gone, &self.tables);
+        let changed = &self.ids;
+        if below >= usize::MAX {
+            let after = BytesAfter { changed };
+            let kept = base.types().weigh_besides(&self.gone, &self.tables, &after);
+            return kept.saturating_add(self.tables.weigh(&after));
+        }
+        let (tables, gone) = (&self.tables, &self.gone);
+        let left = changed.weigh_in(tables, gone, base.types(), &BytesLost { changed });
+        let come = changed.weigh_in(tables, gone, base.types(), &BytesCome { changed });
         below.saturating_sub(left).saturating_add(come)
     }
 

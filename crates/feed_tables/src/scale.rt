@@ -1,6 +1,7 @@
 //! How much items weigh under their names.
 
 ghost use Rattle.std.specs.Prelude.{◌≡◌, ℕ, List, min};
+ghost use Rattle.feed_tables.specs.Amounts.{in_type, by_bytes, by_lost, by_come, by_bytes_after};
 ghost use Rattle.feed_tables.specs.Patches.{after_ids};
 ghost use Rattle.feed_tables.specs.Walks.{each_one, by_objects};
 
@@ -18,6 +19,13 @@ pub trait Scale<V> {
     /// How much an item weighs under its name, or `usize::MAX` where it is more.
     fn weigh(&self, name: &Key<'_>, item: &V) -> usize
         ensures { result ≡ min (weight self.now name.now item.now) usize.MAX };
+}
+
+/// How much went where items were put in, and how much came; each `usize::MAX` where it is more.
+#[derive(Drop)]
+pub struct Shift {
+    pub lost: usize,
+    pub come: usize,
 }
 
 /// Each object counts as one.
@@ -44,7 +52,35 @@ impl Scale<Table> for ByObjects {
     }
 }
 
-/// The same after these objects of collections change.
+/// An object of a collection has the bytes of its id, of its text and of the name of its type.
+#[derive(Drop)]
+pub struct InType {
+    /// How many bytes the name of the type has.
+    pub kind: usize,
+}
+
+impl Scale<ObjectText> for InType {
+    ghost weight = { λ s. in_type s.kind };
+
+    fn weigh(&self, id: &Key<'_>, object: &ObjectText) -> usize {
+        let names = self.kind.saturating_add(id.len());
+        names.saturating_add(object.bytes().len())
+    }
+}
+
+/// A type has the bytes of its objects.
+#[derive(Drop)]
+pub struct ByBytes;
+
+impl Scale<Table> for ByBytes {
+    ghost weight = { λ _. by_bytes };
+
+    fn weigh(&self, kind: &Key<'_>, table: &Table) -> usize {
+        table.bytes(kind)
+    }
+}
+
+/// Types and objects after these objects of collections change.
 #[derive(Drop)]
 pub struct AfterIds<'a> {
     pub changed: &'a Map<Ids>,
@@ -57,6 +93,57 @@ impl<'a> Scale<Table> for AfterIds<'a> {
         match self.changed.get(kind) {
             Some(ids) => table.count_over(ids).saturating_add(1),
             None => table.weight(),
+        }
+    }
+}
+
+/// How many bytes of a type's objects go where these objects of collections change.
+#[derive(Drop)]
+pub struct BytesLost<'a> {
+    pub changed: &'a Map<Ids>,
+}
+
+impl<'a> Scale<Table> for BytesLost<'a> {
+    ghost weight = { λ s. by_lost s.changed.now };
+
+    fn weigh(&self, kind: &Key<'_>, table: &Table) -> usize {
+        match self.changed.get(kind) {
+            Some(ids) => table.bytes_lost(kind, ids),
+            None => 0,
+        }
+    }
+}
+
+/// How many come then.
+#[derive(Drop)]
+pub struct BytesCome<'a> {
+    pub changed: &'a Map<Ids>,
+}
+
+impl<'a> Scale<Table> for BytesCome<'a> {
+    ghost weight = { λ s. by_come s.changed.now };
+
+    fn weigh(&self, kind: &Key<'_>, table: &Table) -> usize {
+        match self.changed.get(kind) {
+            Some(ids) => table.bytes_come(kind, ids),
+            None => 0,
+        }
+    }
+}
+
+/// How many bytes the objects of a type have after these objects of collections change.
+#[derive(Drop)]
+pub struct BytesAfter<'a> {
+    pub changed: &'a Map<Ids>,
+}
+
+impl<'a> Scale<Table> for BytesAfter<'a> {
+    ghost weight = { λ s. by_bytes_after s.changed.now };
+
+    fn weigh(&self, kind: &Key<'_>, table: &Table) -> usize {
+        match self.changed.get(kind) {
+            Some(ids) => table.bytes_over(kind, ids),
+            None => table.bytes(kind),
         }
     }
 }

@@ -1,14 +1,16 @@
 //! Items by name: a search tree whose nodes have one owner. Only a new node takes memory; putting a
 //! node in, taking one away and moving all of them into a map take none.
 
-ghost use Rattle.std.specs.Prelude.{◌≡◌, ◌+◌, ◌≤◌, ◌∷◌, ◌++◌, [], true, false, fold, length, IfOk, IfSome, IsNone, Some, None, IsTrue, ◌↔◌};
+ghost use Rattle.std.specs.Prelude.{◌≡◌, ℕ, ◌+◌, ◌≤◌, ◌∷◌, ◌++◌, [], true, false, fold, length, min, IfOk, IfSome, IsNone, Some, None, IsTrue, ◌↔◌};
 ghost use Rattle.std.specs.Option.{option_copied};
 ghost use Rattle.std.specs.FinMap.{put, find};
 ghost use Rattle.feed_tables.specs.Bytes.{byte_order, IsInOrder, without};
-ghost use Rattle.feed_tables.specs.Tree.{parts, came, with_item, Swaps, FirstTaken, put_all, without_all};
+ghost use Rattle.feed_tables.specs.Tree.{parts, came, with_item, Swaps, FirstTaken, handed, named, put_all, without_all};
+ghost use Rattle.feed_tables.specs.Walks.{weighed, lost_all};
 
 use crate::map::Map;
 use crate::name::{Key, Name};
+use crate::scale::{Scale, Shift};
 use crate::tree::balance::{Growth, grow_left, grow_right, weigh};
 use std::alloc::{AllocError, Global};
 use std::cmp::Ordering;
@@ -103,21 +105,27 @@ impl<V: Drop> Tree<V> {
     }
 
     /// Puts a node's item under its name, in the place of the one that is there, and answers how
-    /// many items more there are: one, or none. It takes no memory, and what stands before and
-    /// after the node is let go.
-    pub fn insert(&mut self, node: Box<Fork<V>>) -> usize
-        requires { IsInOrder self.old }
+    /// many items more there are: one, or none. Where it took a place, the node comes back with the
+    /// item that went. It takes no memory, and what stands before and after the node is let go.
+    pub fn insert(&mut self, node: Box<Fork<V>>, spare: &mut Option<Box<Fork<V>>>) -> usize
+        requires order { IsInOrder self.old }
+        requires spare { spare.old ≡ None }
         ensures put { self.new ≡ put byte_order node.value.id node.value.item self.old }
         ensures added { length self.new ≡ length self.old + result }
+        ensures back { handed spare.new
+            ≡ named node.value.id (find byte_order node.value.id self.old) }
     {
-        self.grow(node).added()
+        self.grow(node, spare).added()
     }
 
     // The same, and answers what came of it.
-    fn grow(&mut self, node: Box<Fork<V>>) -> Growth
-        requires { IsInOrder self.old }
+    fn grow(&mut self, node: Box<Fork<V>>, spare: &mut Option<Box<Fork<V>>>) -> Growth
+        requires order { IsInOrder self.old }
+        requires spare { spare.old ≡ None }
         ensures put { self.new ≡ put byte_order node.value.id node.value.item self.old }
         ensures added { length self.new ≡ length self.old + came result }
+        ensures back { handed spare.new
+            ≡ named node.value.id (find byte_order node.value.id self.old) }
     {
         match &mut self.node {
             Node::Leaf => {
@@ -126,15 +134,15 @@ impl<V: Drop> Tree<V> {
             }
             Node::Fork(fork) => match node.id.compare(&fork.id) {
                 Ordering::Less => {
-                    let growth = fork.left.grow(node);
+                    let growth = fork.left.grow(node, spare);
                     grow_left(fork, growth)
                 }
                 Ordering::Equal => {
-                    fork.take_item(node);
+                    *spare = Some(fork.exchange(node));
                     Growth::Same
                 }
                 Ordering::Greater => {
-                    let growth = fork.right.grow(node);
+                    let growth = fork.right.grow(node, spare);
                     grow_right(fork, growth)
                 }
             },
@@ -191,18 +199,22 @@ impl<V: Drop> Tree<V> {
         }
     }
 
-    /// Puts all items into a map. It takes no memory.
-    pub fn put_into(self, other: &mut Map<V>)
-        ensures { other.new ≡ put_all self other.old }
+    /// Puts all items into a map, and adds up what goes and comes. It takes no memory.
+    pub fn put_into<S: Scale<V>>(self, other: &mut Map<V>, scale: &S, shift: &mut Shift)
+        ensures put { other.new ≡ put_all self other.old }
+        ensures lost { (n : ℕ) → shift.old.lost ≡ min n usize.MAX → shift.new.lost
+            ≡ min (n + lost_all (S.weight scale.now) self other.old) usize.MAX }
+        ensures come { (n : ℕ) → shift.old.come ≡ min n usize.MAX → shift.new.come
+            ≡ min (n + weighed (S.weight scale.now) self) usize.MAX }
     {
         match self.node {
             Node::Leaf => {}
             Node::Fork(mut fork) => {
                 let left = mem::replace(&mut fork.left, Tree::new());
                 let right = mem::replace(&mut fork.right, Tree::new());
-                left.put_into(other);
-                other.insert(fork);
-                right.put_into(other);
+                left.put_into(other, scale, shift);
+                other.put(fork, scale, shift);
+                right.put_into(other, scale, shift);
             }
         }
     }
@@ -264,11 +276,21 @@ impl<V: Drop> Fork<V> {
         self.item = item;
     }
 
-    // Has the item of another node in place of its own.
-    fn take_item(&mut self, mut node: Box<Fork<V>>)
-        ensures { self.new ≡ with_item self.old node.value.item }
+    // Has the item of another node in place of its own, and the node has its own then.
+    fn exchange(&mut self, mut node: Box<Fork<V>>) -> Box<Fork<V>>
+        ensures item { self.new ≡ with_item self.old node.value.item }
+        ensures name { result.value.id ≡ node.value.id }
+        ensures back { result.value.item ≡ self.old.item }
     {
         mem::swap(&mut self.item, &mut node.item);
+        node
+    }
+
+    /// How much its item weighs under its name, or `usize::MAX` where it is more.
+    pub fn weigh<S: Scale<V>>(&self, scale: &S) -> usize
+        ensures { result ≡ min (S.weight scale.now self.now.id self.now.item) usize.MAX }
+    {
+        scale.weigh(&self.id.key(), &self.item)
     }
 }
 

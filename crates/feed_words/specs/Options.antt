@@ -9,7 +9,7 @@ use Rattle.clap.specs.declared.builder.action.ArgAction.TheVariants.{SetTrue}
 use Rattle.clap.specs.declared.builder.value_parser.ValueParser.TheVariants.{Unsigned}
 use Rattle.feed_settings.specs.declared.framing.Framing.{Framing}
 use Rattle.feed_settings.specs.declared.framing.Framing.TheVariants as framing
-use Rattle.feed_settings.specs.Limits.{Limits, most_commits, most_changes}
+use Rattle.feed_settings.specs.Limits.{Limits, most_commits, most_changes, most_memory}
 use Rattle.feed_words.specs.Addresses.{most_port}
 
 -- ---- the options
@@ -55,6 +55,9 @@ history = with_default (codes "1000") (number_in (codes "history") most_commits)
 
 abbrev pub staged : Rule
 staged = with_default (codes "1000000") (number_in (codes "staged") most_changes)
+
+abbrev pub memory : Rule
+memory = number_in (codes "memory") most_memory
 
 abbrev pub verbose : Rule
 verbose = flag (codes "verbose")
@@ -106,7 +109,7 @@ resume = flag (codes "resume")
 
 -- a command with the limits of its node
 abbrev pub with_limits : App → App
-with_limits command = with_rule (with_rule command history) staged
+with_limits command = with_rule (with_rule (with_rule command history) staged) memory
 
 -- ---- what their values say
 
@@ -152,3 +155,4 @@ pub record IsFramed (rows : List Row) (framed : Framing) : Type 0 where
 pub record AsksLimits (rows : List Row) (limits : Limits) : Type 0 where
   pub history_is : number_at (codes "history") rows ≡ Some limits.history
   pub staged_is : number_at (codes "staged") rows ≡ Some limits.staged
+  pub memory_is : number_at (codes "memory") rows ≡ limits.memory

@@ -9,6 +9,8 @@ use Rattle.feed_tables.specs.Tables.{size}
 use Rattle.feed_note.specs.declared.line.Line.{Line}
 use Rattle.feed_note.specs.declared.line.Line.TheVariants.{Note, KeepAlive}
 use Rattle.feed_note.specs.Lines.{lines, rest}
+use Rattle.feed_world.proofs.Listings.{full_none}
+use Rattle.feed_node.specs.Bounds.{is_large}
 use Rattle.feed_node.specs.declared.fault.FeedFault.{FeedFault}
 use Rattle.feed_node.specs.declared.fault.FeedFault.TheVariants.{StageFull}
 use Rattle.feed_node.specs.Log.{token_after, tokens_from}
@@ -151,16 +153,12 @@ module _ (goes_on : TextsGoOn) (batches : BatchesPublishAtEnd) (snapshots : Snap
   taken_line_feed place afresh =
       record {
         notes = KeepAlive ∷ [];
-        takes = record { taken = (record { short = omega arith; means = refl; fits = fits (nat_lt limits.staged 0) refl }, tt); short = omega arith };
+        takes = record { taken = (record { short = omega arith; means = refl; fits = ap (λ b. if b || false then Some StageFull else None) (full_none limits) }, tt); short = omega arith };
         ended = refl;
         leads_to = refl;
         count = refl;
         before = prefix_of_line_feed (standing limits.history log place afresh);
       }
-    where
-      fits : (b : Bool) → nat_lt limits.staged 0 ≡ b → ◌≡◌ {A = Option FeedFault} (if nat_lt limits.staged 0 || false then Some StageFull else None) None
-      fits true e = let less = ltb-true limits.staged 0 e in absurd (omega (arith, less))
-      fits false e = ap (λ b. if b || false then Some StageFull else None) e
 
   at_end : (s t : Standing) (part : Part) (many : ℕ) (end : Standing) (count : ℕ) → PublishesAtEnd limits s (part_text log part) end count → end ≡ t → count ≡ many → IsTakenPart limits log s part t many
   at_end s t part many end count p e same = record { notes = p.notes; takes = p.takes; ended = p.ended; leads_to = p.leads_to ∙ e; count = p.counted ∙ same; before = p.before }
@@ -185,7 +183,7 @@ module _ (goes_on : TextsGoOn) (batches : BatchesPublishAtEnd) (snapshots : Snap
         within = accepted.changes;
         name = token_is_name (suc p.at) fits;
         few = accepted.few;
-        small = subst (λ z. size (published_tables z.node.shown) ≤ limits.staged) (sym leads) (subst (λ t. size t ≤ limits.staged) (state_one_more log p.at (omega arith)) accepted.small);
+        small = subst (λ z. is_large limits (published_tables z.node.shown) ≡ false) (sym leads) (subst (λ t. is_large limits t ≡ false) (state_one_more log p.at (omega arith)) accepted.small);
       }))
       (leads ∙ (λ i. record { node = record { shown = position i; history = limits.history }; afresh = false; changes = [] })) many
 
@@ -209,7 +207,7 @@ module _ (goes_on : TextsGoOn) (batches : BatchesPublishAtEnd) (snapshots : Snap
         within = accepted.changes;
         name = token_is_name n fits;
         few = accepted.few;
-        small = subst (λ z. size (published_tables z.node.shown) ≤ limits.staged) (sym leads) (state_is_small limits log is_log p.at in_log);
+        small = subst (λ z. is_large limits (published_tables z.node.shown) ≡ false) (sym leads) (state_is_small limits log is_log p.at in_log);
       }))
       leads many
     where

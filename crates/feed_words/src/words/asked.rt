@@ -4,7 +4,7 @@ ghost use Rattle.clap.specs.Matches.{found_of};
 ghost use Rattle.clap.specs.Words.{rows_of, subcommand_rows_of};
 ghost use Rattle.feed_words.specs.Addresses.{most_port};
 ghost use Rattle.feed_words.specs.Options.{most_rounds, most_silence};
-ghost use Rattle.feed_words.specs.Options.{text_at, IsNumber, IsNumberUpTo, IsNumberIfGiven};
+ghost use Rattle.feed_words.specs.Options.{number_at, text_at, IsNumber, IsNumberUpTo, IsNumberIfGiven};
 ghost use Rattle.feed_words.specs.Options.{IsGiven, IsFramed, AsksLimits};
 ghost use Rattle.feed_words.specs.Words.{AsksTables, AsksServe, AsksPull, AsksRelay, AsksBy, AsksAt};
 
@@ -12,7 +12,7 @@ use super::asked_live::live_options;
 use super::options::{MOST_PORT, MOST_ROUNDS, MOST_SILENCE};
 use crate::request::{Local, PullOptions, RelayOptions, Request, ServeOptions, TablesOptions};
 use clap::ArgMatches;
-use feed_settings::{Framing, Limits, MOST_COMMITS};
+use feed_settings::{Framing, Limits, MOST_COMMITS, MOST_MEMORY};
 
 /// The number that an option's value says; none where it is out of its range, which its parser has
 /// refused.
@@ -89,6 +89,21 @@ pub(super) fn framing(matches: &ArgMatches<'_>) -> Framing
 /// The limits of a node.
 pub(super) fn limits(matches: &ArgMatches<'_>) -> Option<Limits>
     ensures { IfSome result (λ limits. AsksLimits (rows_of (found_of matches.now)) limits) }
+{
+    let limits = limits_of_counts(matches)?;
+    match number_if_given(matches, "memory", MOST_MEMORY as u64)? {
+        None => Some(limits),
+        Some(bytes) => limits.with_memory(bytes as usize).ok(),
+    }
+}
+
+/// The same without the limit of memory.
+fn limits_of_counts(matches: &ArgMatches<'_>) -> Option<Limits>
+    ensures history { IfSome result (λ limits.
+        number_at (codes "history") (rows_of (found_of matches.now)) ≡ Some limits.history) }
+    ensures staged { IfSome result (λ limits.
+        number_at (codes "staged") (rows_of (found_of matches.now)) ≡ Some limits.staged) }
+    ensures memory { IfSome result (λ limits. limits.memory ≡ None) }
 {
     let history = matches.get_one::<u64>("history")?;
     let staged = matches.get_one::<u64>("staged")?;

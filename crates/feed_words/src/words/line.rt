@@ -50,7 +50,8 @@ pub(super) fn with_limits<'a>(
         → IfOk result (λ c. app_of c ≡ limited app) }
 {
     let kept = add_option(command, options::history(alloc));
-    add_option(kept, options::staged(alloc))
+    let staged = add_option(kept, options::staged(alloc));
+    add_option(staged, options::memory(alloc))
 }
 
 /// `tables`.

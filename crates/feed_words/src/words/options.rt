@@ -7,7 +7,7 @@ ghost use Rattle.feed_words.specs.Options as words;
 
 use clap::builder::ValueParser;
 use clap::{Arg, ArgAction};
-use feed_settings::{MOST_CHANGES, MOST_COMMITS};
+use feed_settings::{MOST_CHANGES, MOST_COMMITS, MOST_MEMORY};
 use std::alloc::Global;
 
 /// The greatest number of a port.
@@ -80,6 +80,17 @@ pub(crate) fn staged<'a>(alloc: Global) -> Arg<'a>
             "How many changes may wait for a token, and the greatest size of the tables, 1 to 1000000",
         )
         .default_value("1000000")
+}
+
+/// `--memory BYTES`.
+pub(crate) fn memory<'a>(alloc: Global) -> Arg<'a>
+    ensures rule { rule_of result ≡ words.memory }
+    ensures local { result.global ≡ false }
+{
+    number(alloc, "memory", "BYTES", MOST_MEMORY as u64).help(
+        "How many bytes the objects may have that wait for a token, and those of the tables, \
+        1 to 1000000000000",
+    )
 }
 
 /// `--verbose`.

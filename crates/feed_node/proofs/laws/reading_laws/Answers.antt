@@ -11,7 +11,7 @@ returns c =
     let tables = c.table_laws.ensures in
     let node = c.node_laws.ensures in
     let one = reading_is_one line.one_meaning in
-    let snapshots = snapshot_publishes line.cut line.only_cut means tables.restores tables.sized in
+    let snapshots = snapshot_publishes line.cut line.only_cut means tables.restores tables.sized tables.weighed in
     record {
       one = one;
       goes_on = texts_go_on line.cut line.only_cut;

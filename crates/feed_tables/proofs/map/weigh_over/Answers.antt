@@ -1,7 +1,6 @@
 use Rattle.std.proofs.Common.{refl, arith}
-use Rattle.std.specs.FinMap.{entries}
 use Rattle.feed_tables.specs.Map.{map_less}
-use Rattle.feed_tables.proofs.PatchSizes.{in_all, in_less, weighed_less, weighed_moved, weighed_kept}
+use Rattle.feed_tables.proofs.PatchSizes.{weighed_less, weighed_moved, weighed_kept}
 use Rattle.feed_tables.proofs.map.weigh_over.Goals as goal
 
 pub returns-then-total-ge18446744073709551615 : goal.returns-then-total-ge18446744073709551615
@@ -12,7 +11,4 @@ pub returns : goal.returns
 returns g c =
     let held = c.args.held.now in
     let gone = c.args.gone.now in
-    let items = c.args.items.now in
-    let left = in_all _ c.new-none.result c.new-nothing.result held (entries gone) c.weigh_in-left.result c.new-none.ensures c.new-nothing.ensures c.weigh_in-left.ensures in
-    let replaced = in_less _ c.new-none.result gone held (entries items) c.weigh_in-replaced.result c.new-none.ensures c.weigh_in-replaced.ensures in
-    weighed_moved _ held (map_less gone held) items c.args.total _ _ _ _ _ _ _ _ (weighed_less _ gone held) refl c.requires (omega (arith, c.if-total-ge18446744073709551615.false)) left replaced c.saturating_add-lost.ensures c.weigh-come.ensures c.saturating_sub.ensures c.saturating_add-2.ensures
+    weighed_moved _ held (map_less gone held) c.args.items.now c.args.total _ _ _ _ _ _ (weighed_less _ gone held) refl c.requires (omega (arith, c.if-total-ge18446744073709551615.false)) c.weigh_lost-lost.ensures c.weigh-come.ensures c.saturating_sub.ensures c.saturating_add-2.ensures

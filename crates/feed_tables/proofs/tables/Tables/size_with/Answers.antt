@@ -4,7 +4,7 @@ use Rattle.feed_tables.proofs.Sizes.{size_is}
 use Rattle.feed_tables.proofs.tables.Tables.size_with.Goals as goal
 
 pub weigh_over-requires : goal.weigh_over-requires
-weigh_over-requires c = c.self.invariant ∙ ap (λ (n : ℕ). min n 18446744073709551615) (size_is c.self.inside.types)
+weigh_over-requires c = c.self.invariant.0 ∙ ap (λ (n : ℕ). min n 18446744073709551615) (size_is c.self.inside.types)
 
 pub returns : goal.returns
 returns c =

@@ -1,0 +1,70 @@
+-- How many bytes the texts of objects have, and the names that they stand under.
+use Rattle.std.specs.Prelude.{ℕ, ◌+◌, List, [], ◌∷◌, length, Option, None, Some}
+use Rattle.std.specs.FinMap.{FinMap, get, entries}
+use Rattle.feed_tables.specs.Bytes.{byte_order}
+use Rattle.feed_tables.specs.Map.{map_less}
+use Rattle.feed_tables.specs.Patches.{changed_table}
+use Rattle.feed_tables.specs.Tables.{Contents}
+use Rattle.feed_tables.specs.Walks.{Scale, weighed, weighed_in}
+use Rattle.feed_tables.specs.declared.change.Change.{Change}
+use Rattle.feed_tables.specs.declared.change.Change.TheVariants.{Set, Remove, Empty, Single, Clear}
+use Rattle.feed_tables.specs.declared.ids.Ids.{Ids}
+use Rattle.feed_tables.specs.declared.tables.Table.{Table}
+use Rattle.feed_tables.specs.declared.tables.Table.TheVariants.{One, Many}
+
+-- an object of a collection: the name of its type, whose length this is, its id and its text
+abbrev pub in_type : ℕ → Scale (List ℕ)
+in_type kind id object = kind + length id + length object
+
+-- all objects of a type, each with the name of the type
+abbrev pub by_bytes : Scale Table
+by_bytes kind (One object) = length kind + length object
+by_bytes kind (Many objects) = weighed (in_type (length kind)) (entries objects)
+
+-- and all that are held
+abbrev pub bytes : Contents → ℕ
+bytes contents = weighed by_bytes (entries contents)
+
+-- the object that a change puts in, with its names; none where it puts in no object
+abbrev pub change_bytes : Change → ℕ
+change_bytes (Set kind id object) = length kind + length id + length object
+change_bytes (Remove kind id) = 0
+change_bytes (Empty kind) = 0
+change_bytes (Single kind object) = length kind + length object
+change_bytes (Clear kind) = 0
+
+abbrev pub changes_bytes : List Change → ℕ
+changes_bytes [] = 0
+changes_bytes (change ∷ changes) = change_bytes change + changes_bytes changes
+
+-- how much of what is held goes where items are taken away and then others put in
+abbrev pub lost_in : {V W : Type 0} → Scale V → FinMap byte_order W → FinMap byte_order V → FinMap byte_order V → ℕ
+lost_in scale gone items held =
+    weighed_in scale held (entries gone) + weighed_in scale (map_less gone held) (entries items)
+
+-- how many bytes go from a collection where objects change, and how many come
+abbrev pub bytes_lost : List ℕ → Ids → Table → ℕ
+bytes_lost kind ids (One object) = 0
+bytes_lost kind ids (Many objects) = lost_in (in_type (length kind)) ids.gone ids.sets objects
+
+abbrev pub bytes_come : List ℕ → Ids → Table → ℕ
+bytes_come kind ids (One object) = 0
+bytes_come kind ids (Many objects) = weighed (in_type (length kind)) (entries ids.sets)
+
+-- the same of each type whose objects change, and what it weighs then
+abbrev pub lost_at : List ℕ → Option Ids → Table → ℕ
+lost_at kind None table = 0
+lost_at kind (Some ids) table = bytes_lost kind ids table
+
+abbrev pub come_at : List ℕ → Option Ids → Table → ℕ
+come_at kind None table = 0
+come_at kind (Some ids) table = bytes_come kind ids table
+
+abbrev pub by_lost : FinMap byte_order Ids → Scale Table
+by_lost changed kind table = lost_at kind (get changed kind) table
+
+abbrev pub by_come : FinMap byte_order Ids → Scale Table
+by_come changed kind table = come_at kind (get changed kind) table
+
+abbrev pub by_bytes_after : FinMap byte_order Ids → Scale Table
+by_bytes_after changed kind table = by_bytes kind (changed_table table (get changed kind))
