@@ -3,6 +3,7 @@ use Rattle.std.specs.Prelude.{◌≡◌, ℕ, ◌+◌, ◌-◌, ◌*◌, ◌<◌
 use Rattle.std.specs.Char.{is_ascii_hexdigit, digit_value}
 use Rattle.httparse.specs.Ascii.{carriage_return, line_feed, semicolon}
 use Rattle.httparse.specs.Grammar.{is_ows}
+use Rattle.feed_follow.specs.ChunkedBody.{trailer_bytes}
 use Rattle.feed_follow.specs.declared.chunk.Chunking.{Chunking}
 use Rattle.feed_follow.specs.declared.chunk.Chunking.TheVariants.{LineStart, InDigits, InPad, InExtension, LineCr, InBytes, BytesEnd, BytesCr, TrailerStart, InTrailer, TrailerCr, EndCr, Whole}
 
@@ -78,7 +79,7 @@ IsPlace (LineCr size) = Unit {0}
 IsPlace (InBytes left) = 0 < left
 IsPlace BytesEnd = Unit {0}
 IsPlace BytesCr = Unit {0}
-IsPlace (TrailerStart n) = n ≤ 8192
+IsPlace (TrailerStart n) = n ≤ trailer_bytes
 IsPlace (InTrailer n) = n ≤ 8190
 IsPlace (TrailerCr n) = n ≤ 8190
 IsPlace EndCr = Unit {0}

@@ -8,7 +8,7 @@ use Rattle.feed_follow.specs.declared.fault.FollowFault.TheVariants.{Closed as I
 use Rattle.feed_follow.specs.declared.heads.Verdict.TheVariants.{Body, Refusal}
 use Rattle.feed_follow.specs.declared.follower.Part.{Part}
 use Rattle.feed_follow.specs.declared.follower.Part.TheVariants.{Head, Closed}
-use Rattle.feed_follow.specs.Heads.{BeginsWithResponse}
+use Rattle.feed_follow.specs.Heads.{head_bytes, BeginsWithResponse}
 use Rattle.feed_follow.specs.HeadRead.{IsUnfinished, IsNoHead}
 use Rattle.feed_follow.specs.Standing.{verdict}
 use Rattle.feed_follow.specs.Following.{HasReached}
@@ -25,7 +25,7 @@ follower_of had_token kept part =
     record { had_token = had_token; kept = kept_bytes kept; part = part }
 
 pub record KeepsLittle {A : Type 0} (kept : Option (Vec ℕ A)) (part : Part) : Type 0 where
-  pub bounded : length (kept_bytes kept) ≤ 8192
+  pub bounded : length (kept_bytes kept) ≤ head_bytes
   pub is_part : IsPart part
 
 -- a head that says how the body is framed is whole, and what came of the body was fed

@@ -254,9 +254,9 @@ fn read_head(
     kept: &mut Option<Vec<u8>>,
     piece: &[u8],
 ) -> Result<Part, FollowFault>
-    requires { length (kept_bytes kept.old) ≤ 8192 }
+    requires { length (kept_bytes kept.old) ≤ head_bytes }
     ensures part { IfOk result IsPart }
-    ensures bounded { length (kept_bytes kept.new) ≤ 8192 }
+    ensures bounded { length (kept_bytes kept.new) ≤ head_bytes }
     ensures ok { IsUnfinished (kept_bytes kept.old) → IfOk result (HeadGoesOn had_token
         (kept_bytes kept.old ++ piece.now) mirror.old (kept_bytes kept.new) mirror.new) }
     ensures err { IsUnfinished (kept_bytes kept.old) → IfErr result
@@ -294,7 +294,7 @@ fn read_part(
     requires keeps { KeepsLittle kept.old part }
     requires going { part ≢ Part.Closed }
     ensures part { IfOk result IsPart }
-    ensures bounded { length (kept_bytes kept.new) ≤ 8192 }
+    ensures bounded { length (kept_bytes kept.new) ≤ head_bytes }
 
     // wherever the response stands
     ensures ok { (start : MirrorState) (before : List ℕ) (standing : Standing)
