@@ -179,7 +179,7 @@ large_listing : ListingHasSize → ListingHasBytes → (limits : Limits) (tables
     → 1 ≤ limits.staged → is_large limits tables ≡ false → is_full limits (listing tables) ≡ false
 unfolding is_full is_large
 large_listing sized weighs limits tables one e =
-    let first = in_first _ _ e in
+    let first : nat_lt limits.staged (size tables) ≡ false = in_first _ _ e in
     let small : size tables ≤ limits.staged = omega (arith, ltb-false limits.staged (size tables) first) in
     neither _ _ (not_under limits.staged (length (listing tables)) (omega (arith, small, sized tables)))
     (ap (passes limits.memory) (weighs tables) ∙ in_second _ _ e)

@@ -13,7 +13,7 @@ use Rattle.feed_tables.specs.declared.change.Change.{Change}
 use Rattle.feed_tables.specs.declared.tables.Table.{Table}
 use Rattle.feed_node.specs.Bounds.{passes, is_full, is_large}
 
-pub size_none : size no_tables ≡ 0
+size_none : size no_tables ≡ 0
 size_none =
     let types : len no_tables ≡ 0 = len-empty byte_order Table in
     let objects : sum_by object_count (values no_tables) ≡ 0 = by (entries no_tables) (sym (len-entries no_tables) ∙ types) in

@@ -5,13 +5,10 @@ use Rattle.std.proofs.lemmas.Bool.{le-leb}
 use Rattle.std.proofs.lemmas.List.Sums.{fold-append}
 use Rattle.feed_settings.specs.Limits.{Limits}
 use Rattle.feed_tables.specs.Listings.{ListingIsWithin}
-use Rattle.feed_tables.specs.Tables.{size}
 use Rattle.feed_note.specs.declared.line.Line.{Line}
 use Rattle.feed_note.specs.declared.line.Line.TheVariants.{Note, KeepAlive}
 use Rattle.feed_note.specs.Lines.{lines, rest}
-use Rattle.feed_world.proofs.Listings.{full_none}
 use Rattle.feed_node.specs.Bounds.{is_large}
-use Rattle.feed_node.specs.declared.fault.FeedFault.{FeedFault}
 use Rattle.feed_node.specs.declared.fault.FeedFault.TheVariants.{StageFull}
 use Rattle.feed_node.specs.Log.{token_after, tokens_from}
 use Rattle.feed_node.specs.Sent.{TakesText, TextsGoOn, PublishesNothing, PublishesAtEnd, BatchesPublishAtEnd, SnapshotsPublishAtEnd, fresh_on, renewed_on}
@@ -24,6 +21,7 @@ use Rattle.feed_world.specs.Position.{Position, commits_after, node_where, renew
 use Rattle.feed_world.specs.Reading.{opening_at, PrefixesAreRead}
 use Rattle.feed_world.proofs.Commits.{state_one_more, token_is_name, next_not_held, next_position, renewed_is_position, latest_at, state_at, state_is_small, state_is_sendable}
 use Rattle.feed_world.proofs.Growth.{goes_up}
+use Rattle.feed_world.proofs.Listings.{full_none}
 use Rattle.feed_world.proofs.Lists.{cuts_of_one}
 use Rattle.feed_world.proofs.Served.{holds}
 

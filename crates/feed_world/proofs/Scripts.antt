@@ -13,6 +13,7 @@ use Rattle.feed_tables.specs.Tables.{after}
 use Rattle.feed_tables.specs.declared.change.Change.{Change}
 use Rattle.feed_tables.specs.declared.change.Change.TheVariants.{Set, Remove, Single, Clear}
 use Rattle.feed_note.specs.Texts.{published_text}
+use Rattle.feed_node.specs.Bounds.{is_full, is_large}
 use Rattle.feed_node.specs.declared.primary.CommitFault.TheVariants.{EmptyBatch}
 use Rattle.feed_node.specs.declared.session.Pulled.TheVariants.{More, UpToDate, Gone}
 use Rattle.feed_world.specs.declared.event.Event.{Event}
@@ -123,7 +124,7 @@ a_first : run_all (world 2 100 2) (DoCommit (set_team (codes "1") ∷ []) ∷ Co
     ∷ DoCommit (Single state (codes "{}") ∷ []) ∷ DoCommit (Clear teams ∷ [])
     ∷ DoCommit (Set groups (codes "1") (obj (codes "1")) ∷ []) ∷ DoCommit (Set groups (codes "2") (obj (codes "2")) ∷ []) ∷ [])
     ≡ (Ok (Committed (codes "1")) ∷ Ok Opened ∷ Ok (Delivered 1) ∷ Ok (Committed (codes "2")) ∷ Ok (Committed (codes "3")) ∷ Ok (Committed (codes "4")) ∷ Ok (Committed (codes "5")) ∷ [], a_behind)
-unfolding digits after written_string
+unfolding digits after is_full is_large written_string
 a_first = simp (entries-inserted, entries-removed, get-entries, len-entries, entries-empty)
 
 a_refused : run_all a_behind (Connect 1 0 0 ∷ Connect 1 0 0 ∷ Deliver 1 10 ∷ DoCut 1 ∷ []) ≡ (Ok Refused ∷ Ok Opened ∷ Ok (Delivered 0) ∷ Ok Cut ∷ [], a_cut)
@@ -161,7 +162,7 @@ b_all_reset = b_world (mirror (position 4 4) 0 false (Some (opened_at 4 204 fals
 b_first : run_all (world 1 100 3) (DoCommit (set_team (codes "1") ∷ []) ∷ Connect 1 0 0 ∷ Deliver 1 9999 ∷ Connect 2 1 0
     ∷ DoCommit (set_team (codes "2") ∷ []) ∷ DoCommit (Remove teams (codes "1") ∷ []) ∷ DoCommit (Single state (codes "{}") ∷ []) ∷ [])
     ≡ (Ok (Committed (codes "1")) ∷ Ok Opened ∷ Ok (Delivered 1) ∷ Ok Opened ∷ Ok (Committed (codes "2")) ∷ Ok (Committed (codes "3")) ∷ Ok (Committed (codes "4")) ∷ [], b_behind)
-unfolding digits after written_string
+unfolding digits after is_full is_large written_string
 b_first = simp (entries-inserted, entries-removed, get-entries, len-entries, entries-empty)
 
 b_refused : run_all b_behind (Connect 1 0 0 ∷ Connect 1 0 0 ∷ Deliver 1 9999 ∷ Serve 2 ∷ Idle 2 ∷ Deliver 2 9999 ∷ [])
@@ -187,11 +188,11 @@ sent_on = Connect 1 0 0 ∷ Deliver 1 9999 ∷ DoCommit (Single state (codes "{}
 
 d_replies : (run_all (world 1 100 2) sent_on).0 ≡
     Ok Opened ∷ Ok (Delivered 1) ∷ Ok (Committed (codes "1")) ∷ Ok (Sent More) ∷ Ok (Sent UpToDate) ∷ Ok Idled ∷ Ok (Delivered 1) ∷ []
-unfolding digits after written_string
+unfolding digits after is_full is_large written_string
 d_replies = simp (entries-inserted, entries-removed, get-entries, len-entries, entries-empty)
 
 d_shown : shown (run_all (world 1 100 2) sent_on).1 1 ≡ codes "{\"type\":\"state\",\"id\":null,\"data\":{},\"token\":\"1\"}\n"
-unfolding digits after written_string
+unfolding digits after is_full is_large written_string
 d_shown = simp (entries-inserted, entries-removed, get-entries, len-entries, entries-empty)
 
 -- a mirror that was cut between two commits, and is sent again what it holds
@@ -208,19 +209,19 @@ sent_again = Connect 1 0 9 ∷ DoCommit (Single (codes "s") (codes "{}") ∷ [])
 e_prefix : run_all (world 4 100 2) (Connect 1 0 0 ∷ Deliver 1 9999 ∷ DoCommit (Set (codes "t") (codes "1") (codes "{}") ∷ []) ∷ DoCommit (Remove (codes "t") (codes "1") ∷ [])
     ∷ Serve 1 ∷ Serve 1 ∷ Deliver 1 9999 ∷ DoCut 1 ∷ [])
     ≡ (Ok Opened ∷ Ok (Delivered 1) ∷ Ok (Committed (codes "1")) ∷ Ok (Committed (codes "2")) ∷ Ok (Sent More) ∷ Ok (Sent More) ∷ Ok (Delivered 2) ∷ Ok Cut ∷ [], e_cut)
-unfolding digits after written_string
+unfolding digits after is_full is_large written_string
 e_prefix = simp (entries-inserted, entries-removed, get-entries, len-entries, entries-empty)
 
 e_again : (run_all e_cut sent_again).0 ≡ Ok Opened ∷ Ok (Committed (codes "3")) ∷ Ok (Sent More) ∷ Ok (Delivered 0) ∷ []
-unfolding digits after written_string
+unfolding digits after is_full is_large written_string
 e_again = simp (entries-inserted, entries-removed, get-entries, len-entries, entries-empty)
 
 e_shown : shown (run_all e_cut sent_again).1 1 ≡ codes "{\"type\":\"t\",\"id\":null,\"data\":[],\"token\":\"2\"}\n"
-unfolding digits after written_string
+unfolding digits after is_full is_large written_string
 e_shown = simp (entries-inserted, entries-removed, get-entries, len-entries, entries-empty)
 
 e_last : (run_all (run_all e_cut sent_again).1 (Serve 1 ∷ Serve 1 ∷ Deliver 1 9999 ∷ [])).0 ≡ Ok (Sent More) ∷ Ok (Sent More) ∷ Ok (Delivered 1) ∷ []
-unfolding digits after written_string
+unfolding digits after is_full is_large written_string
 e_last = simp (entries-inserted, entries-removed, get-entries, len-entries, entries-empty)
 
 -- a mirror that is restarted from a prefix of what was saved, and then from all of it
@@ -239,7 +240,7 @@ c_at place =
 
 c_prefix : run_all (world 1 100 2) (DoCommit (set_team (codes "1") ∷ set_team (codes "2") ∷ []) ∷ Connect 1 0 0 ∷ Deliver 1 9999 ∷ Save 1 ∷ Restart 1 136 ∷ [])
     ≡ (Ok (Committed (codes "1")) ∷ Ok Opened ∷ Ok (Delivered 1) ∷ Ok (Saved 137) ∷ Ok (Restarted false) ∷ [], c_at None)
-unfolding digits after written_string
+unfolding digits after is_full is_large written_string
 c_prefix = simp (entries-inserted, entries-removed, get-entries, len-entries, entries-empty)
 
 c_all : run_all (c_at None) (Connect 1 0 0 ∷ Deliver 1 9999 ∷ Restart 1 137 ∷ Serve 1 ∷ [])
