@@ -11,7 +11,7 @@ ghost use Rattle.feed_tables.specs.Walks.{weighed, lost_all};
 use crate::map::Map;
 use crate::name::{Key, Name};
 use crate::scale::{Scale, Shift};
-use crate::tree::balance::{Growth, grow_left, grow_right, weigh};
+use crate::tree::balance::{Growth, grow_left, grow_right, settle_left, settle_right, weigh};
 use std::alloc::{AllocError, Global};
 use std::cmp::Ordering;
 use std::marker::Model;
@@ -160,8 +160,9 @@ impl<V: Drop> Tree<V> {
             Node::Leaf => 0,
             Node::Fork(fork) => match id.compare(&fork.id) {
                 Ordering::Less => {
+                    let height = fork.left.height();
                     let gone = fork.left.remove(id);
-                    weigh(fork);
+                    settle_left(fork, height);
                     gone
                 }
                 Ordering::Equal => {
@@ -171,8 +172,9 @@ impl<V: Drop> Tree<V> {
                     1
                 }
                 Ordering::Greater => {
+                    let height = fork.right.height();
                     let gone = fork.right.remove(id);
-                    weigh(fork);
+                    settle_right(fork, height);
                     gone
                 }
             },
@@ -185,17 +187,20 @@ impl<V: Drop> Tree<V> {
     {
         match mem::replace(&mut self.node, Node::Leaf) {
             Node::Leaf => None,
-            Node::Fork(mut fork) => match fork.left.take_first() {
-                None => {
-                    *self = mem::replace(&mut fork.right, Tree::new());
-                    Some(fork)
+            Node::Fork(mut fork) => {
+                let height = fork.left.height();
+                match fork.left.take_first() {
+                    None => {
+                        *self = mem::replace(&mut fork.right, Tree::new());
+                        Some(fork)
+                    }
+                    Some(first) => {
+                        settle_left(&mut fork, height);
+                        self.node = Node::Fork(fork);
+                        Some(first)
+                    }
                 }
-                Some(first) => {
-                    weigh(&mut fork);
-                    self.node = Node::Fork(fork);
-                    Some(first)
-                }
-            },
+            }
         }
     }
 

@@ -51,7 +51,7 @@ impl<V: Drop> Tree<V> {
 
     // How many nodes stand above each other at most.
     #[inline(always)]
-    fn height(&self) -> usize {
+    pub(super) fn height(&self) -> usize {
         match &self.node {
             Node::Leaf => 0,
             Node::Fork(fork) => fork.height,
@@ -95,6 +95,26 @@ pub(super) fn weigh<V: Drop>(fork: &mut Box<Fork<V>>)
     fork.rise();
     lower_left(fork);
     lower_right(fork);
+}
+
+// Evens the sides where the left one is lower now than this height, which it had.
+#[inline(always)]
+pub(super) fn settle_left<V: Drop>(fork: &mut Box<Fork<V>>, height: usize)
+    ensures { parts fork.new.value ≡ parts fork.old.value }
+{
+    if fork.left.height() < height {
+        weigh(fork);
+    }
+}
+
+// The same of the right side.
+#[inline(always)]
+pub(super) fn settle_right<V: Drop>(fork: &mut Box<Fork<V>>, height: usize)
+    ensures { parts fork.new.value ≡ parts fork.old.value }
+{
+    if fork.right.height() < height {
+        weigh(fork);
+    }
 }
 
 // Evens the sides where the left one became higher, and answers what came of it for the fork.

@@ -18,7 +18,7 @@ returns-in-Less-clause-left g t c =
     let fork = c.deref_mut.result.now in
     let f = at_lent c.self.view_is c.requires c.in-Fork.is fork (cc (c.deref_mut.ensures.value)) in
     let order : byte_order c.args.id.now fork.id ≡ Less = cc in
-    rw (c.weigh.ensures, c.remove-gone.ensures.left) (sym (without_before f c.args.id.now order))
+    rw (c.settle_left.ensures, c.remove-gone.ensures.left) (sym (without_before f c.args.id.now order))
 
 pub returns-in-Equal-clause-left : goal.returns-in-Equal-clause-left
 returns-in-Equal-clause-left g t c =
@@ -37,4 +37,4 @@ returns-in-Greater-clause-left g t c =
     let fork = c.deref_mut-in-Greater.result.now in
     let f = at_lent c.self.view_is c.requires c.in-Fork.is fork (cc (c.deref_mut-in-Greater.ensures.value)) in
     let order : byte_order c.args.id.now fork.id ≡ Greater = cc in
-    rw (c.weigh-in-Greater.ensures, c.remove-gone-in-Greater.ensures.left) (sym (without_after f c.args.id.now order))
+    rw (c.settle_right.ensures, c.remove-gone-in-Greater.ensures.left) (sym (without_after f c.args.id.now order))
