@@ -6,7 +6,7 @@ use Rattle.feed_tables.specs.declared.name.Text.{Text}
 use Rattle.feed_tables.specs.declared.name.Text.TheVariants.{Short, Long}
 
 abbrev pub bytes_of : Text → List ℕ
-bytes_of (Short text) = text.bytes
+bytes_of (Short text) = text
 bytes_of (Long text) = rc_str_bytes text
 
 -- the first eight bytes as a number, the first of them the highest; one that is missing counts as 0
