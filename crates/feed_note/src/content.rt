@@ -92,7 +92,7 @@ fn read_element(alloc: Global, item: &Item<'_>) -> Result<Option<Element>, Alloc
     ensures { (v : Value) → IsReadable value_depth v → item_view item.now ≡ spelling_of v →
         IfOk result (λ found. found ≡ element_of v) }
 {
-    if !matches!(item.kind, Kind::Object) {
+    if !matches!(item.kind(), Kind::Object) {
         return Ok(None);
     }
     let id = element_naming(alloc, item.text)?;
@@ -132,7 +132,7 @@ pub fn read_content(alloc: Global, fields: &Fields<'_>, has_id: bool) -> Result<
     let Some(item) = fields.content else {
         return Ok(Content::Nothing);
     };
-    match item.kind {
+    match item.kind() {
         Kind::Object => {
             let object = kept_object(alloc, item.text)?;
             Ok(Content::Object(object))

@@ -28,7 +28,7 @@ pub fn read_naming(alloc: Global, value: &Item<'_>) -> Result<Naming, AllocError
     ensures { IfOk result (λ naming. naming ≡ naming_of (spelled_text (item_view value.now))) }
 {
     text_laws();
-    if !matches!(value.kind, Kind::Str) {
+    if !matches!(value.kind(), Kind::Str) {
         return Ok(Naming::Unreadable);
     }
     read_string(alloc, value.text)
@@ -74,7 +74,7 @@ pub fn read_member_naming(
     match value {
         None => Ok(None),
         Some(item) => {
-            if item.kind == Kind::Null {
+            if item.kind() == Kind::Null {
                 return Ok(None);
             }
             let naming = read_naming(alloc, &item)?;

@@ -1,5 +1,5 @@
 -- Blocks of ASCII.
-use Rattle.std.proofs.Common.{◌≡◌, ℕ, zero, suc, ◌+◌, ◌-◌, ◌≤◌, ◌<◌, ◌%◌, ◌^◌, Bool, true, false, cond, eqb, leb, List, [], ◌∷◌, ◌++◌, map, length, get_or, replicate, take, drop, refl, sym, ap, subst, ◌∙◌, inl, inr, arith, take-add, eqb-true, leb-false}
+use Rattle.std.proofs.Common.{◌≡◌, ℕ, zero, suc, ◌+◌, ◌-◌, ◌≤◌, ◌<◌, ◌%◌, ◌^◌, Bool, true, false, cond, eqb, leb, List, [], ◌∷◌, map, length, get_or, replicate, take, drop, refl, sym, ap, subst, ◌∙◌, inl, inr, arith, take-add, eqb-true, leb-false}
 use Rattle.std.proofs.lemmas.List.{length-map, get_or-take, get_or-drop, get_or_past}
 use Rattle.std.proofs.lemmas.Str.{IsAscii-append}
 use Rattle.std.proofs.lemmas.Bool.{cases_lt}

@@ -7,7 +7,7 @@ use Rattle.feed_text.specs.Json.{is_white_space}
 use Rattle.feed_text.specs.Reading.{Prefix, rest_of, or_nothing, first, rest_while, behind_first, string_at, characters_at, parts_until, behind, item_at, pair_at, contents_at, value_at}
 use Rattle.feed_text.proofs.Parts.{Shortens, rest_at_close, rest_at_none, rest_at_part}
 use Rattle.feed_text.proofs.Bounds.{behind_shortens, item_shortens, pair_shortens, drop_shorter}
-use Rattle.feed_text.proofs.Rests.{string_rest, rest_string, contents_empty, contents_none, contents_some}
+use Rattle.feed_text.proofs.Rests.{same_rest, string_rest, value_string, contents_empty, contents_none, contents_some}
 
 pub no_white : (text : List ℕ) (byte : ℕ) → space < byte → first text ≡ byte → rest_while is_white_space text ≡ text
 no_white [] byte more here = absurd (omega arith)
@@ -31,10 +31,6 @@ item_rest levels text =
     let f = value_at levels (rest_while is_white_space text) in
     ap or_nothing (item_some_rest _ f) ∙ white_item f
 
-same_rest : {B C : Type 0} (view : B × List ℕ → C) (f : Prefix B) → rest_of (option_map (λ (x : B × List ℕ). (view x, x.1)) f) ≡ rest_of f
-same_rest view None = refl
-same_rest view (Some x) = refl
-
 member_by : (levels : ℕ) (text : List ℕ) (f : Prefix (List ℕ)) → string_at (rest_while is_white_space text) ≡ f → (v : Bool) → eqb (first (rest_while is_white_space (or_nothing (rest_of f)))) colon ≡ v
     → or_nothing (rest_of (pair_at (value_at levels) text)) ≡ cond v (or_nothing (rest_of (item_at (value_at levels) (drop 1 (rest_while is_white_space (or_nothing (rest_of f))))))) []
 unfolding pair_at
@@ -55,7 +51,7 @@ pub item_string : (levels : ℕ) (text : List ℕ) → first (rest_while is_whit
     → or_nothing (rest_of (item_at (value_at levels) text)) ≡ rest_while is_white_space (or_nothing (rest_of (characters_at (drop 1 (rest_while is_white_space text)))))
 item_string levels text here =
     let white = rest_while is_white_space text in
-    item_rest levels text ∙ ap (λ (f : Option (List ℕ)). rest_while is_white_space (or_nothing f)) (rest_string levels white here ∙ string_rest white here)
+    item_rest levels text ∙ ap (λ (f : Option (List ℕ)). rest_while is_white_space (or_nothing f)) (value_string levels white here ∙ string_rest white here)
 
 pub ruleset one_item = (item_string, item_rest)
 

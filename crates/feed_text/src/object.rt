@@ -4,11 +4,10 @@ ghost use Rattle.std.specs.Prelude.{◌≡◌, ◌≤◌, ◌==◌, length, not,
 ghost use Rattle.feed_text.specs.Ascii.{line_feed};
 ghost use Rattle.feed_text.specs.Limits.{object_bytes, object_depth};
 ghost use Rattle.feed_text.specs.Objects.{IsObjectText, IsObjectFaultOf, IsUnbroken, SpellsWithin, SpellsDeeper};
-ghost use Rattle.feed_text.specs.Reading.{is_object_alone, kind_and_rest, value_at};
+ghost use Rattle.feed_text.specs.Reading.{is_object_alone, rest_of, value_at};
 
-use crate::Kind;
 use crate::nesting::nests_to;
-use crate::value::after_value;
+use crate::value::{after_value, first_byte};
 use std::alloc::{AllocError, Global};
 use std::marker::Model;
 use std::rc::RcSlice;
@@ -151,10 +150,10 @@ fn is_object(bytes: &[u8], levels: usize) -> bool
 }
 
 fn is_read_alone(bytes: &[u8], levels: usize) -> bool
-    ensures { result ≡ is_object_alone (kind_and_rest (value_at levels bytes.now)) }
+    ensures { result ≡ is_object_alone bytes.now (rest_of (value_at levels bytes.now)) }
 {
     match after_value(bytes, levels) {
-        Some((Kind::Object, rest)) => rest.is_empty(),
-        _ => false,
+        Some(rest) => first_byte(bytes) == b'{' && rest.is_empty(),
+        None => false,
     }
 }
