@@ -1,5 +1,5 @@
 //! How the body of an answer is framed.
-ghost use Rattle.std.specs.Prelude.{◌≡◌, ◌++◌, [], IsOk, OnOk, OnErr};
+ghost use Rattle.std.specs.Prelude.{◌≡◌, ◌++◌, [], IsOk, IfOk, OnOk, OnErr};
 ghost use Rattle.feed_note.specs.Written.{Begins};
 ghost use Rattle.feed_answer.specs.Framed as framed;
 
@@ -26,6 +26,23 @@ pub fn frame(
     }
 }
 
+/// A head, and behind it the bytes as they stand in a body. These may be many, so they are moved,
+/// and not copied.
+pub(crate) fn frame_behind(
+    alloc: Global,
+    head: &[u8],
+    framing: Framing,
+    bytes: Vec<u8>,
+) -> Result<Vec<u8>, AllocError>
+    ensures { IfOk result (λ text. text.items ≡ head.now ++ framed.frame framing bytes.items) }
+{
+    match framing {
+        Framing::Close => put_behind(head, bytes),
+        Framing::Chunked if bytes.is_empty() => Vec::from_slice(alloc, head),
+        Framing::Chunked => chunk_behind(alloc, head, bytes),
+    }
+}
+
 /// Appends the end of a body. Out of memory, nothing is appended.
 pub fn frame_end(framing: Framing, out: &mut Vec<u8>) -> Result<(), AllocError>
     ensures ok { OnOk result (out.new.items ≡ out.old.items ++ framed.frame_end framing) }
@@ -36,6 +53,27 @@ pub fn frame_end(framing: Framing, out: &mut Vec<u8>) -> Result<(), AllocError>
         Framing::Close => Ok(()),
         Framing::Chunked => out.extend_from_slice(b"0\r\n\r\n"),
     }
+}
+
+fn put_behind(head: &[u8], mut bytes: Vec<u8>) -> Result<Vec<u8>, AllocError>
+    ensures { IfOk result (λ text. text.items ≡ head.now ++ bytes.items) }
+{
+    let len = bytes.len();
+    bytes.extend_from_slice(head)?;
+    bytes.rotate_left(len);
+    Ok(bytes)
+}
+
+fn chunk_behind(alloc: Global, head: &[u8], mut bytes: Vec<u8>) -> Result<Vec<u8>, AllocError>
+    ensures { IfOk result (λ text. text.items ≡ head.now ++ framed.chunk_text bytes.items) }
+{
+    let len = bytes.len();
+    let size = format!(in alloc; "{len:x}")?;
+    let mut front = Vec::from_slice(alloc, head)?;
+    front.extend_from_slice(size.as_bytes())?;
+    front.extend_from_slice(b"\r\n")?;
+    bytes.extend_from_slice(b"\r\n")?;
+    put_behind(front.as_slice(), bytes)
 }
 
 fn append_chunk(alloc: Global, bytes: &[u8], out: &mut Vec<u8>) -> Result<(), AllocError>

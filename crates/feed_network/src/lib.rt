@@ -3,6 +3,7 @@
 //! what is reported of a failure.
 #![tactic(auto)]
 
+mod ahead;
 mod connection;
 mod ending;
 mod errors;
@@ -13,6 +14,7 @@ mod relay;
 mod serve;
 mod sockets;
 
+pub use ahead::input_ahead;
 pub use ending::{Failure, ended};
 pub use hosts::Hosts;
 pub use identity::identity_of;

@@ -7,6 +7,7 @@ use crate::identity::identity_of;
 use crate::sockets::Dialer;
 use feed_cli::stream::Stream;
 use feed_cli::{PullOptions, print_pulled, servers_of, start_mirror};
+use std::mem;
 
 /// Follows the feed of the first server that serves to the end of a connection, and prints the
 /// tables.
@@ -44,5 +45,7 @@ fn pull_named(rt: &HostRuntime, options: &PullOptions<'_>) -> Result<(), Failure
         &mut Stream::new(rt.stdout()),
         &mut Errors::new(rt),
     );
+    // The program ends here: freeing each object would take time alone.
+    mem::forget(mirror);
     pulled.map_err(|fault| Failure::of_servers(rt, fault, &servers))
 }

@@ -7,6 +7,7 @@ use crate::identity::identity_of;
 use crate::sockets::{Dialer, Port};
 use feed_cli::stream::Stream;
 use feed_cli::{PullOptions, RelayOptions, print_relayed, servers_of, start_mirror};
+use std::mem;
 
 /// Follows the feed of the first server that serves, and serves it, in turns, and prints the tables
 /// at the end.
@@ -40,7 +41,7 @@ fn relay_named(rt: &HostRuntime, options: &RelayOptions<'_>) -> Result<(), Failu
         Err(fault) => return Err(Failure::at_port(rt, fault, options.listen)),
     };
     let mut dialer = Dialer::new(rt, reporter, &options.pull, &servers);
-    print_relayed(
+    let relayed = print_relayed(
         rt.alloc(),
         options,
         &servers,
@@ -49,6 +50,8 @@ fn relay_named(rt: &HostRuntime, options: &RelayOptions<'_>) -> Result<(), Failu
         &mut port,
         &mut Stream::new(rt.stdout()),
         &mut Errors::new(rt),
-    )?;
-    Ok(())
+    );
+    // The program ends here: freeing each object would take time alone.
+    mem::forget(mirror);
+    Ok(relayed?)
 }

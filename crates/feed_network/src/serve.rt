@@ -1,5 +1,6 @@
 //! The command `serve`, over the standard streams and sockets.
 
+use crate::ahead::input_ahead;
 use crate::ending::Failure;
 use crate::errors::{Errors, Reporter};
 use crate::sockets::Port;
@@ -8,6 +9,7 @@ use feed_cli::stream::Stream;
 use feed_cli::{Fault, ServeOptions, Source, serve_all, start_source};
 use feed_node::{Limits, Mirror};
 use std::alloc::Global;
+use std::mem;
 
 /// What a node answers to a request for its feed while it has published nothing.
 const NOTHING_PUBLISHED: u16 = 503;
@@ -53,6 +55,12 @@ fn serve_source(
 
 /// Serves the feed on standard input.
 pub fn serve_feed(rt: &HostRuntime, options: &ServeOptions<'_>) -> Result<(), Failure> {
-    let mut source = start_source(rt.alloc(), options, &mut Stream::new(rt.stdin()))?;
-    serve_source(rt, options, &mut source)
+    let Ok(input) = input_ahead(rt) else {
+        return Err(Failure::from(Fault::Memory));
+    };
+    let mut source = start_source(rt.alloc(), options, &mut Stream::new(input))?;
+    let served = serve_source(rt, options, &mut source);
+    // The program ends here: freeing each object would take time alone.
+    mem::forget(source);
+    served
 }

@@ -4,8 +4,8 @@
 mod live;
 
 use feed_cli::stream::Stream;
-use feed_cli::{Local, NoCommand, Request, answer_words, parse_words, run};
-use feed_network::{ended, pull_feed, relay_feed, serve_feed};
+use feed_cli::{Fault, Local, NoCommand, Request, answer_words, parse_words, run, tell};
+use feed_network::{ended, input_ahead, pull_feed, relay_feed, serve_feed};
 use live::live_feed;
 use std::io::ErrorKind;
 use std::process::ExitCode;
@@ -19,10 +19,13 @@ const WANT_OF_MEMORY: u8 = 5;
 
 /// Runs a command that opens no connection.
 fn run_local(rt: &HostRuntime, request: Local) -> u8 {
+    let Ok(input) = input_ahead(rt) else {
+        return tell(request.name(), Fault::Memory, &mut Stream::new(rt.stderr()));
+    };
     run(
         rt.alloc(),
         request,
-        &mut Stream::new(rt.stdin()),
+        &mut Stream::new(input),
         &mut Stream::new(rt.stdout()),
         &mut Stream::new(rt.stderr()),
     )

@@ -1,0 +1,13 @@
+//! Standard input, read ahead of the pieces that commands ask for: a call of the system gives many of
+//! them.
+
+use std::io;
+use std::io::{BufReader, Stdin};
+
+/// The most bytes that are read ahead.
+const AHEAD_BYTES: usize = 65_536;
+
+/// Standard input, read ahead. A read gives what has come, and waits for no more.
+pub fn input_ahead(rt: &HostRuntime) -> io::Result<BufReader<Stdin>> {
+    BufReader::with_capacity(rt.alloc(), AHEAD_BYTES, rt.stdin())
+}
