@@ -25,5 +25,6 @@ pub mod Openings
 pub mod Piecewise
 pub mod Usual
 pub mod PlainFields
+pub mod UsualFields
 pub mod Decided
 pub mod Meant

@@ -19,7 +19,7 @@ last_more w ms m = ap (λ (l : List MemberSpelling). option_map (λ (n : MemberS
     by false = refl
 
 -- one of the four
-named : (w text : List ℕ) (ms : List MemberSpelling) (m : MemberSpelling) (value : Item) (old : Option Item) → Says m.0 text → item_view value ≡ m.1 → option_map item_view old ≡ last_value_spelt w ms → option_map item_view (where_named text w value old) ≡ last_value_spelt w (ms ++ m ∷ [])
+pub named : (w text : List ℕ) (ms : List MemberSpelling) (m : MemberSpelling) (value : Item) (old : Option Item) → Says m.0 text → item_view value ≡ m.1 → option_map item_view old ≡ last_value_spelt w ms → option_map item_view (where_named text w value old) ≡ last_value_spelt w (ms ++ m ∷ [])
 named w text ms m value old said is held =
     let test : says m.0 w ≡ bytes_eq text w = ap (λ d. option_eq bytes_eq d (Some w)) said in
     by (bytes_eq text w) ∙ sym (ap (λ b. cond b (Some m.1) (last_value_spelt w ms)) test) ∙ sym (last_more w ms m)

@@ -1,16 +1,15 @@
 //! The members of a notification that count, and what they name.
 
 ghost use Rattle.std.specs.Prelude.{◌≡◌, ◌||◌, IfOk, IfSome, MatchResult, option_map, IsUtf8, IsTrue, Bool, codes};
-ghost use Rattle.feed_text.specs.Members.{item_view, member_view, member_views, few_views, IsMemberSpelling, AreMemberSpellings};
-ghost use Rattle.feed_text.specs.Strings.{Says, written_string};
+ghost use Rattle.feed_text.specs.Members.{item_view, member_views, few_views, usual_views, AreMemberSpellings};
 ghost use Rattle.feed_note.specs.Meaning.{Notification};
 ghost use Rattle.feed_note.specs.Naming.{IsSpeltValue};
-ghost use Rattle.feed_note.specs.Reading.{last_value_spelt, where_named, HasFields, AreSpelt, AreUsual, Spell, AreNamesOf, IsFirstFault};
+ghost use Rattle.feed_note.specs.Reading.{last_value_spelt, where_named, fields_of, HasFields, AreSpelt, Spell, AreNamesOf, IsFirstFault};
 ghost use Rattle.feed_note.specs.Naming.{is_unreadable as unreadable_test, is_unreadable_or_null};
 
 use crate::line::LineFault;
 use crate::naming::{Naming, read_member_naming, read_naming};
-use feed_text::{FewMembers, Item, Member, Members, plain_text, text_laws};
+use feed_text::{FewMembers, Item, Member, Members, UsualMembers, plain_text, text_laws};
 use std::alloc::{AllocError, Global};
 
 /// The values of the members that count: the last one of each name, where there is one.
@@ -46,16 +45,6 @@ fn last_value<'a>(
     }
 }
 
-/// Whether a member's key is this text as it is usually written.
-#[inline(always)]
-fn is_plainly(member: &Member<'_>, text: &str, written: &[u8]) -> bool
-    requires { written.now ≡ written_string text.now }
-    ensures { IsTrue result → Says (member_view member.now).0 text.now }
-{
-    text_laws();
-    member.key == written
-}
-
 /// The values of the members that count.
 pub fn read_fields<'a>(alloc: Global, members: &Members<'a>) -> Result<Fields<'a>, AllocError>
     ensures values { IfOk result (λ fields. HasFields members.now fields) }
@@ -68,37 +57,7 @@ pub fn read_fields<'a>(alloc: Global, members: &Members<'a>) -> Result<Fields<'a
 }
 
 /// The values of the members that count, of three or four, where no key has a backslash.
-#[inline(always)]
 pub fn few_fields<'a>(few: &FewMembers<'a>) -> Option<Fields<'a>>
-    requires { AreMemberSpellings (few_views few.now) }
-    ensures values { IfSome result (λ fields. HasFields (few_views few.now) fields) }
-    ensures spelt { IfSome result (λ fields. AreSpelt fields) }
-{
-    match usual_fields(few) {
-        Some(fields) => Some(fields),
-        None => fields_in_any_order(few),
-    }
-}
-
-/// The same, where these stand in the usual order: a type, an id, data, and perhaps a token.
-#[inline(always)]
-#[tactic(auto, unfolding(feed_text::specs::Strings::written_string))]
-fn usual_fields<'a>(few: &FewMembers<'a>) -> Option<Fields<'a>>
-    requires { AreMemberSpellings (few_views few.now) }
-    ensures values { IfSome result (λ fields. HasFields (few_views few.now) fields) }
-    ensures spelt { IfSome result (λ fields. AreSpelt fields) }
-{
-    let Some(last) = few.fourth else {
-        return fields_of(&few.first, &few.second, &few.third, None);
-    };
-    if !is_plainly(&last, "token", b"\"token\"") {
-        return None;
-    }
-    fields_of(&few.first, &few.second, &few.third, Some(last.item()))
-}
-
-/// The same, in whatever order they stand.
-fn fields_in_any_order<'a>(few: &FewMembers<'a>) -> Option<Fields<'a>>
     requires { AreMemberSpellings (few_views few.now) }
     ensures values { IfSome result (λ fields. HasFields (few_views few.now) fields) }
     ensures spelt { IfSome result (λ fields. AreSpelt fields) }
@@ -107,35 +66,6 @@ fn fields_in_any_order<'a>(few: &FewMembers<'a>) -> Option<Fields<'a>>
         None => plain_fields(&[few.first, few.second, few.third]),
         Some(last) => plain_fields(&[few.first, few.second, few.third, last]),
     }
-}
-
-/// The fields of three members, where these are a type, an id and data, and a token.
-#[inline(always)]
-#[tactic(auto, unfolding(feed_text::specs::Strings::written_string))]
-fn fields_of<'a>(
-    kind: &Member<'a>,
-    id: &Member<'a>,
-    content: &Member<'a>,
-    token: Option<Item<'a>>,
-) -> Option<Fields<'a>>
-    requires kind { IsMemberSpelling (member_view kind.now) }
-    requires id { IsMemberSpelling (member_view id.now) }
-    requires content { IsMemberSpelling (member_view content.now) }
-    ensures { IfSome result (AreUsual
-        (member_view kind.now) (member_view id.now) (member_view content.now) token.entry) }
-{
-    if !is_plainly(kind, "type", b"\"type\"")
-        || !is_plainly(id, "id", b"\"id\"")
-        || !is_plainly(content, "data", b"\"data\"")
-    {
-        return None;
-    }
-    Some(Fields {
-        kind: Some(kind.item()),
-        id: Some(id.item()),
-        content: Some(content.item()),
-        token,
-    })
 }
 
 /// The values of the members that count, wherever they stand, where no key has a backslash.
@@ -158,6 +88,24 @@ fn plain_fields<'a>(members: &[Member<'a>]) -> Option<Fields<'a>>
 }
 
 impl<'a> Fields<'a> {
+    /// The values of the members of a line that is written as lines mostly are.
+    #[inline(always)]
+    #[tactic(auto, unfolding(feed_text::specs::Strings::written_string))]
+    pub fn of(members: &UsualMembers<'a>) -> Fields<'a>
+        requires { AreMemberSpellings (usual_views members.now) }
+        ensures fields { result ≡ fields_of members.now }
+        ensures values { HasFields (usual_views members.now) result }
+        ensures spelt { AreSpelt result }
+    {
+        text_laws();
+        Fields {
+            kind: Some(members.kind),
+            id: Some(members.id),
+            content: Some(members.content),
+            token: members.token,
+        }
+    }
+
     /// Has the value of a member of this name, where it counts.
     fn put(&mut self, name: &str, value: Item<'a>)
         ensures kind { self.new.kind ≡ where_named name.now (codes "type") value.entry self.old.kind }

@@ -133,7 +133,7 @@ content_says s content e = quotes_says s content (content_quotes s content e)
 pub says_content : (s content w : List ℕ) → plain_content s ≡ Some content → says s w ≡ bytes_eq content w
 says_content s content w e = ap (λ (o : Option (List ℕ)). option_eq bytes_eq o (Some w)) (content_says s content e)
 
-plain_tail : (bytes : List ℕ) → list_all is_unescaped bytes ≡ true → IsPlain (bytes ++ 34 ∷ [])
+pub plain_tail : (bytes : List ℕ) → list_all is_unescaped bytes ≡ true → IsPlain (bytes ++ 34 ∷ [])
 plain_tail [] h = refl
 plain_tail (b ∷ bytes) h =
     let i = both_true (is_unescaped b) (list_all is_unescaped bytes) h in
@@ -157,11 +157,32 @@ characters_plain (unescaped b ∷ cs) h plain =
 characters_plain (escaped b ∷ cs) h plain = absurd (false≢true plain)
 characters_plain (unicode a b c d ∷ cs) h plain = absurd (false≢true plain)
 
-pub not_plain : (s : List ℕ) → IsString s → plain_content s ≡ None → ¬ IsPlain s
-not_plain s (cs, h, e) none plain =
+-- what a string without a backslash quotes
+pub plain_quotes : (s : List ℕ) → IsString s → IsPlain s → (content : List ℕ) × Quotes s content
+plain_quotes s (cs, h, e) plain =
     let tail : IsPlain (flat_map print_character cs ++ 34 ∷ []) = subst IsPlain e plain in
-    let quotes : Quotes s (flat_map print_character cs) = record { text = e; unescaped_bytes = characters_plain cs h tail } in
-    absurd (none-some (flat_map print_character cs) (sym none ∙ quotes_content s (flat_map print_character cs) quotes))
+    (flat_map print_character cs, record { text = e; unescaped_bytes = characters_plain cs h tail })
+
+pub not_plain : (s : List ℕ) → IsString s → plain_content s ≡ None → ¬ IsPlain s
+not_plain s is none plain =
+    let q = plain_quotes s is plain in
+    absurd (none-some q.0 (sym none ∙ quotes_content s q.0 q.1))
+
+between : (s content : List ℕ) → Quotes s content → take (length s - 1 - 1) (drop 1 s) ≡ content
+between s content h =
+    let size : length s - 1 - 1 ≡ length content = omega (arith, ap length h.text, length-append content (quotation_mark ∷ [])) in
+    ap (λ (n : ℕ). take n (drop 1 s)) size ∙ ap (λ (t : List ℕ). take (length content) (drop 1 t)) h.text ∙ take-append_seam content (quotation_mark ∷ [])
+
+pub between_says : (s : List ℕ) → IsString s → IsPlain s → Says s (take (length s - 1 - 1) (drop 1 s))
+between_says s is plain =
+    let q = plain_quotes s is plain in
+    subst (Says s) (sym (between s q.0 q.1)) (quotes_says s q.0 q.1)
+
+pub between_utf8 : (s : List ℕ) → IsString s → IsPlain s → IsUtf8 s → IsUtf8 (take (length s - 1 - 1) (drop 1 s))
+between_utf8 s is plain utf8 =
+    let q = plain_quotes s is plain in
+    let inside : IsUtf8 (q.0 ++ quotation_mark ∷ []) = utf8_behind quotation_mark (q.0 ++ quotation_mark ∷ []) (omega arith) (subst IsUtf8 q.1.text utf8) in
+    subst IsUtf8 (sym (between s q.0 q.1)) (utf8_before q.0 [] quotation_mark (omega arith) inside)
 
 pub content_is_prefix : (text rest : List ℕ) → rest ≡ rest_while is_unescaped text → take (length text - length rest) text ≡ prefix_while is_unescaped text
 content_is_prefix text rest e =
