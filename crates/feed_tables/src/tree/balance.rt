@@ -65,6 +65,10 @@ impl<V: Drop> Tree<V> {
             return;
         };
         let (left, right) = (fork.left.height(), fork.right.height());
+        if left.abs_diff(right) <= 1 {
+            fork.rise();
+            return;
+        }
         if left > right.saturating_add(2) {
             turn_right(fork);
             fork.right.even();
