@@ -19,6 +19,7 @@ use crate::lister::Lister;
 use crate::name::{Key, Name};
 use crate::scale::{Scale, Shift};
 use crate::tables::Table;
+use crate::tree::union::let_go;
 use crate::tree::{Fork, Tree};
 use feed_text::ObjectText;
 use std::alloc::{AllocError, Global};
@@ -146,8 +147,31 @@ impl<V: Drop> Map<V> {
             *other = self;
             return shift;
         }
+        if self.count > 1 {
+            return self.join_into(other, scale);
+        }
         self.tree.put_into(other, scale, &mut shift);
         shift
+    }
+
+    // The same, all at once.
+    fn join_into<S: Scale<V>>(self, other: &mut Map<V>, scale: &S) -> Shift
+        ensures put { other.new ≡ map_over self other.old }
+        ensures lost { result.lost ≡ min (weighed_in (S.weight scale.now) other.old
+            (map.entries self)) usize.MAX }
+        ensures come { result.come ≡ min (weighed (S.weight scale.now) (map.entries self))
+            usize.MAX }
+    {
+        let come = self.tree.weigh(scale);
+        let count = other.count.saturating_add(self.count);
+        let mut spare = Tree::new();
+        other.tree.absorb(self.tree, &mut spare);
+        let spent = let_go(spare, scale);
+        other.count = count_left(&other.tree, count, spent.count);
+        Shift {
+            lost: spent.weight,
+            come,
+        }
     }
 
     /// Takes the items of these names out of another map.
@@ -196,8 +220,7 @@ impl<V: Drop> Map<V> {
     pub fn weigh<S: Scale<V>>(&self, scale: &S) -> usize
         ensures { result ≡ min (weighed (S.weight scale.now) (map.entries self.now)) usize.MAX }
     {
-        let (gone, others) = (Map::<()>::new(), Map::<()>::new());
-        self.weigh_besides(&gone, &others, scale)
+        self.tree.weigh(scale)
     }
 }
 

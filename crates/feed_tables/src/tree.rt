@@ -18,6 +18,7 @@ use std::marker::Model;
 use std::mem;
 
 mod balance;
+pub mod union;
 mod walks;
 
 #[cycle(owned_tree)]

@@ -31,6 +31,54 @@ impl Growth {
 }
 
 impl<V: Drop> Tree<V> {
+    // Evens the sides after the left one became higher, by however much. Where that is still lower
+    // than the root was, the other one isn't looked at.
+    #[inline(always)]
+    pub(super) fn even_left(&mut self)
+        ensures { self.new ≡ self.old }
+    {
+        if let Node::Fork(fork) = &self.node
+            && fork.left.height() >= fork.height
+        {
+            self.even();
+        }
+    }
+
+    // The same after the right one did.
+    #[inline(always)]
+    pub(super) fn even_right(&mut self)
+        ensures { self.new ≡ self.old }
+    {
+        if let Node::Fork(fork) = &self.node
+            && fork.right.height() >= fork.height
+        {
+            self.even();
+        }
+    }
+
+    // Evens the sides, however much higher one of them is. What turns down beside the lower one is
+    // as uneven as before, less a step.
+    pub(super) fn even(&mut self)
+        ensures { self.new ≡ self.old }
+    {
+        let Node::Fork(fork) = &mut self.node else {
+            return;
+        };
+        let (left, right) = (fork.left.height(), fork.right.height());
+        if left.abs_diff(right) <= 1 {
+            fork.rise();
+            return;
+        }
+        if left > right.saturating_add(2) {
+            turn_right(fork);
+            fork.right.even();
+        } else if right > left.saturating_add(2) {
+            turn_left(fork);
+            fork.left.even();
+        }
+        weigh(fork);
+    }
+
     // Turns the root to the left.
     fn turn_left(&mut self)
         ensures { self.new ≡ self.old }

@@ -89,6 +89,20 @@ impl<V: Drop> Tree<V> {
         }
     }
 
+    /// How much all items weigh, or `usize::MAX` where it is more.
+    pub fn weigh<S: Scale<V>>(&self, scale: &S) -> usize
+        ensures { result ≡ min (weighed (S.weight scale.now) self.now) usize.MAX }
+    {
+        match &self.node {
+            Node::Leaf => 0,
+            Node::Fork(fork) => fork
+                .left
+                .weigh(scale)
+                .saturating_add(fork.weigh(scale))
+                .saturating_add(fork.right.weigh(scale)),
+        }
+    }
+
     /// How much the items weigh whose names are in neither, or `usize::MAX` where it is more.
     pub fn weigh_besides<W: Drop, X: Drop, S: Scale<V>>(
         &self,
