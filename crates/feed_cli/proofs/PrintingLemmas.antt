@@ -1,5 +1,5 @@
 -- Lemmas on texts that are told to a device one after the other.
-use Rattle.std.proofs.Common.{Result, Ok, Err, OnErr, ◌≡◌, refl, sym, ap, ◌∙◌, ℕ, ◌+◌, ◌<◌, Bool, true, false, List, [], ◌∷◌, ◌++◌, length, take, get_or, MutBor, append_assoc, append-nil, Option, Some, subst, codes, flat_map}
+use Rattle.std.proofs.Common.{Result, Ok, Err, OnErr, ◌≡◌, refl, sym, ap, ◌∙◌, ℕ, ◌+◌, ◌<◌, Bool, true, false, List, [], ◌∷◌, ◌++◌, length, take, get_or, MutBor, append_assoc, append-nil, Option, Some, None, subst, codes, flat_map}
 use Rattle.std.specs.FinMap.{entries}
 use Rattle.std.specs.Io.KnownBytes.{Appends}
 use Rattle.std.specs.List.{FoldsTo}
@@ -8,13 +8,14 @@ use Rattle.std.proofs.lemmas.Grind.{flat_map-append}
 use Rattle.feed_text.specs.Ascii.{quotation_mark, line_feed}
 use Rattle.feed_text.specs.Strings.{written_byte, written_string}
 use Rattle.feed_note.specs.Texts.{batch_text, snapshot_text}
-use Rattle.feed_note.specs.Written.{written_members, written_name, written_change, written_token}
-use Rattle.std.proofs.KnownBytes.{Appends-trans}
+use Rattle.feed_note.specs.Written.{written_members, written_change, written_token}
+use Rattle.std.proofs.KnownBytes.{Appends-nil, Appends-trans}
 use Rattle.feed_http.specs.Device.{AppendsPrefix, HasFailed}
 use Rattle.feed_tables.specs.declared.change.Change.{Change}
 use Rattle.feed_tables.specs.declared.change.Change.TheVariants.{Clear}
 use Rattle.feed_tables.specs.Listers.{FailsIn}
 use Rattle.feed_tables.specs.Tables.{Contents, or_clear, listed, listing}
+use Rattle.feed_cli.specs.Openings.{beginning}
 use Rattle.feed_cli.specs.Printing.{Sends, Tells, Prints, PrintsChange, end_before, end_with}
 use Rattle.feed_cli.specs.declared.printing.Printer.{Printer}
 use Rattle.feed_cli.specs.declared.printing.Waiting.{Waiting}
@@ -47,16 +48,16 @@ prefix_behind a b p s t (prefix, rest, e, h) = (prefix, rest ++ t, regrouped p s
 fails_then : (a b c : Option (List ℕ)) (f g h : ℕ) (p q r : Waiting) (s t : List ℕ) (failed : Bool)
     → q.has_failed ≡ failed
     → Tells a b f g p q s → Tells b c g h q r t → p.has_failed ≡ false → r.has_failed ≡ true
-    → AppendsPrefix a c (p.bytes.items ++ (s ++ t)) × HasFailed f h
+    → AppendsPrefix a c (p.bytes ++ (s ++ t)) × HasFailed f h
 fails_then a b c f g h p q r s t true m first second begun ended =
     let (prefix, risen) = first.fails begun m in
     let (over, same, kept) = second.rests m in
-    let whole = prefix_behind a b p.bytes.items s t prefix in
-    (subst (λ d. AppendsPrefix a d (p.bytes.items ++ (s ++ t))) (sym same) whole, subst (HasFailed f) (sym kept) risen)
+    let whole = prefix_behind a b p.bytes s t prefix in
+    (subst (λ d. AppendsPrefix a d (p.bytes ++ (s ++ t))) (sym same) whole, subst (HasFailed f) (sym kept) risen)
 fails_then a b c f g h p q r s t false m first second begun ended =
     let (before, kept, sent) = first.sends m in
     let (prefix, risen) = second.fails m ended in
-    (prefix_before a b c p.bytes.items q.bytes.items s t sent prefix, subst (λ k. HasFailed k h) kept risen)
+    (prefix_before a b c p.bytes q.bytes s t sent prefix, subst (λ k. HasFailed k h) kept risen)
 
 -- a text and then another one
 pub tells_then : (a b c : Option (List ℕ)) (f g h : ℕ) (p q r : Waiting) (s t : List ℕ)
@@ -66,12 +67,22 @@ tells_then a b c f g h p q r s t first second =
       sends = λ ended.
           let (mid, kept, sent) = second.sends ended in
           let (begun, held, gone) = first.sends mid in
-          (begun, kept ∙ held, sends_trans a b c p.bytes.items q.bytes.items r.bytes.items s t gone sent);
+          (begun, kept ∙ held, sends_trans a b c p.bytes q.bytes r.bytes s t gone sent);
       fails = λ begun ended. fails_then a b c f g h p q r s t q.has_failed refl first second begun ended;
       rests = λ begun.
           let (mid, same, kept) = first.rests begun in
           let (over, again, held) = second.rests mid in
           (over, again ∙ same, held ∙ kept);
+    }
+
+-- a text that waits
+pub waits_told : (a : Option (List ℕ)) (f : ℕ) (p q : Waiting) (text : List ℕ)
+    → q.has_failed ≡ p.has_failed → q.bytes ≡ p.bytes ++ text → Tells a a f f p q text
+waits_told a f p q text same more =
+    record {
+      sends = λ ended. (sym same ∙ ended, refl, ([], sym more, Appends-nil a));
+      fails = λ begun ended. absurd (cc (same, begun, ended));
+      rests = λ begun. (same ∙ begun, refl, refl);
     }
 
 -- the same text in other words
@@ -104,7 +115,7 @@ around id = codes "\",\"id\":" ++ id ++ codes ",\"data\":"
 -- the id and what stands around it
 pub id_told : (id : List ℕ)
     → codes "\",\"id\":\"" ++ flat_map written_byte id ++ codes "\",\"data\":"
-    ≡ codes "\",\"id\":" ++ written_name (Some id) ++ codes ",\"data\":"
+    ≡ around (written_string id)
 id_told id =
     let x : List ℕ = codes "\",\"id\":\"" ++ flat_map written_byte id in
     sym (append_assoc x (quotation_mark ∷ []) (codes ",\"data\":"))
@@ -139,6 +150,30 @@ line_told before kind id content =
     ∙ ap (λ l. l ++ content) (append_assoc before (x ++ k) (around id))
     ∙ append_assoc before (x ++ k ++ around id) content
     ∙ ap (λ l. before ++ l) (members_told kind id content)
+
+-- what begins a line behind what stands before it
+pub beginning_told : (before kind : List ℕ)
+    → before ++ codes "{\"type\":\"" ++ flat_map written_byte kind ++ codes "\",\"id\":\""
+    ≡ before ++ beginning kind
+beginning_told before kind =
+    let x : List ℕ = codes "{\"type\":\"" in
+    let k : List ℕ = flat_map written_byte kind in
+    let i : List ℕ = codes "\",\"id\":\"" in
+    ap (λ l. l ++ i) (append_assoc before x k) ∙ append_assoc before (x ++ k) i
+
+-- a line of an object behind what stands before it
+pub object_told : (before kind id content : List ℕ)
+    → before ++ beginning kind ++ flat_map written_byte id ++ codes "\",\"data\":" ++ content
+    ≡ before ++ written_members (written_string kind) (written_string id) content
+object_told before kind id content =
+    let x : List ℕ = before ++ codes "{\"type\":\"" ++ flat_map written_byte kind in
+    let i : List ℕ = codes "\",\"id\":\"" in
+    let name : List ℕ = flat_map written_byte id in
+    let d : List ℕ = codes "\",\"data\":" in
+    ap (λ l. l ++ name ++ d ++ content) (sym (beginning_told before kind))
+    ∙ ap (λ l. l ++ content)
+    (ap (λ l. l ++ d) (append_assoc x i name) ∙ append_assoc x (i ++ name) d ∙ ap (λ l. x ++ l) (id_told id))
+    ∙ line_told before kind (written_string id) content
 
 -- the token and what stands around it
 pub token_told : (token : List ℕ)
@@ -242,8 +277,8 @@ module _ {W : Type 0} (contents : W → Option (List ℕ)) (failures : W → ℕ
       )
 
 -- all of a text was written where nothing waited before and nothing waits after
-pub all_sent : (a b : Option (List ℕ)) (f g : ℕ) (p q : Waiting) (text : List ℕ) → p.bytes.items ≡ []
-    → q.bytes.items ≡ [] → q.has_failed ≡ false → Tells a b f g p q text → Appends a b text
+pub all_sent : (a b : Option (List ℕ)) (f g : ℕ) (p q : Waiting) (text : List ℕ) → p.bytes ≡ []
+    → q.bytes ≡ [] → q.has_failed ≡ false → Tells a b f g p q text → Appends a b text
 all_sent a b f g p q text none left ended told =
     let (begun, kept, (sent, is, h)) = told.sends ended in
     let same : text ≡ sent =
@@ -252,23 +287,23 @@ all_sent a b f g p q text none left ended told =
 
 -- a prefix of it was written where nothing waited before and a write failed
 pub prefix_sent : (a b : Option (List ℕ)) (f g : ℕ) (p q : Waiting) (text rest : List ℕ)
-    → p.bytes.items ≡ [] → p.has_failed ≡ false → q.has_failed ≡ true → Tells a b f g p q text
+    → p.bytes ≡ [] → p.has_failed ≡ false → q.has_failed ≡ true → Tells a b f g p q text
     → AppendsPrefix a b (text ++ rest) × HasFailed f g
 prefix_sent a b f g p q text rest none begun failed told =
     let (prefix, risen) = told.fails begun failed in
-    (subst (λ l. AppendsPrefix a b (l ++ (text ++ rest))) none (prefix_behind a b p.bytes.items text rest prefix), risen)
+    (subst (λ l. AppendsPrefix a b (l ++ (text ++ rest))) none (prefix_behind a b p.bytes text rest prefix), risen)
 
 -- what came of the lines of a snapshot
 module _ {W : Type 0} (contents : W → Option (List ℕ)) (failures : W → ℕ) (device : MutBor W) (waiting : Waiting)
-    (tables : Contents) (token : List ℕ) (none : waiting.bytes.items ≡ []) (begun : waiting.has_failed ≡ false) where
+    (tables : Contents) (token : List ℕ) (none : waiting.bytes ≡ []) (begun : waiting.has_failed ≡ false) where
   abbrev pub new_printer : Printer W
-  new_printer = record { device = device; waiting = waiting; is_begun = false }
+  new_printer = record { device = device; waiting = waiting; is_begun = false; opening = None }
 
   -- where all changes were taken
   module _ (listed_to ended : Printer W) (final : W)
       (taken : FoldsTo (PrintsChange contents failures false) new_printer (listing tables) listed_to)
       (last : Prints contents failures listed_to ended (end_with token))
-      (left : ended.waiting.bytes.items ≡ [])
+      (left : ended.waiting.bytes ≡ [])
       (back : device.ghost_name ≡ ended.device.ghost_name → final ≡ ended.device.now) where
     whole : Prints contents failures new_printer ended (snapshot_text tables token)
     whole =

@@ -2,6 +2,7 @@ pub mod Check
 pub mod Commands
 pub mod Fault
 pub mod InTurn
+pub mod Openings
 pub mod Play
 pub mod Printing
 pub mod Pull

@@ -18,10 +18,10 @@ Sends old new before after text =
 pub record Tells (old new : Option (List ℕ)) (failures failures_after : ℕ) (before after : Waiting) (text : List ℕ) : Type 0 where
   -- where no write has failed up to here, none of the text is lost
   pub sends : after.has_failed ≡ false → (before.has_failed ≡ false) × (failures_after ≡ failures)
-      × Sends old new before.bytes.items after.bytes.items text
+      × Sends old new before.bytes after.bytes text
   -- where one fails here, a prefix was written
   pub fails : before.has_failed ≡ false → after.has_failed ≡ true
-      → AppendsPrefix old new (before.bytes.items ++ text) × HasFailed failures failures_after
+      → AppendsPrefix old new (before.bytes ++ text) × HasFailed failures failures_after
   -- and nothing is written after it
   pub rests : before.has_failed ≡ true → (after.has_failed ≡ true) × (new ≡ old) × (failures_after ≡ failures)
 

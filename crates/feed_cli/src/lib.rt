@@ -1,9 +1,11 @@
 //! The commands, over devices.
 #![tactic(auto)]
 
+mod buffer;
 mod commands;
 mod fault;
 mod input;
+mod opening;
 mod printing;
 mod snapshot;
 mod telling;

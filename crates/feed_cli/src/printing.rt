@@ -1,26 +1,24 @@
 //! The lines of a snapshot, printed without a text of all of them.
 ghost use Rattle.std.specs.Prelude.{◌≡◌, true, false, [], OnOk, OnErr, ◌++◌, flat_map, codes};
 ghost use Rattle.std.specs.Io.KnownBytes.{Appends};
-ghost use Rattle.std.specs.Option.{option_copied};
 ghost use Rattle.feed_text.specs.Strings.{written_string, written_byte as byte_text};
 ghost use Rattle.feed_http.specs.Device.{AppendsPrefix, HasFailed};
 ghost use Rattle.feed_note.specs.Texts.{snapshot_text};
-ghost use Rattle.feed_note.specs.Written.{written_members, written_name};
+ghost use Rattle.feed_note.specs.Written.{written_members};
+ghost use Rattle.feed_cli.specs.Openings.{beginning};
 ghost use Rattle.feed_cli.specs.Printing.{Tells, Prints, PrintsChange, end_before, end_with};
 
-use arrayvec::ArrayVec;
+use crate::buffer::Buffer;
+use crate::opening::Opening;
 use feed_http::device::{Failed, FeedWrite, write_all};
 use feed_tables::{Lister, Name, Tables};
 use feed_text::{ObjectText, is_unescaped, written_byte};
-
-/// How many bytes of a text wait at most.
-const ROOM: usize = 16_384;
 
 /// The end of a text that is on its way to a device, or that the device failed. Nothing is written
 /// after that.
 #[derive(Drop)]
 struct Waiting {
-    bytes: ArrayVec<u8, ROOM>,
+    bytes: Buffer,
     has_failed: bool,
 }
 
@@ -29,7 +27,7 @@ impl Waiting {
     fn flush<W: FeedWrite>(&mut self, device: &mut W)
         ensures told { Tells (W.contents device.old) (W.contents device.new)
             (W.failures device.old) (W.failures device.new) self.old self.new [] }
-        ensures none { self.new.bytes.items ≡ [] }
+        ensures none { self.new.bytes ≡ [] }
     {
         if !self.has_failed {
             self.has_failed = write_all(device, self.bytes.as_slice()).is_err();
@@ -39,7 +37,7 @@ impl Waiting {
 
     /// Writes a text where nothing waits.
     fn send<W: FeedWrite>(&mut self, device: &mut W, text: &[u8])
-        requires { self.old.bytes.items ≡ [] }
+        requires { self.old.bytes ≡ [] }
         ensures { Tells (W.contents device.old) (W.contents device.new)
             (W.failures device.old) (W.failures device.new) self.old self.new text.now }
     {
@@ -50,16 +48,26 @@ impl Waiting {
 
     /// Has a text wait, and writes it where it is too long.
     #[inline(always)]
-    #[tactic(auto, using(crate::proofs::PrintingLemmas::tells_then))]
     fn put<W: FeedWrite>(&mut self, device: &mut W, text: &[u8])
         ensures { Tells (W.contents device.old) (W.contents device.new)
             (W.failures device.old) (W.failures device.new) self.old self.new text.now }
     {
-        if self.bytes.try_extend_from_slice(text).is_ok() {
-            return;
+        if !self.bytes.append(text) {
+            self.put_behind(device, text);
         }
+    }
+
+    /// Writes what waits, and then has a text wait, or writes it where it is too long. This is rare,
+    /// and a call of its own, so that what puts texts stays short.
+    #[cold]
+    #[inline(never)]
+    #[tactic(auto, using(crate::proofs::PrintingLemmas::tells_then))]
+    fn put_behind<W: FeedWrite>(&mut self, device: &mut W, text: &[u8])
+        ensures { Tells (W.contents device.old) (W.contents device.new)
+            (W.failures device.old) (W.failures device.new) self.old self.new text.now }
+    {
         self.flush(device);
-        if self.bytes.try_extend_from_slice(text).is_err() {
+        if !self.bytes.append(text) {
             self.send(device, text);
         }
     }
@@ -76,6 +84,8 @@ impl Waiting {
     }
 
     /// Puts what stands for bytes in a JSON string.
+    #[cold]
+    #[inline(never)]
     fn put_escaped<W: FeedWrite>(&mut self, device: &mut W, text: &[u8])
         ensures { Tells (W.contents device.old) (W.contents device.new)
             (W.failures device.old) (W.failures device.new) self.old self.new
@@ -87,6 +97,7 @@ impl Waiting {
     }
 
     /// Puts what stands between the quotation marks of the JSON string of a text.
+    #[inline(always)]
     fn put_string<W: FeedWrite>(&mut self, device: &mut W, text: &str)
         ensures { Tells (W.contents device.old) (W.contents device.new)
             (W.failures device.old) (W.failures device.new) self.old self.new
@@ -98,22 +109,6 @@ impl Waiting {
             self.put_escaped(device, text.as_bytes());
         }
     }
-
-    /// Puts what stands between the type and the data of a line.
-    fn put_id<W: FeedWrite>(&mut self, device: &mut W, id: Option<&str>)
-        ensures { Tells (W.contents device.old) (W.contents device.new)
-            (W.failures device.old) (W.failures device.new) self.old self.new
-            (codes "\",\"id\":" ++ written_name (option_copied id.entry) ++ codes ",\"data\":") }
-    {
-        match id {
-            None => self.put(device, b"\",\"id\":null,\"data\":"),
-            Some(name) => {
-                self.put(device, b"\",\"id\":\"");
-                self.put_string(device, name);
-                self.put(device, b"\",\"data\":");
-            }
-        }
-    }
 }
 
 /// Prints the lines of changes to a device, but for the end of the last one: the token stands
@@ -123,6 +118,8 @@ struct Printer<'a, W> {
     waiting: Waiting,
     // A line is begun that has no end yet.
     is_begun: bool,
+    // What the lines of the type at hand begin with.
+    opening: Option<Opening>,
 }
 
 // Written out: the device is left as the printer has it, and a caller's proof can name that.
@@ -134,6 +131,7 @@ impl<'a, W> Drop for Printer<'a, W> {
             device: _,
             waiting: _,
             is_begun: _,
+            opening: _,
         } = self;
     }
 }
@@ -155,17 +153,61 @@ impl<'a, W: FeedWrite> Printer<'a, W> {
         self.waiting.put_string(self.device, kind);
     }
 
-    /// Ends the line before, where there is one, and prints the next but for its end.
-    fn print(&mut self, kind: &str, id: Option<&str>, content: &[u8]) -> Result<(), Failed>
+    /// Ends the line before, where there is one, and begins that of an object up to its id. The
+    /// objects of a type follow one another, so what their lines begin with is made once.
+    #[inline(always)]
+    fn begin_object(&mut self, kind: &str)
+        ensures begun { self.new.is_begun ≡ true }
+        ensures prints { Prints W.contents W.failures self.old self.new
+            (end_before self.old.is_begun ++ beginning kind.now) }
+    {
+        match &self.opening {
+            Some(opening) if self.is_begun && opening.is_of(kind) => {
+                self.waiting.put(self.device, opening.bytes());
+            }
+            _ => self.begin_first(kind),
+        }
+    }
+
+    /// Does the same for the first object of a type, and keeps what the next ones begin with.
+    #[inline(never)]
+    fn begin_first(&mut self, kind: &str)
+        ensures begun { self.new.is_begun ≡ true }
+        ensures prints { Prints W.contents W.failures self.old self.new
+            (end_before self.old.is_begun ++ beginning kind.now) }
+    {
+        self.begin(kind);
+        self.waiting.put(self.device, b"\",\"id\":\"");
+        self.opening = Opening::new(kind);
+    }
+
+    /// Ends the line before, where there is one, and prints that of an object but for its end.
+    fn print_object(&mut self, kind: &str, id: &str, content: &[u8]) -> Result<(), Failed>
         ensures begun { self.new.is_begun ≡ true }
         ensures prints { Prints W.contents W.failures self.old self.new
             (end_before self.old.is_begun ++ written_members (written_string kind.now)
-            (written_name (option_copied id.entry)) content.now) }
+            (written_string id.now) content.now) }
+        ensures ok { OnOk result (self.new.waiting.has_failed ≡ false) }
+        ensures err { OnErr result (self.new.waiting.has_failed ≡ true) }
+    {
+        self.begin_object(kind);
+        self.waiting.put_string(self.device, id);
+        self.waiting.put(self.device, b"\",\"data\":");
+        self.waiting.put(self.device, content);
+        self.waiting.outcome()
+    }
+
+    /// Ends the line before, where there is one, and prints one without an id but for its end.
+    fn print_whole(&mut self, kind: &str, content: &[u8]) -> Result<(), Failed>
+        ensures begun { self.new.is_begun ≡ true }
+        ensures prints { Prints W.contents W.failures self.old self.new
+            (end_before self.old.is_begun ++ written_members (written_string kind.now)
+            (codes "null") content.now) }
         ensures ok { OnOk result (self.new.waiting.has_failed ≡ false) }
         ensures err { OnErr result (self.new.waiting.has_failed ≡ true) }
     {
         self.begin(kind);
-        self.waiting.put_id(self.device, id);
+        self.waiting.put(self.device, b"\",\"id\":null,\"data\":");
         self.waiting.put(self.device, content);
         self.waiting.outcome()
     }
@@ -173,7 +215,7 @@ impl<'a, W: FeedWrite> Printer<'a, W> {
     /// Ends the last line with the token on it, and writes what waits.
     fn end(&mut self, token: &str) -> Result<(), Failed>
         ensures prints { Prints W.contents W.failures self.old self.new (end_with token.now) }
-        ensures none { self.new.waiting.bytes.items ≡ [] }
+        ensures none { self.new.waiting.bytes ≡ [] }
         ensures ok { OnOk result (self.new.waiting.has_failed ≡ false) }
         ensures err { OnErr result (self.new.waiting.has_failed ≡ true) }
     {
@@ -193,19 +235,19 @@ impl<'a, W: FeedWrite> Lister for Printer<'a, W> {
     ghost fails = { PrintsChange W.contents W.failures true };
 
     fn set(&mut self, kind: &Name, id: &Name, object: &ObjectText) -> Result<(), Failed> {
-        self.print(kind.text(), Some(id.text()), object.bytes())
+        self.print_object(kind.text(), id.text(), object.bytes())
     }
 
     fn empty(&mut self, kind: &Name) -> Result<(), Failed> {
-        self.print(kind.text(), None, b"[]")
+        self.print_whole(kind.text(), b"[]")
     }
 
     fn single(&mut self, kind: &Name, object: &ObjectText) -> Result<(), Failed> {
-        self.print(kind.text(), None, object.bytes())
+        self.print_whole(kind.text(), object.bytes())
     }
 
     fn clear(&mut self) -> Result<(), Failed> {
-        self.print("contest", None, b"null")
+        self.print_whole("contest", b"null")
     }
 }
 
@@ -224,13 +266,14 @@ pub(crate) fn print_lines<W: FeedWrite>(
     ensures failed { OnErr result (HasFailed (W.failures device.old) (W.failures device.new)) }
 {
     let waiting = Waiting {
-        bytes: ArrayVec::new(),
+        bytes: Buffer::new(),
         has_failed: false,
     };
     let mut printer = Printer {
         device,
         waiting,
         is_begun: false,
+        opening: None,
     };
     tables.list(&mut printer)?;
     printer.end(token)
