@@ -1,7 +1,7 @@
 //! Items that are put into a tree all at once. Those that stand next to each other go down in one
 //! walk, and are parted only where an item of the tree stands between them.
 
-ghost use Rattle.std.specs.Prelude.{◌≡◌, ◌+◌, ◌∷◌, ◌++◌, IsTrue, length, min};
+ghost use Rattle.std.specs.Prelude.{◌≡◌, ◌+◌, [], ◌∷◌, ◌++◌, IsTrue, length, min};
 ghost use Rattle.feed_tables.specs.Bytes.{IsInOrder};
 ghost use Rattle.feed_tables.specs.Tree.{with_item};
 ghost use Rattle.feed_tables.specs.Unions.{put_each, entry_in, item_or, AreBefore, AreAfter, AreAt, Stand, Parts};
@@ -40,6 +40,9 @@ impl<V: Drop> Tree<V> {
         ensures kept { (scale : ScaleOf V) → weighed scale self.new + weighed scale spare.new
             ≡ weighed scale self.old + weighed scale items + weighed scale spare.old }
     {
+        if items.is_empty() {
+            return;
+        }
         match &mut self.node {
             Node::Leaf => *self = items,
             Node::Fork(fork) => match items.side(&fork.id) {
@@ -64,6 +67,14 @@ impl<V: Drop> Tree<V> {
                 }
             },
         }
+    }
+
+    // Whether there are no items.
+    #[inline(always)]
+    fn is_empty(&self) -> bool
+        ensures { IsTrue result → self.now ≡ [] }
+    {
+        matches!(self.node, Node::Leaf)
     }
 
     // Which side of a name all items stand on; `Equal` where they stand on both, or one has it.
