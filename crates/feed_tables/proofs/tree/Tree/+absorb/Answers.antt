@@ -32,16 +32,6 @@ absorb-requires-in-Equal-2 g t c κs within =
     let right : c.deref_mut-in-Equal-3.result.now.right ≡ c.deref_mut-in-Equal.result.now.right = ap (λ (x : Fork _). x.right) c.deref_mut-in-Equal-3.ensures.value ∙ ap (λ (x : Fork _). x.right) c.take_item.ensures.item ∙ ap (λ (x : Fork _). x.right) c.deref_mut-in-Equal-2.ensures.value in
     (search rules, (within, (subst (λ (t : List (List ℕ × _)). IsInOrder t) (sym right) f.right, p.1)))
 
-pub returns-then-is_empty-clause-put : goal.returns-then-is_empty-clause-put
-returns-then-is_empty-clause-put g t c =
-    let none : c.args.items ≡ [] = c.is_empty.ensures c.if-is_empty.true in
-    rw none refl
-
-pub returns-then-is_empty-clause-kept : goal.returns-then-is_empty-clause-kept
-returns-then-is_empty-clause-kept g t c = λ scale.
-    let none : c.args.items ≡ [] = c.is_empty.ensures c.if-is_empty.true in
-    omega (arith, ap (weighed scale) none)
-
 pub returns-in-Leaf-clause-put : goal.returns-in-Leaf-clause-put
 returns-in-Leaf-clause-put g t c =
     let none : c.args.self.now ≡ [] = sym c.self.view_is ∙ ap entries_of c.in-Leaf.is in
