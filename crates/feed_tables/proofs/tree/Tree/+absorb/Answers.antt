@@ -1,9 +1,8 @@
-use Rattle.std.proofs.Common.{rules, arith, ◌≡◌, [], ◌∷◌, ◌++◌, sym, ap, ◌∙◌, subst, refl, Less, Equal, Greater, List, ℕ}
+use Rattle.std.proofs.Common.{rules, arith, ◌≡◌, [], ◌∷◌, ◌++◌, sym, ap, ◌∙◌, subst, refl, List, ℕ}
 use Rattle.std.specs.declared.cmp.Ordering.{Ordering}
 use Rattle.feed_tables.specs.Bytes.{IsInOrder}
 use Rattle.feed_tables.specs.Tree.{entries_of}
 use Rattle.feed_tables.specs.Unions.{put_each, entry_in, item_or, AreBefore, AreAfter, Stand, Parts}
-use Rattle.feed_tables.specs.Walks.{weighed}
 use Rattle.feed_tables.specs.declared.tree.Fork.{Fork}
 use Rattle.feed_tables.proofs.TreeFork.{at_lent}
 use Rattle.feed_tables.proofs.Unions.{each_of_none, left_in, right_in, parted_in, parts_in_order, kept_left, kept_right, kept_both}
