@@ -111,15 +111,6 @@ module _ {V : Type 0} (scale : Scale V) where
       omega (arith, weighed_over items lost, weighed_less items lost, x_is, come_is, r_is)
 
   -- where nothing is taken away, and where nothing is put in
-  pub weighed_all : {W X : Type 0} (gone : FinMap byte_order W) (others : FinMap byte_order X)
-      (m : FinMap byte_order V) (n : ℕ) → gone ≡ empty → others ≡ empty
-      → n ≡ min (weighed scale (entries (map_less others (map_less gone m)))) 18446744073709551615
-      → n ≡ min (weighed scale (entries m)) 18446744073709551615
-  weighed_all gone others m n none no_others is =
-      is
-      ∙ ap (λ (o : FinMap byte_order V). min (weighed scale (entries o)) 18446744073709551615)
-      (less_none others (map_less gone m) no_others ∙ less_none gone m none)
-
   pub in_less : {W X : Type 0} (items : FinMap byte_order V) (gone : FinMap byte_order W)
       (m : FinMap byte_order V) (es : List (List ℕ × X)) (n : ℕ) → items ≡ empty
       → n ≡ min (weighed_in scale (map_over items (map_less gone m)) es) 18446744073709551615

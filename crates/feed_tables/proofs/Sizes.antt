@@ -27,7 +27,7 @@ module _ {V : Type 0} where
 
   module _ (scale : Scale V) where
     -- an item put under a name
-    weighed_put : (k : List ℕ) (v : V) (es : List (List ℕ × V)) → IsInOrder es
+    pub weighed_put : (k : List ℕ) (v : V) (es : List (List ℕ × V)) → IsInOrder es
         → weighed scale (put byte_order k v es) + weight scale k (find byte_order k es)
         ≡ weighed scale es + scale k v
     weighed_put k v [] h = omega arith

@@ -1,24 +1,25 @@
 -- Entries that are put in all at once, seen at one entry of those that are held.
-use Rattle.std.proofs.Common.{Some, None, Option, Less, Equal, Greater, ◌≡◌, ℕ, ◌+◌, min, List, [], ◌∷◌, ◌++◌, length, sym, ap, ◌∙◌, refl, subst, arith, append_assoc}
+use Rattle.std.proofs.Common.{Some, None, Option, Less, Equal, Greater, ◌≡◌, ℕ, ◌+◌, ◌≤◌, min, List, [], ◌∷◌, ◌++◌, length, sym, ap, ◌∙◌, refl, subst, arith, append_assoc}
 use Rattle.std.specs.Prelude.{T}
 use Rattle.std.proofs.lemmas.List.{append-nil}
 use Rattle.std.specs.declared.alloc.Global.{Global}
 use Rattle.std.specs.declared.boxed.Box.{Box}
-use Rattle.std.specs.FinMap.{FinMap, put, from_sorted, entries}
+use Rattle.std.specs.FinMap.{FinMap, find, put, from_sorted, entries}
 use Rattle.std.specs.FinMap.Entries.{by_order, below_all}
 use Rattle.feed_tables.specs.Bytes.{byte_order, IsInOrder}
 use Rattle.feed_tables.specs.Unions.{put_each, entry_in, item_or, AreBefore, AreAfter, AreAt, Parts}
 use Rattle.feed_tables.specs.declared.tree.Fork.{Fork}
 use Rattle.feed_tables.proofs.Order.{total}
-use Rattle.feed_tables.proofs.Entries.{first, second, less, later, earlier, below_middle, sorted_left, sorted_from, sorted_right, below_right, put_left, put_here, put_right}
+use Rattle.feed_tables.proofs.Entries.{first, second, less, later, earlier, below_middle, sorted_left, sorted_from, below_right, put_left, put_here, put_right}
 use Rattle.feed_tables.proofs.Maps.{byte_order_antisymmetric, in_order_put, from_sorted_put}
-use Rattle.feed_tables.specs.Tree.{put_all, entries_of}
+use Rattle.feed_tables.specs.Tree.{put_all, entries_of, handed, named}
 use Rattle.feed_tables.specs.Map.{map_over}
-use Rattle.feed_tables.specs.Walks.{Scale, weighed, weighed_in, each_one}
+use Rattle.feed_tables.specs.Walks.{Scale, weight, weighed, weighed_in, each_one}
 use Rattle.feed_tables.specs.declared.tree.Node.{Node}
 use Rattle.feed_tables.specs.declared.tree.Node.TheVariants.{Fork as a_fork}
 use Rattle.feed_tables.proofs.MapsOver.{entries_are, put_over}
 use Rattle.feed_tables.proofs.PatchSizes.{weighed-append, weighed_over}
+use Rattle.feed_tables.proofs.Sizes.{weighed_put}
 use Rattle.feed_tables.proofs.TreeFork.{AtFork, at_fork}
 
 module _ {V : Type 0} where
@@ -193,6 +194,45 @@ module _ {V : Type 0} where
         ap (λ (n : List ℕ). scale n old) k,
         ap (λ (n : List ℕ). scale n own.value.item) k,
       )
+
+  -- what came back of an item that was put in, and what weighs as much
+  back_weighs : (scale : Scale V) (o : Option (Box (Fork V) Global)) (k : List ℕ) (held : Option V)
+      → handed o ≡ named k held → weighed scale (entry_in o) ≡ weight scale k held
+  back_weighs scale None k None is = refl
+  back_weighs scale None k (Some x) is = cc
+  back_weighs scale (Some node) k None is = cc
+  back_weighs scale (Some node) k (Some x) is =
+      let same : ◌≡◌ {A = List ℕ × V} (node.value.id, node.value.item) (k, x) = cc in
+      omega (arith, ap (λ (e : List ℕ × V). scale e.0 e.1) same)
+
+  -- at most one item
+  module _ (d items rest new : List (List ℕ × V)) (k : List ℕ) (v : V) (one : length items ≤ 1)
+      (first_is : items ≡ (k, v) ∷ rest) (put_in : new ≡ put byte_order k v d) where
+    none_left : (es : List (List ℕ × V)) → length ((k, v) ∷ es) ≤ 1 → es ≡ []
+    none_left [] h = refl
+    none_left (e ∷ es) h = absurd (omega (arith, h))
+
+    only : items ≡ (k, v) ∷ []
+    only =
+        let none : rest ≡ [] = none_left rest (subst (λ (t : List (List ℕ × V)). length t ≤ 1) first_is one) in
+        first_is ∙ ap (λ (t : List (List ℕ × V)). (k, v) ∷ t) none
+
+    pub one_put : new ≡ put_each items d
+    one_put = put_in ∙ ap (λ (t : List (List ℕ × V)). put_each t d) (sym only)
+
+    pub one_kept : (scale : Scale V) (o : Option (Box (Fork V) Global)) (a b : List (List ℕ × V))
+        → IsInOrder d → handed o ≡ named k (find byte_order k d) → b ≡ entry_in o ++ a
+        → weighed scale new + weighed scale b ≡ weighed scale d + weighed scale items + weighed scale a
+    one_kept scale o a b h back aside =
+        omega (
+          arith,
+          weighed_put scale k v d h,
+          back_weighs scale o k (find byte_order k d) back,
+          ap (weighed scale) aside,
+          weighed-append scale (entry_in o) a,
+          ap (weighed scale) only,
+          ap (weighed scale) put_in,
+        )
 
   -- what all items weigh with the spare ones, where items were put in on a side of a fork
   module _ (scale : Scale V) (d l r items new : List (List ℕ × V)) (k : List ℕ) (v : V) where

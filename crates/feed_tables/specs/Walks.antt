@@ -2,7 +2,7 @@
 use Rattle.std.specs.Prelude.{◌≡◌, Bool, not, ℕ, ◌+◌, List, [], ◌∷◌, Option, None, Some}
 use Rattle.std.specs.Option.{is_some}
 use Rattle.std.specs.List.{AllByRecursion}
-use Rattle.std.specs.FinMap.{FinMap, get, insert}
+use Rattle.std.specs.FinMap.{FinMap, get}
 use Rattle.std.specs.FinMap.Entries.{where_key}
 use Rattle.feed_tables.specs.Bytes.{byte_order}
 use Rattle.feed_tables.specs.Tables.{object_count}
@@ -25,12 +25,6 @@ weighed scale (e ∷ es) = scale e.0 e.1 + weighed scale es
 abbrev pub weighed_in : {V W : Type 0} → Scale V → FinMap byte_order V → List (List ℕ × W) → ℕ
 weighed_in scale held [] = 0
 weighed_in scale held (e ∷ es) = weight scale e.0 (get held e.0) + weighed_in scale held es
-
--- how much goes where these items are put in, one after the other
-abbrev pub lost_all : {V : Type 0} → Scale V → List (List ℕ × V) → FinMap byte_order V → ℕ
-lost_all scale [] held = 0
-lost_all scale (e ∷ es) held =
-    weight scale e.0 (get held e.0) + lost_all scale es (insert held e.0 e.1)
 
 -- each item counts as one
 abbrev pub each_one : {V : Type 0} → Scale V

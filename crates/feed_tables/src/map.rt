@@ -11,7 +11,6 @@ ghost use Rattle.feed_tables.specs.Map.{Exchanges, map_over, map_less, TakesFirs
 ghost use Rattle.feed_tables.specs.Objects.{AreObjects};
 ghost use Rattle.feed_tables.specs.Patches.{sets_in};
 ghost use Rattle.feed_tables.specs.Tables.{listed, AreTypes};
-ghost use Rattle.feed_tables.specs.Tree.{handed, named};
 ghost use Rattle.feed_tables.specs.Walks.{weight, weighed, weighed_in};
 
 use crate::ids::Ids;
@@ -85,35 +84,9 @@ impl<V: Drop> Map<V> {
     pub fn insert(&mut self, node: Box<Fork<V>>)
         ensures { self.new ≡ map.insert self.old node.value.id node.value.item }
     {
-        let _old = self.exchange(node);
-    }
-
-    // The same, and gives the node back with the item that went, where one did.
-    fn exchange(&mut self, node: Box<Fork<V>>) -> Option<Box<Fork<V>>>
-        ensures put { self.new ≡ map.insert self.old node.value.id node.value.item }
-        ensures back { handed result ≡ named node.value.id (map.get self.old node.value.id) }
-    {
-        let mut spare = None;
-        let added = self.tree.insert(node, &mut spare);
+        let mut back = None;
+        let added = self.tree.insert(node, &mut back);
         self.count = self.count.saturating_add(added);
-        spare
-    }
-
-    /// Puts a node's item under its name, and adds up what goes and comes.
-    pub fn put<S: Scale<V>>(&mut self, node: Box<Fork<V>>, scale: &S, shift: &mut Shift)
-        ensures put { self.new ≡ map.insert self.old node.value.id node.value.item }
-        ensures lost { (n : ℕ) → shift.old.lost ≡ min n usize.MAX → shift.new.lost
-            ≡ min (n + weight (S.weight scale.now) node.value.id
-            (map.get self.old node.value.id)) usize.MAX }
-        ensures come { (n : ℕ) → shift.old.come ≡ min n usize.MAX → shift.new.come
-            ≡ min (n + S.weight scale.now node.value.id node.value.item) usize.MAX }
-    {
-        shift.come = shift.come.saturating_add(node.weigh(scale));
-        let lost = match self.exchange(node) {
-            None => 0,
-            Some(old) => old.weigh(scale),
-        };
-        shift.lost = shift.lost.saturating_add(lost);
     }
 
     /// Takes the item of this name away, where there is one.
@@ -141,28 +114,11 @@ impl<V: Drop> Map<V> {
         ensures come { result.come ≡ min (weighed (S.weight scale.now) (map.entries self))
             usize.MAX }
     {
-        let mut shift = Shift { lost: 0, come: 0 };
-        if other.count == 0 {
-            shift.come = self.weigh(scale);
-            *other = self;
-            return shift;
-        }
-        if self.count > 1 {
-            return self.join_into(other, scale);
-        }
-        self.tree.put_into(other, scale, &mut shift);
-        shift
-    }
-
-    // The same, all at once.
-    fn join_into<S: Scale<V>>(self, other: &mut Map<V>, scale: &S) -> Shift
-        ensures put { other.new ≡ map_over self other.old }
-        ensures lost { result.lost ≡ min (weighed_in (S.weight scale.now) other.old
-            (map.entries self)) usize.MAX }
-        ensures come { result.come ≡ min (weighed (S.weight scale.now) (map.entries self))
-            usize.MAX }
-    {
         let come = self.tree.weigh(scale);
+        if other.count == 0 {
+            *other = self;
+            return Shift { lost: 0, come };
+        }
         let count = other.count.saturating_add(self.count);
         let mut spare = Tree::new();
         other.tree.absorb(self.tree, &mut spare);

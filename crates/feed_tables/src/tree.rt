@@ -5,12 +5,11 @@ ghost use Rattle.std.specs.Prelude.{◌≡◌, ℕ, ◌+◌, ◌≤◌, ◌∷�
 ghost use Rattle.std.specs.Option.{option_copied};
 ghost use Rattle.std.specs.FinMap.{put, find};
 ghost use Rattle.feed_tables.specs.Bytes.{byte_order, IsInOrder, without};
-ghost use Rattle.feed_tables.specs.Tree.{parts, came, with_item, Swaps, FirstTaken, handed, named, put_all, without_all};
-ghost use Rattle.feed_tables.specs.Walks.{weighed, lost_all};
+ghost use Rattle.feed_tables.specs.Tree.{parts, came, with_item, Swaps, FirstTaken, handed, named, without_all};
 
 use crate::map::Map;
 use crate::name::{Key, Name};
-use crate::scale::{Scale, Shift};
+use crate::scale::Scale;
 use crate::tree::balance::{Growth, grow_left, grow_right, settle_left, settle_right, weigh};
 use std::alloc::{AllocError, Global};
 use std::cmp::Ordering;
@@ -201,26 +200,6 @@ impl<V: Drop> Tree<V> {
                         Some(first)
                     }
                 }
-            }
-        }
-    }
-
-    /// Puts all items into a map, and adds up what goes and comes. It takes no memory.
-    pub fn put_into<S: Scale<V>>(self, other: &mut Map<V>, scale: &S, shift: &mut Shift)
-        ensures put { other.new ≡ put_all self other.old }
-        ensures lost { (n : ℕ) → shift.old.lost ≡ min n usize.MAX → shift.new.lost
-            ≡ min (n + lost_all (S.weight scale.now) self other.old) usize.MAX }
-        ensures come { (n : ℕ) → shift.old.come ≡ min n usize.MAX → shift.new.come
-            ≡ min (n + weighed (S.weight scale.now) self) usize.MAX }
-    {
-        match self.node {
-            Node::Leaf => {}
-            Node::Fork(mut fork) => {
-                let left = mem::replace(&mut fork.left, Tree::new());
-                let right = mem::replace(&mut fork.right, Tree::new());
-                left.put_into(other, scale, shift);
-                other.put(fork, scale, shift);
-                right.put_into(other, scale, shift);
             }
         }
     }

@@ -1,7 +1,7 @@
 //! Items that are put into a tree all at once. Those that stand next to each other go down in one
 //! walk, and are parted only where an item of the tree stands between them.
 
-ghost use Rattle.std.specs.Prelude.{◌≡◌, ◌+◌, [], ◌∷◌, ◌++◌, IsTrue, length, min};
+ghost use Rattle.std.specs.Prelude.{◌≡◌, ◌+◌, ◌≤◌, [], ◌∷◌, ◌++◌, IsTrue, length, min};
 ghost use Rattle.feed_tables.specs.Bytes.{IsInOrder};
 ghost use Rattle.feed_tables.specs.Tree.{with_item};
 ghost use Rattle.feed_tables.specs.Unions.{put_each, entry_in, item_or, AreBefore, AreAfter, AreAt, Stand, Parts};
@@ -40,7 +40,8 @@ impl<V: Drop> Tree<V> {
         ensures kept { (scale : ScaleOf V) → weighed scale self.new + weighed scale spare.new
             ≡ weighed scale self.old + weighed scale items + weighed scale spare.old }
     {
-        if items.is_empty() {
+        if items.is_one_at_most() {
+            self.put_first(items, spare);
             return;
         }
         match &mut self.node {
@@ -66,6 +67,33 @@ impl<V: Drop> Tree<V> {
                     self.even();
                 }
             },
+        }
+    }
+
+    // Puts the first item in, as one that comes alone.
+    fn put_first(&mut self, mut items: Tree<V>, spare: &mut Tree<V>)
+        requires order { IsInOrder self.old }
+        requires one { length items ≤ 1 }
+        ensures put { self.new ≡ put_each items self.old }
+        ensures kept { (scale : ScaleOf V) → weighed scale self.new + weighed scale spare.new
+            ≡ weighed scale self.old + weighed scale items + weighed scale spare.old }
+    {
+        let Some(node) = items.take_first() else {
+            return;
+        };
+        let mut back = None;
+        let _added = self.insert(node, &mut back);
+        set_aside(back, spare);
+    }
+
+    // Whether there is one item, or none.
+    #[inline(always)]
+    fn is_one_at_most(&self) -> bool
+        ensures { IsTrue result → length self.now ≤ 1 }
+    {
+        match &self.node {
+            Node::Leaf => true,
+            Node::Fork(fork) => fork.left.is_empty() && fork.right.is_empty(),
         }
     }
 
@@ -193,8 +221,7 @@ impl<V: Drop> Fork<V> {
     {
         if let Some(node) = same {
             let back = self.exchange(node);
-            let rest = mem::replace(spare, Tree::new());
-            *spare = beside(back, rest);
+            set_aside(Some(back), spare);
         }
     }
 }
@@ -210,6 +237,16 @@ fn between<V: Drop>(left: Tree<V>, mut node: Box<Fork<V>>, right: Tree<V>) -> Tr
     };
     tree.even();
     tree
+}
+
+// Puts a node, where there is one, before those that are spare.
+fn set_aside<V: Drop>(node: Option<Box<Fork<V>>>, spare: &mut Tree<V>)
+    ensures { spare.new ≡ entry_in node ++ spare.old }
+{
+    if let Some(node) = node {
+        let rest = mem::replace(spare, Tree::new());
+        *spare = beside(node, rest);
+    }
 }
 
 // A node's item before the others. Its side isn't evened: these nodes are only let go, one after

@@ -1,6 +1,8 @@
-use Rattle.std.proofs.Common.{sym, ◌∙◌, refl}
-use Rattle.feed_tables.proofs.MapsOver.{over_none, put_over}
-use Rattle.feed_tables.proofs.Shifts.{lost_entries, come_entries, lost_of_none}
+use Rattle.std.proofs.Common.{ap, sym, ◌∙◌, arith}
+use Rattle.feed_tables.specs.Walks.{weighed}
+use Rattle.feed_tables.proofs.MapsOver.{entries_are, over_none}
+use Rattle.feed_tables.proofs.Shifts.{lost_of_none}
+use Rattle.feed_tables.proofs.Unions.{joined_in_order, joined, joined_lost, joined_count}
 use Rattle.feed_tables.proofs.map.Map.put_into.Goals as goal
 
 pub returns-then-other-eq0 : goal.returns-then-other-eq0
@@ -9,12 +11,34 @@ returns-then-other-eq0 g c =
     record {
       put = c.self.view_is ∙ over_none c.other.inside.tree c.args.self c.args.other.now c.other.invariant.0 c.other.view_is none;
       lost = lost_of_none _ c.other.inside.tree c.args.self c.args.other.now c.other.invariant.0 c.other.view_is none;
-      come = c.weigh.ensures;
+      come = omega (arith, c.weigh-come.ensures, ap (weighed (g.S.Scale.weight c.args.scale.now)) (entries_are c.self.inside.tree c.args.self c.self.invariant.0 c.self.view_is));
     }
 
-pub returns : goal.returns
-returns g c = record {
-  put = put_over c.self.inside.tree c.args.self c.args.other.now c.put_into.new.other c.self.invariant.0 c.self.view_is c.put_into.ensures.put;
-  lost = lost_entries _ c.self.inside.tree c.args.self c.args.other.now c.put_into.new.shift.lost c.self.invariant.0 c.self.view_is (c.put_into.ensures.lost 0 refl);
-  come = come_entries _ c.self.inside.tree c.args.self c.put_into.new.shift.come c.self.invariant.0 c.self.view_is (c.put_into.ensures.come 0 refl);
-}
+pub count_left-other-inside-requires : goal.count_left-other-inside-requires
+count_left-other-inside-requires g c =
+    omega (
+      arith,
+      joined_count c.self.inside.tree c.other.inside.tree c.absorb.new.self c.args.self c.args.other.now c.self.invariant.0 c.other.invariant.0 c.self.view_is c.other.view_is c.absorb.ensures.put c.new-spare.result c.absorb.new.spare c.new-spare.ensures c.absorb.ensures.kept,
+      c.self.invariant.1,
+      c.other.invariant.1,
+      c.saturating_add-count.ensures,
+      c.let_go-spent.ensures.count,
+    )
+
+pub invariant_of-other-2 : goal.invariant_of-other-2
+invariant_of-other-2 g c = (
+  joined_in_order c.self.inside.tree c.other.inside.tree c.absorb.new.self c.args.self c.args.other.now c.self.invariant.0 c.other.invariant.0 c.self.view_is c.other.view_is c.absorb.ensures.put,
+  c.count_left-other-inside.ensures,
+)
+
+pub returns-clause-put : goal.returns-clause-put
+returns-clause-put g c =
+    joined c.self.inside.tree c.other.inside.tree c.absorb.new.self c.args.self c.args.other.now c.self.invariant.0 c.other.invariant.0 c.self.view_is c.other.view_is c.absorb.ensures.put
+
+pub returns-clause-lost : goal.returns-clause-lost
+returns-clause-lost g c =
+    joined_lost c.self.inside.tree c.other.inside.tree c.absorb.new.self c.args.self c.args.other.now c.self.invariant.0 c.other.invariant.0 c.self.view_is c.other.view_is c.absorb.ensures.put c.new-spare.result c.absorb.new.spare c.new-spare.ensures c.absorb.ensures.kept (g.S.Scale.weight c.args.scale.now) c.let_go-spent.result.weight c.let_go-spent.ensures.weight
+
+pub returns-clause-come : goal.returns-clause-come
+returns-clause-come g c =
+    omega (arith, c.weigh-come.ensures, ap (weighed (g.S.Scale.weight c.args.scale.now)) (entries_are c.self.inside.tree c.args.self c.self.invariant.0 c.self.view_is))

@@ -1,9 +1,8 @@
-use Rattle.std.proofs.Common.{rules, arith, ◌≡◌, [], ◌∷◌, ◌++◌, sym, ap, ◌∙◌, subst, refl, Less, Equal, Greater, List, ℕ}
+use Rattle.std.proofs.Common.{rules, arith, ◌≡◌, [], ◌∷◌, ◌++◌, sym, ap, ◌∙◌, subst, refl, List, ℕ}
 use Rattle.std.specs.declared.cmp.Ordering.{Ordering}
 use Rattle.feed_tables.specs.Bytes.{IsInOrder}
 use Rattle.feed_tables.specs.Tree.{entries_of}
 use Rattle.feed_tables.specs.Unions.{put_each, entry_in, item_or, AreBefore, AreAfter, Stand, Parts}
-use Rattle.feed_tables.specs.Walks.{weighed}
 use Rattle.feed_tables.specs.declared.tree.Fork.{Fork}
 use Rattle.feed_tables.proofs.TreeFork.{at_lent}
 use Rattle.feed_tables.proofs.Unions.{each_of_none, left_in, right_in, parted_in, parts_in_order, kept_left, kept_right, kept_both}
@@ -31,16 +30,6 @@ absorb-requires-in-Equal-2 g t c κs within =
     let p = parts_in_order _ c.args.items c.part-before.result.before (entry_in c.part-before.result.same) c.part-before.result.after c.requires.items c.part-before.ensures in
     let right : c.deref_mut-in-Equal-3.result.now.right ≡ c.deref_mut-in-Equal.result.now.right = ap (λ (x : Fork _). x.right) c.deref_mut-in-Equal-3.ensures.value ∙ ap (λ (x : Fork _). x.right) c.take_item.ensures.item ∙ ap (λ (x : Fork _). x.right) c.deref_mut-in-Equal-2.ensures.value in
     (search rules, (within, (subst (λ (t : List (List ℕ × _)). IsInOrder t) (sym right) f.right, p.1)))
-
-pub returns-then-is_empty-clause-put : goal.returns-then-is_empty-clause-put
-returns-then-is_empty-clause-put g t c =
-    let none : c.args.items ≡ [] = c.is_empty.ensures c.if-is_empty.true in
-    rw none refl
-
-pub returns-then-is_empty-clause-kept : goal.returns-then-is_empty-clause-kept
-returns-then-is_empty-clause-kept g t c = λ scale.
-    let none : c.args.items ≡ [] = c.is_empty.ensures c.if-is_empty.true in
-    omega (arith, ap (weighed scale) none)
 
 pub returns-in-Leaf-clause-put : goal.returns-in-Leaf-clause-put
 returns-in-Leaf-clause-put g t c =

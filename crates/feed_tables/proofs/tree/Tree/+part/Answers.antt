@@ -1,8 +1,8 @@
-use Rattle.std.proofs.Common.{rules, ◌≡◌, ◌∷◌, ◌++◌, sym, ap, ◌∙◌, subst, refl, Less, Equal, Greater, List, ℕ}
+use Rattle.std.proofs.Common.{rules, ◌≡◌, sym, ap, ◌∙◌, Less, Equal, Greater, List, ℕ}
 use Rattle.std.specs.declared.alloc.Global.{Global}
 use Rattle.std.specs.declared.boxed.Box.{Box}
 use Rattle.feed_tables.specs.Bytes.{byte_order}
-use Rattle.feed_tables.specs.Unions.{Parts, entry_in}
+use Rattle.feed_tables.specs.Unions.{entry_in}
 use Rattle.feed_tables.specs.declared.tree.Fork.{Fork}
 use Rattle.feed_tables.proofs.Unions.{at_apart, parts_left, parts_at, parts_right}
 use Rattle.feed_tables.proofs.tree.Tree.+part.Goals as goal

@@ -1,4 +1,4 @@
-use Rattle.std.proofs.Common.{◌≡◌, ◌∷◌, ◌++◌, min, sym, ap, ◌∙◌, arith}
+use Rattle.std.proofs.Common.{◌≡◌, ◌∷◌, ◌++◌, sym, ap, ◌∙◌, arith}
 use Rattle.feed_tables.specs.Tree.{entries_of}
 use Rattle.feed_tables.specs.Walks.{weighed}
 use Rattle.feed_tables.specs.declared.tree.Fork.{Fork}
