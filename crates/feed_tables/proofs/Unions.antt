@@ -1,5 +1,5 @@
 -- Entries that are put in all at once, seen at one entry of those that are held.
-use Rattle.std.proofs.Common.{Some, None, Option, Less, Equal, Greater, ◌≡◌, ℕ, ◌+◌, ◌≤◌, min, List, [], ◌∷◌, ◌++◌, length, sym, ap, ◌∙◌, refl, subst, arith, append_assoc}
+use Rattle.std.proofs.Common.{Some, None, Option, Less, Equal, Greater, ◌≡◌, ℕ, ◌+◌, ◌≤◌, min, List, [], ◌∷◌, ◌++◌, length, sym, ap, ◌∙◌, refl, subst, arith, append_assoc, length-append}
 use Rattle.std.specs.Prelude.{T}
 use Rattle.std.proofs.lemmas.List.{append-nil}
 use Rattle.std.specs.declared.alloc.Global.{Global}
@@ -206,16 +206,20 @@ module _ {V : Type 0} where
       omega (arith, ap (λ (e : List ℕ × V). scale e.0 e.1) same)
 
   -- at most one item
-  module _ (d items rest new : List (List ℕ × V)) (k : List ℕ) (v : V) (one : length items ≤ 1)
-      (first_is : items ≡ (k, v) ∷ rest) (put_in : new ≡ put byte_order k v d) where
-    none_left : (es : List (List ℕ × V)) → length ((k, v) ∷ es) ≤ 1 → es ≡ []
-    none_left [] h = refl
-    none_left (e ∷ es) h = absurd (omega (arith, h))
+  none_of : (es : List (List ℕ × V)) → length es ≤ 0 → es ≡ []
+  none_of [] h = refl
+  none_of (e ∷ es) h = absurd (omega (arith, h))
 
+  module _ (d items l r new : List (List ℕ × V)) (k : List ℕ) (v : V) (one : length items ≤ 1)
+      (items_are : items ≡ l ++ (k, v) ∷ r) (put_in : new ≡ put byte_order k v d) where
     only : items ≡ (k, v) ∷ []
     only =
-        let none : rest ≡ [] = none_left rest (subst (λ (t : List (List ℕ × V)). length t ≤ 1) first_is one) in
-        first_is ∙ ap (λ (t : List (List ℕ × V)). (k, v) ∷ t) none
+        let all : length l + (1 + length r) ≤ 1 = omega (arith, one, ap length items_are, length-append l ((k, v) ∷ r)) in
+        let left : l ≡ [] = none_of l (omega (arith, all)) in
+        let right : r ≡ [] = none_of r (omega (arith, all)) in
+        items_are
+        ∙ ap (λ (t : List (List ℕ × V)). t ++ (k, v) ∷ r) left
+        ∙ ap (λ (t : List (List ℕ × V)). (k, v) ∷ t) right
 
     pub one_put : new ≡ put_each items d
     one_put = put_in ∙ ap (λ (t : List (List ℕ × V)). put_each t d) (sym only)

@@ -41,7 +41,7 @@ impl<V: Drop> Tree<V> {
             ≡ weighed scale self.old + weighed scale items + weighed scale spare.old }
     {
         if items.is_one_at_most() {
-            self.put_first(items, spare);
+            self.put_root(items, spare);
             return;
         }
         match &mut self.node {
@@ -70,15 +70,15 @@ impl<V: Drop> Tree<V> {
         }
     }
 
-    // Puts the first item in, as one that comes alone.
-    fn put_first(&mut self, mut items: Tree<V>, spare: &mut Tree<V>)
+    // Puts the root's item in, which comes alone.
+    fn put_root(&mut self, items: Tree<V>, spare: &mut Tree<V>)
         requires order { IsInOrder self.old }
         requires one { length items ≤ 1 }
         ensures put { self.new ≡ put_each items self.old }
         ensures kept { (scale : ScaleOf V) → weighed scale self.new + weighed scale spare.new
             ≡ weighed scale self.old + weighed scale items + weighed scale spare.old }
     {
-        let Some(node) = items.take_first() else {
+        let Node::Fork(node) = items.node else {
             return;
         };
         let mut back = None;
