@@ -1,13 +1,13 @@
 //! Bytes that are gathered before they are written.
-ghost use Rattle.std.specs.Prelude.{◌≡◌, true, false, [], ◌++◌};
+ghost use Rattle.std.specs.Prelude.{◌≡◌, ◌≤◌, ◌+◌, ◌↔◌, true, false, [], ◌++◌, IsTrue, length};
 
 use std::marker::Model;
 
 /// How many bytes wait at most.
 const ROOM: usize = 16_384;
 
-/// Bytes in an array, the first ones of which are in use. They stay as they are when it is cleared,
-/// where an `ArrayVec` writes over them.
+/// Bytes in an array, the first ones of which are in use. To clear it writes nothing, unlike an
+/// `ArrayVec`, which writes over what it held.
 #[derive(Drop)]
 pub(crate) struct Buffer {
     bytes: [u8; ROOM],
@@ -39,6 +39,7 @@ impl Buffer {
     /// Appends a text where there is room for all of it, and answers whether there was.
     #[inline(always)]
     pub(crate) fn append(&mut self, text: &[u8]) -> bool
+        ensures room { IsTrue result ↔ length self.old + length text.now ≤ ROOM }
         ensures all { result ≡ true → self.new ≡ self.old ++ text.now }
         ensures none { result ≡ false → self.new ≡ self.old }
     {

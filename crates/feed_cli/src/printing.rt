@@ -57,8 +57,8 @@ impl Waiting {
         }
     }
 
-    /// Writes what waits, and then has a text wait, or writes it where it is too long. This is rare,
-    /// and a call of its own, so that what puts texts stays short.
+    /// Writes what waits, and then has a text wait, or writes it where it is too long. This is
+    /// rare, and a call of its own, so that what puts texts stays short.
     #[cold]
     #[inline(never)]
     #[tactic(auto, using(crate::proofs::PrintingLemmas::tells_then))]
@@ -83,7 +83,7 @@ impl Waiting {
         Ok(())
     }
 
-    /// Puts what stands for bytes in a JSON string.
+    /// Puts what stands for bytes in a JSON string. Few names need it, so it is a call of its own.
     #[cold]
     #[inline(never)]
     fn put_escaped<W: FeedWrite>(&mut self, device: &mut W, text: &[u8])
@@ -169,7 +169,8 @@ impl<'a, W: FeedWrite> Printer<'a, W> {
         }
     }
 
-    /// Does the same for the first object of a type, and keeps what the next ones begin with.
+    /// Does the same for the first object of a type, and keeps what the next ones begin with. It is
+    /// a call of its own, so that `begin_object` stays short.
     #[inline(never)]
     fn begin_first(&mut self, kind: &str)
         ensures begun { self.new.is_begun ≡ true }

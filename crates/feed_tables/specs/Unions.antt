@@ -40,7 +40,8 @@ Stand Equal id es = Unit
 Stand Greater id es = AreAfter id es
 
 -- entries, and of them those before a name, that of the name, and those after it
-pub record Parts {V : Type 0} (id : List ℕ) (es before same after : List (List ℕ × V)) : Type 0 where
+pub record Parts {V : Type 0} (id : List ℕ) (es before same after : List (List ℕ × V))
+    : Type 0 where
   pub whole : es ≡ before ++ (same ++ after)
   pub are_before : AreBefore id before
   pub are_at : AreAt id same

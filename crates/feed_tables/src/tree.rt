@@ -1,5 +1,5 @@
 //! Items by name: a search tree whose nodes have one owner. Only a new node takes memory; putting a
-//! node in, taking one away and moving all of them into a map take none.
+//! node or all of another tree in, and taking one away, take none.
 
 ghost use Rattle.std.specs.Prelude.{◌≡◌, ℕ, ◌+◌, ◌≤◌, ◌∷◌, ◌++◌, [], true, false, fold, length, min, IfOk, IfSome, IsNone, Some, None, IsTrue, ◌↔◌};
 ghost use Rattle.std.specs.Option.{option_copied};

@@ -12,9 +12,8 @@ use crate::run::skip_unescaped;
 use crate::scalar::{after_byte, skip_white_space};
 use crate::value::{Item, next_item, prefix};
 
-/// The members of a line as it is mostly written: a type, an id, data and perhaps a token in this
-/// order, with no white space around their names, and no escape in the type, the id and the token.
-/// They are slices of the line.
+/// The values of a type, an id, data and perhaps a token, as slices of their line. The type, the id
+/// and the token are strings without a backslash.
 #[derive(Clone, Copy, Debug)]
 pub struct UsualMembers<'a> {
     pub kind: Item<'a>,
@@ -23,7 +22,7 @@ pub struct UsualMembers<'a> {
     pub token: Option<Item<'a>>,
 }
 
-/// A string with no escape at the start of a text, and what comes after it and white space.
+/// A string without a backslash at the start of a text, and what comes after it and white space.
 #[inline(always)]
 fn next_plain(text: &[u8]) -> Option<(Item<'_>, &[u8])>
     ensures item { (levels : ℕ) → IfSome result (λ found. Some (item_view found.0, found.1.now)
@@ -84,8 +83,11 @@ fn usual_of_line(line: &[u8], levels: usize) -> Option<UsualMembers<'_>>
     if rest.is_empty() { Some(members) } else { None }
 }
 
-/// The members of a line that [`scan`](crate::scan) finds, where it is written as lines mostly are.
-/// None where it is not, and where it has a fault. Takes no memory.
+/// The members of a line that [`scan`](crate::scan) finds, where these are a type, an id, data and
+/// perhaps a token in this order, their names stand there to the letter, and the type, the id and
+/// the token are strings without a backslash. Outside values, white space may stand behind a value
+/// and before that of data alone. None where the line is written otherwise, and where it has a
+/// fault. Takes no memory.
 pub fn scan_usual(line: &[u8]) -> Option<UsualMembers<'_>>
     ensures object { IfSome result (λ members. HoldsMembers line.now (usual_views members)) }
     ensures spelt { IfSome result (λ members. AreMemberSpellings (usual_views members)) }

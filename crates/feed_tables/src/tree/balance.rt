@@ -56,8 +56,8 @@ impl<V: Drop> Tree<V> {
         }
     }
 
-    // Evens the sides, however much higher one of them is. What turns down beside the lower one is
-    // as uneven as before, less a step.
+    // Evens the sides, however much higher one of them is. Where it is by more than two, its root
+    // comes to the top, and the old root goes down on the lower side, less uneven than before.
     pub(super) fn even(&mut self)
         ensures { self.new ≡ self.old }
     {

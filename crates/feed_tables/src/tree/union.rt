@@ -105,7 +105,8 @@ impl<V: Drop> Tree<V> {
         matches!(self.node, Node::Leaf)
     }
 
-    // Which side of a name all items stand on; `Equal` where they stand on both, or one has it.
+    // Which side of a name all items stand on, the left one where there are none; `Equal` where they
+    // stand on both, or one has it.
     #[inline(always)]
     fn side(&self, id: &Name) -> Ordering
         requires { IsInOrder self.now }
