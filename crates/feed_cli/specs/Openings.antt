@@ -8,4 +8,4 @@ beginning kind = codes "{\"type\":\"" ++ flat_map written_byte kind ++ codes "\"
 
 -- the same with the end of the line before
 abbrev pub opening : List ℕ → List ℕ
-opening kind = codes "}\n{\"type\":\"" ++ flat_map written_byte kind ++ codes "\",\"id\":\""
+opening kind = codes "}\n" ++ beginning kind

@@ -199,7 +199,7 @@ impl<'a, W: FeedWrite> Printer<'a, W> {
     }
 
     /// Ends the line before, where there is one, and prints one without an id but for its end.
-    fn print_whole(&mut self, kind: &str, content: &[u8]) -> Result<(), Failed>
+    fn print_without_id(&mut self, kind: &str, content: &[u8]) -> Result<(), Failed>
         ensures begun { self.new.is_begun ≡ true }
         ensures prints { Prints W.contents W.failures self.old self.new
             (end_before self.old.is_begun ++ written_members (written_string kind.now)
@@ -240,15 +240,15 @@ impl<'a, W: FeedWrite> Lister for Printer<'a, W> {
     }
 
     fn empty(&mut self, kind: &Name) -> Result<(), Failed> {
-        self.print_whole(kind.text(), b"[]")
+        self.print_without_id(kind.text(), b"[]")
     }
 
     fn single(&mut self, kind: &Name, object: &ObjectText) -> Result<(), Failed> {
-        self.print_whole(kind.text(), object.bytes())
+        self.print_without_id(kind.text(), object.bytes())
     }
 
     fn clear(&mut self) -> Result<(), Failed> {
-        self.print_whole("contest", b"null")
+        self.print_without_id("contest", b"null")
     }
 }
 

@@ -1,7 +1,7 @@
 use Rattle.std.proofs.Common.{codes}
 use Rattle.feed_cli.specs.Printing.{end_before}
 use Rattle.feed_cli.proofs.PrintingLemmas.{tells_then, tells_as, line_told}
-use Rattle.feed_cli.proofs.printing.Printer.print_whole.Goals as goal
+use Rattle.feed_cli.proofs.printing.Printer.print_without_id.Goals as goal
 
 pub returns-clause-prints : goal.returns-clause-prints
 returns-clause-prints g c =
