@@ -46,6 +46,7 @@ fn is_ascii(text: &[u8]) -> bool
 }
 
 /// Whether a text is UTF-8.
+#[inline(always)]
 pub fn is_text(text: &[u8]) -> bool
     ensures { IsTrue result ↔ IsUtf8 text.now }
 {
