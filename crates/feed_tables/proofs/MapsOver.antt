@@ -1,5 +1,5 @@
 -- Finite maps made of entries in the order of their names, and maps put over others.
-use Rattle.std.proofs.Common.{Bool, true, false, cond, ◌≡◌, ℕ, List, [], ◌∷◌, Option, None, Some, fold, sym, ap, ◌∙◌, refl, subst, arith}
+use Rattle.std.proofs.Common.{Bool, true, false, cond, ◌≡◌, ℕ, List, [], ◌∷◌, Option, None, Some, fold, sym, ap, ◌∙◌, refl, subst}
 use Rattle.std.specs.Option.{option_or, is_some}
 use Rattle.std.specs.Ordering.{eq_by_cmp}
 use Rattle.std.specs.FinMap.{FinMap, find, get, insert, remove, from_sorted, entries, entries_sorted, entries-from_sorted, get-from_sorted, get-entries, get-insert, get-remove, same_map}
@@ -10,9 +10,13 @@ use Rattle.feed_tables.proofs.Maps.{byte_order_antisymmetric, from_sorted_put, i
 use Rattle.std.specs.declared.alloc.Global.{Global}
 use Rattle.std.specs.declared.boxed.Box.{Box}
 use Rattle.feed_tables.specs.declared.tree.Fork.{Fork}
-use Rattle.feed_tables.specs.Tree.{Swaps, FirstTaken, count_of, put_all, without_all}
+use Rattle.feed_tables.specs.Tree.{Swaps, FirstTaken, without_all}
 use Rattle.feed_tables.specs.Map.{Exchanges, TakesFirst, map_over, map_less}
 use Rattle.feed_tables.proofs.Order.{total}
+
+-- a map with each item put under its name
+abbrev pub put_all : {V : Type 0} → List (List ℕ × V) → FinMap byte_order V → FinMap byte_order V
+put_all es m = fold (λ n e. insert n e.0 e.1) m es
 
 -- an exchange, seen in maps
 pub exchanged : {V : Type 0} (id : List ℕ) (es fs : List (List ℕ × V)) (old new : V) (b : Bool) (m : FinMap byte_order V) → IsInOrder es → from_sorted es ≡ m → Swaps id es fs old new b → Exchanges id m (from_sorted fs) old new b
@@ -26,10 +30,6 @@ exchanged {V} id es fs old new false m h is s =
 pub in_order_swapped : {V : Type 0} (id : List ℕ) (es fs : List (List ℕ × V)) (old new : V) (b : Bool) → IsInOrder es → Swaps id es fs old new b → IsInOrder fs
 in_order_swapped {V} id es fs old new true h s = subst (λ (l : List (List ℕ × V)). IsInOrder l) (sym s.1) (in_order_put es h id old)
 in_order_swapped {V} id es fs old new false h s = subst (λ (l : List (List ℕ × V)). IsInOrder l) (sym s.1) h
-
-or_none : {A : Type 0} (o : Option A) → option_or o None ≡ o
-or_none None = refl
-or_none (Some x) = refl
 
 -- what is found in entries that were put over a map, and taken out of it
 pub get-fold_insert : {V : Type 0} (es : List (List ℕ × V)) (m : FinMap byte_order V) (q : List ℕ) → IsInOrder es → get (fold (λ n e. insert n e.0 e.1) m es) q ≡ option_or (find byte_order q es) (get m q)
@@ -64,21 +64,6 @@ get-map_less {V} {W} names m q = get-fold_remove (entries names) m q ∙ ap (λ 
 
 pub entries_are : {V : Type 0} (es : List (List ℕ × V)) (m : FinMap byte_order V) → IsInOrder es → from_sorted es ≡ m → es ≡ entries m
 entries_are es m h is = sym (entries-from_sorted byte_order es h) ∙ ap entries is
-
-pub none_counted : {V : Type 0} (es : List (List ℕ × V)) → count_of es ≡ 0 → es ≡ []
-none_counted [] h = refl
-none_counted (e ∷ es) h = absurd (omega (arith, h))
-
--- what is put over a map whose count is none is all
-pub over_none : {V : Type 0} (es : List (List ℕ × V)) (m n : FinMap byte_order V) → IsInOrder es
-    → from_sorted es ≡ n → count_of es ≡ 0 → m ≡ map_over m n
-over_none {V} es m n h is none =
-    let nothing : entries n ≡ [] = sym (entries_are es n h is) ∙ none_counted es none in
-    same_map total byte_order_antisymmetric _ _ (λ q. sym (
-    get-map_over m n q
-    ∙ ap (λ (o : Option V). option_or (get m q) o)
-    (get-entries n q ∙ ap (find byte_order q) nothing)
-    ∙ or_none (get m q)))
 
 -- entries that were put into a map, and taken out of one, seen in maps
 pub put_over : {V : Type 0} (es : List (List ℕ × V)) (m n o : FinMap byte_order V) → IsInOrder es

@@ -12,12 +12,12 @@ use Rattle.feed_tables.specs.declared.tree.Fork.{Fork}
 use Rattle.feed_tables.proofs.Order.{total}
 use Rattle.feed_tables.proofs.Entries.{first, second, less, later, earlier, below_middle, sorted_left, sorted_from, below_right, put_left, put_here, put_right}
 use Rattle.feed_tables.proofs.Maps.{byte_order_antisymmetric, in_order_put, from_sorted_put}
-use Rattle.feed_tables.specs.Tree.{put_all, entries_of, handed, named}
+use Rattle.feed_tables.specs.Tree.{entries_of, handed, named}
 use Rattle.feed_tables.specs.Map.{map_over}
 use Rattle.feed_tables.specs.Walks.{Scale, weight, weighed, weighed_in, each_one}
 use Rattle.feed_tables.specs.declared.tree.Node.{Node}
 use Rattle.feed_tables.specs.declared.tree.Node.TheVariants.{Fork as a_fork}
-use Rattle.feed_tables.proofs.MapsOver.{entries_are, put_over}
+use Rattle.feed_tables.proofs.MapsOver.{put_all, entries_are, put_over}
 use Rattle.feed_tables.proofs.PatchSizes.{weighed-append, weighed_over}
 use Rattle.feed_tables.proofs.Sizes.{weighed_put}
 use Rattle.feed_tables.proofs.TreeFork.{AtFork, at_fork}

@@ -2,7 +2,7 @@
 use Rattle.std.specs.Prelude.{◌≡◌, ℕ, Bool, true, false, Option, Some, None, min, List, [], ◌∷◌, ◌++◌, length, fold}
 use Rattle.std.specs.declared.alloc.Global.{Global}
 use Rattle.std.specs.declared.boxed.Box.{Box}
-use Rattle.std.specs.FinMap.{FinMap, find, put, insert, remove}
+use Rattle.std.specs.FinMap.{FinMap, find, put, remove}
 use Rattle.feed_tables.specs.Bytes.{byte_order}
 use Rattle.feed_tables.specs.declared.tree.Fork.{Fork as ForkOf}
 use Rattle.feed_tables.specs.declared.tree.balance.Growth.{Growth}
@@ -52,10 +52,6 @@ handed (Some node) = Some (node.value.id, node.value.item)
 abbrev pub named : {V : Type 0} → List ℕ → Option V → Option (List ℕ × V)
 named id None = None
 named id (Some item) = Some (id, item)
-
--- a map with each item put under its name
-abbrev pub put_all : {V : Type 0} → List (List ℕ × V) → FinMap byte_order V → FinMap byte_order V
-put_all es m = fold (λ n e. insert n e.0 e.1) m es
 
 -- a map with each name taken out
 abbrev pub without_all : {V W : Type 0} → List (List ℕ × V) → FinMap byte_order W → FinMap byte_order W

@@ -115,10 +115,6 @@ impl<V: Drop> Map<V> {
             usize.MAX }
     {
         let come = self.tree.weigh(scale);
-        if other.count == 0 {
-            *other = self;
-            return Shift { lost: 0, come };
-        }
         let count = other.count.saturating_add(self.count);
         let mut spare = Tree::new();
         other.tree.absorb(self.tree, &mut spare);

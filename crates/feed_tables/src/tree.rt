@@ -10,7 +10,7 @@ ghost use Rattle.feed_tables.specs.Tree.{parts, came, with_item, Swaps, FirstTak
 use crate::map::Map;
 use crate::name::{Key, Name};
 use crate::scale::Scale;
-use crate::tree::balance::{Growth, grow_left, grow_right, settle_left, settle_right, weigh};
+use crate::tree::balance::{Growth, grow_left, grow_right, settle, settle_left, settle_right};
 use std::alloc::{AllocError, Global};
 use std::cmp::Ordering;
 use std::marker::Model;
@@ -107,24 +107,24 @@ impl<V: Drop> Tree<V> {
     /// Puts a node's item under its name, in the place of the one that is there, and answers how
     /// many items more there are: one, or none. Where it took a place, the node comes back with the
     /// item that went. It takes no memory, and what stands before and after the node is let go.
-    pub fn insert(&mut self, node: Box<Fork<V>>, spare: &mut Option<Box<Fork<V>>>) -> usize
+    pub fn insert(&mut self, node: Box<Fork<V>>, back: &mut Option<Box<Fork<V>>>) -> usize
         requires order { IsInOrder self.old }
-        requires spare { spare.old ≡ None }
+        requires none { back.old ≡ None }
         ensures put { self.new ≡ put byte_order node.value.id node.value.item self.old }
         ensures added { length self.new ≡ length self.old + result }
-        ensures back { handed spare.new
+        ensures back { handed back.new
             ≡ named node.value.id (find byte_order node.value.id self.old) }
     {
-        self.grow(node, spare).added()
+        self.grow(node, back).added()
     }
 
     // The same, and answers what came of it.
-    fn grow(&mut self, node: Box<Fork<V>>, spare: &mut Option<Box<Fork<V>>>) -> Growth
+    fn grow(&mut self, node: Box<Fork<V>>, back: &mut Option<Box<Fork<V>>>) -> Growth
         requires order { IsInOrder self.old }
-        requires spare { spare.old ≡ None }
+        requires none { back.old ≡ None }
         ensures put { self.new ≡ put byte_order node.value.id node.value.item self.old }
         ensures added { length self.new ≡ length self.old + came result }
-        ensures back { handed spare.new
+        ensures back { handed back.new
             ≡ named node.value.id (find byte_order node.value.id self.old) }
     {
         match &mut self.node {
@@ -134,15 +134,15 @@ impl<V: Drop> Tree<V> {
             }
             Node::Fork(fork) => match node.id.compare(&fork.id) {
                 Ordering::Less => {
-                    let growth = fork.left.grow(node, spare);
+                    let growth = fork.left.grow(node, back);
                     grow_left(fork, growth)
                 }
                 Ordering::Equal => {
-                    *spare = Some(fork.exchange(node));
+                    *back = Some(fork.exchange(node));
                     Growth::Same
                 }
                 Ordering::Greater => {
-                    let growth = fork.right.grow(node, spare);
+                    let growth = fork.right.grow(node, back);
                     grow_right(fork, growth)
                 }
             },
@@ -300,7 +300,7 @@ fn joined<V: Drop>(left: Tree<V>, mut right: Tree<V>) -> Tree<V>
         Some(mut node) => {
             node.left = left;
             node.right = right;
-            weigh(&mut node);
+            settle(&mut node);
             Tree {
                 node: Node::Fork(node),
             }

@@ -76,7 +76,7 @@ impl<V: Drop> Tree<V> {
             turn_left(fork);
             fork.left.even();
         }
-        weigh(fork);
+        settle(fork);
     }
 
     // Turns the root to the left.
@@ -137,7 +137,7 @@ impl<V: Drop> Fork<V> {
 }
 
 // Measures the height, and evens the sides.
-pub(super) fn weigh<V: Drop>(fork: &mut Box<Fork<V>>)
+pub(super) fn settle<V: Drop>(fork: &mut Box<Fork<V>>)
     ensures { parts fork.new.value ≡ parts fork.old.value }
 {
     fork.rise();
@@ -151,7 +151,7 @@ pub(super) fn settle_left<V: Drop>(fork: &mut Box<Fork<V>>, height: usize)
     ensures { parts fork.new.value ≡ parts fork.old.value }
 {
     if fork.left.height() < height {
-        weigh(fork);
+        settle(fork);
     }
 }
 
@@ -161,7 +161,7 @@ pub(super) fn settle_right<V: Drop>(fork: &mut Box<Fork<V>>, height: usize)
     ensures { parts fork.new.value ≡ parts fork.old.value }
 {
     if fork.right.height() < height {
-        weigh(fork);
+        settle(fork);
     }
 }
 

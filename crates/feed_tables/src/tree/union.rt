@@ -1,7 +1,7 @@
 //! Items that are put into a tree all at once. Those that stand next to each other go down in one
 //! walk, and are parted only where an item of the tree stands between them.
 
-ghost use Rattle.std.specs.Prelude.{◌≡◌, ◌+◌, ◌≤◌, [], ◌∷◌, ◌++◌, IsTrue, length, min};
+ghost use Rattle.std.specs.Prelude.{◌≡◌, ◌+◌, ◌≤◌, ◌∷◌, ◌++◌, ◌↔◌, IsTrue, length, min};
 ghost use Rattle.feed_tables.specs.Bytes.{IsInOrder};
 ghost use Rattle.feed_tables.specs.Tree.{with_item};
 ghost use Rattle.feed_tables.specs.Unions.{put_each, entry_in, item_or, AreBefore, AreAfter, AreAt, Stand, Parts};
@@ -40,8 +40,8 @@ impl<V: Drop> Tree<V> {
         ensures kept { (scale : ScaleOf V) → weighed scale self.new + weighed scale spare.new
             ≡ weighed scale self.old + weighed scale items + weighed scale spare.old }
     {
-        if items.is_one_at_most() {
-            self.put_root(items, spare);
+        if items.has_at_most_one() {
+            self.put_one(items, spare);
             return;
         }
         match &mut self.node {
@@ -70,8 +70,8 @@ impl<V: Drop> Tree<V> {
         }
     }
 
-    // Puts the root's item in, which comes alone.
-    fn put_root(&mut self, items: Tree<V>, spare: &mut Tree<V>)
+    // Puts the one item in, where there is one.
+    fn put_one(&mut self, items: Tree<V>, spare: &mut Tree<V>)
         requires order { IsInOrder self.old }
         requires one { length items ≤ 1 }
         ensures put { self.new ≡ put_each items self.old }
@@ -88,8 +88,8 @@ impl<V: Drop> Tree<V> {
 
     // Whether there is one item, or none.
     #[inline(always)]
-    fn is_one_at_most(&self) -> bool
-        ensures { IsTrue result → length self.now ≤ 1 }
+    fn has_at_most_one(&self) -> bool
+        ensures { IsTrue result ↔ (length self.now ≤ 1) }
     {
         match &self.node {
             Node::Leaf => true,
@@ -100,13 +100,13 @@ impl<V: Drop> Tree<V> {
     // Whether there are no items.
     #[inline(always)]
     fn is_empty(&self) -> bool
-        ensures { IsTrue result → self.now ≡ [] }
+        ensures { IsTrue result ↔ (length self.now ≡ 0) }
     {
         matches!(self.node, Node::Leaf)
     }
 
-    // Which side of a name all items stand on, the left one where there are none; `Equal` where they
-    // stand on both, or one has it.
+    // Which side of a name all items stand on, the left one where there are none; `Equal` where
+    // they stand on both, or one has it.
     #[inline(always)]
     fn side(&self, id: &Name) -> Ordering
         requires { IsInOrder self.now }

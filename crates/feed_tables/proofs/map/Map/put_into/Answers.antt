@@ -1,18 +1,8 @@
-use Rattle.std.proofs.Common.{ap, sym, ◌∙◌, arith}
+use Rattle.std.proofs.Common.{ap, arith}
 use Rattle.feed_tables.specs.Walks.{weighed}
-use Rattle.feed_tables.proofs.MapsOver.{entries_are, over_none}
-use Rattle.feed_tables.proofs.Shifts.{lost_of_none}
+use Rattle.feed_tables.proofs.MapsOver.{entries_are}
 use Rattle.feed_tables.proofs.Unions.{joined_in_order, joined, joined_lost, joined_count}
 use Rattle.feed_tables.proofs.map.Map.put_into.Goals as goal
-
-pub returns-then-other-eq0 : goal.returns-then-other-eq0
-returns-then-other-eq0 g c =
-    let none = sym c.other.invariant.1 ∙ c.if-other-eq0.true in
-    record {
-      put = c.self.view_is ∙ over_none c.other.inside.tree c.args.self c.args.other.now c.other.invariant.0 c.other.view_is none;
-      lost = lost_of_none _ c.other.inside.tree c.args.self c.args.other.now c.other.invariant.0 c.other.view_is none;
-      come = omega (arith, c.weigh-come.ensures, ap (weighed (g.S.Scale.weight c.args.scale.now)) (entries_are c.self.inside.tree c.args.self c.self.invariant.0 c.self.view_is));
-    }
 
 pub count_left-other-inside-requires : goal.count_left-other-inside-requires
 count_left-other-inside-requires g c =
@@ -25,8 +15,8 @@ count_left-other-inside-requires g c =
       c.let_go-spent.ensures.count,
     )
 
-pub invariant_of-other-2 : goal.invariant_of-other-2
-invariant_of-other-2 g c = (
+pub invariant_of-other : goal.invariant_of-other
+invariant_of-other g c = (
   joined_in_order c.self.inside.tree c.other.inside.tree c.absorb.new.self c.args.self c.args.other.now c.self.invariant.0 c.other.invariant.0 c.self.view_is c.other.view_is c.absorb.ensures.put,
   c.count_left-other-inside.ensures,
 )

@@ -8,12 +8,12 @@ use Rattle.feed_tables.proofs.tree.Tree.+grow.Goals.{in-Less, in-Equal, in-Great
 pub grow-growth-requires : goal.grow-growth-requires
 grow-growth-requires g t c κs within =
     let f = at_lent c.self.view_is c.requires.order c.in-Fork.is c.deref_mut.result.now c.deref_mut.ensures.value in
-    (search rules, (within, (f.left, c.requires.spare)))
+    (search rules, (within, (f.left, c.requires.none)))
 
 pub grow-growth-requires-in-Greater : goal.grow-growth-requires-in-Greater
 grow-growth-requires-in-Greater g t c κs within =
     let f = at_lent c.self.view_is c.requires.order c.in-Fork.is c.deref_mut-in-Greater.result.now c.deref_mut-in-Greater.ensures.value in
-    (search rules, (within, (f.right, c.requires.spare)))
+    (search rules, (within, (f.right, c.requires.none)))
 
 pub returns-after-compare-clause-put : goal.returns-after-compare-clause-put
 returns-after-compare-clause-put g t c =
@@ -41,11 +41,11 @@ returns-after-compare-clause-back g t c =
     elim c.match-compare.branch [
       | in-Less w ↦
           let order : byte_order k fork.id ≡ Less = cc (c.compare.ensures, w.in-Less.is, c.deref.ensures, c.deref-in-Fork.ensures) in
-          rw (w.spare-is, w.grow-growth.ensures.back, w.deref_mut.ensures.value) (ap (named k) (sym (find_before f k order)))
+          rw (w.back-is, w.grow-growth.ensures.back, w.deref_mut.ensures.value) (ap (named k) (sym (find_before f k order)))
       | in-Equal w ↦
           let order : byte_order k fork.id ≡ Equal = cc (c.compare.ensures, w.in-Equal.is, c.deref.ensures, c.deref-in-Fork.ensures) in
-          rw (w.spare-is, w.exchange.ensures.name, w.exchange.ensures.back, w.deref_mut-in-Equal.ensures.value) (ap (named k) (sym (find_at f k order)))
+          rw (w.back-is, w.exchange.ensures.name, w.exchange.ensures.back, w.deref_mut-in-Equal.ensures.value) (ap (named k) (sym (find_at f k order)))
       | in-Greater w ↦
           let order : byte_order k fork.id ≡ Greater = cc (c.compare.ensures, w.in-Greater.is, c.deref.ensures, c.deref-in-Fork.ensures) in
-          rw (w.spare-is, w.grow-growth-in-Greater.ensures.back, w.deref_mut-in-Greater.ensures.value) (ap (named k) (sym (find_after f k order)))
+          rw (w.back-is, w.grow-growth-in-Greater.ensures.back, w.deref_mut-in-Greater.ensures.value) (ap (named k) (sym (find_after f k order)))
     ]
