@@ -1,12 +1,12 @@
 -- A run of bytes that stand for themselves, seen a block at a time through the mask of those that don't.
-use Rattle.std.proofs.Common.{◌≡◌, ℕ, ◌+◌, ◌*◌, ◌<◌, ◌≤◌, ◌%◌, ◌^◌, Bool, true, false, cond, eqb, ltb, List, [], ◌∷◌, ◌++◌, map, length, take, drop, Fits, w8, refl, sym, ap, ap₂, ◌∙◌, arith, add-one, add_comm}
+use Rattle.std.proofs.Common.{◌≡◌, ℕ, ◌+◌, ◌*◌, ◌<◌, ◌≤◌, ◌%◌, ◌^◌, Bool, true, false, cond, eqb, leb, zero, suc, replicate, List, [], ◌∷◌, ◌++◌, map, length, take, drop, Fits, w8, refl, sym, ap, ap₂, ◌∙◌, arith, add-one, add_comm}
 use Rattle.std.specs.Prelude.{not}
 use Rattle.std.specs.List.{prefix_len}
 use Rattle.std.proofs.lemmas.Bool.{agree_below, agree_below_at}
 use Rattle.std.proofs.lemmas.List.{length-map, length-take, take-append-drop}
 use Rattle.std.proofs.lemmas.List.Sums.{prefix_len-le-length}
 use Rattle.std.proofs.lemmas.Simd.{mask_l-mod, trailing_mask_l}
-use lib.Bits.{bit_or}
+use lib.Bits.{bit_or, bit_xor}
 use lib.Count.{count_trailing_zeros}
 use lib.Lanes.{zip2, mask_l, top, Each1}
 use Rattle.feed_text.specs.Reading.{is_unescaped, rest_while, is_stop}
@@ -16,8 +16,13 @@ use Rattle.feed_text.specs.Reading.{is_unescaped, rest_while, is_stop}
 abbrev pub hit : ℕ → ℕ → ℕ
 hit a b = cond (eqb a b) 255 0
 
-abbrev pub below : ℕ → ℕ → ℕ
-below a b = cond (ltb a b) 255 0
+abbrev pub at_most : ℕ → ℕ → ℕ
+at_most a b = cond (leb a b) 255 0
+
+pub turned : (v : List ℕ) (n : ℕ) → length v ≡ n → zip2 at_most (zip2 bit_xor v (replicate n 2)) (replicate n 32) ≡ map (λ x. at_most (bit_xor x 2) 32) v
+turned [] n e = refl
+turned (x ∷ v) zero e = absurd (omega arith)
+turned (x ∷ v) (suc n) e = ap (λ l. at_most (bit_xor x 2) 32 ∷ l) (turned v n (omega arith))
 
 zip2-map : (f g : ℕ → ℕ) (xs : List ℕ) → zip2 bit_or (map f xs) (map g xs) ≡ map (λ x. bit_or (f x) (g x)) xs
 zip2-map f g [] = refl
@@ -45,7 +50,7 @@ through (x ∷ xs) rest none = by (is_unescaped x) none (through xs rest)
     by true e others = others (omega arith)
     by false e others = absurd (omega arith)
 
-up_to : (xs rest : List ℕ) → 0 < mask_l (map is_stop xs) → rest_while is_unescaped (xs ++ rest) ≡ drop (prefix_len (λ x. not (is_stop x)) xs) (xs ++ rest)
+pub up_to : (xs rest : List ℕ) → 0 < mask_l (map is_stop xs) → rest_while is_unescaped (xs ++ rest) ≡ drop (prefix_len (λ x. not (is_stop x)) xs) (xs ++ rest)
 up_to [] rest some = absurd (omega arith)
 up_to (x ∷ xs) rest some = by (is_unescaped x) some (up_to xs rest)
   where

@@ -9,14 +9,14 @@ use std::simd::prelude::*;
 /// How many bytes a step looks at.
 pub const LANES: usize = 16;
 
-/// A bit for each byte that does not stand for itself.
+/// A bit for each byte that does not stand for itself. With its second bit turned, the quotation
+/// mark is no more than a space, as the control characters are, and each other byte is more.
 #[inline(always)]
-fn stops(block: u8x16) -> u64
+pub fn stops(block: u8x16) -> u64
     ensures { result ≡ mask_l (map is_stop block) }
 {
-    (block.simd_eq(u8x16::splat(b'"'))
-        | block.simd_eq(u8x16::splat(b'\\'))
-        | block.simd_lt(u8x16::splat(b' '))).to_bitmask()
+    (block.simd_eq(u8x16::splat(b'\\'))
+        | (block ^ u8x16::splat(2)).simd_le(u8x16::splat(b' '))).to_bitmask()
 }
 
 /// The text after so many bytes.
