@@ -22,7 +22,7 @@ use crate::tree::{Fork, Node, Tree};
 use feed_text::ObjectText;
 use std::alloc::{AllocError, Global};
 
-/// How high the trees are, of up to 31 nodes, that are read through before they are listed.
+/// The height of the trees that are read through before they are listed: of up to 31 nodes.
 const NEAR: usize = 5;
 
 impl<V: Held> Tree<V> {
@@ -249,8 +249,8 @@ impl Tree<Ids> {
 }
 
 impl Tree<ObjectText> {
-    // Reads each node and object of a tree that is so low. It makes nothing but speed: they lie
-    // apart in memory, and reads that nothing waits for go on at the same time.
+    // Reads each node and object of a tree of that height, for speed alone: they lie apart in
+    // memory, and reads that nothing waits for go on at the same time.
     #[inline(always)]
     fn read_ahead(&self) {
         if self.height() == NEAR {
