@@ -1,27 +1,29 @@
 -- Numbers by name, in parts.
-use Rattle.std.proofs.Common.{◌≡◌, ◌≢◌, ℕ, zero, suc, ◌+◌, ◌<◌, Bool, true, false, cond, Option, None, Some, List, [], ◌∷◌, length, sym, ap, ap₂, ◌∙◌, refl, arith}
+use Rattle.std.proofs.Common.{◌≡◌, ◌≢◌, ℕ, zero, suc, ◌+◌, ◌<◌, Bool, true, false, cond, Option, None, Some, List, [], ◌∷◌, ◌++◌, take, length, subst, sym, ap, ap₂, ◌∙◌, refl, arith}
 use Rattle.std.specs.Prelude.{slice_index_or, slice_set}
+use Rattle.std.specs.List.{FoldsTo}
+use Rattle.std.proofs.lemmas.List.{length-set}
 use Rattle.std.specs.Option.{option_or}
 use Rattle.std.specs.Ordering.{eq_by_cmp}
 use Rattle.std.specs.FinMap.{FinMap, empty, get, insert, remove, get-empty, get-insert, get-remove}
 use Rattle.std.proofs.lemmas.Map.Views.{tells_apart}
 use Rattle.feed_tables.specs.Bytes.{byte_order}
 use Rattle.feed_tables.specs.Map.{map_over}
-use Rattle.feed_tables.specs.Numbers.{part_of, joined, AreApart}
+use Rattle.feed_tables.specs.Numbers.{part_of, joined, AreApart, AreParts}
 use Rattle.feed_tables.proofs.Maps.{byte_order_antisymmetric}
 use Rattle.feed_tables.proofs.MapsOver.{get-map_over, same_gets}
 use Rattle.feed_tables.proofs.Order.{total}
 
 -- the names of a part are of that alone
-abbrev Own : {V : Type 0} → ℕ → FinMap byte_order V → Type 0
-Own n part = (name : List ℕ) → part_of name ≢ n → get part name ≡ None
+abbrev Own : {V : Type 0} → ℕ → ℕ → FinMap byte_order V → Type 0
+Own count n part = (name : List ℕ) → part_of count name ≢ n → get part name ≡ None
 
 -- names of different parts are different
-other_name : (a b : List ℕ) → part_of a ≢ part_of b → eq_by_cmp byte_order a b ≡ false
-other_name a b apart = by (eq_by_cmp byte_order a b) refl
+other_name : (count : ℕ) (a b : List ℕ) → part_of count a ≢ part_of count b → eq_by_cmp byte_order a b ≡ false
+other_name count a b apart = by (eq_by_cmp byte_order a b) refl
   where
     by : (v : Bool) → eq_by_cmp byte_order a b ≡ v → v ≡ false
-    by true e = absurd (apart (ap part_of (tells_apart byte_order_antisymmetric a b e)))
+    by true e = absurd (apart (ap (part_of count) (tells_apart byte_order_antisymmetric a b e)))
     by false e = refl
 
 -- ---- one map over another
@@ -79,10 +81,11 @@ module _ {V : Type 0} where
       ∙ sym (get-remove total (map_over p m) k q
       ∙ ap (λ (o : Option V). cond (eq_by_cmp byte_order q k) None o) (get-map_over p m q)))
 
-  -- ---- all parts
+-- ---- all parts
 
+module _ {V : Type 0} (count : ℕ) where
   -- a name of a part before these is in none of them
-  no_part : (parts : List (FinMap byte_order V)) (n : ℕ) (name : List ℕ) → AreApart n parts → part_of name < n → get (joined parts) name ≡ None
+  no_part : (parts : List (FinMap byte_order V)) (n : ℕ) (name : List ℕ) → AreApart count n parts → part_of count name < n → get (joined parts) name ≡ None
   no_part [] n name apart less = get-empty byte_order name
   no_part (p ∷ ps) n name apart less =
       get-map_over p (joined ps) name
@@ -96,7 +99,7 @@ module _ {V : Type 0} where
   or_none (Some x) = refl
 
   -- what all have under a name is what its part has
-  pub in_part : (parts : List (FinMap byte_order V)) (n i : ℕ) (other : FinMap byte_order V) (name : List ℕ) → AreApart n parts → part_of name ≡ n + i → i < length parts
+  pub in_part : (parts : List (FinMap byte_order V)) (n i : ℕ) (other : FinMap byte_order V) (name : List ℕ) → AreApart count n parts → part_of count name ≡ n + i → i < length parts
       → get (slice_index_or parts i other) name ≡ get (joined parts) name
   in_part [] n i other name apart is inside = absurd (omega (arith, inside))
   in_part (p ∷ ps) n zero other name apart is inside = sym (
@@ -109,18 +112,18 @@ module _ {V : Type 0} where
       get-map_over p (joined ps) name
       ∙ ap (λ (o : Option V). option_or o (get (joined ps) name)) (apart.0 name (omega (arith, is))))
 
-  set_apart : (parts : List (FinMap byte_order V)) (n i : ℕ) (part : FinMap byte_order V) → AreApart n parts → Own (n + i) part → AreApart n (slice_set parts i part)
+  set_apart : (parts : List (FinMap byte_order V)) (n i : ℕ) (part : FinMap byte_order V) → AreApart count n parts → Own count (n + i) part → AreApart count n (slice_set parts i part)
   set_apart [] n i part apart own = tt
   set_apart (p ∷ ps) n zero part apart own = (λ name other. own name (omega (arith, other)), apart.1)
   set_apart (p ∷ ps) n (suc i) part apart own =
       (apart.0, set_apart ps (n + 1) i part apart.1 (λ name other. own name (omega (arith, other))))
 
-  own_part : (parts : List (FinMap byte_order V)) (n i : ℕ) (other : FinMap byte_order V) → AreApart n parts → i < length parts → Own (n + i) (slice_index_or parts i other)
+  own_part : (parts : List (FinMap byte_order V)) (n i : ℕ) (other : FinMap byte_order V) → AreApart count n parts → i < length parts → Own count (n + i) (slice_index_or parts i other)
   own_part [] n i other apart inside = absurd (omega (arith, inside))
   own_part (p ∷ ps) n zero other apart inside = λ name apart_from. apart.0 name (omega (arith, apart_from))
   own_part (p ∷ ps) n (suc i) other apart inside = λ name apart_from. own_part ps (n + 1) i other apart.1 (omega (arith, inside)) name (omega (arith, apart_from))
 
-  pub joined_insert : (parts : List (FinMap byte_order V)) (n i : ℕ) (other : FinMap byte_order V) (k : List ℕ) (v : V) → AreApart n parts → part_of k ≡ n + i → i < length parts
+  pub joined_insert : (parts : List (FinMap byte_order V)) (n i : ℕ) (other : FinMap byte_order V) (k : List ℕ) (v : V) → AreApart count n parts → part_of count k ≡ n + i → i < length parts
       → joined (slice_set parts i (insert (slice_index_or parts i other) k v)) ≡ insert (joined parts) k v
   joined_insert [] n i other k v apart is inside = absurd (omega (arith, inside))
   joined_insert (p ∷ ps) n zero other k v apart is inside = insert_over p (joined ps) k v
@@ -128,7 +131,7 @@ module _ {V : Type 0} where
       ap (map_over p) (joined_insert ps (n + 1) i other k v apart.1 (omega (arith, is)) (omega (arith, inside)))
       ∙ insert_under p (joined ps) k v (apart.0 k (omega (arith, is)))
 
-  pub joined_remove : (parts : List (FinMap byte_order V)) (n i : ℕ) (other : FinMap byte_order V) (k : List ℕ) → AreApart n parts → part_of k ≡ n + i → i < length parts
+  pub joined_remove : (parts : List (FinMap byte_order V)) (n i : ℕ) (other : FinMap byte_order V) (k : List ℕ) → AreApart count n parts → part_of count k ≡ n + i → i < length parts
       → joined (slice_set parts i (remove (slice_index_or parts i other) k)) ≡ remove (joined parts) k
   joined_remove [] n i other k apart is inside = absurd (omega (arith, inside))
   joined_remove (p ∷ ps) n zero other k apart is inside = remove_over p (joined ps) k (no_part ps (n + 1) k apart.1 (omega (arith, is)))
@@ -136,22 +139,22 @@ module _ {V : Type 0} where
       ap (map_over p) (joined_remove ps (n + 1) i other k apart.1 (omega (arith, is)) (omega (arith, inside)))
       ∙ remove_under p (joined ps) k (apart.0 k (omega (arith, is)))
 
-  pub insert_apart : (parts : List (FinMap byte_order V)) (i : ℕ) (other : FinMap byte_order V) (k : List ℕ) (v : V) → AreApart 0 parts → part_of k ≡ i → i < length parts
-      → AreApart 0 (slice_set parts i (insert (slice_index_or parts i other) k v))
+  pub insert_apart : (parts : List (FinMap byte_order V)) (i : ℕ) (other : FinMap byte_order V) (k : List ℕ) (v : V) → AreApart count 0 parts → part_of count k ≡ i → i < length parts
+      → AreApart count 0 (slice_set parts i (insert (slice_index_or parts i other) k v))
   insert_apart parts i other k v apart is inside = set_apart parts 0 i _ apart (λ name apart_from.
       get-insert total (slice_index_or parts i other) k v name
-      ∙ ap (λ (b : Bool). cond b (Some v) (get (slice_index_or parts i other) name)) (other_name name k (λ same. apart_from (omega (arith, same, is))))
+      ∙ ap (λ (b : Bool). cond b (Some v) (get (slice_index_or parts i other) name)) (other_name count name k (λ same. apart_from (omega (arith, same, is))))
       ∙ own_part parts 0 i other apart inside name apart_from)
 
-  pub remove_apart : (parts : List (FinMap byte_order V)) (i : ℕ) (other : FinMap byte_order V) (k : List ℕ) → AreApart 0 parts → part_of k ≡ i → i < length parts
-      → AreApart 0 (slice_set parts i (remove (slice_index_or parts i other) k))
+  pub remove_apart : (parts : List (FinMap byte_order V)) (i : ℕ) (other : FinMap byte_order V) (k : List ℕ) → AreApart count 0 parts → part_of count k ≡ i → i < length parts
+      → AreApart count 0 (slice_set parts i (remove (slice_index_or parts i other) k))
   remove_apart parts i other k apart is inside = set_apart parts 0 i _ apart (λ name apart_from.
       get-remove total (slice_index_or parts i other) k name
-      ∙ ap (λ (b : Bool). cond b None (get (slice_index_or parts i other) name)) (other_name name k (λ same. apart_from (omega (arith, same, is))))
+      ∙ ap (λ (b : Bool). cond b None (get (slice_index_or parts i other) name)) (other_name count name k (λ same. apart_from (omega (arith, same, is))))
       ∙ own_part parts 0 i other apart inside name apart_from)
 
   -- parts without names
-  pub all_empty : (parts : List (FinMap byte_order V)) (n : ℕ) → ((i : ℕ) → i < length parts → slice_index_or parts i empty ≡ empty) → AreApart n parts
+  pub all_empty : (parts : List (FinMap byte_order V)) (n : ℕ) → ((i : ℕ) → i < length parts → slice_index_or parts i empty ≡ empty) → AreApart count n parts
   all_empty [] n each = tt
   all_empty (p ∷ ps) n each = (
     λ name other. ap (λ (m : FinMap byte_order V). get m name) (each 0 (omega arith)) ∙ get-empty byte_order name,
@@ -166,3 +169,25 @@ module _ {V : Type 0} where
       get-map_over {V = V} empty empty q
       ∙ ap₂ option_or (get-empty byte_order q) (get-empty byte_order q)
       ∙ sym (get-empty byte_order q))
+
+-- ---- parts that a closure makes
+
+module _ {F V : Type 0} (step : F → FinMap byte_order V → F → Type 0) (made : (p q : F) (part : FinMap byte_order V) → step p part q → part ≡ empty) where
+  pub each_empty : (parts : List (FinMap byte_order V)) (p q : F) → FoldsTo step p parts q → (i : ℕ) → i < length parts → slice_index_or parts i empty ≡ empty
+  each_empty [] p q folds i inside = absurd (omega (arith, inside))
+  each_empty (part ∷ parts) p q folds zero inside = made p folds.0 part folds.1
+  each_empty (part ∷ parts) p q folds (suc i) inside = each_empty parts folds.0 q folds.2 i (omega (arith, inside))
+
+-- what follows no parts is all there is
+pub behind_none : {A : Type 0} (n : ℕ) (old new parts : List A) → old ≡ [] → new ≡ take n old ++ parts → new ≡ parts
+behind_none {A} n old new parts none is = is ∙ ap (λ (l : List A). take n l ++ parts) none ∙ nothing n
+  where
+    nothing : (n : ℕ) → take n [] ++ parts ≡ parts
+    nothing zero = refl
+    nothing (suc n) = refl
+
+-- as many parts as before, in one of which something else is
+pub set_parts : {V : Type 0} (parts : List (FinMap byte_order V)) (i : ℕ) (part : FinMap byte_order V) → 0 < length parts → AreApart (length parts) 0 (slice_set parts i part)
+    → AreParts (slice_set parts i part)
+set_parts {V} parts i part some apart =
+    subst (λ (n : ℕ). (0 < n) × AreApart n 0 (slice_set parts i part)) (sym (length-set parts i part)) (some, apart)

@@ -8,19 +8,19 @@ use crate::map::Map;
 use crate::name::{Key, Name};
 use crate::tree::Fork;
 use std::alloc::{AllocError, Global};
-use std::array;
 use std::marker::Model;
 
-/// How many parts the names are in.
-const PARTS: usize = 64;
+/// How many parts there are for each name that is looked for. A new name mostly comes to a part
+/// where there is none.
+const PARTS_A_NAME: usize = 2;
 
 /// A number for each of some names. One is found in time by the logarithm of how many they are,
 /// whatever the names; and only a slot takes memory.
 #[derive(Drop)]
 pub struct Numbers {
-    // Names that end alike are in one part. Those that are counted up, as tokens mostly are, come
-    // into all parts, and each of them is looked for in a low tree.
-    parts: [Map<usize>; PARTS],
+    // At least one. Names that end alike are in one part. Those that are counted up, as tokens
+    // mostly are, come into all parts, and each of them is looked for in a low tree.
+    parts: Vec<Map<usize>>,
 }
 
 /// The memory that a name takes among numbers.
@@ -34,15 +34,15 @@ impl Model for Numbers {
     ghost use Rattle.std.specs.Coded.{coded_ℕ, coded_list};
     ghost use Rattle.std.specs.FinMap as map;
     ghost use Rattle.feed_tables.specs.Bytes.{byte_order};
-    ghost use Rattle.feed_tables.specs.Numbers.{joined, AreApart};
+    ghost use Rattle.feed_tables.specs.Numbers.{joined, AreParts};
 
     ghost Value = { map.FinMap byte_order ℕ };
 
     ghost coded = { map.code (coded_list coded_ℕ) coded_ℕ };
 
-    ghost view = { λ a. joined a.parts };
+    ghost view = { λ a. joined a.parts.items };
 
-    ghost invariant = { λ a. AreApart 0 a.parts };
+    ghost invariant = { λ a. AreParts a.parts.items };
 }
 
 impl Model for Slot {
@@ -53,17 +53,19 @@ impl Model for Slot {
     ghost view = { λ a. a.node.value.id };
 }
 
-/// The part of a name, by its last two bytes.
-fn part_of(name: &str) -> usize
-    ensures part { result ≡ part_by name.now }
-    ensures bound { result < PARTS }
+/// The part of a name among so many, by its last eight bytes.
+fn part_of(name: &str, parts: usize) -> usize
+    requires some { 0 < parts }
+    ensures part { result ≡ part_by parts name.now }
+    ensures bound { result < parts }
 {
     let bytes = name.as_bytes();
-    let length = bytes.len();
-    if length < 2 {
-        return 0;
+    let end = &bytes[bytes.len().saturating_sub(8)..];
+    let mut number: usize = 0;
+    for byte in end {
+        number = number.wrapping_mul(10).wrapping_add(*byte as usize);
     }
-    (bytes[length - 2] as usize * 10 + bytes[length - 1] as usize) % PARTS
+    number % parts
 }
 
 impl Slot {
@@ -77,23 +79,37 @@ impl Slot {
 }
 
 impl Numbers {
-    /// No name has a number.
-    pub fn new() -> Numbers
-        ensures { result ≡ map.empty }
+    /// No name has a number. It is made for about so many that have one at once.
+    pub fn new(alloc: Global, names: usize) -> Result<Numbers, AllocError>
+        ensures { IfOk result (λ numbers. numbers ≡ map.empty) }
     {
-        let parts = array::from_fn(
-            |_| -> Map<usize>
+        let mut parts = Vec::new(alloc);
+        parts.resize_with(
+            names.saturating_mul(PARTS_A_NAME).max(1),
+            || -> Map<usize>
+                ensures { result ≡ map.empty }
+            { Map::new() },
+        )?;
+        Ok(Numbers { parts })
+    }
+
+    /// No name has a number any more.
+    pub fn clear(&mut self)
+        ensures { self.new ≡ map.empty }
+    {
+        self.parts.as_mut_slice().fill_with(
+            || -> Map<usize>
                 ensures { result ≡ map.empty }
             { Map::new() },
         );
-        Numbers { parts }
     }
 
     /// The number of a name.
     pub fn get(&self, name: &str) -> Option<usize>
         ensures { result ≡ map.get self.now name.now }
     {
-        self.parts[part_of(name)].get(&Key::of(name)).copied()
+        let part = part_of(name, self.parts.len());
+        self.parts[part].get(&Key::of(name)).copied()
     }
 
     /// Gives the slot's name this number, in the place of the one that it has.
@@ -102,7 +118,7 @@ impl Numbers {
     {
         let mut node = slot.node;
         node.set_item(number);
-        let part = part_of(node.name());
+        let part = part_of(node.name(), self.parts.len());
         self.parts[part].insert(node);
     }
 
@@ -110,6 +126,7 @@ impl Numbers {
     pub fn remove(&mut self, name: &str)
         ensures { self.new ≡ map.remove self.old name.now }
     {
-        self.parts[part_of(name)].remove(&Key::of(name));
+        let part = part_of(name, self.parts.len());
+        self.parts[part].remove(&Key::of(name));
     }
 }

@@ -1,17 +1,20 @@
-use Rattle.std.proofs.Common.{ℕ, List, ◌∙◌, ap, arith}
-use Rattle.std.specs.Prelude.{slice_index_or}
+use Rattle.std.proofs.Common.{◌≡◌, ℕ, List, length, ◌∙◌, ap, sym, arith}
 use Rattle.std.specs.FinMap.{FinMap, get}
 use Rattle.feed_tables.specs.Bytes.{byte_order}
+use Rattle.feed_tables.specs.Numbers.{part_of}
 use Rattle.feed_tables.proofs.NumberParts.{in_part}
 use Rattle.feed_tables.proofs.numbers.Numbers.get.Goals as goal
 
 pub returns : goal.returns
 returns c =
-    let parts = c.self.inside.parts in
+    let parts = c.self.inside.parts.items in
     let name = c.args.name.now in
-    let part : FinMap byte_order ℕ = slice_index_or parts c.part_of.result c.index-self-part_of.result in
+    let place = c.part_of-part.result in
+    let count : c.len.result ≡ length parts = c.len.ensures ∙ c.self.inside.parts.ok.0 in
+    let own = c.part_of-part.ensures.part ∙ ap (λ (n : ℕ). part_of n name) count in
     c.copied.ensures
     ∙ c.get.ensures
-    ∙ ap (λ (k : List ℕ). get part k) c.of.ensures
-    ∙ in_part parts 0 c.part_of.result c.index-self-part_of.result name c.self.invariant (omega (arith, c.part_of.ensures.part)) (omega (arith, c.part_of.ensures.bound, c.self.told))
+    ∙ ap (λ (k : List ℕ). get c.index.result.now k) c.of.ensures
+    ∙ ap (λ (m : FinMap byte_order ℕ). get m name) c.index.ensures
+    ∙ in_part (length parts) parts 0 place c.index.result.now name c.self.invariant.1 (omega (arith, own)) (omega (arith, c.part_of-part.ensures.bound, count))
     ∙ ap (λ (m : FinMap byte_order ℕ). get m name) c.self.view_is
