@@ -7,6 +7,7 @@ ghost use Rattle.feed_note.specs.Steps.{HasRoom, with_note};
 
 use crate::line::Line;
 use crate::stop::{LineStop, read_first};
+use feed_tables::Change;
 use std::alloc::Global;
 use thiserror::Error;
 
@@ -53,9 +54,9 @@ impl Counts {
     }
 
     /// Counts one line more.
-    fn add(&mut self, note: Line)
-        requires { HasRoom self.old note }
-        ensures { self.new ≡ with_note self.old note }
+    fn add(&mut self, note: &Line)
+        requires { HasRoom self.old note.now }
+        ensures { self.new ≡ with_note self.old note.now }
     {
         self.lines += 1;
         match note {
@@ -69,6 +70,14 @@ impl Counts {
     }
 }
 
+/// The memory of a line's changes.
+fn memory_of(alloc: Global, note: Line) -> Vec<Change> {
+    match note {
+        Line::KeepAlive => Vec::new(alloc),
+        Line::Note { changes, token: _ } => changes.into_vec(),
+    }
+}
+
 /// Counts what the lines of a feed are, or names the first that can't be read.
 pub fn survey(alloc: Global, bytes: &[u8]) -> Result<Counts, SurveyFault>
     ensures ok { IfOk result (λ counts. Counted bytes.now counts) }
@@ -76,11 +85,13 @@ pub fn survey(alloc: Global, bytes: &[u8]) -> Result<Counts, SurveyFault>
         fault.stop ≢ LineStop.Memory → StopsAt bytes.now fault.line fault.stop) }
 {
     let mut counts = Counts::none();
+    let mut spare = Vec::new(alloc);
     let mut rest = bytes;
     'lines: loop {
-        match read_first(alloc, rest) {
+        match read_first(alloc, rest, &mut spare) {
             Ok(Some((note, behind))) => {
-                counts.add(note);
+                counts.add(&note);
+                spare = memory_of(alloc, note);
                 rest = behind;
             }
             Ok(None) => {

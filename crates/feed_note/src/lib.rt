@@ -24,7 +24,7 @@ pub use cut::{LINE_BYTES, split_line};
 pub use laws::{line_laws, written_lines_law};
 pub use line::{Line, LineFault};
 pub use pieces::lines_of_pieces;
-pub use read::read_line;
+pub use read::{read_line, read_line_in};
 pub use snapshot::write_snapshot;
 pub use splitter::{SplitFault, Splitter};
 pub use stop::LineStop;

@@ -6,7 +6,8 @@ ghost use Rattle.feed_note.specs.declared.stop.LineStop.TheVariants.{Memory};
 
 use crate::cut::{LINE_BYTES, split_line};
 use crate::line::{Line, LineFault};
-use crate::read::read_line;
+use crate::read::read_line_in;
+use feed_tables::Change;
 use std::alloc::{AllocError, Global};
 use thiserror::Error;
 
@@ -45,8 +46,12 @@ impl LineStop {
 }
 
 /// What the first line of a text means, and the text after its line feed; none where no line is
-/// left.
-pub fn read_first<'a>(alloc: Global, text: &'a [u8]) -> Result<Option<(Line, &'a [u8])>, LineStop>
+/// left. A change that stands alone lies in the memory of these, which go, where there is room.
+pub fn read_first<'a>(
+    alloc: Global,
+    text: &'a [u8],
+    spare: &mut Vec<Change>,
+) -> Result<Option<(Line, &'a [u8])>, LineStop>
     ensures some { IfOk result (λ first.
         IfSome first (λ parts. TakesNote text.now parts.0 parts.1.now)) }
     ensures none { IfOk result (λ first. IfNone first (IsUnfinished text.now)) }
@@ -62,7 +67,7 @@ pub fn read_first<'a>(alloc: Global, text: &'a [u8]) -> Result<Option<(Line, &'a
     if line.len() > LINE_BYTES {
         return Err(LineStop::LongLine);
     }
-    match read_line(alloc, line) {
+    match read_line_in(alloc, line, spare) {
         Ok(note) => Ok(Some((note, behind))),
         Err(fault) => Err(LineStop::at_fault(fault)),
     }
