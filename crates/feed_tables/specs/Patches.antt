@@ -1,13 +1,17 @@
 -- What a patch makes of tables.
-use Rattle.std.specs.Prelude.{ℕ, ◌+◌, List, [], ◌∷◌, Option, None, Some, fold}
-use Rattle.std.specs.FinMap.{FinMap, get, insert, entries, len}
+use Rattle.std.specs.Prelude.{◌≡◌, ℕ, ◌+◌, true, List, [], ◌∷◌, Option, None, Some, fold}
+use Rattle.std.specs.FinMap.{FinMap, find, get, insert, entries, len}
+use Rattle.std.specs.declared.alloc.Global.{Global}
+use Rattle.std.specs.declared.boxed.Box.{Box}
 use Rattle.feed_tables.specs.Bytes.{byte_order}
-use Rattle.feed_tables.specs.Map.{map_over, map_less}
+use Rattle.feed_tables.specs.Map.{Exchanges, map_over, map_less}
+use Rattle.feed_tables.specs.Tree.{Swaps}
 use Rattle.feed_tables.specs.Tables.{Objects, Contents, object_count}
 use Rattle.feed_tables.specs.Walks.{Scale}
 use Rattle.feed_tables.specs.declared.ids.Ids.{Ids}
 use Rattle.feed_tables.specs.declared.patch.Patch.{Patch}
 use Rattle.feed_tables.specs.declared.tables.Table.{Table}
+use Rattle.feed_tables.specs.declared.tree.Fork.{Fork}
 use Rattle.feed_tables.specs.declared.tables.Table.TheVariants.{One, Many}
 
 -- the objects of a collection over which some change: some are taken away, and then some put in
@@ -39,6 +43,21 @@ with_ids contents kind ids (Some table) = insert contents kind (merged table ids
 abbrev pub with_all_ids : FinMap byte_order Ids → Contents → Contents
 with_all_ids changed contents =
     fold (λ c e. with_ids c e.0 e.1 (get c e.0)) contents (entries changed)
+
+-- these objects of a type are those, with one put under its id
+abbrev pub HasSet : Ids → Ids → List ℕ → List ℕ → Type 0
+HasSet old new id object = (objects : Objects) → over_ids objects new ≡ insert (over_ids objects old) id object
+
+-- among what becomes of the objects of types, an object was put under its id in that of a type;
+-- where there is none, nothing changed, and the node came back
+abbrev pub SetsAmong : List ℕ → List (List ℕ × Ids) → List (List ℕ × Ids) → List ℕ → List ℕ → Option (Box (Fork (List ℕ)) Global) → Type 0
+SetsAmong kind es fs id object None = (old : Ids) × (new : Ids) × Swaps kind es fs new old true × HasSet old new id object
+SetsAmong kind es fs id object (Some node) = (find byte_order kind es ≡ None) × (fs ≡ es) × (node.value.id ≡ id) × (node.value.item ≡ object)
+
+-- the same among what becomes of objects by their types
+abbrev pub SetsIn : List ℕ → FinMap byte_order Ids → FinMap byte_order Ids → List ℕ → List ℕ → Option (Box (Fork (List ℕ)) Global) → Type 0
+SetsIn kind m n id object None = (old : Ids) × (new : Ids) × Exchanges kind m n new old true × HasSet old new id object
+SetsIn kind m n id object (Some node) = (get m kind ≡ None) × (n ≡ m) × (node.value.id ≡ id) × (node.value.item ≡ object)
 
 -- what the tables hold before objects change: types are taken away, and then tables are put in
 abbrev pub below : Contents → Patch → Contents

@@ -9,7 +9,7 @@ ghost use Rattle.feed_tables.specs.Changes.{sets};
 ghost use Rattle.feed_tables.specs.Listers.{FailsIn};
 ghost use Rattle.feed_tables.specs.Map.{Exchanges, map_over, map_less, TakesFirst};
 ghost use Rattle.feed_tables.specs.Objects.{AreObjects};
-ghost use Rattle.feed_tables.specs.Patches.{sets_in};
+ghost use Rattle.feed_tables.specs.Patches.{sets_in, SetsIn};
 ghost use Rattle.feed_tables.specs.Tables.{listed, AreTypes};
 ghost use Rattle.feed_tables.specs.Walks.{weight, weighed, weighed_in};
 
@@ -319,6 +319,18 @@ impl Map<Table> {
 }
 
 impl Map<Ids> {
+    /// Puts a node's object under its id among those of a type. Where nothing becomes of the type's
+    /// objects, the node comes back.
+    pub fn set_in(
+        &mut self,
+        kind: &Key<'_>,
+        node: Box<Fork<ObjectText>>,
+    ) -> Option<Box<Fork<ObjectText>>>
+        ensures set { SetsIn kind.now self.old self.new node.value.id node.value.item result }
+    {
+        self.tree.set_in(kind, node)
+    }
+
     /// How many objects are put in, or `usize::MAX` where they are more.
     pub fn count_sets(&self) -> usize
         ensures { result ≡ min (sets_in (map.entries self.now)) usize.MAX }

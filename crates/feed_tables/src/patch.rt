@@ -120,12 +120,10 @@ impl Patch {
         if objects_of(&self.tables, &self.gone, base, &kind.key()).is_none() {
             return self.begin(alloc, base, kind, node);
         }
-        let mut ids = Ids::new();
-        if self.ids.swap(&kind.key(), &mut ids) {
-            ids.set(node);
-            let _there = self.ids.swap(&kind.key(), &mut ids);
+        let Some(node) = self.ids.set_in(&kind.key(), node) else {
             return Ok(());
-        }
+        };
+        let mut ids = Ids::new();
         ids.set(node);
         let node = Fork::new(alloc, kind.copy()?, ids)?;
         self.ids.insert(node);

@@ -4,11 +4,12 @@ ghost use Rattle.std.specs.Prelude.{◌≡◌, ◌∷◌, [], ◌↔◌, Some, m
 ghost use Rattle.std.specs.List.{FoldsTo};
 ghost use Rattle.std.specs.Option.{option_copied};
 ghost use Rattle.std.specs.FinMap as map;
+ghost use Rattle.feed_tables.specs.Bytes.{IsInOrder};
 ghost use Rattle.feed_tables.specs.Changes.{sets};
 ghost use Rattle.feed_tables.specs.Listers.{FailsIn};
 ghost use Rattle.feed_tables.specs.Map.{map_over, map_less};
 ghost use Rattle.feed_tables.specs.Objects.{AreObjects};
-ghost use Rattle.feed_tables.specs.Patches.{sets_in};
+ghost use Rattle.feed_tables.specs.Patches.{sets_in, SetsAmong};
 ghost use Rattle.feed_tables.specs.Tables.{listed, AreTypes};
 ghost use Rattle.feed_tables.specs.Walks.{weight, weighed, weighed_in, besides, AreIn};
 
@@ -21,6 +22,7 @@ use crate::tables::Table;
 use crate::tree::{Fork, Node, Tree};
 use feed_text::ObjectText;
 use std::alloc::{AllocError, Global};
+use std::cmp::Ordering;
 
 /// The height of the trees that are read through before they are listed: of up to 31 nodes.
 const NEAR: usize = 5;
@@ -233,6 +235,29 @@ impl Tree<Table> {
 }
 
 impl Tree<Ids> {
+    /// Puts a node's object under its id among those of a type. Where nothing becomes of the type's
+    /// objects, the node comes back.
+    pub fn set_in(
+        &mut self,
+        kind: &Key<'_>,
+        node: Box<Fork<ObjectText>>,
+    ) -> Option<Box<Fork<ObjectText>>>
+        requires { IsInOrder self.old }
+        ensures set { SetsAmong kind.now self.old self.new node.value.id node.value.item result }
+    {
+        match &mut self.node {
+            Node::Leaf => Some(node),
+            Node::Fork(fork) => match kind.compare(&fork.id) {
+                Ordering::Less => fork.left.set_in(kind, node),
+                Ordering::Equal => {
+                    fork.item.set(node);
+                    None
+                }
+                Ordering::Greater => fork.right.set_in(kind, node),
+            },
+        }
+    }
+
     /// How many objects are put in, or `usize::MAX` where they are more.
     pub fn count_sets(&self) -> usize
         ensures { result ≡ min (sets_in self.now) usize.MAX }

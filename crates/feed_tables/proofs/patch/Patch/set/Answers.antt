@@ -1,10 +1,11 @@
-use Rattle.std.proofs.Common.{◌≡◌, ap, ◌∙◌, List, ℕ}
+use Rattle.std.proofs.Common.{◌≡◌, true, None, ap, subst, ◌∙◌, List, ℕ}
 use Rattle.std.specs.FinMap.{get, insert}
+use Rattle.feed_tables.specs.Map.{Exchanges}
 use Rattle.feed_tables.specs.Patches.{over_ids}
 use Rattle.feed_tables.specs.Tables.{Objects, collection_of}
 use Rattle.feed_tables.specs.declared.ids.Ids.{Ids}
 use Rattle.feed_tables.proofs.Changing.{Changed, held_some, held_none, held_after, held_still, set_again}
-use Rattle.feed_tables.proofs.Patching.{over_of, exchanged_twice, exchanged_none}
+use Rattle.feed_tables.proofs.Patching.{over_of}
 use Rattle.feed_tables.proofs.patch.Patch.set.Goals as goal
 
 pub begin-requires : goal.begin-requires
@@ -14,23 +15,24 @@ begin-requires c =
     held_none (get m c.args.kind.now) c.objects_of.result c.if-is_none.ensures
     (c.objects_of.ensures ∙ ap (λ (q : List ℕ). collection_of (get m q)) c.key.ensures)
 
-pub returns-then-swap-clause-ok : goal.returns-then-swap-clause-ok
-returns-then-swap-clause-ok c =
+pub returns-in_default-clause-ok : goal.returns-in_default-clause-ok
+returns-in_default-clause-ok c =
     let p = c.args.self.now in
     let k = c.args.kind.now in
     let m = over_of c.args.base.now.contents p.gone p.tables in
     let held = held_some (get m k) c.objects_of.result c.if-is_none.ensures
     (c.objects_of.ensures ∙ ap (λ (q : List ℕ). collection_of (get m q)) c.key.ensures) in
-    let i = c.swap.new.item in
-    let j = c.set.new.self in
+    let set = c.in_default.ensures.set in
+    let i = set.0 in
+    let j = set.1 in
+    let there = subst (λ (q : List ℕ). Exchanges q p.ids c.set_in.new.self j i true) c.key-2.ensures set.2 in
     let node = c.in_ok-node.node.value in
-    let twice = exchanged_twice c.key-2.result c.key-then-swap.result k p.ids c.swap.new.self c.swap-there.new.self _ i j c.swap-there.new.item c.swap.result c.swap-there.result c.key-2.ensures c.key-then-swap.ensures c.if-swap.true c.swap.ensures c.swap-there.ensures in
     let made : over_ids held.0 j ≡ insert (over_ids held.0 i) c.args.id.now c.args.object.now =
-    c.set.ensures held.0
+    set.3 held.0
     ∙ ap (λ (q : List ℕ). insert (over_ids held.0 i) q node.item) (c.in_ok-node.ensures.0 ∙ c.in_ok-copy.ensures)
     ∙ ap (λ (o : List ℕ). insert (over_ids held.0 i) c.args.id.now o) (c.in_ok-node.ensures.1 ∙ c.in_ok-copy-2.ensures) in
-    set_again p.ids m k c.swap-there.new.self held.0 (over_ids held.0 i) j c.args.id.now c.args.object.now held.1
-    (held_after p.ids m k held.0 i held.1 twice.0) twice.1 made
+    set_again p.ids m k c.set_in.new.self held.0 (over_ids held.0 i) j c.args.id.now c.args.object.now held.1
+    (held_after p.ids m k held.0 i held.1 there.0) there.1 made
 
 pub returns-clause-ok : goal.returns-clause-ok
 returns-clause-ok c =
@@ -39,21 +41,20 @@ returns-clause-ok c =
     let m = over_of c.args.base.now.contents p.gone p.tables in
     let held = held_some (get m k) c.objects_of.result c.if-is_none.ensures
     (c.objects_of.ensures ∙ ap (λ (q : List ℕ). collection_of (get m q)) c.key.ensures) in
-    let none = exchanged_none c.key-2.result k p.ids c.swap.new.self _ c.swap.new.item c.swap.result c.key-2.ensures c.if-swap.false c.swap.ensures in
-    let i = c.swap.new.item in
-    let j = c.set-2.new.self in
-    let node = c.in_ok-node.node.value in
+    let back = c.in-Some.ensures.set in
+    let none = subst (λ (q : List ℕ). get p.ids q ≡ None) c.key-2.ensures back.0 in
+    let j = c.set.new.self in
+    let node = c.in-Some.node.value in
     let last = c.in_ok-node-2.node.value in
-    let same : over_ids held.0 i ≡ held.0 = ap (over_ids held.0) none.2 ∙ c.new-ids.ensures held.0 in
     let made : over_ids held.0 j ≡ insert held.0 c.args.id.now c.args.object.now =
-    c.set-2.ensures held.0
-    ∙ ap (λ (n : Objects). insert n node.id node.item) same
-    ∙ ap (λ (q : List ℕ). insert held.0 q node.item) (c.in_ok-node.ensures.0 ∙ c.in_ok-copy.ensures)
-    ∙ ap (λ (o : List ℕ). insert held.0 c.args.id.now o) (c.in_ok-node.ensures.1 ∙ c.in_ok-copy-2.ensures) in
+    c.set.ensures held.0
+    ∙ ap (λ (n : Objects). insert n node.id node.item) (c.new-ids.ensures held.0)
+    ∙ ap (λ (q : List ℕ). insert held.0 q node.item) (back.2 ∙ c.in_ok-node.ensures.0 ∙ c.in_ok-copy.ensures)
+    ∙ ap (λ (o : List ℕ). insert held.0 c.args.id.now o) (back.3 ∙ c.in_ok-node.ensures.1 ∙ c.in_ok-copy-2.ensures) in
     let put : c.insert.new.self ≡ insert p.ids k j =
     c.insert.ensures
-    ∙ ap (λ (n : Changed). insert n last.id last.item) none.1
+    ∙ ap (λ (n : Changed). insert n last.id last.item) back.1
     ∙ ap (λ (q : List ℕ). insert p.ids q last.item) (c.in_ok-node-2.ensures.0 ∙ c.in_ok-copy-3.ensures)
     ∙ ap (λ (x : Ids). insert p.ids k x) c.in_ok-node-2.ensures.1 in
     set_again p.ids m k c.insert.new.self held.0 held.0 j c.args.id.now c.args.object.now held.1
-    (held_still p.ids m k held.0 held.1 none.0) put made
+    (held_still p.ids m k held.0 held.1 none) put made

@@ -1,0 +1,45 @@
+use Rattle.std.proofs.Common.{refl, rules, ◌≡◌, ◌∙◌, Greater, Less, Equal, ap, sym}
+use Rattle.std.specs.FinMap.{find}
+use Rattle.feed_tables.specs.Bytes.{byte_order}
+use Rattle.feed_tables.specs.Tree.{entries_of}
+use Rattle.feed_tables.proofs.TreeFork.{at_lent, find_at, put_at}
+use Rattle.feed_tables.proofs.Setting.{sets_before, sets_after}
+use Rattle.feed_tables.proofs.tree.walks.Tree+Ids.+set_in.Goals as goal
+use Rattle.feed_tables.proofs.tree.walks.Tree+Ids.+set_in.Goals.{in-Leaf, in-Fork+in-Less, in-Fork+in-Equal, in-Fork+in-Greater}
+
+pub set_in-requires : goal.set_in-requires
+set_in-requires t c =
+    let f = at_lent c.self.view_is c.requires c.in-Fork.is c.deref_mut.result.now c.deref_mut.ensures.value in
+    (search rules, f.left)
+
+pub set_in-requires-in-Greater : goal.set_in-requires-in-Greater
+set_in-requires-in-Greater t c =
+    let f = at_lent c.self.view_is c.requires c.in-Fork.is c.deref_mut-in-Greater.result.now c.deref_mut-in-Greater.ensures.value in
+    (search rules, f.right)
+
+pub returns : goal.returns
+returns t c =
+    let kind = c.args.kind.now in
+    let id = c.args.node.value.id in
+    let object = c.args.node.value.item in
+    record {
+      set = elim c.match-self.branch [
+        | in-Leaf w ↦ rw (w.result-is, w.self-inside-is) (ap (find byte_order kind) (sym c.self.view_is ∙ ap entries_of w.in-Leaf.is), c.self.view_is, refl, refl)
+        | in-Fork+in-Less w ↦
+            let fork = w.in-Fork.fork.value in
+            let f = at_lent c.self.view_is c.requires w.in-Fork.is fork refl in
+            let order : byte_order kind fork.id ≡ Less = cc (w.compare.ensures, w.in-Less.is, w.deref.ensures) in
+            rw (w.result-is, w.self-inside-is, w.deref_mut.ensures.value) (sets_before f kind id object w.set_in.new.self w.set_in.result order (rw w.deref_mut.ensures.value at w.set_in.ensures.set))
+        | in-Fork+in-Equal w ↦
+            let fork = w.in-Fork.fork.value in
+            let f = at_lent c.self.view_is c.requires w.in-Fork.is fork refl in
+            let order : byte_order kind fork.id ≡ Equal = cc (w.compare.ensures, w.in-Equal.is, w.deref.ensures) in
+            rw (w.result-is, w.self-inside-is, w.deref_mut-in-Equal.ensures.value)
+            (fork.item, w.set.new.self, (find_at f kind order, sym (put_at f kind w.set.new.self order)), rw w.deref_mut-in-Equal.ensures.value at w.set.ensures)
+        | in-Fork+in-Greater w ↦
+            let fork = w.in-Fork.fork.value in
+            let f = at_lent c.self.view_is c.requires w.in-Fork.is fork refl in
+            let order : byte_order kind fork.id ≡ Greater = cc (w.compare.ensures, w.in-Greater.is, w.deref.ensures) in
+            rw (w.result-is, w.self-inside-is, w.deref_mut-in-Greater.ensures.value) (sets_after f kind id object w.set_in-in-Greater.new.self w.set_in-in-Greater.result order (rw w.deref_mut-in-Greater.ensures.value at w.set_in-in-Greater.ensures.set))
+      ];
+    }
