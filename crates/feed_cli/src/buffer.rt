@@ -4,7 +4,7 @@ ghost use Rattle.std.specs.Prelude.{◌≡◌, ◌≤◌, ◌+◌, ◌↔◌, tr
 use std::marker::Model;
 
 /// How many bytes wait at most.
-const ROOM: usize = 65_536;
+const ROOM: usize = 262_144;
 
 /// Bytes in an array, the first ones of which are in use. To clear it writes nothing, unlike an
 /// `ArrayVec`, which writes over what it held.
