@@ -1,7 +1,7 @@
-use Rattle.std.proofs.Common.{◌≡◌, List, ℕ, length, ◌∙◌, ap, subst, sym, arith}
-use Rattle.std.specs.FinMap.{FinMap, empty}
+use Rattle.std.proofs.Common.{List, ℕ, length, ◌∙◌, ap, subst, sym, arith}
+use Rattle.std.specs.FinMap.{FinMap}
 use Rattle.feed_tables.specs.Bytes.{byte_order}
-use Rattle.feed_tables.specs.Numbers.{joined, AreApart, AreParts}
+use Rattle.feed_tables.specs.Numbers.{joined, AreApart}
 use Rattle.feed_tables.proofs.NumberParts.{all_empty, joined_empty, each_empty, behind_none}
 use Rattle.feed_tables.proofs.numbers.Numbers.new.Goals as goal
 
