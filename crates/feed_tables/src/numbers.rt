@@ -10,12 +10,12 @@ use crate::tree::Fork;
 use std::alloc::{AllocError, Global};
 use std::marker::Model;
 
-/// How many parts there are for each name that is looked for. A new name mostly comes to a part
-/// where there is none.
+/// How many parts there are for each name that is expected: a new one mostly comes to a part where
+/// there is none.
 const PARTS_A_NAME: usize = 2;
 
 /// A number for each of some names. One is found in time by the logarithm of how many they are,
-/// whatever the names; and only a slot takes memory.
+/// whatever the names. Once they are made, only a slot takes memory.
 #[derive(Drop)]
 pub struct Numbers {
     // At least one. Names that end alike are in one part. Those that are counted up, as tokens
@@ -79,7 +79,8 @@ impl Slot {
 }
 
 impl Numbers {
-    /// No name has a number. It is made for about so many that have one at once.
+    /// No name has a number. About so many are expected to have one at once: of more, each is found
+    /// in more time.
     pub fn new(alloc: Global, names: usize) -> Result<Numbers, AllocError>
         ensures { IfOk result (λ numbers. numbers ≡ map.empty) }
     {
