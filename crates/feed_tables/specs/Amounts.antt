@@ -1,14 +1,16 @@
 -- How many bytes the texts of objects have, and the names that they stand under.
-use Rattle.std.specs.Prelude.{ℕ, ◌+◌, List, [], ◌∷◌, length, Option, None, Some}
-use Rattle.std.specs.FinMap.{FinMap, get, entries}
+use Rattle.std.specs.Prelude.{◌≡◌, ℕ, ◌+◌, min, Bool, true, false, List, [], ◌∷◌, length, Option, None, Some}
+use Rattle.std.specs.FinMap.{FinMap, find, get, entries}
 use Rattle.feed_tables.specs.Bytes.{byte_order}
-use Rattle.feed_tables.specs.Map.{map_less}
-use Rattle.feed_tables.specs.Patches.{changed_table}
-use Rattle.feed_tables.specs.Tables.{Contents}
+use Rattle.feed_tables.specs.Map.{Exchanges, map_less}
+use Rattle.feed_tables.specs.Patches.{changed_table, merged}
+use Rattle.feed_tables.specs.Tables.{Contents, object_count}
+use Rattle.feed_tables.specs.Tree.{Swaps}
 use Rattle.feed_tables.specs.Walks.{Scale, weighed, weighed_in}
 use Rattle.feed_tables.specs.declared.change.Change.{Change}
 use Rattle.feed_tables.specs.declared.change.Change.TheVariants.{Set, Remove, Empty, Single, Clear}
 use Rattle.feed_tables.specs.declared.ids.Ids.{Ids}
+use Rattle.feed_tables.specs.declared.scale.Merged.{Merged}
 use Rattle.feed_tables.specs.declared.tables.Table.{Table}
 use Rattle.feed_tables.specs.declared.tables.Table.TheVariants.{One, Many}
 
@@ -68,3 +70,22 @@ by_come changed kind table = come_at kind (get changed kind) table
 
 abbrev pub by_bytes_after : FinMap byte_order Ids → Scale Table
 by_bytes_after changed kind table = by_bytes kind (changed_table table (get changed kind))
+
+-- objects changed in a table: it is the new one then, and so many objects and bytes went and came,
+-- or the last number of 64 bits where they are more
+abbrev pub Merges : List ℕ → Ids → Table → Table → Merged → Type 0
+Merges kind ids old new result = (new ≡ merged old ids)
+    × (result.before ≡ min (object_count old) 18446744073709551615)
+    × (result.after ≡ min (object_count new) 18446744073709551615)
+    × (result.bytes.lost ≡ min (bytes_lost kind ids old) 18446744073709551615)
+    × (result.bytes.come ≡ min (bytes_come kind ids old) 18446744073709551615)
+
+-- they changed in the table of a type among others; where there is none, nothing changed
+abbrev pub MergesAmong : List ℕ → List (List ℕ × Table) → List (List ℕ × Table) → Ids → Merged → Bool → Type 0
+MergesAmong kind es fs ids result false = (find byte_order kind es ≡ None) × (fs ≡ es)
+MergesAmong kind es fs ids result true = (old : Table) × (new : Table) × Swaps kind es fs new old true × Merges kind ids old new result
+
+-- the same among tables by their types
+abbrev pub MergesIn : List ℕ → Contents → Contents → Ids → Merged → Bool → Type 0
+MergesIn kind m n ids result false = (get m kind ≡ None) × (n ≡ m)
+MergesIn kind m n ids result true = (old : Table) × (new : Table) × Exchanges kind m n new old true × Merges kind ids old new result

@@ -4,7 +4,7 @@ ghost use Rattle.std.specs.Prelude.{◌≡◌, ℕ, ◌+◌, ◌↔◌, min, len
 ghost use Rattle.std.specs.List.{FoldsTo};
 ghost use Rattle.std.specs.Option.{option_copied};
 ghost use Rattle.std.specs.FinMap as map;
-ghost use Rattle.feed_tables.specs.Amounts.{lost_in};
+ghost use Rattle.feed_tables.specs.Amounts.{lost_in, MergesIn};
 ghost use Rattle.feed_tables.specs.Changes.{sets};
 ghost use Rattle.feed_tables.specs.Listers.{FailsIn};
 ghost use Rattle.feed_tables.specs.Map.{Exchanges, map_over, map_less, TakesFirst};
@@ -16,7 +16,7 @@ ghost use Rattle.feed_tables.specs.Walks.{weight, weighed, weighed_in};
 use crate::ids::Ids;
 use crate::lister::Lister;
 use crate::name::{Key, Name};
-use crate::scale::{Scale, Shift};
+use crate::scale::{Merged, Scale, Shift};
 use crate::tables::Table;
 use crate::tree::union::let_go;
 use crate::tree::{Fork, Tree};
@@ -315,6 +315,14 @@ impl Map<Table> {
         ensures within { OnOk result (AreTypes (map.entries self.now)) }
     {
         self.tree.list(lister)
+    }
+
+    /// Changes objects in the collection of a type, and answers whether there is the type. Then
+    /// `merged` is what came of that, and the changes are used up. It takes no memory.
+    pub fn merge_in(&mut self, kind: &Key<'_>, ids: &mut Ids, merged: &mut Merged) -> bool
+        ensures merged { MergesIn kind.now self.old self.new ids.old merged.new result }
+    {
+        self.tree.merge_in(kind, ids, merged)
     }
 }
 

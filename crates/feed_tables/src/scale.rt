@@ -28,6 +28,26 @@ pub struct Shift {
     pub come: usize,
 }
 
+/// What came of objects that changed under a type: how many a collection had before and has after,
+/// each `usize::MAX` where they are more, and the bytes that went and came.
+#[derive(Drop)]
+pub struct Merged {
+    pub before: usize,
+    pub after: usize,
+    pub bytes: Shift,
+}
+
+impl Merged {
+    /// Nothing came of any.
+    pub fn nothing() -> Merged {
+        Merged {
+            before: 0,
+            after: 0,
+            bytes: Shift { lost: 0, come: 0 },
+        }
+    }
+}
+
 /// Each object counts as one.
 #[derive(Drop)]
 pub struct EachOne;

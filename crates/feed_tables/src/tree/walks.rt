@@ -4,6 +4,7 @@ ghost use Rattle.std.specs.Prelude.{◌≡◌, ◌∷◌, [], ◌↔◌, Some, m
 ghost use Rattle.std.specs.List.{FoldsTo};
 ghost use Rattle.std.specs.Option.{option_copied};
 ghost use Rattle.std.specs.FinMap as map;
+ghost use Rattle.feed_tables.specs.Amounts.{MergesAmong};
 ghost use Rattle.feed_tables.specs.Bytes.{IsInOrder};
 ghost use Rattle.feed_tables.specs.Changes.{sets};
 ghost use Rattle.feed_tables.specs.Listers.{FailsIn};
@@ -17,12 +18,13 @@ use crate::ids::Ids;
 use crate::lister::Lister;
 use crate::map::{Held, Map, held_in};
 use crate::name::{Key, Name};
-use crate::scale::{InType, Scale};
+use crate::scale::{InType, Merged, Scale};
 use crate::tables::Table;
 use crate::tree::{Fork, Node, Tree};
 use feed_text::ObjectText;
 use std::alloc::{AllocError, Global};
 use std::cmp::Ordering;
+use std::mem;
 
 /// The height of the trees that are read through before they are listed: of up to 31 nodes.
 const NEAR: usize = 5;
@@ -230,6 +232,25 @@ impl Tree<Table> {
                 fork.item.list(&fork.id, lister)?;
                 fork.right.list(lister)
             }
+        }
+    }
+
+    /// Changes objects in the collection of a type, and answers whether there is the type. Then
+    /// `merged` is what came of that, and the changes are used up. It takes no memory.
+    pub fn merge_in(&mut self, kind: &Key<'_>, ids: &mut Ids, merged: &mut Merged) -> bool
+        requires { IsInOrder self.old }
+        ensures merged { MergesAmong kind.now self.old self.new ids.old merged.new result }
+    {
+        match &mut self.node {
+            Node::Leaf => false,
+            Node::Fork(fork) => match kind.compare(&fork.id) {
+                Ordering::Less => fork.left.merge_in(kind, ids, merged),
+                Ordering::Equal => {
+                    *merged = fork.item.merge(kind, mem::replace(ids, Ids::new()));
+                    true
+                }
+                Ordering::Greater => fork.right.merge_in(kind, ids, merged),
+            },
         }
     }
 }
