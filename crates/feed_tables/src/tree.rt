@@ -77,14 +77,15 @@ impl<V: Drop> Tree<V> {
         requires { IsInOrder self.now }
         ensures { option_copied result ≡ find byte_order id.now self.now }
     {
-        match &self.node {
-            Node::Leaf => None,
-            Node::Fork(fork) => match id.compare(&fork.id) {
-                Ordering::Less => fork.left.get(id),
-                Ordering::Equal => Some(&fork.item),
-                Ordering::Greater => fork.right.get(id),
-            },
+        let mut tree = self;
+        'nodes: while let Node::Fork(fork) = &tree.node {
+            match id.compare(&fork.id) {
+                Ordering::Less => tree = &fork.left,
+                Ordering::Equal => return Some(&fork.item),
+                Ordering::Greater => tree = &fork.right,
+            }
         }
+        None
     }
 
     /// Exchanges the item of a name with this one, and answers whether there is one.
