@@ -1,4 +1,4 @@
--- How many bytes the texts of objects have, and the names that they stand under.
+-- How many bytes the texts of objects have, and the names that they stand under; and what came of objects that changed.
 use Rattle.std.specs.Prelude.{◌≡◌, ℕ, ◌+◌, min, Bool, true, false, List, [], ◌∷◌, length, Option, None, Some}
 use Rattle.std.specs.FinMap.{FinMap, find, get, entries}
 use Rattle.feed_tables.specs.Bytes.{byte_order}
@@ -71,8 +71,8 @@ by_come changed kind table = come_at kind (get changed kind) table
 abbrev pub by_bytes_after : FinMap byte_order Ids → Scale Table
 by_bytes_after changed kind table = by_bytes kind (changed_table table (get changed kind))
 
--- objects changed in a table: it is the new one then, and so many objects and bytes went and came,
--- or the last number of 64 bits where they are more
+-- objects changed in a table: it is the new one then; it had and has so many objects, and so many bytes went and came,
+-- each the last number of 64 bits where they are more
 abbrev pub Merges : List ℕ → Ids → Table → Table → Merged → Type 0
 Merges kind ids old new result = (new ≡ merged old ids)
     × (result.before ≡ min (object_count old) 18446744073709551615)

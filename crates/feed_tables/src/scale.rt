@@ -38,7 +38,7 @@ pub struct Merged {
 }
 
 impl Merged {
-    /// Nothing came of any.
+    /// No object changed.
     pub fn nothing() -> Merged {
         Merged {
             before: 0,

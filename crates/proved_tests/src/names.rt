@@ -6,8 +6,8 @@ use std::alloc::Global;
 /// A letter, how many of it a name has, and its fault, if any. Short names lie in the value itself.
 const NAMES: [(&str, usize, Option<NameFault>); 7] = [
     ("a", 0, None),
-    ("a", 14, None),
-    ("a", 15, None),
+    ("a", 11, None),
+    ("a", 12, None),
     ("a", 255, None),
     ("a", 256, Some(NameFault::LongName)),
     ("\u{e9}", 127, None),
