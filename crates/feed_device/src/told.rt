@@ -22,6 +22,8 @@ pub enum Why {
     Fault(FollowFault),
     /// Memory ran out.
     Memory,
+    /// It had another state at the token that was shown: what it shows now is asked for anew.
+    Anew,
 }
 
 impl fmt::Display for Why {
@@ -34,6 +36,7 @@ impl fmt::Display for Why {
             Why::Silent => f.write_str("silent"),
             Why::Fault(fault) => write!(f, "{fault}"),
             Why::Memory => f.write_str("out of memory"),
+            Why::Anew => f.write_str("asked anew, after another state at our token"),
         }
     }
 }
@@ -79,6 +82,16 @@ pub enum Told {
     /// A server doesn't hold the token that it was asked with.
     Refused {
         server: usize,
+    },
+    /// A server that was asked for everything has another state at the token that is shown.
+    Differs {
+        server: usize,
+    },
+    /// What a server sent when it was asked for everything has settled, so long after its first
+    /// byte: it is shown now.
+    Settled {
+        server: usize,
+        time: u64,
     },
     /// The input can't be followed: nothing more of it is read.
     BadInput(FeedFault),

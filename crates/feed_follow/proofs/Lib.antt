@@ -6,3 +6,4 @@ pub mod CodingLemmas
 pub mod HeadLemmas
 pub mod OnceLemmas
 pub mod PushLemmas
+pub mod Carrying

@@ -13,3 +13,4 @@ pub mod Heads
 pub mod Keeping
 pub mod Laws
 pub mod Standing
+pub mod Carrying

@@ -1,4 +1,5 @@
 //! Laws of the definitions.
+ghost use Rattle.feed_follow.specs.Carrying.{FeedsCarryText};
 ghost use Rattle.feed_follow.specs.Laws.{StandsOnce};
 ghost use Rattle.feed_follow.specs.ChunkLaws.{ReadsArePrefixes, PrefixesAreRead, BodiesAreRead, OthersAreRefused, ReadsOnce};
 
@@ -15,3 +16,11 @@ pub fn chunk_laws()
 pub fn follow_laws()
     ensures { StandsOnce }
 {}
+
+/// Whatever prefix came of a response that answers with a feed, of whatever head and framing: what
+/// it brought begins the text of the whole.
+pub fn carry_laws()
+    ensures { FeedsCarryText }
+{
+    chunk_laws();
+}

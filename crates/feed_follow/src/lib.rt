@@ -12,4 +12,4 @@ mod laws;
 pub use fault::{FollowFault, Progress};
 pub use follower::Follower;
 pub use heads::{HEAD_BYTES, HEAD_FIELDS, HEAD_LINES, is_head_size, is_past_limits};
-pub use laws::{chunk_laws, follow_laws};
+pub use laws::{carry_laws, chunk_laws, follow_laws};

@@ -1,8 +1,7 @@
 -- What was written on one connection is what a session in a log is sent.
-use Rattle.std.proofs.Common.{◌≡◌, ◌≢◌, ◌⊎◌, refl, sym, ap, ◌∙◌, subst, ℕ, zero, suc, ◌+◌, ◌<◌, ◌≤◌, ◌^◌, Bool, true, false, true≢false, List, [], ◌∷◌, ◌++◌, length, map, inl, inr, Option, Some, None, append_assoc, append-nil, length-append, arith}
-use Rattle.std.specs.Prelude.{if◌then◌else◌, Contains, slice_index_or}
+use Rattle.std.proofs.Common.{◌≡◌, ◌≢◌, ◌⊎◌, refl, sym, ap, ◌∙◌, subst, ℕ, zero, suc, ◌<◌, ◌≤◌, ◌^◌, Bool, true, false, List, [], ◌∷◌, ◌++◌, length, map, inl, inr, Option, Some, None, append_assoc, append-nil, length-append, arith}
+use Rattle.std.specs.Prelude.{if◌then◌else◌, Contains}
 use Rattle.std.specs.List.{flat_map}
-use Rattle.std.specs.Str.{bytes_eq}
 use Rattle.std.proofs.lemmas.Grind.{flat_map-append}
 use Rattle.std.proofs.lemmas.List.{map-append}
 use Rattle.std.proofs.lemmas.Slice.Eq.{bytes_eq-Decides}
@@ -14,25 +13,23 @@ use Rattle.feed_node.specs.declared.primary.CommitFault.{CommitFault}
 use Rattle.feed_node.specs.Mirroring.{MirrorState}
 use Rattle.feed_node.specs.Serving.{commit_after, commit_text, is_published}
 use Rattle.feed_node.specs.States.{NodeState, published_token}
-use Rattle.feed_follow.specs.Follower.{FollowerState, FollowsAt}
-use Rattle.feed_follow.specs.Standing.{Standing}
 use Rattle.feed_answer.specs.declared.refusal.Refusal.{Refusal}
 use Rattle.feed_answer.specs.declared.refusal.Refusal.TheVariants.{LargeHead, Unreadable, NotGet, OtherPath, NothingPublished, TokenNotHeld}
 use Rattle.feed_answer.specs.Answer.{refusal_code}
-use Rattle.feed_answer.specs.Answered.{AnswerParts, AnswersTo, refusing}
+use Rattle.feed_answer.specs.Answered.{AnswerParts, AnswersTo}
 use Rattle.feed_answer.specs.Framed.{frame, frame_end}
 use Rattle.feed_answer.specs.FrameLaws.{AreTexts}
 use Rattle.feed_answer.specs.FollowLaws.{WholeCarriesAll, ResponsesAreFollowed, EndsAreFollowed, RefusalsAreFollowed}
-use Rattle.feed_answer.specs.Served.{farewell, behind_opening}
+use Rattle.feed_answer.specs.Served.{behind_opening}
 use Rattle.feed_http.specs.declared.fault.Served.{Served}
-use Rattle.feed_http.specs.Live.{Intake, HasSent, none_sent, commit_sent, turn_taken, IsOver, SendsLiveTo, SendsLive, WroteLive, WroteRefused, BeginsNext}
-use Rattle.feed_http.specs.Serving.{commit_frames, Sends, up_to_date, lost, sends, HasAll, SendsTo, SendsAnswer, Serves, Tells, answered_text, written_behind}
+use Rattle.feed_http.specs.Live.{Intake, HasSent, none_sent, commit_sent, turn_taken, IsOver, SendsLiveTo, WroteLive, WroteRefused, BeginsNext}
+use Rattle.feed_http.specs.Serving.{commit_frames, Sends, up_to_date, lost, sends, HasAll, SendsTo, SendsAnswer, written_behind}
 use Rattle.feed_http.specs.Sessions.{Nothing_new, Lost, Commit_after, next, or_lost}
 use Rattle.feed_world.specs.Following.{SessionsOpenAsAsked, PlacesStay, AllIsReached, MirrorsFollow, FailsKeepStates, RefusalsKeepNodes}
 use Rattle.feed_world.specs.Log.{Log, IsLog}
 use Rattle.feed_hub.specs.Connections.{FollowsServed, NodesAreFollowed, MeetsLog, PrimariesAreFollowed, BrokenOffIsFollowed}
 use Rattle.feed_hub.specs.Follows.{HasAskedSo, FollowsInLog, ArrivesInLog}
-use Rattle.feed_hub.specs.Laws.{IsInLog, AreInLog, ScreensAreConnections}
+use Rattle.feed_hub.specs.Laws.{StandsInLog, AreInLog, ScreensAreConnections}
 use Rattle.feed_hub.specs.Told.{Told, told_none, told_commit, told_line_feed, told_text, IsGoing}
 use Rattle.feed_hub.proofs.FollowLemmas.{begun_in_log, is_refusal, refusal_follows, frame_length, ended_follows, ended_arrives}
 
@@ -82,14 +79,14 @@ told_cons one nodes opened texts token (told_commit earlier before node commit t
 told_cons one nodes opened texts token (told_line_feed earlier before t) =
     told_line_feed earlier before (told_cons one nodes opened earlier before t)
 
-all_more : (limits : Limits) (log : Log) (one : NodeState) (nodes : List NodeState)
-    → IsInLog limits log one → AreInLog limits log nodes → AreInLog limits log (one ∷ nodes)
-all_more limits log one nodes first all node (zero, within, is) = subst (IsInLog limits log) is first
-all_more limits log one nodes first all node (suc k, within, is) =
+all_more : (log : Log) (one : NodeState) (nodes : List NodeState)
+    → StandsInLog log one → AreInLog log nodes → AreInLog log (one ∷ nodes)
+all_more log one nodes first all node (zero, within, is) = subst (StandsInLog log) is first
+all_more log one nodes first all node (suc k, within, is) =
     all node (k, omega (arith, within), is)
 
-none_in : (limits : Limits) (log : Log) → AreInLog limits log []
-none_in limits log node (k, within, is) = absurd (omega (arith, within))
+none_in : (log : Log) → AreInLog log []
+none_in log node (k, within, is) = absurd (omega (arith, within))
 
 -- what a node sends is told of that node
 told_by : (node : NodeState) (opened token : List ℕ) (texts : List (List ℕ)) (sent : List Commit)
@@ -109,18 +106,18 @@ told_by node opened token texts all gone told (sends _ commit later _ e run) =
     )
 
 -- what a primary sends is told of what it showed in turn
-module _ (limits : Limits) (log : Log) (turn : ℕ) (start : Intake) (opened : List ℕ)
-    (meets : MeetsLog limits log turn start opened) where
+module _ (log : Log) (turn : ℕ) (start : Intake) (opened : List ℕ)
+    (meets : MeetsLog log turn start opened) where
   told_live : (sent : List Commit) (now : Intake) (token : List ℕ)
       → HasSent turn start opened sent now token
-      → (nodes : List NodeState) × AreInLog limits log nodes
+      → (nodes : List NodeState) × AreInLog log nodes
       × Told nodes opened (map commit_text sent) token
-  told_live sent now token none_sent = ([], none_in limits log, told_none)
+  told_live sent now token none_sent = ([], none_in log, told_none)
   told_live sent now token (commit_sent earlier _ before commit run e) =
       let (nodes, all, told) = told_live earlier now before run in
       let node = now.primary.node in (
         node ∷ nodes,
-        all_more limits log node nodes (meets earlier now before run) all,
+        all_more log node nodes (meets earlier now before run) all,
         subst (λ l. Told (node ∷ nodes) opened l commit.token)
             (sym (map-append commit_text earlier (commit ∷ [])))
             (told_commit (map commit_text earlier) before node commit
@@ -221,7 +218,7 @@ module _ (connects : ScreensAreConnections) (opens_so : SessionsOpenAsAsked)
     (places : PlacesStay) (follow : MirrorsFollow) (keep : FailsKeepStates)
     (whole : WholeCarriesAll) (reached : AllIsReached) where
   module _ (limits : Limits) (log : Log) (is_log : IsLog limits log) (node last : NodeState)
-      (node_in : IsInLog limits log node) (head contest : List ℕ) (framing : Framing)
+      (node_in : StandsInLog log node) (head contest : List ℕ) (framing : Framing)
       (answer : AnswerParts) (begun : MirrorState) (a : HasAskedSo limits log head contest begun)
       (answers : AnswersTo head contest node framing 0 answer) (text : List ℕ) (served : Served)
       (told : served.status ≡ answer.status) where
@@ -240,7 +237,7 @@ module _ (connects : ScreensAreConnections) (opens_so : SessionsOpenAsAsked)
         }
 
     accepted : (nodes : List NodeState) (opened token : List ℕ) (sent : List Commit) (gone : Bool)
-        → AreInLog limits log nodes → answer.session ≡ Some opened
+        → AreInLog log nodes → answer.session ≡ Some opened
         → Told nodes opened (map commit_text sent) token
         → (served.gone ≡ false → next last token ≡ Nothing_new)
         → text ≡ answer.text ++ behind_opening answer.framing (map commit_text sent) gone
@@ -261,7 +258,7 @@ module _ (connects : ScreensAreConnections) (opens_so : SessionsOpenAsAsked)
         }
 
   module _ (limits : Limits) (log : Log) (is_log : IsLog limits log) (node : NodeState)
-      (node_in : IsInLog limits log node) (head contest : List ℕ) (framing : Framing)
+      (node_in : StandsInLog log node) (head contest : List ℕ) (framing : Framing)
       (answer : AnswerParts) (begun : MirrorState) (a : HasAskedSo limits log head contest begun)
       (answers : AnswersTo head contest node framing 0 answer) (text : List ℕ) where
     -- a prefix of a refusal
@@ -274,7 +271,7 @@ module _ (connects : ScreensAreConnections) (opens_so : SessionsOpenAsAsked)
 
     -- a prefix of an answer, of what its session was told, and of the end
     going_part : (nodes : List NodeState) (opened token : List ℕ) (texts : List (List ℕ))
-        → AreInLog limits log nodes → answer.session ≡ Some opened → Told nodes opened texts token
+        → AreInLog log nodes → answer.session ≡ Some opened → Told nodes opened texts token
         → length answer.text < 2 ^ 64 → AreTexts texts → (rest : List ℕ)
         → told_text answer texts ++ frame_end answer.framing ≡ text ++ rest
         → FollowsInLog limits log answer begun text
@@ -298,14 +295,14 @@ module _ (connects : ScreensAreConnections) (opens_so : SessionsOpenAsAsked)
         → FollowsInLog limits log answer begun text
     answer_part opening_fits rest is None e = refused_part e rest is
     answer_part opening_fits rest is (Some opened) e =
-        going_part [] opened opened [] (none_in limits log) e told_none opening_fits tt
+        going_part [] opened opened [] (none_in log) e told_none opening_fits tt
         (rest ++ frame_end answer.framing)
         (ap (λ t. t ++ frame_end answer.framing) (append-nil answer.text ∙ is)
         ∙ append_assoc text rest (frame_end answer.framing))
 
     -- the answer, the frames of the commits that its session was sent, and no more
     frames_part : (nodes : List NodeState) (opened token : List ℕ) (sent : List Commit)
-        → AreInLog limits log nodes → answer.session ≡ Some opened
+        → AreInLog log nodes → answer.session ≡ Some opened
         → Told nodes opened (map commit_text sent) token → length answer.text < 2 ^ 64
         → AreTexts (map commit_text sent)
         → text ≡ answer.text ++ flat_map (frame answer.framing) (map commit_text sent)
@@ -339,7 +336,7 @@ module _ (connects : ScreensAreConnections) (opens_so : SessionsOpenAsAsked)
           let (token, told, has) = told_by node opened opened [] run_of.sent run_of.gone told_none run in
           accepted limits log is_log node node node_in head contest framing answer begun a serves.answers
           text served run_of.tells.status (node ∷ []) opened token run_of.sent run_of.gone
-          (all_more limits log node [] node_in (none_in limits log)) e told
+          (all_more log node [] node_in (none_in log)) e told
           (λ keeps. subst (HasAll node token) (sym run_of.tells.gone_is ∙ keeps) has)
           (is_text (Some opened) e) fits
 
@@ -363,7 +360,7 @@ module _ (connects : ScreensAreConnections) (opens_so : SessionsOpenAsAsked)
           refused limits log is_log start.primary.node now.primary.node node_in head contest framing answer
           begun a answers text served run_of.tells.status e (is_text None e)
       by (Some opened) e (token, run, over) =
-          let (nodes, all, told) = told_live limits log turn start opened (meets opened e) run_of.sent now token run in
+          let (nodes, all, told) = told_live log turn start opened (meets opened e) run_of.sent now token run in
           accepted limits log is_log start.primary.node now.primary.node node_in head contest framing answer
           begun a answers text served run_of.tells.status nodes opened token run_of.sent run_of.gone all e told
           (new token over) (is_text (Some opened) e) fits
@@ -384,19 +381,19 @@ module _ (connects : ScreensAreConnections) (opens_so : SessionsOpenAsAsked)
           → text ≡ answer.text ++ (commit_frames answer.framing sent ++ last)
           → BeginsNext answer.framing now token last → FollowsInLog limits log answer begun text
       next_part opened session sent token last run is (inl (inl none)) =
-          let (nodes, all, told) = told_live limits log turn start opened (meets opened session) sent now token run in
+          let (nodes, all, told) = told_live log turn start opened (meets opened session) sent now token run in
           let same : commit_frames answer.framing sent ++ last ≡ commit_frames answer.framing sent = ap (λ l. commit_frames answer.framing sent ++ l) none ∙ append-nil (commit_frames answer.framing sent) in
           frames_part limits log is_log start.primary.node node_in head contest framing answer begun a answers text
           nodes opened token sent all session told opening_fits (fit_of sent last is)
           (is ∙ ap (λ l. answer.text ++ l) same)
       next_part opened session sent token last run is (inl (inr (commit, rest, e, split))) =
-          let (nodes, all, told) = told_live limits log turn start opened (meets opened session) sent now token run in
+          let (nodes, all, told) = told_live log turn start opened (meets opened session) sent now token run in
           let node = now.primary.node in
           let texts = map commit_text sent in
           let end = frame_end answer.framing in
           going_part limits log is_log start.primary.node node_in head contest framing answer begun a answers text
           (node ∷ nodes) opened commit.token (texts ++ commit_text commit ∷ [])
-          (all_more limits log node nodes (meets opened session sent now token run) all) session
+          (all_more log node nodes (meets opened session sent now token run) all) session
           (told_commit texts token node commit (told_cons node nodes opened texts token told)
           (head_of node nodes) (commit_is node token commit e))
           opening_fits (texts_and texts (commit_text commit) (fit_of sent last is) (next_fits token commit e))
@@ -406,7 +403,7 @@ module _ (connects : ScreensAreConnections) (opens_so : SessionsOpenAsAsked)
           (ap (λ t. t ++ end) split ∙ append_assoc last rest end)
           ∙ ap (λ t. t ++ (rest ++ end)) (sym is))
       next_part opened session sent token last run is (inr (true, rest, over, split)) =
-          let (nodes, all, told) = told_live limits log turn start opened (meets opened session) sent now token run in
+          let (nodes, all, told) = told_live log turn start opened (meets opened session) sent now token run in
           let texts = map commit_text sent in
           let end = frame_end answer.framing in
           going_part limits log is_log start.primary.node node_in head contest framing answer begun a answers text
@@ -414,7 +411,7 @@ module _ (connects : ScreensAreConnections) (opens_so : SessionsOpenAsAsked)
           (ap (λ l. (answer.text ++ l) ++ end) (sym (append-nil (commit_frames answer.framing sent)))
           ∙ ends_at answer.text (commit_frames answer.framing sent) [] end last rest split ∙ ap (λ t. t ++ rest) (sym is))
       next_part opened session sent token last run is (inr (false, rest, over, split)) =
-          let (nodes, all, told) = told_live limits log turn start opened (meets opened session) sent now token run in
+          let (nodes, all, told) = told_live log turn start opened (meets opened session) sent now token run in
           let texts = map commit_text sent in
           let end = frame_end answer.framing in
           let line = line_feed ∷ [] in
@@ -435,7 +432,7 @@ module _ (connects : ScreensAreConnections) (opens_so : SessionsOpenAsAsked)
           next_part opened session short.sent short.token short.begun short.has_sent
           (wrote ∙ ap (λ t. answer.text ++ t) short.text_is) short.begins
       by (inr (why, (opened, cut, session, refused, wrote))) =
-          let (nodes, all, told) = told_live limits log turn start opened (meets opened session) refused.sent refused.before refused.token refused.has_sent in
+          let (nodes, all, told) = told_live log turn start opened (meets opened session) refused.sent refused.before refused.token refused.has_sent in
           let is = wrote ∙ ap (λ t. answer.text ++ t) refused.text_is in
           frames_part limits log is_log start.primary.node node_in head contest framing answer begun a answers text
           nodes opened refused.token refused.sent all session told opening_fits

@@ -6,8 +6,7 @@ use Rattle.feed_note.specs.Texts.{snapshot_text}
 use Rattle.feed_note.specs.declared.line.Line.{Line}
 use Rattle.feed_node.specs.declared.fault.FeedFault.{FeedFault}
 use Rattle.feed_node.specs.declared.fault.FeedFault.TheVariants.{NotOpen, LongLine, Line as BadLine, StageFull, Memory}
-use Rattle.feed_node.specs.Log.{token_after}
-use Rattle.feed_node.specs.Mirroring.{MirrorState, StandsAt, HasStopped, HasLost, Faulted, IsRestored, first_opening}
+use Rattle.feed_node.specs.Mirroring.{MirrorState, StandsAt, HasStopped, HasLost, Faulted, IsRestored}
 use Rattle.feed_node.specs.Reading.{Reads, FaultsAt, reads, keep_latest}
 use Rattle.feed_node.specs.States.{NodeState}
 use Rattle.feed_node.specs.Steps.{ReadingIsOne}
@@ -105,20 +104,20 @@ reads_on_in_log one limits log own bytes shown =
 -- the snapshot of a record is that of a state of the log
 begins_at : (limits : Limits) (log : Log) (place : Option Position) (p : Published)
     → IsPlace limits log place → (node_where log place).published ≡ Some p
-    → (k : ℕ) × (k ≤ length log) × (p ≡ record { tables = state_after log k; token = token_after k })
+    → (k : ℕ) × (k ≤ length log.commits) × (p ≡ record { tables = state_after log k; token = log.token k })
 begins_at limits log None p is_place e = let no : None ≡ Some p = e in absurd (cc)
 begins_at limits log (Some q) p is_place e =
-    let there : Some (record { tables = state_after log q.at; token = token_after q.at }) ≡ Some p = e in
+    let there : Some (record { tables = state_after log q.at; token = log.token q.at }) ≡ Some p = e in
     (q.at, is_place.in_log, cc)
 
 module _ (limits : Limits) (log : Log) (nodes : List NodeState) (written : List ℕ) (r : Record)
-    (is_log : IsLog limits log) (in_log : AreInLog limits log nodes) (recorded : IsRecorded nodes written r) where
-  pub begun : (k : ℕ) × (k ≤ length log) × (recorded.snapshot ≡ record { tables = state_after log k; token = token_after k })
+    (is_log : IsLog limits log) (in_log : AreInLog log nodes) (recorded : IsRecorded nodes written r) where
+  pub begun : (k : ℕ) × (k ≤ length log.commits) × (recorded.snapshot ≡ record { tables = state_after log k; token = log.token k })
   begun =
       let node = in_log recorded.first recorded.among in
-      begins_at limits log node.0 recorded.snapshot node.1 (ap (λ n. n.published) (sym node.2) ∙ recorded.published)
+      begins_at node.0 log node.1.0 recorded.snapshot node.1.1 (ap (λ n. n.published) (sym node.1.2) ∙ recorded.published)
 
-  its_told : Told nodes (token_after begun.0) recorded.texts r.token
+  its_told : Told nodes (log.token begun.0) recorded.texts r.token
   its_told = subst (λ p. Told nodes p.token recorded.texts r.token) begun.2 recorded.told
 
   its_bytes : written ++ r.own ≡ opened_text log true begun.0 ++ joined recorded.texts

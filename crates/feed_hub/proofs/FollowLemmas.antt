@@ -39,7 +39,7 @@ use Rattle.feed_world.specs.States.{HasAsked, HasReached}
 use Rattle.feed_world.specs.Step.{IsMemory}
 use Rattle.feed_hub.specs.Told.{Told, IsGoing, IsDue}
 use Rattle.feed_hub.specs.Screen.{pending, token_at}
-use Rattle.feed_hub.specs.Laws.{IsInLog, AreInLog, StandInOrder, ScreensAreConnections}
+use Rattle.feed_hub.specs.Laws.{IsInLog, StandsInLog, AreInLog, StandInOrder, ScreensAreConnections}
 use Rattle.feed_hub.specs.Follows.{HasAskedSo, MayStop, FollowsInLog, ScreensFollow, ArrivesInLog, ScreensArrive}
 use Rattle.feed_hub.proofs.LawLemmas.{connection, its_text, is_opened}
 use Rattle.feed_hub.proofs.OpeningLemmas.{due_is_response}
@@ -298,12 +298,12 @@ module _ (connects : ScreensAreConnections) (opens_so : SessionsOpenAsAsked)
     (limits : Limits) (log : Log) (nodes : List NodeState) (node : NodeState) (head contest : List ℕ)
     (framing : Framing) (answer : AnswerParts)
     (begun : MirrorState) (handed rest due : List ℕ) (is_log : IsLog limits log)
-    (all_in : AreInLog limits log nodes) (node_in : IsInLog limits log node)
+    (all_in : AreInLog log nodes) (node_in : StandsInLog log node)
     (a : HasAskedSo limits log head contest begun) (answers : AnswersTo head contest node framing 0 answer)
     (whole : handed ++ rest ≡ due)
     (token before : List ℕ) (g : IsGoing nodes answer token before) where
-  found : (p : Position) × (node_in.0 ≡ Some p) × OpensAsked log p begun.since 0 answer g.opened
-  found = opens_so limits log node node_in.0 head contest a.minor begun.since framing 0 answer g.opened is_log node_in.1 node_in.2 a.asks answers g.session
+  found : (p : Position) × (node_in.1.0 ≡ Some p) × OpensAsked log p begun.since 0 answer g.opened
+  found = opens_so node_in.0 log node node_in.1.0 head contest a.minor begun.since framing 0 answer g.opened is_log.named node_in.1.1 node_in.1.2 a.asks answers g.session
 
   o : OpensAsked log found.0 begun.since 0 answer g.opened
   o = found.2
@@ -312,7 +312,7 @@ module _ (connects : ScreensAreConnections) (opens_so : SessionsOpenAsAsked)
   texts = opened_text log (is_none begun.since) o.k ∷ g.texts
 
   in_order : StandInOrder log o.k g.texts token
-  in_order = connects limits log nodes o.k g.texts token is_log all_in o.in_log (subst (λ t. Told nodes t g.texts token) o.token_is g.told)
+  in_order = connects log nodes o.k g.texts token is_log.named all_in o.in_log (subst (λ t. Told nodes t g.texts token) o.token_is g.told)
 
   begins : is_none begun.since ≡ false → (own : Position) × (a.place ≡ Some own) × (own.low ≤ o.k) × (o.k ≤ own.at)
   begins = started limits log head contest begun found.0 answer g.opened a o

@@ -7,7 +7,6 @@ use Rattle.feed_settings.specs.declared.framing.Framing.{Framing}
 use Rattle.feed_settings.specs.declared.framing.Framing.TheVariants.{Close, Chunked}
 use Rattle.feed_text.specs.Ascii.{line_feed}
 use Rattle.feed_node.specs.declared.commit.Commit.{Commit}
-use Rattle.feed_node.specs.Log.{token_after}
 use Rattle.feed_node.specs.Serving.{commit_after, commit_text}
 use Rattle.feed_node.specs.States.{NodeState}
 use Rattle.feed_world.specs.Connection.{Part, Commit as CommitPart, Line_feed, parts_text, part_text, Connection, first_parts, sent_text, blocks_within, moved_by}
@@ -38,17 +37,17 @@ one_more log texts parts text part e f =
     ∙ sym (flat_map-append (part_text log) parts (part ∷ []))
 
 pub screens_connect : NodesSendTheNext → PartsGoOn → ScreensAreConnections
-screens_connect sends order limits log nodes k texts token is_log in_log small told = by texts token told
+screens_connect sends order log nodes k texts token is_log in_log small told = by texts token told
   where
     next_one : (texts : List (List ℕ)) (token : List ℕ) (node : NodeState) (commit : Commit)
         → StandInOrder log k texts token → commit_after node token ≡ Some commit
-        → (place : Option Position) → IsPlace limits log place → node ≡ node_where log place
+        → (own : Limits) (place : Option Position) → IsPlace own log place → node ≡ node_where log place
         → StandInOrder log k (texts ++ commit_text commit ∷ []) commit.token
-    next_one texts token node commit s e place is_place same =
-        let there : commit_after (node_where log place) (token_after s.last) ≡ Some commit =
+    next_one texts token node commit s e own place is_place same =
+        let there : commit_after (node_where log place) (log.token s.last) ≡ Some commit =
         sym (ap (λ n. commit_after n token) same ∙ ap (commit_after (node_where log place)) s.token_is) ∙ e in
-        let n = sends limits log place s.last commit is_log is_place s.in_log there in
-        let less : s.last < length log = n.in_log in
+        let n = sends own log place s.last commit is_log is_place s.in_log there in
+        let less : s.last < length log.commits = n.in_log in
         let text : commit_text commit ≡ part_text log (CommitPart (s.last + 1)) =
         ap (λ c. batch_text c commit.token) n.changes_are ∙ ap (batch_text (changes_of_commit log (s.last + 1))) n.token_is in
         record {
@@ -60,11 +59,11 @@ screens_connect sends order limits log nodes k texts token is_log in_log small t
           text_is = one_more log texts s.parts (commit_text commit) (CommitPart (s.last + 1)) s.text_is text;
         }
 
-    by : (texts : List (List ℕ)) (token : List ℕ) → Told nodes (token_after k) texts token → StandInOrder log k texts token
+    by : (texts : List (List ℕ)) (token : List ℕ) → Told nodes (log.token k) texts token → StandInOrder log k texts token
     by texts token told_none = record { parts = []; last = k; go_on = refl; in_log = small; token_is = refl; text_is = refl }
     by texts token (told_commit earlier before node commit t shown e) =
         let place = in_log node shown in
-        next_one earlier before node commit (by earlier before t) e place.0 place.1 place.2
+        next_one earlier before node commit (by earlier before t) e place.0 place.1.0 place.1.1 place.1.2
     by texts token (told_line_feed earlier before t) =
         let s = by earlier before t in
         record {
@@ -97,7 +96,7 @@ module _ (limits : Limits) (log : Log) (k : ℕ) (texts : List (List ℕ)) (toke
 
 pub screens_show : NodesSendTheNext → PartsGoOn → PrefixesAreRead → PlacesStay → ScreensShowStates
 screens_show sends order read stays limits log nodes k texts token place fresh prefix behind is_log in_log small told is_place start whole =
-    let s = screens_connect sends order limits log nodes k texts token is_log in_log small told in
+    let s = screens_connect sends order log nodes k texts token is_log.named in_log small told in
     let c = connection log k texts token fresh s in
     let opened = is_opened limits log k texts token place fresh s is_place start in
     let r = read limits log place c prefix behind is_log opened (whole ∙ sym (its_text limits log k texts token place fresh s is_place start)) in
@@ -111,7 +110,7 @@ screens_show sends order read stays limits log nodes k texts token place fresh p
 
 pub screens_reach : NodesSendTheNext → PartsGoOn → PrefixesAreRead → PlacesStay → AllIsReached → ScreensReach
 screens_reach sends order read stays all limits log nodes k texts token place fresh is_log in_log small told is_place start =
-    let s = screens_connect sends order limits log nodes k texts token is_log in_log small told in
+    let s = screens_connect sends order log nodes k texts token is_log.named in_log small told in
     let c = connection log k texts token fresh s in
     let opened = is_opened limits log k texts token place fresh s is_place start in
     let text = its_text limits log k texts token place fresh s is_place start in

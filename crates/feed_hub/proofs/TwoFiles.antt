@@ -1,24 +1,16 @@
 -- What a mirror makes of a file that it is fed after another.
-use Rattle.std.proofs.Common.{◌≡◌, ◌≢◌, ◌⊎◌, inl, inr, refl, sym, ap, ◌∙◌, subst, ℕ, zero, suc, ◌+◌, ◌-◌, ◌<◌, ◌≤◌, ◌^◌, max, Bool, true, false, true≢false, not, ◌&&◌, ◌||◌, arith, List, [], ◌∷◌, ◌++◌, length, take, map, sum_by, decimal, Option, Some, None, append_assoc, append-nil, nat_lt, nat_le, ltb-true, ltb-false}
-use Rattle.std.specs.Prelude.{if◌then◌else◌, slice_get, is_none}
-use Rattle.std.specs.FinMap.{entries, values, len, len-entries, len-empty}
+use Rattle.std.proofs.Common.{◌≡◌, ◌≢◌, ◌⊎◌, inl, inr, refl, sym, ap, ◌∙◌, subst, ℕ, zero, suc, ◌+◌, ◌-◌, ◌<◌, ◌≤◌, max, Bool, true, false, true≢false, not, ◌&&◌, ◌||◌, arith, List, [], ◌∷◌, ◌++◌, length, take, Option, Some, None, append_assoc, append-nil, nat_lt, nat_le, ltb-true, ltb-false}
+use Rattle.std.specs.Prelude.{if◌then◌else◌, slice_get, unwrap_or, is_none}
 use Rattle.std.specs.List.{AllByRecursion}
 use Rattle.std.specs.Option.{option_and_then}
-use Rattle.std.proofs.lemmas.Fmt.{IsAscii-decimal, length-decimal-le}
 use Rattle.std.proofs.lemmas.List.Sums.{fold-append}
-use Rattle.std.proofs.lemmas.Str.{IsUtf8-from_ascii}
 use Rattle.feed_settings.specs.Limits.{Limits}
 use Rattle.feed_settings.specs.declared.framing.Framing.TheVariants.{Close}
 use Rattle.std.proofs.lemmas.Bool.{le-ltb}
-use Rattle.std.proofs.lemmas.List.{nil_from_length}
-use Rattle.feed_tables.specs.Amounts.{bytes, by_bytes}
-use Rattle.feed_tables.specs.Bytes.{byte_order}
-use Rattle.feed_tables.specs.Walks.{weighed}
 use Rattle.feed_tables.specs.Changes.{IsChange}
 use Rattle.feed_tables.specs.Listings.{ListingHasSize, ListingHasBytes, ListingIsWithin}
-use Rattle.feed_tables.specs.Tables.{Contents, no_tables, listing, size, object_count}
+use Rattle.feed_tables.specs.Tables.{Contents, listing, size}
 use Rattle.feed_tables.specs.declared.change.Change.{Change}
-use Rattle.feed_tables.specs.declared.tables.Table.{Table}
 use Rattle.feed_note.specs.declared.line.Line.{Line}
 use Rattle.feed_note.specs.declared.line.Line.TheVariants.{Note}
 use Rattle.feed_note.specs.Lines.{lines, rest}
@@ -27,7 +19,6 @@ use Rattle.feed_note.specs.Texts.{snapshot_text}
 use Rattle.feed_node.specs.declared.commit.Commit.{Commit as Batch}
 use Rattle.feed_node.specs.declared.fault.FeedFault.TheVariants.{StageFull}
 use Rattle.feed_node.specs.Bounds.{passes, is_full, is_large}
-use Rattle.feed_node.specs.Log.{token_after, tokens_from}
 use Rattle.feed_node.specs.Mirroring.{MirrorState, StandsAt, cut_off, present_opening, first_opening}
 use Rattle.feed_node.specs.Reading.{Opening, Reads, reads, shows, unskipped, batches, has_none, keep_latest, awaits_reset, is_again, AllGoodAfter, has_too_many, publishes_after}
 use Rattle.feed_node.specs.Sent.{TakesText, TextsGoOn, PublishesAtEnd, BatchesPublishAtEnd, IsSendable}
@@ -40,7 +31,7 @@ use Rattle.feed_world.specs.Connection.{Connection, Part, Snapshot, Commit, Line
 use Rattle.feed_world.specs.Following.{PlacesStay, AllIsReached}
 use Rattle.feed_world.specs.Laws.{NodesSendTheNext, PartsGoOn}
 use Rattle.feed_world.specs.States.{HasReached}
-use Rattle.feed_world.specs.Log.{Log, IsLog, state_after, all_changes, changes_of_commit}
+use Rattle.feed_world.specs.Log.{Log, IsLog, tokens_of, state_after, all_changes, changes_of_commit}
 use Rattle.feed_world.specs.Position.{Position, IsPosition, IsPlace, node_at, node_where, renewed}
 use Rattle.feed_world.specs.Reading.{opening_at, IsOpened, IsRead, PrefixesAreRead, TokensTellStates}
 use Rattle.feed_hub.specs.declared.record.Record.{Record}
@@ -113,12 +104,12 @@ module _ (read : StepsRead) (good : TakenAreGood) (goes_on : TextsGoOn) (limits 
 
 -- ---- the snapshot of a token that is held
 
-got : (low many i : ℕ) (token : List ℕ) → slice_get (tokens_from low many) i ≡ Some token
-    → (j : ℕ) × (low ≤ j) × (j < low + many) × (token ≡ token_after j)
-got low zero i token e = absurd (cc)
-got low (suc many) zero token e = (low, omega arith, omega arith, cc)
-got low (suc many) (suc i) token e =
-    let r = got (low + 1) many i token e in
+got : (log : Log) (low many i : ℕ) (token : List ℕ) → slice_get (tokens_of log low many) i ≡ Some token
+    → (j : ℕ) × (low ≤ j) × (j < low + many) × (token ≡ log.token j)
+got log low zero i token e = absurd (cc)
+got log low (suc many) zero token e = (low, omega arith, omega arith, cc)
+got log low (suc many) (suc i) token e =
+    let r = got log (low + 1) many i token e in
     let from : low + 1 ≤ r.0 = r.1 in
     let to : r.0 < low + 1 + many = r.2 in
     (r.0, omega (arith, from), omega (arith, to), r.3)
@@ -130,42 +121,19 @@ placed (Some i) held token e = (i - 0, e)
 
 -- a token that is held is one of those from the oldest to the node's own
 pub held_is_in : HeldTokensStand → (log : Log) (own : Position) (token : List ℕ) → own.low ≤ own.at → holds_token (node_at log own) token ≡ true
-    → (j : ℕ) × (own.low ≤ j) × (j ≤ own.at) × (token ≡ token_after j)
+    → (j : ℕ) × (own.low ≤ j) × (j ≤ own.at) × (token ≡ log.token j)
 held_is_in stand log own token order holds =
-    let found = placed (place_of (node_at log own) token) (tokens_from own.low (suc (own.at - own.low))) token (stand (node_at log own) token holds) in
-    let r = got own.low (suc (own.at - own.low)) found.0 token found.1 in
+    let found = placed (place_of (node_at log own) token) (tokens_of log own.low (suc (own.at - own.low))) token (stand (node_at log own) token holds) in
+    let r = got log own.low (suc (own.at - own.low)) found.0 token found.1 in
     let to : r.0 < own.low + suc (own.at - own.low) = r.2 in
     (r.0, r.1, omega (arith, to, order), r.3)
 
--- tables without a type
-size_none : size no_tables ≡ 0
-size_none =
-    let types : len no_tables ≡ 0 = len-empty byte_order Table in
-    let objects : sum_by object_count (values no_tables) ≡ 0 = by (entries no_tables) (sym (len-entries no_tables) ∙ types) in
-    omega arith
-  where
-    by : (es : List (List ℕ × Table)) → length es ≡ 0 → sum_by object_count (map (λ e. e.1) es) ≡ 0
-    by [] e = refl
-    by (x ∷ xs) e = absurd (omega arith)
-
--- ---- within the limits
 not_under : (m n : ℕ) → n ≤ m → nat_lt m n ≡ false
 not_under m n le = le-ltb m n le
 
 neither : (a b : Bool) → a ≡ false → b ≡ false → (a || b) ≡ false
 neither true b p q = p
 neither false b p q = q
-
-none_passes : (limit : Option ℕ) (n : ℕ) → n ≡ 0 → passes limit n ≡ false
-none_passes None n is = refl
-none_passes (Some most) n is = not_under most n (omega (arith, is))
-
-none_large : (limits : Limits) → is_large limits no_tables ≡ false
-unfolding is_large
-none_large limits =
-    let none : entries no_tables ≡ [] = nil_from_length (entries no_tables) (sym (len-entries no_tables) ∙ len-empty byte_order Table) in
-    neither _ _ (not_under limits.staged (size no_tables) (omega (arith, size_none)))
-    (none_passes limits.memory (bytes no_tables) (ap (weighed by_bytes) none))
 
 in_first : (a b : Bool) → (a || b) ≡ false → a ≡ false
 in_first true b e = e
@@ -265,29 +233,30 @@ all_of : {X : Type 0} (P : X → Type 0) (xs ys : List X) → AllByRecursion P x
 all_of P [] ys h k = k
 all_of P (x ∷ xs) ys h k = (h.0, all_of P xs ys h.1 k)
 
-one_more : (log : Log) (k : ℕ) → k < length log → all_changes (take (suc k) log) ≡ all_changes (take k log) ++ changes_of_commit log (suc k)
-one_more [] k h = absurd (omega arith)
-one_more (x ∷ xs) zero h = append-nil x
-one_more (x ∷ xs) (suc k) h = ap (λ ys. x ++ ys) (one_more xs k (omega (arith, h))) ∙ sym (append_assoc x _ _)
+one_later : (commits : List (List Change)) (k : ℕ) → k < length commits → all_changes (take (suc k) commits) ≡ all_changes (take k commits) ++ unwrap_or (slice_get commits k) []
+one_later [] k h = absurd (omega arith)
+one_later (x ∷ xs) zero h = append-nil x
+one_later (x ∷ xs) (suc k) h = ap (λ ys. x ++ ys) (one_later xs k (omega (arith, h))) ∙ sym (append_assoc x _ _)
+
+one_more : (log : Log) (k : ℕ) → k < length log.commits → log.first ++ all_changes (take (suc k) log.commits) ≡ (log.first ++ all_changes (take k log.commits)) ++ changes_of_commit log (suc k)
+one_more log k h = ap (λ ys. log.first ++ ys) (one_later log.commits k h) ∙ sym (append_assoc log.first _ _)
 
 module _ (limits : Limits) (log : Log) (is_log : IsLog limits log) where
-  all_within : (k : ℕ) → k ≤ length log → AllByRecursion IsChange (all_changes (take k log))
-  all_within zero within = tt
+  all_within : (k : ℕ) → k ≤ length log.commits → AllByRecursion IsChange (log.first ++ all_changes (take k log.commits))
+  all_within zero within = subst (AllByRecursion IsChange) (sym (append-nil log.first)) is_log.first
   all_within (suc k) within =
       subst (AllByRecursion IsChange) (sym (one_more log k (omega arith)))
       (all_of IsChange _ _ (all_within k (omega arith)) (is_log.accepted (suc k) (omega arith) within).changes)
 
-  pub is_small : (k : ℕ) → k ≤ length log → is_large limits (state_after log k) ≡ false
-  is_small zero within = none_large limits
+  pub is_small : (k : ℕ) → k ≤ length log.commits → is_large limits (state_after log k) ≡ false
+  is_small zero within = is_log.small
   is_small (suc k) within = (is_log.accepted (suc k) (omega arith) within).small
 
-  pub is_sendable : ListingIsWithin → (k : ℕ) → k ≤ length log → IsSendable (record { tables = state_after log k; token = token_after k })
+  pub is_sendable : ListingIsWithin → (k : ℕ) → k ≤ length log.commits → IsSendable (record { tables = state_after log k; token = log.token k })
   is_sendable listed k within =
-      let count = is_log.count in
-      let few : k < 2 ^ 64 = omega arith in
       record {
-        token = (IsUtf8-from_ascii (decimal k) (IsAscii-decimal k few), let l = length-decimal-le 20 k (omega arith) (omega arith) few in omega arith);
-        within = listed (all_changes (take k log)) (all_within k within);
+        token = is_log.named.names k within;
+        within = listed (log.first ++ all_changes (take k log.commits)) (all_within k within);
       }
 
 -- ---- which tokens are held then
@@ -350,7 +319,7 @@ pub record Given : Type 0 where
   pub reached : AllIsReached
 
 module _ (g : Given) (limits : Limits) (log : Log) (nodes : List NodeState) (own : Position) (written : List ℕ) (r : Record)
-    (is_log : IsLog limits log) (in_log : AreInLog limits log nodes) (is_position : IsPosition limits log own) (recorded : IsRecorded nodes written r)
+    (is_log : IsLog limits log) (in_log : AreInLog log nodes) (is_position : IsPosition limits log own) (recorded : IsRecorded nodes written r)
     (holds : holds_token (node_at log own) recorded.snapshot.token ≡ true) where
   abbrev opening : Opening
   opening = opening_at log (Some own) false
@@ -365,7 +334,7 @@ module _ (g : Given) (limits : Limits) (log : Log) (nodes : List NodeState) (own
   text = snapshot_text p.tables p.token
 
   -- the snapshot is that of a state of the log, and the mirror holds its token
-  begins : (k : ℕ) × (k ≤ length log) × (p ≡ record { tables = state_after log k; token = token_after k })
+  begins : (k : ℕ) × (k ≤ length log.commits) × (p ≡ record { tables = state_after log k; token = log.token k })
   begins = begun limits log nodes written r is_log in_log recorded
 
   within : (own.low ≤ begins.0) × (begins.0 ≤ own.at)
@@ -374,9 +343,8 @@ module _ (g : Given) (limits : Limits) (log : Log) (nodes : List NodeState) (own
       let small = is_position.in_log in
       let low : own.low ≤ found.0 = found.1 in
       let high : found.0 ≤ own.at = found.2 in
-      let count = is_log.count in
-      let same : token_after begins.0 ≡ token_after found.0 = sym (ap (λ x. x.token) begins.2) ∙ found.3 in
-      let equal : begins.0 ≡ found.0 = (g.tokens log begins.0 found.0 count begins.1 (omega (arith, high, small)) same).0 in
+      let same : log.token begins.0 ≡ log.token found.0 = sym (ap (λ x. x.token) begins.2) ∙ found.3 in
+      let equal : begins.0 ≡ found.0 = (g.tokens log begins.0 found.0 is_log.named begins.1 (omega (arith, high, small)) same).0 in
       (omega (arith, low, equal), omega (arith, high, equal))
 
   shown_latest : before.node.shown ≡ node_at log own
@@ -447,11 +415,11 @@ module _ (g : Given) (limits : Limits) (log : Log) (nodes : List NodeState) (own
       whole : written ≡ text ++ joined recorded.texts
       whole = sym (append-nil written) ∙ ap (λ o. written ++ o) (sym nothing) ∙ recorded.all
 
-      told : Told nodes (token_after begins.0) recorded.texts r.token
+      told : Told nodes (log.token begins.0) recorded.texts r.token
       told = subst (λ x. Told nodes x.token recorded.texts r.token) begins.2 recorded.told
 
       order : StandInOrder log begins.0 recorded.texts r.token
-      order = screens_connect g.sends g.order limits log nodes begins.0 recorded.texts r.token is_log in_log begins.1 told
+      order = screens_connect g.sends g.order log nodes begins.0 recorded.texts r.token is_log.named in_log begins.1 told
 
       c : Connection
       c = connection log begins.0 recorded.texts r.token false order
@@ -485,7 +453,7 @@ module _ (limits : Limits) (log : Log) (own : Position) (notes : List Line) (mir
   abbrev shown : NodeState
   shown = reads mirror.limits.history first_opening notes
 
-  there : Some (record { tables = state_after log own.at; token = token_after own.at }) ≡ shown.published
+  there : Some (record { tables = state_after log own.at; token = log.token own.at }) ≡ shown.published
   there = sym (ap (λ n. n.published) same) ∙ ap (λ m. m.node.published) stands.state
 
   -- it has published, so it asks with a token
@@ -496,7 +464,7 @@ module _ (limits : Limits) (log : Log) (own : Position) (notes : List Line) (mir
       by true e =
           let empty : batches notes ≡ [] = no_batches (batches notes) e in
           let nothing : shown.published ≡ None = ap (λ bs. (shows first_opening (unskipped mirror.limits.history first_opening bs)).published) empty in
-          absurd (is_some_published (record { tables = state_after log own.at; token = token_after own.at }) (there ∙ nothing))
+          absurd (is_some_published (record { tables = state_after log own.at; token = log.token own.at }) (there ∙ nothing))
       by false e =
           ap (λ m. is_none m.since) stands.state
           ∙ ap (λ b. is_none (if b then None else published_token shown)) e

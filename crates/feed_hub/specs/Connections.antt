@@ -1,7 +1,7 @@
 -- THE PROMISE on one connection: what a mirror makes of what was written for its request, by a node,
 -- or by a primary that took batches meanwhile (CLICS Contest API 2023-06, event feed and
 -- reconnection; RFC 9112).
-use Rattle.std.specs.Prelude.{◌≡◌, ◌⊎◌, ℕ, ◌<◌, ◌^◌, Bool, false, List, [], ◌++◌, length, Some}
+use Rattle.std.specs.Prelude.{◌≡◌, ◌⊎◌, ℕ, ◌<◌, ◌^◌, false, List, [], length, Some}
 use Rattle.feed_settings.specs.Limits.{Limits}
 use Rattle.feed_settings.specs.declared.framing.Framing.{Framing}
 use Rattle.feed_node.specs.declared.commit.Commit.{Commit}
@@ -18,7 +18,7 @@ use Rattle.feed_http.specs.Serving.{Serves}
 use Rattle.feed_http.specs.Sessions.{Commit_after, next}
 use Rattle.feed_world.specs.Log.{Log, IsLog}
 use Rattle.feed_hub.specs.Follows.{HasAskedSo, FollowsInLog, ArrivesInLog}
-use Rattle.feed_hub.specs.Laws.{IsInLog}
+use Rattle.feed_hub.specs.Laws.{StandsInLog}
 
 -- Whatever prefix of the text came to the mirror, in any pieces, it shows nothing or a state of the
 -- log at its token. With all of it, after a 200 whose session kept its token, it is as far as the
@@ -39,15 +39,15 @@ abbrev pub NodesAreFollowed : Type 0
 NodesAreFollowed =
     (limits : Limits) (log : Log) (node : NodeState) (head contest : List ℕ) (framing : Framing)
     (text : List ℕ) (served : Served) (begun : MirrorState)
-    → IsLog limits log → IsInLog limits log node → HasAskedSo limits log head contest begun
+    → IsLog limits log → StandsInLog log node → HasAskedSo limits log head contest begun
     → Serves head contest node framing 0 text served → length text < 2 ^ 64
     → FollowsServed limits log begun text served node
 
 -- each state of the primary that a session met, which opened at this token, is in the log
-abbrev pub MeetsLog : Limits → Log → ℕ → Intake → List ℕ → Type 0
-MeetsLog limits log turn start opened =
+abbrev pub MeetsLog : Log → ℕ → Intake → List ℕ → Type 0
+MeetsLog log turn start opened =
     (sent : List Commit) (now : Intake) (token : List ℕ) → HasSent turn start opened sent now token
-    → IsInLog limits log now.primary.node
+    → StandsInLog log now.primary.node
 
 -- The same of a primary that took batches in turns, as `serve_live` does.
 abbrev pub PrimariesAreFollowed : Type 0
@@ -55,8 +55,8 @@ PrimariesAreFollowed =
     (limits : Limits) (log : Log) (turn : ℕ) (start now : Intake) (head contest : List ℕ)
     (framing : Framing) (answer : AnswerParts) (text : List ℕ) (served : Served)
     (begun : MirrorState)
-    → IsLog limits log → IsInLog limits log start.primary.node
-    → ((opened : List ℕ) → answer.session ≡ Some opened → MeetsLog limits log turn start opened)
+    → IsLog limits log → StandsInLog log start.primary.node
+    → ((opened : List ℕ) → answer.session ≡ Some opened → MeetsLog log turn start opened)
     → HasAskedSo limits log head contest begun
     → AnswersTo head contest start.primary.node framing 0 answer
     → SendsLive turn start answer text served now → length text < 2 ^ 64
@@ -83,8 +83,8 @@ abbrev pub BrokenOffIsFollowed : Type 0
 BrokenOffIsFollowed =
     (limits : Limits) (log : Log) (turn : ℕ) (start now : Intake) (head contest : List ℕ)
     (framing : Framing) (answer : AnswerParts) (text : List ℕ) (begun : MirrorState)
-    → IsLog limits log → IsInLog limits log start.primary.node
-    → ((opened : List ℕ) → answer.session ≡ Some opened → MeetsLog limits log turn start opened)
+    → IsLog limits log → StandsInLog log start.primary.node
+    → ((opened : List ℕ) → answer.session ≡ Some opened → MeetsLog log turn start opened)
     → HasAskedSo limits log head contest begun
     → AnswersTo head contest start.primary.node framing 0 answer
     → IsBrokenOff turn start answer now text

@@ -3,7 +3,6 @@
 use Rattle.std.specs.Prelude.{◌≡◌, ◌⊎◌, ℕ, List, [], ◌++◌, take, Option, Some, None, is_none, is_some}
 use Rattle.feed_settings.specs.Limits.{Limits}
 use Rattle.feed_settings.specs.declared.framing.Framing.{Framing}
-use Rattle.feed_node.specs.Log.{token_after}
 use Rattle.feed_node.specs.Mirroring.{MirrorState}
 use Rattle.feed_node.specs.States.{NodeState}
 use Rattle.feed_follow.specs.declared.fault.FollowFault.{FollowFault}
@@ -21,7 +20,7 @@ use Rattle.feed_world.specs.Step.{IsMemory}
 use Rattle.feed_hub.specs.declared.screen.Screen.{Screen}
 use Rattle.feed_hub.specs.Log.{Log as Shared}
 use Rattle.feed_hub.specs.Screen.{pending, token_at, IsServed}
-use Rattle.feed_hub.specs.Laws.{IsInLog, AreInLog}
+use Rattle.feed_hub.specs.Laws.{IsInLog, StandsInLog, AreInLog}
 
 -- A mirror asked with this head. It was at a place of the log, and asked with the token of that, or
 -- with none.
@@ -60,7 +59,7 @@ ScreensFollow =
     (limits : Limits) (log : Log) (nodes : List NodeState) (node : NodeState)
     (head contest : List ℕ) (framing : Framing) (answer : AnswerParts) (begun : MirrorState)
     (common : Framing) (lines : Shared) (told : Option (List ℕ)) (handed : List ℕ) (s : Screen)
-    → IsLog limits log → AreInLog limits log nodes → IsInLog limits log node
+    → IsLog limits log → AreInLog log nodes → StandsInLog log node
     → HasAskedSo limits log head contest begun
     → AnswersTo head contest node framing 0 answer
     → IsServed nodes common lines told answer handed s
@@ -73,7 +72,7 @@ pub record ArrivesInLog (limits : Limits) (log : Log) (token : List ℕ) (mirror
   pub is_place : IsPlace limits log place
   pub shows : mirror.node ≡ node_where log place
   pub last : ℕ
-  pub token_is : token ≡ token_after last
+  pub token_is : token ≡ log.token last
   pub reaches : HasReached place last
 
 -- Where nothing is pending for a screen whose body goes on, and its mirror followed all that it was
@@ -84,7 +83,7 @@ ScreensArrive =
     (head contest : List ℕ) (framing : Framing) (answer : AnswerParts) (begun : MirrorState)
     (common : Framing) (lines : Shared) (told : Option (List ℕ)) (handed token : List ℕ)
     (s : Screen) (standing : Standing) (follower : FollowerState) (mirror : MirrorState)
-    → IsLog limits log → AreInLog limits log nodes → IsInLog limits log node
+    → IsLog limits log → AreInLog log nodes → StandsInLog log node
     → HasAskedSo limits log head contest begun
     → AnswersTo head contest node framing 0 answer
     → IsServed nodes common lines told answer handed s

@@ -2,13 +2,12 @@
 use Rattle.std.specs.Prelude.{◌≡◌, ℕ, ◌≤◌, Bool, false, List, ◌∷◌, ◌++◌, length, take, Option, Some, Contains}
 use Rattle.feed_settings.specs.Limits.{Limits}
 use Rattle.feed_settings.specs.declared.framing.Framing.{Framing}
-use Rattle.feed_node.specs.Log.{token_after}
 use Rattle.feed_node.specs.Reading.{Reads, reads, keep_latest}
 use Rattle.feed_node.specs.States.{NodeState}
 use Rattle.feed_note.specs.declared.line.Line.{Line}
 use Rattle.feed_world.specs.Connection.{Part, GoOn, parts_text}
 use Rattle.feed_world.specs.Laws.{opened_text}
-use Rattle.feed_world.specs.Log.{Log, IsLog}
+use Rattle.feed_world.specs.Log.{Log, IsLog, IsNamed}
 use Rattle.feed_world.specs.Position.{Position, IsPlace, node_where}
 use Rattle.feed_world.specs.Reading.{opening_at}
 use Rattle.feed_world.specs.States.{HasReached}
@@ -28,26 +27,30 @@ abbrev pub IsInLog : Limits → Log → NodeState → Type 0
 IsInLog limits log node =
     (place : Option Position) × IsPlace limits log place × (node ≡ node_where log place)
 
--- so it is with each of these nodes
-abbrev pub AreInLog : Limits → Log → List NodeState → Type 0
-AreInLog limits log nodes = (node : NodeState) → Contains nodes node → IsInLog limits log node
+-- so it is with a node that has limits of its own, whatever they are
+abbrev pub StandsInLog : Log → NodeState → Type 0
+StandsInLog log node = (own : Limits) × IsInLog own log node
+
+-- and with each of these nodes
+abbrev pub AreInLog : Log → List NodeState → Type 0
+AreInLog log nodes = (node : NodeState) → Contains nodes node → StandsInLog log node
 
 -- the texts are parts of a connection, in order from number k on, and end at this token
 pub record StandInOrder (log : Log) (k : ℕ) (texts : List (List ℕ)) (token : List ℕ) : Type 0 where
   pub parts : List Part
   pub last : ℕ
   pub go_on : GoOn k parts last
-  pub in_log : last ≤ length log
-  pub token_is : token ≡ token_after last
+  pub in_log : last ≤ length log.commits
+  pub token_is : token ≡ log.token last
   pub text_is : joined texts ≡ parts_text log parts
 
 -- What nodes at places of one log tell a session that opened at one of its tokens: the commits
 -- after that, each the next one, with line feeds before, between and after them.
 abbrev pub ScreensAreConnections : Type 0
 ScreensAreConnections =
-    (limits : Limits) (log : Log) (nodes : List NodeState) (k : ℕ) (texts : List (List ℕ))
-    (token : List ℕ) → IsLog limits log → AreInLog limits log nodes → k ≤ length log
-    → Told nodes (token_after k) texts token → StandInOrder log k texts token
+    (log : Log) (nodes : List NodeState) (k : ℕ) (texts : List (List ℕ))
+    (token : List ℕ) → IsNamed log → AreInLog log nodes → k ≤ length log.commits
+    → Told nodes (log.token k) texts token → StandInOrder log k texts token
 
 -- A mirror that is sent this, fresh or after a token that it holds, and has read any prefix of it:
 -- nothing was bad, and it shows what a node at a place of this log shows.
@@ -64,8 +67,8 @@ abbrev pub ScreensShowStates : Type 0
 ScreensShowStates =
     (limits : Limits) (log : Log) (nodes : List NodeState) (k : ℕ) (texts : List (List ℕ))
     (token : List ℕ) (place : Option Position) (fresh : Bool) (prefix behind : List ℕ)
-    → IsLog limits log → AreInLog limits log nodes → k ≤ length log
-    → Told nodes (token_after k) texts token → IsPlace limits log place
+    → IsLog limits log → AreInLog log nodes → k ≤ length log.commits
+    → Told nodes (log.token k) texts token → IsPlace limits log place
     → (fresh ≡ false → (own : Position) × (place ≡ Some own) × (own.low ≤ k) × (k ≤ own.at))
     → prefix ++ behind ≡ opened_text log fresh k ++ joined texts
     → ShowsState limits log place fresh prefix
@@ -80,15 +83,15 @@ pub record ReachesState (limits : Limits) (log : Log) (place : Option Position) 
   pub shows : keep_latest limits.history (reads limits.history (opening_at log place fresh) notes)
       ≡ node_where log at
   pub last : ℕ
-  pub token_is : token ≡ token_after last
+  pub token_is : token ≡ log.token last
   pub reaches : HasReached at last
 
 abbrev pub ScreensReach : Type 0
 ScreensReach =
     (limits : Limits) (log : Log) (nodes : List NodeState) (k : ℕ) (texts : List (List ℕ))
     (token : List ℕ) (place : Option Position) (fresh : Bool)
-    → IsLog limits log → AreInLog limits log nodes → k ≤ length log
-    → Told nodes (token_after k) texts token → IsPlace limits log place
+    → IsLog limits log → AreInLog log nodes → k ≤ length log.commits
+    → Told nodes (log.token k) texts token → IsPlace limits log place
     → (fresh ≡ false → (own : Position) × (place ≡ Some own) × (own.low ≤ k) × (k ≤ own.at))
     → ReachesState limits log place fresh token (opened_text log fresh k ++ joined texts)
 
@@ -113,8 +116,8 @@ ScreensAreFollowed =
     (limits : Limits) (log : Log) (nodes : List NodeState) (k : ℕ) (texts : List (List ℕ))
     (token : List ℕ) (place : Option Position) (fresh : Bool) (framing : Framing) (n : ℕ)
     (had_token : Bool)
-    → IsLog limits log → AreInLog limits log nodes → k ≤ length log
-    → Told nodes (token_after k) texts token → IsPlace limits log place
+    → IsLog limits log → AreInLog log nodes → k ≤ length log.commits
+    → Told nodes (log.token k) texts token → IsPlace limits log place
     → (fresh ≡ false → (own : Position) × (place ≡ Some own) × (own.low ≤ k) × (k ≤ own.at))
     → AreTexts (opened_text log fresh k ∷ texts)
     → StandsSo limits log place fresh had_token

@@ -6,3 +6,6 @@ pub mod RelayLemmas
 pub mod TurnLemmas
 pub mod HonestLemmas
 pub mod InputLemmas
+pub mod TellingLemmas
+pub mod TokenedLemmas
+pub mod TokenedExample

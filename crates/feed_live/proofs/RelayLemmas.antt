@@ -1,19 +1,23 @@
 -- How a relay stays at places of the log, step by step.
-use Rattle.std.proofs.Common.{◌≡◌, refl, sym, ap, ◌∙◌, subst, ℕ, ◌+◌, arith, List, [], ◌∷◌, ◌++◌, take, drop, append-nil, append_assoc, Option, Some, None}
+use Rattle.std.proofs.Common.{◌≡◌, ◌⊎◌, inl, inr, suc, ◌-◌, refl, sym, ap, ◌∙◌, subst, ℕ, ◌+◌, arith, List, [], ◌∷◌, ◌++◌, take, drop, append-nil, append_assoc, Option, Some, None}
 use Rattle.std.specs.Result.{is_err}
 use Rattle.std.specs.Prelude.{Result, Ok, Err, OnOk, Bool, true, false, Contains, option_map, is_none, is_some, IfSome, if◌then◌else◌}
 use Rattle.std.proofs.lemmas.List.{take-take, drop-take, take-append-drop}
 use Rattle.slab.specs.Slab.{Slab}
 use Rattle.feed_settings.specs.Limits.{Limits}
-use Rattle.feed_node.specs.Mirroring.{MirrorState, refused_off}
+use Rattle.feed_node.specs.Mirroring.{MirrorState, refused_off, new_mirror}
+use Rattle.feed_note.specs.Publishing.{Published}
+use Rattle.feed_node.specs.Saved.{restored_from}
 use Rattle.feed_node.specs.States.{NodeState, published_token}
 use Rattle.feed_follow.specs.declared.fault.FollowFault.{FollowFault}
+use Rattle.feed_follow.specs.declared.fault.FollowFault.TheVariants.{BadChunk}
 use Rattle.feed_follow.specs.declared.fault.Progress.{Progress}
 use Rattle.feed_follow.specs.declared.fault.Progress.TheVariants as reached
-use Rattle.feed_follow.specs.Follower.{FollowerState, GoesOn}
+use Rattle.feed_follow.specs.Follower.{FollowerState, FollowsAt, GoesOn}
 use Rattle.feed_follow.specs.Following.{Fails}
-use Rattle.feed_follow.specs.Standing.{Standing, in_head}
-use Rattle.feed_world.specs.Log.{Log}
+use Rattle.feed_follow.specs.Standing.{Standing, in_head, token_refused, in_body, done, failed}
+use Rattle.feed_world.specs.Log.{Log, state_after, tokens_of}
+use Rattle.feed_world.specs.Position.{Position, node_at, commits_after}
 use Rattle.feed_hub.specs.declared.hub.Hub.{Hub}
 use Rattle.feed_hub.specs.Laws.{IsInLog}
 use Rattle.feed_hub.specs.Upstream.{IsFollowing, IsPushed}
@@ -23,7 +27,7 @@ use Rattle.feed_live.specs.declared.conn.Conn.{Conn}
 use Rattle.feed_live.specs.declared.source.Reach.{Reach}
 use Rattle.feed_live.specs.declared.source.Reach.TheVariants.{Away, Connects, Asks, Reads}
 use Rattle.feed_live.specs.declared.source.Source.{Source}
-use Rattle.feed_live.specs.Relaying.{servers_of, IsAsked, Follows, MayFollow, Shows, SameSource, IsKeeping, IsLeft}
+use Rattle.feed_live.specs.Relaying.{servers_of, IsAsked, Follows, MayFollow, Shows, SameSource, IsKeeping, IsLeft, KeepsShown, PushesOnly, IsNowShown, ShowsAlone, followed, followed_by}
 use Rattle.feed_live.specs.Serving.{Serving}
 use Rattle.feed_live.specs.States.{states_of}
 use Rattle.feed_live.specs.Upstream.{AsksInLog, Servers, IsRequestOf, StaysInLog, IsHonest, AreKnownHonest}
@@ -104,18 +108,30 @@ module _ (limits : Limits) (log : Log) where
       subst (λ m. Shows limits log contest m new.answers.blank.mirror hub conns sockets) (sym same.shown)
       (subst (λ m. Shows limits log contest old.answers.shown.mirror m hub conns sockets) (sym same.blank) shows)
 
+-- the same mirror follows
+pub same_followed : {before after : Option MirrorState} {old new : MirrorState} → after ≡ before → new ≡ old → followed after new ≡ followed before old
+same_followed {before} {after} {old} {new} coming shown = ap (λ c. followed c new) coming ∙ ap (λ s. followed before s) shown
+
 module _ (limits : Limits) (log : Log) (servers : Servers) where
+  -- all that is followed may be written in another way
+  pub follows_as : (exchanges : Exchanges) {reach reach_new : Reach} {request request_new unread unread_new : List ℕ} {follower follower_new : Option FollowerState} {mirror mirror_new : MirrorState}
+      → request_new ≡ request → unread_new ≡ unread → reach_new ≡ reach → follower_new ≡ follower → mirror_new ≡ mirror
+      → MayFollow limits log servers reach request unread exchanges follower mirror
+      → MayFollow limits log servers reach_new request_new unread_new exchanges follower_new mirror_new
+  follows_as exchanges {reach} {reach_new} {request} {request_new} {unread} {unread_new} {follower} {follower_new} {mirror} {mirror_new} request_is unread_is reach_is follower_is mirror_is follows =
+      subst (λ m. MayFollow limits log servers reach_new request_new unread_new exchanges follower_new m) (sym mirror_is)
+      (subst (λ f. MayFollow limits log servers reach_new request_new unread_new exchanges f mirror) (sym follower_is)
+      (subst (λ u. MayFollow limits log servers reach_new request_new u exchanges follower mirror) (sym unread_is)
+      (subst (λ r. MayFollow limits log servers reach_new r unread exchanges follower mirror) (sym request_is)
+      (subst (λ r. MayFollow limits log servers r request unread exchanges follower mirror) (sym reach_is) follows))))
+
   -- it is followed as before
   pub same_follows : {old new : Source} → SameSource old new
       → (exchanges : Exchanges) (unread left : List ℕ) → left ≡ unread
-      → MayFollow limits log servers old.reach old.request.items unread exchanges old.upstream.follower old.answers.shown.mirror
-      → MayFollow limits log servers new.reach new.request.items left exchanges new.upstream.follower new.answers.shown.mirror
+      → MayFollow limits log servers old.reach old.request.items unread exchanges old.upstream.follower (followed_by old)
+      → MayFollow limits log servers new.reach new.request.items left exchanges new.upstream.follower (followed_by new)
   same_follows {old} {new} same exchanges unread left rest follows =
-      subst (λ m. MayFollow limits log servers new.reach new.request.items left exchanges new.upstream.follower m) (sym same.shown)
-      (subst (λ f. MayFollow limits log servers new.reach new.request.items left exchanges f old.answers.shown.mirror) (sym same.follower)
-      (subst (λ u. MayFollow limits log servers new.reach new.request.items u exchanges old.upstream.follower old.answers.shown.mirror) (sym rest)
-      (subst (λ r. MayFollow limits log servers new.reach r unread exchanges old.upstream.follower old.answers.shown.mirror) (sym same.request)
-      (subst (λ r. MayFollow limits log servers r old.request.items unread exchanges old.upstream.follower old.answers.shown.mirror) (sym same.reach) follows))))
+      follows_as exchanges same.request rest same.reach same.follower (same_followed same.coming same.shown) follows
 
   -- ---- a server is left
 
@@ -191,6 +207,12 @@ module _ (limits : Limits) (log : Log) (servers : Servers) where
         standing = in_head;
         follows = following;
       }
+
+  -- what may be asked with: what is shown, or a mirror that begins afresh
+  pub begins_in_log : (coming : Option MirrorState) (shown : MirrorState) → IfSome coming (λ mirror. mirror ≡ new_mirror shown.limits)
+      → shown.limits ≡ limits → IsInLog limits log shown.node → ((followed coming shown).limits ≡ limits) × IsInLog limits log (followed coming shown).node
+  begins_in_log None shown is bounds at = (bounds, at)
+  begins_in_log (Some mirror) shown is bounds at = (ap (λ m. m.limits) is ∙ bounds, subst (λ m. IsInLog limits log m.node) (sym is) (None, tt, refl))
 
   -- ---- more is asked
 
@@ -425,9 +447,9 @@ module _ (limits : Limits) (log : Log) (servers : Servers) where
   pub with_same : {contest : List ℕ} {old new : Source} → SameSource old new
       → (exchanges : Exchanges) {hub : Hub} {conns : Slab Conn} {sockets : AllSockets} (unread left : List ℕ) → left ≡ unread
       → (AreKnownHonest limits log servers exchanges → Shows limits log contest old.answers.shown.mirror old.answers.blank.mirror hub conns sockets
-      × MayFollow limits log servers old.reach old.request.items unread exchanges old.upstream.follower old.answers.shown.mirror)
+      × MayFollow limits log servers old.reach old.request.items unread exchanges old.upstream.follower (followed_by old))
       → AreKnownHonest limits log servers exchanges → Shows limits log contest new.answers.shown.mirror new.answers.blank.mirror hub conns sockets
-      × MayFollow limits log servers new.reach new.request.items left exchanges new.upstream.follower new.answers.shown.mirror
+      × MayFollow limits log servers new.reach new.request.items left exchanges new.upstream.follower (followed_by new)
   with_same same exchanges unread left rest follows honest = let here = follows honest in (same_shows limits log same here.0, same_follows same exchanges unread left rest here.1)
 
   -- the server is left
@@ -435,9 +457,9 @@ module _ (limits : Limits) (log : Log) (servers : Servers) where
       → {hub : Hub} {conns : Slab Conn} {sockets : AllSockets} (unread : List ℕ)
       → (AreKnownHonest limits log servers before → Shows limits log contest old.answers.shown.mirror old.answers.blank.mirror hub conns sockets)
       → AreKnownHonest limits log servers after → Shows limits log contest new.answers.shown.mirror new.answers.blank.mirror hub conns sockets
-      × MayFollow limits log servers new.reach new.request.items unread after new.upstream.follower new.answers.shown.mirror
+      × MayFollow limits log servers new.reach new.request.items unread after new.upstream.follower (followed_by new)
   with_left {old} {new} left unread shows honest =
-      (left_shows left (shows (left_honest left honest)), left_follows left new.request.items unread new.answers.shown.mirror)
+      (left_shows left (shows (left_honest left honest)), left_follows left new.request.items unread (followed_by new))
 
   -- what is unread is this
   pub with_unread : {X : Type 0} (exchanges : Exchanges) (reach : Reach) (request : List ℕ) (follower : Option FollowerState) (mirror : MirrorState) {unread other : List ℕ} → other ≡ unread
@@ -450,64 +472,153 @@ module _ (limits : Limits) (log : Log) (servers : Servers) where
   pub with_kept : {contest : List ℕ} {hub : Hub} {conns : Slab Conn} {sockets : AllSockets} {old new : Source} → IsKeeping old new
       → (exchanges : Exchanges) (unread left : List ℕ) → left ≡ unread
       → (AreKnownHonest limits log servers exchanges → Shows limits log contest old.answers.shown.mirror old.answers.blank.mirror hub conns sockets
-      × MayFollow limits log servers old.reach old.request.items unread exchanges old.upstream.follower old.answers.shown.mirror)
+      × MayFollow limits log servers old.reach old.request.items unread exchanges old.upstream.follower (followed_by old))
       → AreKnownHonest limits log servers exchanges → Shows limits log contest new.answers.shown.mirror new.answers.blank.mirror hub conns sockets
-      × MayFollow limits log servers new.reach new.request.items left exchanges new.upstream.follower new.answers.shown.mirror
+      × MayFollow limits log servers new.reach new.request.items left exchanges new.upstream.follower (followed_by new)
   with_kept {contest} {hub} {conns} {sockets} {old} {new} same exchanges unread left rest follows honest =
       let here = follows honest in (
         subst (λ a. Shows limits log contest a.shown.mirror a.blank.mirror hub conns sockets) (sym same.answers) here.0,
-        subst (λ a. MayFollow limits log servers new.reach new.request.items left exchanges new.upstream.follower a.shown.mirror) (sym same.answers)
-            (subst (λ u. MayFollow limits log servers new.reach new.request.items left exchanges u.follower old.answers.shown.mirror) (sym same.upstream)
-            (subst (λ u. MayFollow limits log servers new.reach new.request.items u exchanges old.upstream.follower old.answers.shown.mirror) (sym rest)
-            (subst (λ r. MayFollow limits log servers new.reach r.items unread exchanges old.upstream.follower old.answers.shown.mirror) (sym same.request)
-            (subst (λ r. MayFollow limits log servers r old.request.items unread exchanges old.upstream.follower old.answers.shown.mirror) (sym same.reach) here.1)))),
+        follows_as exchanges (ap (λ r. r.items) same.request) rest same.reach (ap (λ u. u.follower) same.upstream) (same_followed same.coming (ap (λ a. a.shown.mirror) same.answers)) here.1,
       )
 
-  -- the mirror is lent
-  pub with_lent : {contest : List ℕ} {hub : Hub} {conns : Slab Conn} {sockets : AllSockets} {blank before lent : MirrorState}
-      (exchanges : Exchanges) (reach : Reach) (request unread : List ℕ) (follower : Option FollowerState) → lent ≡ before
-      → (AreKnownHonest limits log servers exchanges → Shows limits log contest before blank hub conns sockets × MayFollow limits log servers reach request unread exchanges follower before)
-      → AreKnownHonest limits log servers exchanges → Shows limits log contest lent blank hub conns sockets × MayFollow limits log servers reach request unread exchanges follower lent
-  with_lent {contest} {hub} {conns} {sockets} {blank} exchanges reach request unread follower is follows =
-      subst (λ m. AreKnownHonest limits log servers exchanges → Shows limits log contest m blank hub conns sockets × MayFollow limits log servers reach request unread exchanges follower m) (sym is) follows
+  -- ---- bytes come to the mirror that follows
+
+  -- what follows is at a place of the log then: so is what is shown
+  shown_after : (coming now : Option MirrorState) {contest : List ℕ} {hub : Hub} {conns : Slab Conn} {sockets : AllSockets} (old new blank blank_new : MirrorState)
+      → KeepsShown coming now old new → (followed now new).limits ≡ (followed coming old).limits → IsInLog limits log (followed now new).node → blank_new ≡ blank
+      → Shows limits log contest old blank hub conns sockets → Shows limits log contest new blank_new hub conns sockets
+  shown_after None now {contest} {hub} {conns} {sockets} old new blank blank_new keeps bounds at same shows =
+      shows_at limits log (subst (λ n. (followed n new).limits ≡ old.limits) keeps bounds) (subst (λ n. IsInLog limits log (followed n new).node) keeps at) same shows
+  shown_after (Some coming) now {contest} {hub} {conns} {sockets} old new blank blank_new keeps bounds at same shows =
+      shows_at limits log (ap (λ m. m.limits) keeps) (subst (λ m. IsInLog limits log m.node) (sym keeps) shows.shown_is) same shows
+
+  pub with_shown : (exchanges : Exchanges) {contest : List ℕ} {hub : Hub} {conns : Slab Conn} {sockets : AllSockets} {X : Type 0} {old new : Source} → PushesOnly old new
+      → (AreKnownHonest limits log servers exchanges → X → IsInLog limits log (followed_by new).node)
+      → (AreKnownHonest limits log servers exchanges → Shows limits log contest old.answers.shown.mirror old.answers.blank.mirror hub conns sockets × X)
+      → AreKnownHonest limits log servers exchanges → Shows limits log contest new.answers.shown.mirror new.answers.blank.mirror hub conns sockets
+  with_shown exchanges {old = old} {new = new} only at follows honest =
+      let here = follows honest in
+      shown_after old.coming new.coming old.answers.shown.mirror new.answers.shown.mirror old.answers.blank.mirror new.answers.blank.mirror only.shown only.limits (at honest here.1) only.blank here.0
 
   -- what came is taken: a push goes on
-  pub with_taken : (exchanges : Exchanges) {contest : List ℕ} {hub : Hub} {conns : Slab Conn} {sockets : AllSockets} {blank : MirrorState}
-      (reach : Reach) (request line next : List ℕ) (old new : Option FollowerState) (before after : MirrorState) (progress : Progress)
-      → reach ≡ Reads → (progress ≡ reached.TokenRefused → ⊥)
-      → ((start : MirrorState) (bytes : List ℕ) (standing : Standing) → IsFollowing start bytes standing old before → IsPushed start (bytes ++ line) new after progress)
-      → after.limits ≡ before.limits
-      → (AreKnownHonest limits log servers exchanges → Shows limits log contest before blank hub conns sockets × MayFollow limits log servers reach request (line ++ next) exchanges old before)
-      → AreKnownHonest limits log servers exchanges → Shows limits log contest after blank hub conns sockets × MayFollow limits log servers reach request next exchanges new after
-  with_taken exchanges reach request line next old new before after progress reads on push bounds follows honest =
+  pub with_taken : (exchanges : Exchanges) {contest : List ℕ} {hub : Hub} {conns : Slab Conn} {sockets : AllSockets} {old new : Source} (line next : List ℕ) (progress : Progress)
+      → old.reach ≡ Reads → PushesOnly old new → (progress ≡ reached.TokenRefused → ⊥)
+      → ((start : MirrorState) (bytes : List ℕ) (standing : Standing) → IsFollowing start bytes standing old.upstream.follower (followed_by old) → IsPushed start (bytes ++ line) new.upstream.follower (followed_by new) progress)
+      → (AreKnownHonest limits log servers exchanges → Shows limits log contest old.answers.shown.mirror old.answers.blank.mirror hub conns sockets
+      × MayFollow limits log servers old.reach old.request.items (line ++ next) exchanges old.upstream.follower (followed_by old))
+      → AreKnownHonest limits log servers exchanges → Shows limits log contest new.answers.shown.mirror new.answers.blank.mirror hub conns sockets
+      × MayFollow limits log servers new.reach new.request.items next exchanges new.upstream.follower (followed_by new)
+  with_taken exchanges {old = old} {new = new} line next progress reads only on push follows honest =
       let here = follows honest in
-      let is_taken = taken request line next exchanges old new before after progress on push honest (subst (λ r. MayFollow limits log servers r request (line ++ next) exchanges old before) reads here.1) in
-      (shows_at limits log bounds is_taken.at refl here.0, subst (λ r. MayFollow limits log servers r request next exchanges new after) (sym reads) is_taken.follows)
+      let is_taken = taken old.request.items line next exchanges old.upstream.follower new.upstream.follower (followed_by old) (followed_by new) progress on push honest
+      (subst (λ r. MayFollow limits log servers r old.request.items (line ++ next) exchanges old.upstream.follower (followed_by old)) reads here.1) in (
+        with_shown exchanges only (λ _ _. is_taken.at) follows honest,
+        follows_as exchanges only.request refl (only.reach ∙ reads) refl refl is_taken.follows,
+      )
 
   -- or the token was refused
-  pub with_refused : (exchanges : Exchanges) {contest : List ℕ} {hub : Hub} {conns : Slab Conn} {sockets : AllSockets} {blank : MirrorState}
-      (reach : Reach) (request line next : List ℕ) (old new : Option FollowerState) (before after : MirrorState) (progress : Progress)
-      → reach ≡ Reads → progress ≡ reached.TokenRefused
-      → ((start : MirrorState) (bytes : List ℕ) (standing : Standing) → IsFollowing start bytes standing old before → IsPushed start (bytes ++ line) new after progress)
-      → after.limits ≡ before.limits
-      → (AreKnownHonest limits log servers exchanges → Shows limits log contest before blank hub conns sockets × MayFollow limits log servers reach request (line ++ next) exchanges old before)
-      → AreKnownHonest limits log servers exchanges → Shows limits log contest after blank hub conns sockets
-  with_refused exchanges reach request line next old new before after progress reads is push bounds follows honest =
-      let here = follows honest in
-      shows_at limits log bounds (refused_at request line next exchanges old new before after progress is push honest (subst (λ r. MayFollow limits log servers r request (line ++ next) exchanges old before) reads here.1)) refl here.0
+  pub with_refused : (exchanges : Exchanges) {contest : List ℕ} {hub : Hub} {conns : Slab Conn} {sockets : AllSockets} {old new : Source} (line next : List ℕ) (progress : Progress)
+      → old.reach ≡ Reads → PushesOnly old new → progress ≡ reached.TokenRefused
+      → ((start : MirrorState) (bytes : List ℕ) (standing : Standing) → IsFollowing start bytes standing old.upstream.follower (followed_by old) → IsPushed start (bytes ++ line) new.upstream.follower (followed_by new) progress)
+      → (AreKnownHonest limits log servers exchanges → Shows limits log contest old.answers.shown.mirror old.answers.blank.mirror hub conns sockets
+      × MayFollow limits log servers old.reach old.request.items (line ++ next) exchanges old.upstream.follower (followed_by old))
+      → AreKnownHonest limits log servers exchanges → Shows limits log contest new.answers.shown.mirror new.answers.blank.mirror hub conns sockets
+  with_refused exchanges {old = old} {new = new} line next progress reads only is push follows =
+      with_shown exchanges only (λ honest here. refused_at old.request.items line next exchanges old.upstream.follower new.upstream.follower (followed_by old) (followed_by new) progress is push honest
+      (subst (λ r. MayFollow limits log servers r old.request.items (line ++ next) exchanges old.upstream.follower (followed_by old)) reads here)) follows
 
   -- or it failed
-  pub with_failed : (exchanges : Exchanges) {contest : List ℕ} {hub : Hub} {conns : Slab Conn} {sockets : AllSockets} {blank : MirrorState}
-      (reach : Reach) (request line next : List ℕ) (old : Option FollowerState) (before after : MirrorState) (fault : FollowFault)
-      → reach ≡ Reads
-      → ((start : MirrorState) (bytes : List ℕ) (standing : Standing) → IsFollowing start bytes standing old before
-      → (had_token : Bool) × (had_token ≡ is_some start.since) × Fails start had_token bytes line after fault)
-      → after.limits ≡ before.limits
-      → (AreKnownHonest limits log servers exchanges → Shows limits log contest before blank hub conns sockets × MayFollow limits log servers reach request (line ++ next) exchanges old before)
-      → AreKnownHonest limits log servers exchanges → Shows limits log contest after blank hub conns sockets
-  with_failed exchanges reach request line next old before after fault reads fail bounds follows honest =
+  pub with_failed : (exchanges : Exchanges) {contest : List ℕ} {hub : Hub} {conns : Slab Conn} {sockets : AllSockets} {old new : Source} (line next : List ℕ) (fault : FollowFault)
+      → old.reach ≡ Reads → PushesOnly old new
+      → ((start : MirrorState) (bytes : List ℕ) (standing : Standing) → IsFollowing start bytes standing old.upstream.follower (followed_by old)
+      → (had_token : Bool) × (had_token ≡ is_some start.since) × Fails start had_token bytes line (followed_by new) fault)
+      → (AreKnownHonest limits log servers exchanges → Shows limits log contest old.answers.shown.mirror old.answers.blank.mirror hub conns sockets
+      × MayFollow limits log servers old.reach old.request.items (line ++ next) exchanges old.upstream.follower (followed_by old))
+      → AreKnownHonest limits log servers exchanges → Shows limits log contest new.answers.shown.mirror new.answers.blank.mirror hub conns sockets
+  with_failed exchanges {old = old} {new = new} line next fault reads only fail follows =
+      with_shown exchanges only (λ honest here. failed_at old.request.items line next exchanges old.upstream.follower (followed_by old) (followed_by new) fault fail honest
+      (subst (λ r. MayFollow limits log servers r old.request.items (line ++ next) exchanges old.upstream.follower (followed_by old)) reads here)) follows
+
+  -- ---- what came afresh is shown
+
+  -- the limits of a mirror that follows stay
+  pub limits_stay : {start : MirrorState} (bytes : List ℕ) (standing : Standing) {follower : FollowerState} {mirror : MirrorState} → FollowsAt start bytes standing follower mirror → mirror.limits ≡ start.limits
+  limits_stay bytes in_head follows = ap (λ m. m.limits) follows.leaves
+  limits_stay bytes token_refused follows = ap (λ m. m.limits) follows.leaves
+  limits_stay bytes (in_body payload) follows = follows.leaves.limits
+  limits_stay bytes (done payload) follows = follows.leaves.limits
+  limits_stay bytes (failed BadChunk payload) follows = ap (λ m. m.limits) follows.leaves.state
+  limits_stay bytes (failed fault payload) follows = ap (λ m. m.limits) follows.leaves
+
+  -- what follows is at a place of the log, and may be shown
+  pub follows_in_log : (reach : Reach) (request unread : List ℕ) (exchanges : Exchanges) (follower : Option FollowerState) (mirror : MirrorState) → reach ≡ Reads
+      → AreKnownHonest limits log servers exchanges → MayFollow limits log servers reach request unread exchanges follower mirror
+      → (mirror.limits ≡ limits) × IsInLog limits log mirror.node
+  follows_in_log reach request unread exchanges None mirror reads honest follows = absurd (no_away (sym reads ∙ follows))
+    where
+      no_away : Reads ≡ Away → ⊥
+      no_away e = cc
+  follows_in_log reach request unread exchanges (Some follower) mirror reads honest follows =
+      let here = subst (λ r. Follows limits log servers r request unread exchanges follower mirror) reads follows in (
+        limits_stay here.bytes here.standing here.follows ∙ here.asks.asks.limits_are,
+        (stays_in_log request unread exchanges follower mirror honest here).shows here.bytes unread here.standing follower mirror refl here.follows,
+      )
+
+  pub with_now_shown : (exchanges : Exchanges) {contest : List ℕ} {hub : Hub} {conns : Slab Conn} {sockets : AllSockets} {old new : Source} (unread : List ℕ) → old.reach ≡ Reads → IsNowShown old new
+      → (AreKnownHonest limits log servers exchanges → Shows limits log contest old.answers.shown.mirror old.answers.blank.mirror hub conns sockets
+      × MayFollow limits log servers old.reach old.request.items unread exchanges old.upstream.follower (followed_by old))
+      → AreKnownHonest limits log servers exchanges → Shows limits log contest new.answers.shown.mirror new.answers.blank.mirror hub conns sockets
+      × MayFollow limits log servers new.reach new.request.items unread exchanges new.upstream.follower (followed_by new)
+  with_now_shown exchanges {old = old} {new = new} unread reads now follows honest =
       let here = follows honest in
-      shows_at limits log bounds (failed_at request line next exchanges old before after fault fail honest (subst (λ r. MayFollow limits log servers r request (line ++ next) exchanges old before) reads here.1)) refl here.0
+      let at = follows_in_log old.reach old.request.items unread exchanges old.upstream.follower (followed_by old) reads honest here.1 in (
+        record {
+          limits_are = ap (λ m. m.limits) now.shown ∙ at.0;
+          shown_is = subst (λ m. IsInLog limits log m.node) (sym now.shown) at.1;
+          blank_is = subst (λ m. IsInLog limits log m.node) (sym now.blank) here.0.blank_is;
+          serving = here.0.serving;
+        },
+        follows_as exchanges now.request refl now.reach now.follower (ap (λ c. followed c new.answers.shown.mirror) now.coming ∙ now.shown) here.1,
+      )
+
+  -- a mirror that shows the same at its own token alone is at a place of the log, too
+  alone_in_log : (bounds : Limits) (node : NodeState) → IsInLog limits log node → IsInLog limits log (restored_from bounds node.published).node
+  alone_in_log bounds node (None, is_place, is) = subst (λ n. IsInLog limits log (restored_from bounds n.published).node) (sym is) (None, tt, refl)
+  alone_in_log bounds node (Some p, is_place, is) =
+      let none : p.at - p.at ≡ 0 = omega arith in
+      let alone : Position = record { at = p.at; low = p.at } in
+      let there : IsInLog limits log (restored_from bounds (node_at log p).published).node = (
+        Some alone,
+        record { order = omega arith; kept = omega arith; in_log = is_place.in_log },
+        ap (λ n. record {
+          published = Some (record { tables = state_after log p.at; token = log.token p.at });
+          held = tokens_of log p.at (suc n);
+          kept = commits_after log p.at n;
+        }) (sym none),
+      ) in
+      subst (λ n. IsInLog limits log (restored_from bounds n.published).node) (sym is) there
+
+  restored_limits : (bounds : Limits) (published : Option Published) → (restored_from bounds published).limits ≡ bounds
+  restored_limits bounds None = refl
+  restored_limits bounds (Some p) = refl
+
+  pub with_alone : (exchanges : Exchanges) {contest : List ℕ} {hub : Hub} {conns : Slab Conn} {sockets : AllSockets} {old new : Source} (unread : List ℕ) → old.reach ≡ Reads → ShowsAlone old new
+      → (AreKnownHonest limits log servers exchanges → Shows limits log contest old.answers.shown.mirror old.answers.blank.mirror hub conns sockets
+      × MayFollow limits log servers old.reach old.request.items unread exchanges old.upstream.follower (followed_by old))
+      → AreKnownHonest limits log servers exchanges → Shows limits log contest new.answers.shown.mirror new.answers.blank.mirror hub conns sockets
+  with_alone exchanges {contest} {hub} {conns} {sockets} {old = old} {new = new} unread reads alone follows honest =
+      let here = follows honest in
+      let at = follows_in_log old.reach old.request.items unread exchanges old.upstream.follower (followed_by old) reads honest here.1 in
+      by at alone.shown here.0
+    where
+      by : (followed_by old).limits ≡ limits × IsInLog limits log (followed_by old).node
+          → (new.answers.shown.mirror ≡ old.answers.shown.mirror) ⊎ (new.answers.shown.mirror ≡ restored_from (followed_by old).limits (followed_by old).node.published)
+          → Shows limits log contest old.answers.shown.mirror old.answers.blank.mirror hub conns sockets
+          → Shows limits log contest new.answers.shown.mirror new.answers.blank.mirror hub conns sockets
+      by at (inl same) shows = shows_at limits log (ap (λ m. m.limits) same) (subst (λ m. IsInLog limits log m.node) (sym same) shows.shown_is) alone.blank shows
+      by at (inr is) shows =
+          shows_at limits log (ap (λ m. m.limits) is ∙ restored_limits _ (followed_by old).node.published ∙ at.0 ∙ sym shows.limits_are)
+          (subst (λ m. IsInLog limits log m.node) (sym is) (alone_in_log _ (followed_by old).node at.1)) alone.blank shows
 
   -- there is no connection: whatever is unread
   pub with_away : {X : Type 0} (exchanges : Exchanges) (reach : Reach) (request unread other : List ℕ) (follower : Option FollowerState) (mirror : MirrorState)

@@ -67,7 +67,7 @@ among_states limits log node (Some p, within, is) =
     let kept = within.kept in
     let low : p.at - (p.at - p.low) ≡ p.low = omega arith in
     let few : p.at - p.low ≤ limits.history = omega arith in
-    let there : Contains (states_of limits log) (node_at log (place_at p.at (p.at - (p.at - p.low)))) = among_rest _ _ _ (to_states limits.history log p.at (p.at - p.low) (length log) within.in_log few) in
+    let there : Contains (states_of limits log) (node_at log (place_at p.at (p.at - (p.at - p.low)))) = among_rest _ _ _ (to_states limits.history log p.at (p.at - p.low) (length log.commits) within.in_log few) in
     subst (λ n. Contains (states_of limits log) n) (sym is)
     (subst (λ l. Contains (states_of limits log) (node_at log (place_at p.at l))) low there)
 
@@ -105,13 +105,13 @@ in_states_to history log (suc last) node there = by (in_states_to history log la
     by rest (inl here) = in_states_at log (suc last) history node here
     by rest (inr before) = more (rest before)
 
-pub states_in_log : (limits : Limits) (log : Log) → AreInLog limits log (states_of limits log)
+pub states_in_log : (limits : Limits) (log : Log) → AreInLog log (states_of limits log)
 unfolding states_of
-states_in_log limits log node there = by (among_cases _ (states_to limits.history log (length log)) _ there)
+states_in_log limits log node there = (limits, by (among_cases _ (states_to limits.history log (length log.commits)) _ there))
   where
-    at : IsWithin limits.history log (length log) node → IsInLog limits log node
+    at : IsWithin limits.history log (length log.commits) node → IsInLog limits log node
     at w = (Some w.place, record { order = w.order; kept = w.kept; in_log = w.in_log }, w.shows)
 
-    by : (nothing_published ≡ node) ⊎ Contains (states_to limits.history log (length log)) node → IsInLog limits log node
+    by : (nothing_published ≡ node) ⊎ Contains (states_to limits.history log (length log.commits)) node → IsInLog limits log node
     by (inl is) = (None, tt, sym is)
-    by (inr later) = at (in_states_to limits.history log (length log) node later)
+    by (inr later) = at (in_states_to limits.history log (length log.commits) node later)

@@ -17,7 +17,7 @@ use Rattle.feed_live.specs.declared.source.Reach.TheVariants.{Away}
 use Rattle.feed_live.specs.declared.source.Source.{Source}
 use Rattle.feed_live.specs.declared.told.Telling.{Telling}
 use Rattle.feed_live.specs.declared.turn.Live.{Live}
-use Rattle.feed_live.specs.Relaying.{MayFollow, Shows, FollowsLog, IsRelaying, SameSource, OnlyServes}
+use Rattle.feed_live.specs.Relaying.{MayFollow, Shows, FollowsLog, IsRelaying, SameSource, OnlyServes, followed_by}
 use Rattle.feed_live.specs.Serving.{Serving, StillServing}
 use Rattle.feed_live.specs.States.{states_of}
 use Rattle.feed_live.specs.Taking.{IsTakingInput, ShowsInput, BeginsInput}
@@ -28,7 +28,7 @@ use Rattle.feed_live.proofs.RelayLemmas.{either, among_shown, among_blank, shows
 -- ---- only screens are served
 
 pub same_none : (source : Source) → SameSource source source
-same_none source = record { servers = refl; shown = refl; blank = refl; follower = refl; reach = refl; request = refl; rest = refl }
+same_none source = record { servers = refl; shown = refl; blank = refl; coming = refl; follower = refl; reach = refl; request = refl; rest = refl }
 
 pub same_then : {a b c : Source} → SameSource b c → SameSource a b → SameSource a c
 same_then two one =
@@ -36,6 +36,7 @@ same_then two one =
       servers = two.servers ∙ one.servers;
       shown = two.shown ∙ one.shown;
       blank = two.blank ∙ one.blank;
+      coming = two.coming ∙ one.coming;
       follower = two.follower ∙ one.follower;
       reach = two.reach ∙ one.reach;
       request = two.request ∙ one.request;
@@ -104,7 +105,7 @@ module _ (limits : Limits) (log : Log) (servers : Servers) where
       → source.answers.shown.mirror ≡ mirror → source.answers.blank.mirror ≡ blank → source.upstream.follower ≡ None → source.reach ≡ Away
       → mirror.limits ≡ limits → IsInLog limits log mirror.node → IsInLog limits log blank.node → Serving (states_of limits log) contest hub conns sockets
       → AreKnownHonest limits log servers exchanges → Shows limits log contest source.answers.shown.mirror source.answers.blank.mirror hub conns sockets
-      × MayFollow limits log servers source.reach source.request.items source.rest.items exchanges source.upstream.follower source.answers.shown.mirror
+      × MayFollow limits log servers source.reach source.request.items source.rest.items exchanges source.upstream.follower (followed_by source)
   with_begun exchanges source mirror blank shown blank_is follower away bounds at blank_at serving honest = (
     record {
       limits_are = ap (λ m. m.limits) shown ∙ bounds;
@@ -112,7 +113,7 @@ module _ (limits : Limits) (log : Log) (servers : Servers) where
       blank_is = subst (λ m. IsInLog limits log m.node) (sym blank_is) blank_at;
       serving = serving;
     },
-    subst (λ f. MayFollow limits log servers source.reach source.request.items source.rest.items exchanges f source.answers.shown.mirror) (sym follower) away,
+    subst (λ f. MayFollow limits log servers source.reach source.request.items source.rest.items exchanges f (followed_by source)) (sym follower) away,
   )
 
   -- a whole turn

@@ -1,10 +1,10 @@
 -- What the sockets of screens were written, and what mirrors make of that.
-use Rattle.std.specs.Prelude.{◌≡◌, ℕ, ◌≤◌, Bool, false, List, ◌++◌, length, Option, Some, string_bytes}
+use Rattle.std.specs.Prelude.{◌≡◌, ℕ, ◌≤◌, Bool, true, false, List, ◌++◌, length, Option, Some, string_bytes}
 use Rattle.slab.specs.Slab.{Slab}
 use Rattle.feed_settings.specs.Limits.{Limits}
-use Rattle.feed_node.specs.Log.{token_after}
-use Rattle.feed_node.specs.Mirroring.{MirrorState, present_opening}
-use Rattle.feed_node.specs.States.{NodeState}
+use Rattle.feed_note.specs.declared.line.Line.{Line}
+use Rattle.feed_node.specs.Mirroring.{MirrorState, StandsAt, new_mirror, first_opening, cut_off, present_opening}
+use Rattle.feed_node.specs.States.{NodeState, holds_token}
 use Rattle.feed_answer.specs.Answered.{AnswerParts}
 use Rattle.feed_answer.specs.Asked.{Asks, feed}
 use Rattle.feed_answer.specs.FrameLaws.{joined}
@@ -15,6 +15,8 @@ use Rattle.feed_world.specs.Reading.{opening_at}
 use Rattle.feed_hub.specs.declared.hub.Hub.{Hub}
 use Rattle.feed_hub.specs.Follows.{HasAskedSo, FollowsInLog}
 use Rattle.feed_hub.specs.Laws.{IsInLog, AreInLog, ShowsState}
+use Rattle.feed_hub.specs.declared.record.Record.{Record}
+use Rattle.feed_hub.specs.Record.{IsRecorded}
 use Rattle.feed_hub.specs.Told.{Told}
 use Rattle.feed_device.specs.Links.{Exchange, Exchanges}
 use Rattle.feed_live.specs.declared.conn.Conn.{Conn}
@@ -40,7 +42,7 @@ abbrev pub HandedIsFollowed : Type 0
 HandedIsFollowed =
     (limits : Limits) (log : Log) (nodes : List NodeState) (contest handed : List ℕ)
     (begun : MirrorState) (was : WasServed nodes contest handed)
-    → IsLog limits log → AreInLog limits log nodes
+    → IsLog limits log → AreInLog log nodes
     → HasAskedSo limits log was.given.head contest begun
     → FollowsInLog limits log was.answer begun handed
 
@@ -51,7 +53,7 @@ HandedIsFollowed =
 pub record ShowsTheLog (limits : Limits) (log : Log) (live : Live) (sockets : AllSockets)
     : Type 0 where
   pub shown : IsInLog limits log live.source.answers.shown.mirror.node
-  pub states : AreInLog limits log (states_of limits log)
+  pub states : AreInLog log (states_of limits log)
   pub written : (at : ℕ) (bytes : List ℕ) → sockets at ≡ Some (Opened bytes)
       → IsFaithful (states_of limits log) (string_bytes live.contest) bytes
 
@@ -105,9 +107,31 @@ SentIsHonest =
     (limits : Limits) (log : Log) (nodes : List NodeState) (k : ℕ) (texts : List (List ℕ))
     (token : List ℕ) (place : Option Position) (fresh : Bool) (begun : MirrorState)
     (input behind : List ℕ)
-    → IsLog limits log → AreInLog limits log nodes → k ≤ length log
-    → Told nodes (token_after k) texts token → IsPlace limits log place
+    → IsLog limits log → AreInLog log nodes → k ≤ length log.commits
+    → Told nodes (log.token k) texts token → IsPlace limits log place
     → (fresh ≡ false → (own : Position) × (place ≡ Some own) × (own.low ≤ k) × (k ≤ own.at))
     → present_opening begun ≡ opening_at log place fresh
     → input ++ behind ≡ opened_text log fresh k ++ joined texts
     → IsHonestInput limits log begun input
+
+-- ---- state files
+
+-- A prefix of what a record was written to is an honest input to a mirror that has published nothing.
+abbrev pub FilesAreHonest : Type 0
+FilesAreHonest =
+    (limits : Limits) (log : Log) (nodes : List NodeState) (written text behind : List ℕ)
+    (r : Record) → IsLog limits log → AreInLog log nodes → IsRecorded nodes written r
+    → text ++ behind ≡ written → IsHonestInput limits log (new_mirror limits) text
+
+-- So it is to a mirror that was fed any prefix of a former file, and holds the token of the later
+-- one's snapshot.
+abbrev pub FilesGoOnHonestly : Type 0
+FilesGoOnHonestly =
+    (limits : Limits) (log : Log) (nodes : List NodeState) (written prefix behind : List ℕ)
+    (former : Record) (further text rest : List ℕ) (later : Record) (notes : List Line)
+    (mirror : MirrorState) → IsLog limits log → AreInLog log nodes
+    → IsRecorded nodes written former → prefix ++ behind ≡ written
+    → (recorded : IsRecorded nodes further later) → text ++ rest ≡ further
+    → mirror.limits ≡ limits → StandsAt first_opening prefix notes mirror
+    → holds_token mirror.node recorded.snapshot.token ≡ true
+    → IsHonestInput limits log (cut_off mirror) text

@@ -5,3 +5,4 @@ pub mod States
 pub mod Upstream
 pub mod Relaying
 pub mod Taking
+pub mod Telling

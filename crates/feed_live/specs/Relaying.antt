@@ -1,9 +1,10 @@
 -- THE PROMISE of a relay that follows servers: what it shows, and what each socket was handed, is of
 -- the primary's log, as long as the servers are honest.
-use Rattle.std.specs.Prelude.{◌≡◌, ℕ, false, List, [], ◌∷◌, ◌++◌, take, Option, Some, None, Contains, string_bytes}
+use Rattle.std.specs.Prelude.{◌≡◌, ◌⊎◌, ℕ, false, List, [], ◌∷◌, ◌++◌, take, Option, Some, None, Contains, string_bytes}
 use Rattle.slab.specs.Slab.{Slab}
 use Rattle.feed_settings.specs.Limits.{Limits}
 use Rattle.feed_node.specs.Mirroring.{MirrorState}
+use Rattle.feed_node.specs.Saved.{restored_from}
 use Rattle.feed_node.specs.States.{NodeState}
 use Rattle.feed_follow.specs.Follower.{FollowerState, FollowsAt}
 use Rattle.feed_follow.specs.Standing.{Standing}
@@ -67,6 +68,14 @@ pub record Shows (limits : Limits) (log : Log) (contest : List ℕ) (shown blank
 abbrev pub servers_of : Source → Servers
 servers_of source = record { places = source.places.items; identity = source.identity }
 
+-- the mirror that follows: one that began afresh, and nobody is shown yet, or the one that is shown
+abbrev pub followed : Option MirrorState → MirrorState → MirrorState
+followed None shown = shown
+followed (Some coming) shown = coming
+
+abbrev pub followed_by : Source → MirrorState
+followed_by source = followed source.coming source.answers.shown.mirror
+
 -- A relay of this contest asks these servers. It shows the log where all of them were honest so
 -- far, and follows one as it should, of whose response this is unread.
 abbrev pub FollowsLog : Limits → Log → Servers → List ℕ → Exchanges → Source → List ℕ → Screens
@@ -77,7 +86,7 @@ FollowsLog limits log servers contest exchanges source unread screens sockets =
     → Shows limits log contest source.answers.shown.mirror source.answers.blank.mirror screens.hub
     screens.conns sockets
     × MayFollow limits log servers source.reach source.request.items unread exchanges
-    source.upstream.follower source.answers.shown.mirror)
+    source.upstream.follower (followed_by source))
 
 -- THE PROMISE: so it is with a relay whose feed is not its input
 abbrev pub IsRelaying : Limits → Log → Servers → Exchanges → Live → AllSockets → Type 0
@@ -96,6 +105,16 @@ StillFollows old new before after unread left screens later =
     → FollowsLog limits log servers contest before old unread screens sockets
     → FollowsLog limits log servers contest after new left later sockets
 
+-- What it shows is still of the log. It is to leave the server that it follows.
+abbrev pub StillShows : Source → Source → Exchanges → List ℕ → Screens → Screens → Type 0
+StillShows old new exchanges unread screens later =
+    (limits : Limits) (log : Log) (servers : Servers) (contest : List ℕ) (sockets : AllSockets)
+    → FollowsLog limits log servers contest exchanges old unread screens sockets
+    → (servers_of new ≡ servers)
+    × (AreKnownHonest limits log servers exchanges
+    → Shows limits log contest new.answers.shown.mirror new.answers.blank.mirror later.hub
+    later.conns sockets)
+
 abbrev pub StillRelaying : Live → Live → Exchanges → Exchanges → AllSockets → AllSockets → Type 0
 StillRelaying old new before after sockets later =
     (limits : Limits) (log : Log) (servers : Servers)
@@ -113,6 +132,7 @@ pub record SameSource (old new : Source) : Type 0 where
   pub servers : servers_of new ≡ servers_of old
   pub shown : new.answers.shown.mirror ≡ old.answers.shown.mirror
   pub blank : new.answers.blank.mirror ≡ old.answers.blank.mirror
+  pub coming : new.coming ≡ old.coming
   pub follower : new.upstream.follower ≡ old.upstream.follower
   pub reach : new.reach ≡ old.reach
   pub request : new.request.items ≡ old.request.items
@@ -122,6 +142,7 @@ pub record SameSource (old new : Source) : Type 0 where
 pub record IsKeeping (old new : Source) : Type 0 where
   pub servers : servers_of new ≡ servers_of old
   pub answers : new.answers ≡ old.answers
+  pub coming : new.coming ≡ old.coming
   pub upstream : new.upstream ≡ old.upstream
   pub reach : new.reach ≡ old.reach
   pub request : new.request ≡ old.request
@@ -134,6 +155,40 @@ pub record IsLeft (old new : Source) (before after : Exchanges) : Type 0 where
   pub follower : new.upstream.follower ≡ None
   pub limits : new.answers.shown.mirror.limits ≡ old.answers.shown.mirror.limits
   pub node : new.answers.shown.mirror.node ≡ old.answers.shown.mirror.node
+  pub blank : new.answers.blank.mirror ≡ old.answers.blank.mirror
+
+-- where one began afresh, what is shown is the same; else that is what follows
+abbrev pub KeepsShown : Option MirrorState → Option MirrorState → MirrorState → MirrorState → Type 0
+KeepsShown None now old new = now ≡ None
+KeepsShown (Some coming) now old new = new ≡ old
+
+-- the mirror that follows took bytes, and nothing else changed
+pub record PushesOnly (old new : Source) : Type 0 where
+  pub servers : servers_of new ≡ servers_of old
+  pub limits : (followed_by new).limits ≡ (followed_by old).limits
+  pub shown : KeepsShown old.coming new.coming old.answers.shown.mirror new.answers.shown.mirror
+  pub blank : new.answers.blank.mirror ≡ old.answers.blank.mirror
+  pub reach : new.reach ≡ old.reach
+  pub request : new.request.items ≡ old.request.items
+  pub rest : new.rest.items ≡ old.rest.items
+
+-- the mirror that follows is shown from here on
+pub record IsNowShown (old new : Source) : Type 0 where
+  pub servers : servers_of new ≡ servers_of old
+  pub shown : new.answers.shown.mirror ≡ followed_by old
+  pub coming : new.coming ≡ None
+  pub blank : new.answers.blank.mirror ≡ old.answers.blank.mirror
+  pub follower : new.upstream.follower ≡ old.upstream.follower
+  pub reach : new.reach ≡ old.reach
+  pub request : new.request.items ≡ old.request.items
+  pub rest : new.rest.items ≡ old.rest.items
+
+-- what is shown is the same, or what follows, at its own token alone
+pub record ShowsAlone (old new : Source) : Type 0 where
+  pub servers : servers_of new ≡ servers_of old
+  pub shown : (new.answers.shown.mirror ≡ old.answers.shown.mirror)
+      ⊎ (new.answers.shown.mirror
+      ≡ restored_from (followed_by old).limits (followed_by old).node.published)
   pub blank : new.answers.blank.mirror ≡ old.answers.blank.mirror
 
 -- Only screens were served, from what the relay shows or from what shows nothing. All else is as it

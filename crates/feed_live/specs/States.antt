@@ -18,4 +18,4 @@ states_to history log (suc at) = states_at log (suc at) history ++ states_to his
 
 -- nothing, and each state of the log, with each number of commits that may be kept
 unfoldable pub states_of : Limits → Log → List NodeState
-states_of limits log = nothing_published ∷ states_to limits.history log (length log)
+states_of limits log = nothing_published ∷ states_to limits.history log (length log.commits)

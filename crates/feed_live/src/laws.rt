@@ -1,10 +1,14 @@
 //! Laws of the definitions.
 
 ghost use Rattle.feed_live.specs.Laws.{SocketsAreFaithful, HandedIsFollowed, RelaysShowTheLog, FollowedIsHonest};
-ghost use Rattle.feed_live.specs.Laws.{InputShowsTheLog, ShownIsHonest, SentIsHonest};
+ghost use Rattle.feed_live.specs.Laws.{InputShowsTheLog, ShownIsHonest, SentIsHonest, FilesAreHonest, FilesGoOnHonestly};
+ghost use Rattle.feed_live.specs.Telling.{MeaningTells, ToldIsHonest, TellingIsHonest, FeedIsHonest, TokenedIsHonest};
 
+use feed_follow::carry_laws;
 use feed_hub::hub_laws;
 use feed_node::reading_laws;
+use feed_note::{line_laws, written_lines_law};
+use feed_world::telling_laws;
 
 /// What was written to a socket is a prefix of what is due to it, and what a screen was handed
 /// leaves a mirror that reads any prefix of it at a place of the log. So it is of a relay whose
@@ -18,7 +22,25 @@ pub fn live_laws()
     ensures takes { InputShowsTheLog }
     ensures input { ShownIsHonest }
     ensures sent { SentIsHonest }
+    ensures files { FilesAreHonest }
+    ensures files_go_on { FilesGoOnHonestly }
 {
     reading_laws();
     hub_laws();
+}
+
+/// What a server of other make sends is honest where its lines, whatever else stands in them, tell a
+/// log whose states have any tokens, each its own. So is a feed of written lines, each with a token
+/// that no other has.
+pub fn foreign_laws()
+    ensures meaning { MeaningTells }
+    ensures input { ToldIsHonest }
+    ensures honest { TellingIsHonest }
+    ensures feeds { FeedIsHonest }
+    ensures tokened { TokenedIsHonest }
+{
+    carry_laws();
+    line_laws();
+    written_lines_law();
+    telling_laws();
 }

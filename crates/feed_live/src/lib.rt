@@ -25,7 +25,7 @@ mod turn;
 
 pub use feed_device::{Before, Devices, How, Link, Ready, Sockets, Stop, Store, Told, Why};
 pub use figures::{FeedFigures, Following, ScreenFigures, ScreenTotals};
-pub use laws::live_laws;
+pub use laws::{foreign_laws, live_laws};
 pub use options::{LiveLimits, Start};
 pub use saved::{Restored, restore};
 pub use turn::{Input, Live, Turn};

@@ -15,6 +15,11 @@ pub struct LiveLimits {
     /// twice that is left.
     pub idle: u64,
     pub framing: Framing,
+    /// For how many milliseconds nothing more has come of a feed that was asked for from the start
+    /// before it is shown; zero where each of its states is shown as it comes.
+    pub settle: u64,
+    /// Whether each connection asks for everything.
+    pub is_fresh: bool,
     /// Whether each screen is told of.
     pub is_verbose: bool,
     /// Whether there is a file that the state is kept in.

@@ -1,7 +1,8 @@
 //! What the node has more is said to all screens.
 
-ghost use Rattle.std.specs.Prelude.{◌≡◌, ℕ, List, Contains};
+ghost use Rattle.std.specs.Prelude.{◌≡◌, ℕ, List, Contains, true};
 ghost use Rattle.feed_node.specs.States.{NodeState};
+ghost use Rattle.feed_hub.specs.Seats.{KeepsThose, IsOnTime};
 ghost use Rattle.feed_device.specs.Sockets.{AllSockets};
 ghost use Rattle.feed_live.specs.Serving.{StillServing, SameSeating};
 
@@ -80,7 +81,9 @@ impl Screens {
     }
 
     /// When there is something to do of which no event will tell.
-    pub(crate) fn due(&self, now: u64) -> u64 {
+    pub(crate) fn due(&self, now: u64) -> u64
+        ensures { self.now.has_more ≡ true → result ≡ now }
+    {
         if self.has_more || self.says_now(now) {
             return now;
         }
@@ -131,6 +134,7 @@ impl Screens {
     fn trim(&mut self)
         ensures serving { (nodes : List NodeState) (contest : List ℕ) (sockets : AllSockets)
             → StillServing nodes contest self.old self.new sockets sockets }
+        ensures once { self.old.saying.is_trimmed ≡ true → self.new ≡ self.old }
     {
         if !self.saying.is_trimmed {
             self.hub.trim();
@@ -263,6 +267,8 @@ impl Screens {
     pub(crate) fn cut_late(&mut self, now: u64)
         ensures serving { (nodes : List NodeState) (contest : List ℕ) (sockets : AllSockets)
             → StillServing nodes contest self.old self.new sockets sockets }
+        ensures cuts { KeepsThose (IsOnTime now 60000) self.old.hub.seats.slab
+            self.new.hub.seats.slab }
     {
         self.hub.cut_late(now, STALL);
     }

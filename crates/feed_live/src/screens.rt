@@ -132,6 +132,7 @@ impl Screens {
         ensures serving { (nodes : List NodeState) (contest : List ℕ) (sockets : AllSockets)
             → ((at : ℕ) → IsSocket (sockets at) Closed)
             → Serving nodes contest result.hub result.conns sockets }
+        ensures most { result.hub.most ≡ limits.screens }
     {
         Screens {
             hub: Hub::new(alloc, limits.framing, limits.window, limits.screens),

@@ -5,14 +5,18 @@ ghost use Rattle.feed_node.specs.States.{published_token};
 
 mod input;
 mod reading;
+mod settling;
 
 use crate::figures::{FeedFigures, Following};
+use crate::options::LiveLimits;
 use crate::screens::{Answers, Screens};
+use crate::source::settling::{Settling, followed_of};
 use crate::told::Telling;
-use feed_answer::{Framing, Identity, Place, request_text_as};
+use feed_answer::{Identity, Place, request_text_as};
 use feed_device::{Link, Stop, Told, Why};
 use feed_hub::{Answering, Upstream};
 use feed_node::{Mirror, Node};
+use feed_tables::Name;
 use std::alloc::{AllocError, Global};
 
 /// How long a server may take to take a connection, in milliseconds.
@@ -40,6 +44,11 @@ pub(crate) struct Source {
     identity: Identity,
     upstream: Upstream,
     pub(crate) answers: Answers,
+    /// What follows a connection that asked for everything, until that has settled: it is not shown.
+    coming: Option<Mirror>,
+    settling: Settling,
+    /// The last token of what came afresh when the connection ended before it had settled.
+    ended: Option<Name>,
     reach: Reach,
     request: Vec<u8>,
     /// Since when a response has a good head; and whether that was told.
@@ -70,7 +79,7 @@ impl Source {
         identity: Identity,
         mirror: Mirror,
         blank: Mirror,
-        framing: Framing,
+        limits: LiveLimits,
         now: u64,
     ) -> Source
         ensures shown { result.answers.shown.mirror ≡ mirror }
@@ -88,9 +97,12 @@ impl Source {
             places,
             identity,
             answers: Answers {
-                shown: Answering::new(mirror, framing),
-                blank: Answering::new(blank, framing),
+                shown: Answering::new(mirror, limits.framing),
+                blank: Answering::new(blank, limits.framing),
             },
+            coming: None,
+            settling: Settling::new(limits.settle, limits.is_fresh),
+            ended: None,
             reach: Reach::Away,
             request: Vec::new(alloc),
             body_since: None,
@@ -147,6 +159,10 @@ impl Source {
         let due = match self.reach {
             Reach::Connects(since) => due.min(since.saturating_add(CONNECT_TIME)),
             _ => due,
+        };
+        let due = match self.settles_at() {
+            Some(at) => due.min(at),
+            None => due,
         };
         match self.heard_at() {
             Some(at) => due.min(at),
@@ -208,7 +224,14 @@ impl Source {
             (L.exchanges link.old) (L.exchanges link.new) self.old.rest.items
             self.new.rest.items screens screens }
     {
-        let request = match self.request(alloc) {
+        let coming = match self.begin_afresh(alloc) {
+            Ok(coming) => coming,
+            Err(_) => {
+                self.lost(link, told, Why::Memory, now);
+                return;
+            }
+        };
+        let request = match self.request(alloc, followed_of(&coming, self.answers.shown.mirror())) {
             Ok(Some(request)) => request,
             Ok(None) => return,
             Err(_) => {
@@ -223,20 +246,23 @@ impl Source {
         self.request = request;
         // What is unread of the last connection is forgotten.
         self.rest.clear();
-        self.is_fresh = self.answers.shown.mirror().since().is_none();
-        self.upstream.opened(self.answers.shown.mirror(), now);
+        let followed = followed_of(&coming, self.answers.shown.mirror());
+        self.is_fresh = followed.since().is_none();
+        self.upstream.opened(followed, now);
+        self.coming = coming;
+        self.settling.begin(now);
         self.figures.ask(self.upstream.place(), now);
         self.reach = Reach::Connects(now);
     }
 
-    /// The text that asks the next place for what the mirror lacks; none where there is no place.
-    fn request(&self, alloc: Global) -> Result<Option<Vec<u8>>, AllocError>
+    /// The text that asks the next place for what a mirror lacks; none where there is no place.
+    fn request(&self, alloc: Global, mirror: &Mirror) -> Result<Option<Vec<u8>>, AllocError>
         ensures asks { IfOk result (λ made. IfSome made (λ text. IsRequestOf (servers_of self.now)
-            self.now.upstream.place self.now.answers.shown.mirror text.items)) }
-        ensures since { IfSome self.now.answers.shown.mirror.since (λ token.
-            published_token self.now.answers.shown.mirror.node ≡ Some token) }
+            self.now.upstream.place mirror.now text.items)) }
+        ensures since { IfSome mirror.now.since (λ token.
+            published_token mirror.now.node ≡ Some token) }
     {
-        let since = self.answers.shown.mirror().since();
+        let since = mirror.since();
         let Some(place) = self.places.get(self.upstream.place()) else {
             return Ok(None);
         };
@@ -278,6 +304,8 @@ impl Source {
             self.away_since = now;
         }
         self.reach = Reach::Away;
+        // What had not settled is dropped.
+        self.coming = None;
         self.body_since = None;
         self.has_more = false;
     }

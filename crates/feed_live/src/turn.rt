@@ -1,6 +1,6 @@
 //! The turn.
 
-ghost use Rattle.std.specs.Prelude.{◌≡◌, ◌≢◌, [], ℕ, false, true};
+ghost use Rattle.std.specs.Prelude.{◌≡◌, ◌≢◌, ◌≤◌, [], ℕ, false, true};
 ghost use Rattle.feed_settings.specs.Limits.{Limits};
 ghost use Rattle.feed_node.specs.States.{NodeState};
 ghost use Rattle.feed_world.specs.Log.{Log};
@@ -96,6 +96,7 @@ impl Live {
             → IsInLog limits log start.restored.mirror.node → IsInLog limits log start.blank.node
             → ((at : ℕ) → IsSocket (sockets at) Closed)
             → IsTakingInput limits log start.restored.mirror [] result sockets }
+        ensures contest { result.contest ≡ contest }
     {
         let Start {
             places,
@@ -110,7 +111,7 @@ impl Live {
             None
         };
         let feeds = are_none(&places);
-        let mut source = Source::new(alloc, places, identity, mirror, blank, limits.framing, now);
+        let mut source = Source::new(alloc, places, identity, mirror, blank, limits, now);
         source.begin_input(feeds, now);
         // What is restored was said before: only what is published from here on is news.
         let mut screens = Screens::new(alloc, limits);
@@ -170,6 +171,9 @@ impl Live {
         // so it is where the input is the feed, and these bytes of it came
         ensures taking { StillTaking self.old self.new (bytes_in input.entry)
             (S.socket devices.old.sockets) (S.socket devices.new.sockets) }
+
+        // where some screen has more to read or to write, the next turn is due at once
+        ensures wakes { self.new.screens.has_more ≡ true → result.due ≤ now }
     {
         let had_more = self.screens.begin_turn();
         self.note(events);
@@ -280,6 +284,7 @@ impl Live {
         self.source
             .tick(alloc, link, &mut self.telling, self.limits.idle, now);
         self.go_on(alloc, link, now);
+        self.settle(alloc, link, now);
         if was_held && self.source.is_heard() {
             self.screens.has_more = true;
         }
@@ -294,6 +299,15 @@ impl Live {
             self.source
                 .go_on(alloc, link, &mut self.telling, &mut self.screens, now);
         }
+    }
+
+    /// Shows what came afresh, where that has settled.
+    fn settle<L: Link>(&mut self, alloc: Global, link: &mut L, now: u64)
+        ensures relaying { (sockets : AllSockets) → StillRelaying self.old self.new
+            (L.exchanges link.old) (L.exchanges link.new) sockets sockets }
+    {
+        self.source
+            .settle_due(alloc, link, &mut self.telling, &mut self.screens, now);
     }
 
     /// Writes a slice of the state file.
@@ -410,6 +424,7 @@ impl Live {
 
     /// What comes next.
     fn next(&mut self, now: u64) -> Turn
+        ensures wakes { self.new.screens.has_more ≡ true → result.due ≤ now }
         ensures serves { (sockets : AllSockets) → OnlyServes self.old self.new sockets sockets }
     {
         self.report(now);
@@ -440,7 +455,9 @@ impl Live {
     }
 
     /// When the next turn is due at the latest.
-    fn due(&self, now: u64) -> u64 {
+    fn due(&self, now: u64) -> u64
+        ensures { self.now.screens.has_more ≡ true → result ≤ now }
+    {
         let mut due = self.reported.saturating_add(REPORT);
         if !self.screens.conns.is_empty() {
             due = due

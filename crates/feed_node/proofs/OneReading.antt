@@ -35,7 +35,7 @@ module _ (only : OnlyOne) (limits : Limits) (opening : Opening) where
       let both : Some fault ≡ None = sym f ∙ none in
       absurd (cc)
 
-  none_bad : (earlier : List Line) (xs : List (List ℕ)) (x : List ℕ) (later : List (List ℕ))
+  pub none_bad : (earlier : List Line) (xs : List (List ℕ)) (x : List ℕ) (later : List (List ℕ))
       (notes others : List Line) (fault : FeedFault)
       → AllGoodAfter limits opening earlier (xs ++ x ∷ later) notes
       → AllGoodAfter limits opening earlier xs others

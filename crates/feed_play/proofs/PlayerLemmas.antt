@@ -8,7 +8,7 @@ use Rattle.feed_settings.specs.Limits.{Limits}
 use Rattle.feed_tables.specs.declared.change.Change.{Change}
 use Rattle.feed_note.specs.Lines.{lines as lines_of}
 use Rattle.feed_node.specs.States.{NodeState, published_token}
-use Rattle.feed_world.specs.Log.{Log}
+use Rattle.feed_world.specs.Log.{Log, numbered}
 use Rattle.feed_world.specs.Position.{node_where}
 use Rattle.feed_world.specs.States.{FollowerState, WorldState, IsWorld, AreMirrors, shown_at}
 use Rattle.feed_world.specs.World.{Mirror, World, node_of}
@@ -57,11 +57,11 @@ module _ (w : World) (state : WorldState) (stands : IsWorld w state) where
       node_or : Option NodeState → NodeState
       node_or None = state.primary.node
       node_or (Some n) = n
-  shown_where (suc i) node e = let (less, same) = shows_place w.limits w.log w.mirrors state.followers stands.nodes.mirrors i node e in (omega arith, same)
+  shown_where (suc i) node e = let (less, same) = shows_place w.limits (numbered w.log) w.mirrors state.followers stands.nodes.mirrors i node e in (omega arith, same)
 
   shown_nowhere : (i : ℕ) → shown_at state i ≡ None → length w.mirrors < i
   shown_nowhere zero e = absurd (cc)
-  shown_nowhere (suc i) e = let less = shows_none w.limits w.log w.mirrors state.followers stands.nodes.mirrors i e in omega arith
+  shown_nowhere (suc i) e = let less = shows_none w.limits (numbered w.log) w.mirrors state.followers stands.nodes.mirrors i e in omega arith
 
   -- the token that a node of the world in memory has published
   pub token_of_node : (i : ℕ) (node : NodeState) → shown_at state i ≡ Some node → published_token node ≡ token_at w (Some i)
@@ -71,7 +71,7 @@ module _ (w : World) (state : WorldState) (stands : IsWorld w state) where
   token_of_none zero e = absurd (cc)
   token_of_none (suc i) e =
       let past = slice_get_past w.mirrors i (let less = shown_nowhere (suc i) e in omega arith) in
-      ap (λ m. published_token (node_where w.log (option_and_then (λ m. m.place) m))) (sym past)
+      ap (λ m. published_token (node_where (numbered w.log) (option_and_then (λ m. m.place) m))) (sym past)
 
 -- ---- a further line
 

@@ -51,6 +51,14 @@ pub(crate) fn text_of(
             let name = name_of(alloc, servers, server)?;
             format!(in alloc; "upstream {name}: doesn't hold our token")
         }
+        Told::Differs { server } => {
+            let name = name_of(alloc, servers, server)?;
+            format!(in alloc; "upstream {name}: has another state at our token")
+        }
+        Told::Settled { server, time } => {
+            let name = name_of(alloc, servers, server)?;
+            format!(in alloc; "upstream {name}: all of it came, in {time} ms")
+        }
         _ => text_of_rest(alloc, told),
     }
 }

@@ -14,7 +14,7 @@ mod tables;
 mod tree;
 
 pub use change::{Change, Changes};
-pub use laws::table_laws;
+pub use laws::{table_laws, touched_law};
 pub use lister::Lister;
 pub use name::{NAME_BYTES, Name, NameFault};
 pub use numbers::{Numbers, Slot};

@@ -5,7 +5,7 @@ use Rattle.clap.specs.Words.{App, Row, Rule, new_app, with_rule}
 use Rattle.feed_words.specs.Addresses.{most_port}
 use Rattle.feed_words.specs.Options as options
 use Rattle.feed_words.specs.Options.{flag, number_in, text_option, with_default, with_limits, text_at}
-use Rattle.feed_words.specs.Options.{IsNumber, IsNumberIfGiven, IsGiven, IsFramed, AsksLimits}
+use Rattle.feed_words.specs.Options.{IsNumber, IsNumberUpTo, IsNumberIfGiven, IsGiven, IsFramed, AsksLimits}
 use Rattle.feed_words.specs.declared.request.LiveOptions.{LiveOptions}
 use Rattle.feed_words.specs.declared.request.UpstreamOptions.{UpstreamOptions}
 use Rattle.feed_words.specs.declared.request.Verbosity.{Verbosity}
@@ -20,6 +20,10 @@ most_idle = 3600
 
 abbrev pub most_window : ℕ
 most_window = 1073741824
+
+-- the most milliseconds that a feed which was asked for from the start may be quiet before it is shown
+abbrev pub most_settle : ℕ
+most_settle = 60000
 
 -- ---- the command
 
@@ -75,6 +79,12 @@ window = with_default (codes "1048576") (number_in (codes "window") most_window)
 abbrev pub state : Rule
 state = text_option (codes "state")
 
+abbrev pub settle : Rule
+settle = with_default (codes "2000") (options.number_between (codes "settle") 0 most_settle)
+
+abbrev pub fresh : Rule
+fresh = flag (codes "fresh")
+
 abbrev pub until_eof : Rule
 until_eof = flag (codes "until-eof")
 
@@ -97,9 +107,13 @@ abbrev pub with_feed : App → App
 with_feed command =
     with_rule (with_rule (with_server (with_rule command options.contest)) base) from
 
+-- a command with the options that say how a feed is asked for, and when it is shown
+abbrev pub with_settling : App → App
+with_settling command = with_rule (with_rule command settle) fresh
+
 -- a command with the options that say what is followed, as whom, and until when
 abbrev pub with_upstream : App → App
-with_upstream command = with_rule (with_identity (with_feed command)) until_eof
+with_upstream command = with_rule (with_settling (with_identity (with_feed command))) until_eof
 
 -- a command with the options that say to whom it is served
 abbrev pub with_listener : App → App
@@ -174,6 +188,8 @@ pub record AsksLive (rows : List Row) (options : LiveOptions) : Type 0 where
   pub framing_is : IsFramed rows options.framing
   pub state_is : text_at (codes "state") rows ≡ option_map (λ text. text.now) options.state
   pub is_some_use : (is_some options.listen ≡ true) ⊎ (is_some options.state ≡ true)
+  pub settle_is : IsNumberUpTo (codes "settle") most_settle rows options.settle
+  pub fresh_is : IsGiven (codes "fresh") rows options.fresh
   pub until_eof_is : IsGiven (codes "until-eof") rows options.until_eof
   pub verbose_is : IsGiven (codes "verbose") rows (is_verbose options.verbosity)
   pub quiet_is : IsGiven (codes "quiet") rows (is_quiet options.verbosity)

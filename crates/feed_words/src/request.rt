@@ -136,6 +136,11 @@ pub struct LiveOptions<'a> {
     pub framing: Framing,
     /// The name of the file that keeps what was published. Any text will do.
     pub state: Option<&'a str>,
+    /// For how many milliseconds nothing more has come of a feed that was asked for from the start
+    /// before it is shown, 0 to 60,000.
+    pub settle: u64,
+    /// Whether each connection asks for everything.
+    pub fresh: bool,
     /// Whether the command ends where standard input does.
     pub until_eof: bool,
     /// How much is reported.

@@ -5,6 +5,7 @@ use Rattle.std.proofs.lemmas.Option.{slice_get-get_or}
 use Rattle.std.specs.Prelude.{IsTrue, ◌⊎◌, ◌≢◌, ◌==◌, if◌then◌else◌}
 use Rattle.feed_node.specs.Log.{PrimaryState}
 use Rattle.feed_node.specs.States.{NodeState}
+use Rattle.feed_world.specs.Log.{numbered}
 use Rattle.feed_world.specs.declared.event.Asks.{Asks}
 use Rattle.feed_world.specs.declared.event.Asks.TheVariants.{ForConnection, ForCommit}
 use Rattle.feed_world.specs.declared.event.Event.TheVariants.{Connect}
@@ -92,8 +93,8 @@ module _ (w : World) (primary : PrimaryState) (fs : List FollowerState) (h : Are
     (f : FollowerState) (is : f ≡ get_or fs place d) (early later : List FollowerState)
     (size : length early ≡ place) (whole : early ++ f ∷ later ≡ fs) (asks : Asks)
     (j : ℕ) (asked : j ≡ node_asked asks f.upstream) (framed : IsFramedAs w.framing asks) where
-  mine : (m : Mirror) → IsMirror w.limits w.log m (get_or fs place d) → IsMirror w.limits w.log m f
-  mine m k = subst (IsMirror w.limits w.log m) (sym is) k
+  mine : (m : Mirror) → IsMirror w.limits (numbered w.log) m (get_or fs place d) → IsMirror w.limits (numbered w.log) m f
+  mine m k = subst (IsMirror w.limits (numbered w.log) m) (sym is) k
 
   -- the node that it asks, which is there
   module _ (node : NodeState) (there : slice_get (all_shown primary (early ++ f ∷ later)) j ≡ Some node) (differs : j ≢ suc (length early)) where
@@ -109,9 +110,9 @@ module _ (w : World) (primary : PrimaryState) (fs : List FollowerState) (h : Are
 
     -- what holds of each place of that node holds of the one in the world
     at_server : (P : Mirror → Option Position → Type 0)
-        → ((m : Mirror) (at : Option Position) → IsPlace w.limits w.log at
-        → node ≡ node_where w.log at → IsMirror w.limits w.log m f → P m at)
-        → (m : Mirror) → IsMirror w.limits w.log m (get_or fs place d) → P m (place_at w (node_asked asks m.upstream))
+        → ((m : Mirror) (at : Option Position) → IsPlace w.limits (numbered w.log) at
+        → node ≡ node_where (numbered w.log) at → IsMirror w.limits (numbered w.log) m f → P m at)
+        → (m : Mirror) → IsMirror w.limits (numbered w.log) m (get_or fs place d) → P m (place_at w (node_asked asks m.upstream))
     at_server P k m mirror =
         let i = mine m mirror in
         let s = subst (λ q. IsShown w q node) (asked ∙ ap (node_asked asks) i.upstream) shows in
@@ -119,41 +120,41 @@ module _ (w : World) (primary : PrimaryState) (fs : List FollowerState) (h : Are
 
     -- the mirror moved, or following a refusal broke off
     moves_on : (g : FollowerState) (reply : Reply) (a : Asks) → AsksOther w number a → IsFramedAs w.framing a
-        → Moves w.limits w.log (act w a (at w primary fs h number place same d less).0) reply g
+        → Moves w.limits (numbered w.log) (act w a (at w primary fs h number place same d less).0) reply g
         → NodesMove w primary (event_asking a number) reply (slice_set fs place g)
     moves_on g reply a o e moves =
         event_moves w primary (event_asking a number) reply _ (subst (λ q. LeadsTo w q primary reply (slice_set fs place g)) (is_event w number a o e)
         (leads w primary fs h number place same d less (act w a) (subst (λ i. Keeps w i (act w a)) same (keeps w number a o e)) reply g moves))
 
     one_reply : (g : FollowerState) (reply : Reply) (a : Asks) → AsksOther w number a → IsFramedAs w.framing a
-        → IsAsked w.limits w.log a (at w primary fs h number place same d less).0 number (place_at w (node_asked a (at w primary fs h number place same d less).0.upstream)) reply g
+        → IsAsked w.limits (numbered w.log) a (at w primary fs h number place same d less).0 number (place_at w (node_asked a (at w primary fs h number place same d less).0.upstream)) reply g
         → NodesMove w primary (event_asking a number) reply (slice_set fs place g)
     one_reply g reply (ForConnection j back framing) o e (inl moves) = moves_on g reply (ForConnection j back framing) o e moves
     one_reply g reply (ForConnection j back framing) o e (inr broke) =
         refusal_broke w primary fs h number place same d less j back reply g o broke.0
-        (subst (λ q. BreaksConnect w.limits w.log q (at w primary fs h number place same d less).0 j back (place_at w j) g) e broke.1)
+        (subst (λ q. BreaksConnect w.limits (numbered w.log) q (at w primary fs h number place same d less).0 j back (place_at w j) g) e broke.1)
     one_reply g reply ForCommit o e moves = moves_on g reply ForCommit o e moves
 
     pub asked_leads : (new : List FollowerState) (g : FollowerState) → new ≡ slice_set fs place g
         → (r : Result Reply WorldFault)
-        → ((m : Mirror) (at : Option Position) → IsPlace w.limits w.log at
-        → node ≡ node_where w.log at → IsMirror w.limits w.log m f
-        → IfOk r (λ reply. IsAsked w.limits w.log asks m number at reply g))
+        → ((m : Mirror) (at : Option Position) → IsPlace w.limits (numbered w.log) at
+        → node ≡ node_where (numbered w.log) at → IsMirror w.limits (numbered w.log) m f
+        → IfOk r (λ reply. IsAsked w.limits (numbered w.log) asks m number at reply g))
         → IfOk r (λ reply. NodesMove w primary (event_asking asks number) reply new)
     asked_leads new g n r k =
         subst (λ l. IfOk r (λ reply. NodesMove w primary (event_asking asks number) reply l)) (sym n)
-        (each r (at_server (λ m at. IfOk r (λ reply. IsAsked w.limits w.log asks m number at reply g)) k
+        (each r (at_server (λ m at. IfOk r (λ reply. IsAsked w.limits (numbered w.log) asks m number at reply g)) k
         (at w primary fs h number place same d less).0 (at w primary fs h number place same d less).2))
       where
         each : (r : Result Reply WorldFault)
-            → IfOk r (λ reply. IsAsked w.limits w.log asks (at w primary fs h number place same d less).0 number (place_at w (node_asked asks (at w primary fs h number place same d less).0.upstream)) reply g)
+            → IfOk r (λ reply. IsAsked w.limits (numbered w.log) asks (at w primary fs h number place same d less).0 number (place_at w (node_asked asks (at w primary fs h number place same d less).0.upstream)) reply g)
             → IfOk r (λ reply. NodesMove w primary (event_asking asks number) reply (slice_set fs place g))
         each (Ok reply) q = one_reply g reply asks other framed q
         each (Err fault) q = tt
 
     pub asked_fails : (r : Result Reply WorldFault)
-        → ((m : Mirror) (at : Option Position) → IsPlace w.limits w.log at
-        → node ≡ node_where w.log at → IsMirror w.limits w.log m f
+        → ((m : Mirror) (at : Option Position) → IsPlace w.limits (numbered w.log) at
+        → node ≡ node_where (numbered w.log) at → IsMirror w.limits (numbered w.log) m f
         → IfErr r (λ fault. RefusesMove (mirror_asks asks m at) fault))
         → IfErr r (λ fault. IsRefused w (event_asking asks number) fault)
     asked_fails r k =
@@ -174,14 +175,14 @@ module _ (w : World) (primary : PrimaryState) (fs : List FollowerState) (h : Are
       past = elim out [
         | inl e ↦ inl (e ∙ ap suc size ∙ sym same)
         | inr e ↦
-            let l = same_length w.limits w.log w.mirrors fs h.mirrors in
+            let l = same_length w.limits (numbered w.log) w.mirrors fs h.mirrors in
             let a = length-append early (f ∷ later) in
             let b = ap length whole in
             inr (omega (arith, e, l, a, b))
       ]
 
-      there : (m : Mirror) × (slice_get w.mirrors place ≡ Some m) × IsMirror w.limits w.log m (get_or fs place d)
-      there = mirror_of w.limits w.log w.mirrors fs place (get_or fs place d) h.mirrors (slice_get-get_or fs place d less)
+      there : (m : Mirror) × (slice_get w.mirrors place ≡ Some m) × IsMirror w.limits (numbered w.log) m (get_or fs place d)
+      there = mirror_of w.limits (numbered w.log) w.mirrors fs place (get_or fs place d) h.mirrors (slice_get-get_or fs place d less)
 
       connected : is_other w number f.upstream ≡ true
       connected =

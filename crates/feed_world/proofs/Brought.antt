@@ -24,7 +24,7 @@ use Rattle.feed_answer.specs.FollowLaws.{ResponsesAreFollowed, PrefixesCarryMore
 use Rattle.feed_answer.specs.Carried.{standing_at}
 use Rattle.feed_world.specs.declared.event.Reply.TheVariants.{Delivered, Broke}
 use Rattle.feed_world.specs.Connection.{Part, Snapshot, Commit, Line_feed, Connection, part_text, part_texts, sent_text, sent_bytes, bytes_sent, come_by, blocks_within, blocks_come, blocks_between, moved, moved_by, is_new, count_new, GoOn, first_parts}
-use Rattle.feed_world.specs.Log.{Log, IsLog}
+use Rattle.feed_world.specs.Log.{Log, IsLog, IsDecimal}
 use Rattle.feed_world.specs.Position.{Position, node_where, renewed, IsPosition, IsPlace}
 use Rattle.feed_world.specs.Reading.{opening_at, IsOpened, PrefixesAreRead}
 use Rattle.feed_world.specs.States.{ConnectionState, FollowerState, IsConnection, HasAsked, IsReading, AreLinked, IsMirror, asks_with, Moves, BreaksMirror, IsBrought, Brings, next_bytes, delivered_after, published_between}
@@ -44,7 +44,7 @@ module _ (limits : Limits) (log : Log) where
   choose_place place true bs h k = k
   choose_place place false bs h k = h
 
-  place_since : (parts : List Part) (p : Position) (k last n : ℕ) → IsPosition limits log p → k ≤ p.at → GoOn k parts last → last ≤ length log
+  place_since : (parts : List Part) (p : Position) (k last n : ℕ) → IsPosition limits log p → k ≤ p.at → GoOn k parts last → last ≤ length log.commits
       → IsPlace limits log (moved_by limits.history (Some p) (blocks_within log parts n))
   place_since [] p k last n h to g within = h
   place_since (Line_feed ∷ parts) p k last n h to g within =
@@ -58,7 +58,7 @@ module _ (limits : Limits) (log : Log) where
       by true is =
           let less = ltb-true p.at j is in
           let up = goes_up (k + 1) parts last g.1 in
-          let next : suc p.at ≤ length log = omega (arith, g.0) in
+          let next : suc p.at ≤ length log.commits = omega (arith, g.0) in
           let same : suc p.at ≡ j = omega (arith, g.0) in
           (subst (λ i. IsPosition limits log (renewed limits.history i p.low)) same (renewed_is_position limits log p h next), omega (arith, g.0))
       by false is = let less = ltb-false p.at j is in (h, omega (arith, g.0))
@@ -66,7 +66,7 @@ module _ (limits : Limits) (log : Log) where
 
   place_either : (fresh : Bool) (place : Option Position) (start : ℕ) (more : List Part) (last n : ℕ) → IsPlace limits log place
       → (fresh ≡ false → (own : Position) × (place ≡ Some own) × (own.low ≤ start) × (start ≤ own.at))
-      → GoOn start more last → last ≤ length log → IsPlace limits log (moved_by limits.history place (blocks_within log (first_parts fresh start ++ more) n))
+      → GoOn start more last → last ≤ length log.commits → IsPlace limits log (moved_by limits.history place (blocks_within log (first_parts fresh start ++ more) n))
   place_either true place start more last n h at g within =
       let up = goes_up start more last g in
       let p : Position = record { at = start; low = start } in
@@ -347,10 +347,10 @@ counts_since log history (Commit j ∷ parts) p k last n to g =
     by moves false = (p, refl, omega arith)
 counts_since log history (Snapshot j ∷ parts) p k last n to g = absurd g
 
-module _ (limits : Limits) (log : Log) (is_log : IsLog limits log) where
+module _ (limits : Limits) (log : Log) (is_log : IsLog limits log) (decimal : IsDecimal log) where
   -- the number of one that asks with its token, or with none
   number_here : (mirror : MirrorState) (number : Option ℕ) (q : Position) → IsNumbered mirror number → IsPosition limits log q → mirror.since ≡ published_token (node_where log (Some q)) → number ≡ Some q.at
-  number_here mirror number q numbered is e = let few = is_log.count in let within = is.in_log in numbered.some q.at (omega (arith, few, within)) e
+  number_here mirror number q numbered is e = let few = is_log.count in let within = is.in_log in numbered.some q.at (omega (arith, few, within)) (e ∙ ap Some (decimal q.at))
 
   told_parts : (fresh : Bool) (place : Option Position) (start : ℕ) (more : List Part) (last n : ℕ) (mirror : MirrorState) (number : Option ℕ) → IsNumbered mirror number
       → IsPlace limits log (moved_by limits.history place (blocks_within log (first_parts fresh start ++ more) n))
@@ -500,7 +500,7 @@ brings_more s bytes end piece reader old new answer at is limits goes =
 
 -- ---- a delivery
 
-module _ (prefixes : PrefixesAreRead) (one : ReadingIsOne) (responses : ResponsesAreFollowed) (carry : PrefixesCarryMore) (limits : Limits) (log : Log) (is_log : IsLog limits log)
+module _ (prefixes : PrefixesAreRead) (one : ReadingIsOne) (responses : ResponsesAreFollowed) (carry : PrefixesCarryMore) (limits : Limits) (log : Log) (is_log : IsLog limits log) (decimal : IsDecimal log)
     (m : Mirror) (f : FollowerState) (h : IsMirror limits log m f) (s : ConnectionState) (bytes : ℕ) where
   module _ (c : Connection) (k : IsConnection log c s) (r : IsReading limits log m c s.reader f.mirror) (small : length s.bytes < 2 ^ 64) where
     fits : length (sent_bytes log c) < 2 ^ 64
@@ -540,10 +540,10 @@ module _ (prefixes : PrefixesAreRead) (one : ReadingIsOne) (responses : Response
         let news = news_compose log limits.history r.before c.parts (come_by log c d) (come_by log c e) less in
         let here : count_new limits.history m.place between ≡ count_new limits.history (moved_by limits.history r.before xs) between = ap (λ place. count_new limits.history place between) r.place in
         let total : count_new limits.history r.before ys ≡ count_new limits.history r.before xs + count_new limits.history m.place between = omega (arith, news, here) in
-        let told_is = told_between c.start (own_number limits log is_log r.before) c.fresh _ _ _ old_number new_number
-        (told limits log is_log r.before c d f.mirror old_number r.opened was old) (told limits log is_log r.before c e new new_number r.opened now_is to) total in
+        let told_is = told_between c.start (own_number limits log is_log decimal r.before) c.fresh _ _ _ old_number new_number
+        (told limits log is_log decimal r.before c d f.mirror old_number r.opened was old) (told limits log is_log decimal r.before c e new new_number r.opened now_is to) total in
         let at_start : published_between c.start old_number new_number ≡ published_between s.start old_number new_number = ap (λ n. published_between n old_number new_number) (sym k.start) in
-        let few = few_news limits log is_log limits.history r.before ys in
+        let few = few_news limits log is_log decimal limits.history r.before ys in
         let short = parts_have_text limits log c is_log r.opened.order r.opened.sent (come_by log c e) in
         let come = come_few log c e in
         let most = reaches.1 in

@@ -1,5 +1,5 @@
 -- Where a mirror is that followed what a node sent to it.
-use Rattle.std.proofs.Common.{◌≡◌, refl, sym, ap, ◌∙◌, subst, ℕ, suc, ◌+◌, ◌-◌, ◌<◌, ◌≤◌, ◌^◌, max, Bool, true, false, ◌&&◌, arith, List, [], ◌∷◌, ◌++◌, length, take, drop, append_assoc, append-nil, length-append, take-append-drop, Option, Some, None, Ok, inl, inr, nat_le, nat_lt, ltb-false, leb-true, leb-false}
+use Rattle.std.proofs.Common.{◌≡◌, refl, sym, ap, ◌∙◌, subst, ℕ, suc, ◌+◌, ◌-◌, ◌<◌, ◌≤◌, max, Bool, true, false, ◌&&◌, arith, List, [], ◌∷◌, ◌++◌, length, take, drop, append_assoc, append-nil, length-append, take-append-drop, Option, Some, None, Ok, inl, inr, nat_le, nat_lt, ltb-false, leb-true, leb-false}
 use Rattle.std.specs.Prelude.{if◌then◌else◌, ◌==◌, ◌⊎◌, slice_get}
 use Rattle.std.specs.Option.{option_and_then}
 use Rattle.feed_settings.specs.Limits.{Limits}
@@ -9,7 +9,6 @@ use Rattle.feed_note.specs.Lines.{rest}
 use Rattle.feed_note.specs.declared.line.Line.{Line}
 use Rattle.feed_node.specs.declared.fault.FeedFault.{FeedFault}
 use Rattle.feed_node.specs.declared.fault.FeedFault.TheVariants.{NotOpen, LongLine, Line as BadLine, StageFull, Memory as FeedMemory}
-use Rattle.feed_node.specs.Log.{token_after, tokens_from}
 use Rattle.feed_node.specs.Mirroring.{MirrorState, StandsAt, present_opening, mirror_after, cut_off}
 use Rattle.feed_node.specs.Reading.{Reads, FaultsAt, reads, keep_latest, awaits_reset}
 use Rattle.feed_node.specs.Serving.{token_before}
@@ -32,7 +31,7 @@ use Rattle.feed_answer.specs.Served.{opening_text}
 use Rattle.feed_world.specs.Connection.{Part, Snapshot, Commit, Line_feed, Connection, part_text, part_texts, sent_text, blocks_within, moved_by, GoOn, first_parts}
 use Rattle.feed_world.specs.Following.{OpensAsked, SessionsOpenAsAsked, number_at, PlacesStay, AllIsReached, IsBroughtBy, CarriesPrefix, CarryFeed, ResponsesCarryFeed, FollowsTo, MirrorsFollow, IsCutInLog, FailsKeepStates, RefusalsKeepNodes}
 use Rattle.feed_world.specs.Laws.{SessionsStartBefore}
-use Rattle.feed_world.specs.Log.{Log, IsLog, state_text}
+use Rattle.feed_world.specs.Log.{Log, IsLog, IsNamed, tokens_of, state_text}
 use Rattle.feed_world.specs.Position.{Position, IsPosition, IsPlace, node_at, node_where, renewed}
 use Rattle.feed_world.specs.Reading.{opening_at, IsOpened, PrefixesAreRead}
 use Rattle.feed_world.specs.States.{HasAsked, HasReached}
@@ -121,25 +120,21 @@ all_is_reached limits log place c o =
 
 -- ---- a session that is asked for
 
-module _ (starts : SessionsStartBefore) (limits : Limits) (log : Log) (is_log : IsLog limits log)
+module _ (starts : SessionsStartBefore) (limits : Limits) (log : Log) (is_log : IsNamed log)
     (p : Position) (is : IsPosition limits log p) (back : ℕ) where
   -- a token after which a session starts is held
-  is_held : (m : ℕ) (token : List ℕ) → m ≤ length log
-      → token_before (node_at log p) back (token_after m) ≡ Some token → (p.low ≤ m) × (m ≤ p.at)
+  is_held : (m : ℕ) (token : List ℕ) → m ≤ length log.commits
+      → token_before (node_at log p) back (log.token m) ≡ Some token → (p.low ≤ m) × (m ≤ p.at)
   is_held m token small found = by (nat_le p.low m) refl (nat_le m p.at) refl
     where
-      named : m < 2 ^ 64
-      named = let count = is_log.count in omega (arith, small, count)
-
       not_out : (p.low ≤ m → ¬ (m ≤ p.at)) → ⊥
       not_out h =
           let order = is.order in
           let within = is.in_log in
-          let count = is_log.count in
-          let none = token_missing p.low (suc (p.at - p.low)) m
-          (λ a b. h a (omega (arith, b, order))) (omega (arith, order, within, count)) named in
+          let none = token_missing log is_log p.low (suc (p.at - p.low)) m
+          (λ a b. h a (omega (arith, b, order))) (omega (arith, order, within)) small in
           let nothing : None ≡ Some token =
-          sym (ap (option_and_then (λ place. slice_get (tokens_from p.low (suc (p.at - p.low)))
+          sym (ap (option_and_then (λ place. slice_get (tokens_of log p.low (suc (p.at - p.low)))
           (place - back))) none) ∙ found in
           absurd (cc)
 
@@ -152,19 +147,19 @@ module _ (starts : SessionsStartBefore) (limits : Limits) (log : Log) (is_log : 
           let under = leb-false _ _ e in absurd (not_out (λ a b. omega (arith, under, a)))
 
   -- the number at which it starts
-  starts_at : (m k : ℕ) (token : List ℕ) → m ≤ length log → k ≤ length log
-      → token ≡ token_after k → token_before (node_at log p) back (token_after m) ≡ Some token
+  starts_at : (m k : ℕ) (token : List ℕ) → m ≤ length log.commits → k ≤ length log.commits
+      → token ≡ log.token k → token_before (node_at log p) back (log.token m) ≡ Some token
       → (p.low ≤ m) × (m ≤ p.at) × (k ≡ max p.low (m - back))
   starts_at m k token small fits named found =
       let (from, to) = is_held m token small found in
       let start = starts limits log p m back is_log is from to in
-      let both : Some token ≡ Some (token_after (max p.low (m - back))) = sym found ∙ start in
-      let same : token ≡ token_after (max p.low (m - back)) = cc in
+      let both : Some token ≡ Some (log.token (max p.low (m - back))) = sym found ∙ start in
+      let same : token ≡ log.token (max p.low (m - back)) = cc in
       let order = is.order in
       let within = is.in_log in (
         from,
         to,
-        (tokens_tell log k (max p.low (m - back)) is_log.count fits
+        (tokens_tell log k (max p.low (m - back)) is_log fits
             (omega (arith, to, within, order)) (sym named ∙ same)).0,
       )
 
@@ -172,7 +167,7 @@ module _ (starts : SessionsStartBefore) (limits : Limits) (log : Log) (is_log : 
       (session : answer.session ≡ Some opened) where
     after_token : (t : List ℕ) (held : Option (List ℕ))
         → token_before (node_at log p) back t ≡ held → (j : Option ℕ)
-        → option_and_then (λ place. slice_get (tokens_from p.low (suc (p.at - p.low)))
+        → option_and_then (λ place. slice_get (tokens_of log p.low (suc (p.at - p.low)))
         (place - back)) j ≡ held
         → answer ≡ answer_opened framing (starts_behind held)
         → OpensAsked log p (Some t) back answer opened
@@ -180,13 +175,13 @@ module _ (starts : SessionsStartBefore) (limits : Limits) (log : Log) (is_log : 
         let no : None ≡ Some opened = sym (ap (λ a. a.session) e) ∙ session in absurd (cc)
     after_token t (Some token) found None at e = let no : None ≡ Some token = at in absurd (cc)
     after_token t (Some token) found (Some j) at e =
-        let there = token_there p.low (suc (p.at - p.low)) (j - back) token at in
+        let there = token_there log p.low (suc (p.at - p.low)) (j - back) token at in
         let this : Some token ≡ Some opened = sym (ap (λ a. a.session) e) ∙ session in
         let same : token ≡ opened = cc in
         let order = is.order in
         let within = is.in_log in
         let less : j - back < suc (p.at - p.low) = there.1 in
-        let fits : p.low + (j - back) ≤ length log = omega (arith, order, within, less) in
+        let fits : p.low + (j - back) ≤ length log.commits = omega (arith, order, within, less) in
         record {
           k = p.low + (j - back);
           in_log = fits;
@@ -195,18 +190,18 @@ module _ (starts : SessionsStartBefore) (limits : Limits) (log : Log) (is_log : 
               ∙ ap (λ f. opening_text f []) (sym (ap (λ a. a.framing) e));
           newest = λ none. let no : Some t ≡ None = none in absurd (cc);
           own = λ m small asked.
-              let this : Some t ≡ Some (token_after m) = asked in
-              let same_token : t ≡ token_after m = cc in
+              let this : Some t ≡ Some (log.token m) = asked in
+              let same_token : t ≡ log.token m = cc in
               starts_at m (p.low + (j - back)) token small fits there.0
               (sym (ap (token_before (node_at log p) back) same_token) ∙ found);
         }
 
     from_start : answer ≡ answer_opened framing
-        (Ok (record { token = token_after p.at; text = state_text log p.at }))
+        (Ok (record { token = log.token p.at; text = state_text log p.at }))
         → OpensAsked log p None back answer opened
     from_start e =
-        let this : Some (token_after p.at) ≡ Some opened = sym (ap (λ a. a.session) e) ∙ session in
-        let same : token_after p.at ≡ opened = cc in
+        let this : Some (log.token p.at) ≡ Some opened = sym (ap (λ a. a.session) e) ∙ session in
+        let same : log.token p.at ≡ opened = cc in
         record {
           k = p.at;
           in_log = is.in_log;
@@ -214,7 +209,7 @@ module _ (starts : SessionsStartBefore) (limits : Limits) (log : Log) (is_log : 
           text_is = ap (λ a. a.text) e
               ∙ ap (λ f. opening_text f (state_text log p.at)) (sym (ap (λ a. a.framing) e));
           newest = λ none. refl;
-          own = λ m small asked. let no : None ≡ Some (token_after m) = asked in absurd (cc);
+          own = λ m small asked. let no : None ≡ Some (log.token m) = asked in absurd (cc);
         }
 
 pub open_as_asked : AskedOnce → SessionsStartBefore → SessionsOpenAsAsked

@@ -21,3 +21,4 @@ pub mod Sending
 pub mod Served
 pub mod Stepped
 pub mod Tokens
+pub mod Telling

@@ -8,7 +8,6 @@ use Rattle.feed_note.specs.Texts.{batch_text}
 use Rattle.feed_note.specs.Written.{written, written_line}
 use Rattle.feed_node.specs.declared.session.Pulled.{Pulled}
 use Rattle.feed_node.specs.declared.session.Pulled.TheVariants.{More, UpToDate, Gone}
-use Rattle.feed_node.specs.Log.{token_after}
 use Rattle.feed_node.specs.Mirroring.{MirrorState}
 use Rattle.feed_tables.specs.Tables.{listing}
 use Rattle.feed_follow.specs.Follower.{FollowerState as ReaderState, FollowsAt}
@@ -57,13 +56,13 @@ blocks_before log (p ∷ parts) part d h some =
 -- ---- parts have text, so blocks are no more than bytes
 
 module _ (limits : Limits) (log : Log) where
-  commit_has_text : (k : ℕ) → IsLog limits log → 0 < k → k ≤ length log → 0 < length (part_text log (Commit k))
-  commit_has_text k is_log from to = batch_has_text (changes_of_commit log k) (token_after k) ((is_log.accepted k from to).some)
+  commit_has_text : (k : ℕ) → IsLog limits log → 0 < k → k ≤ length log.commits → 0 < length (part_text log (Commit k))
+  commit_has_text k is_log from to = batch_has_text (changes_of_commit log k) (log.token k) ((is_log.accepted k from to).some)
 
   snapshot_has_text : (k : ℕ) → 0 < length (part_text log (Snapshot k))
-  snapshot_has_text k = batch_has_text (listing (state_after log k)) (token_after k) (listing_is_some (state_after log k))
+  snapshot_has_text k = batch_has_text (listing (state_after log k)) (log.token k) (listing_is_some (state_after log k))
 
-  few_later : IsLog limits log → (k : ℕ) (parts : List Part) (last n : ℕ) → GoOn k parts last → last ≤ length log → length (blocks_within log parts n) ≤ n
+  few_later : IsLog limits log → (k : ℕ) (parts : List Part) (last n : ℕ) → GoOn k parts last → last ≤ length log.commits → length (blocks_within log parts n) ≤ n
   few_later is_log k [] last n g h = omega arith
   few_later is_log k (Line_feed ∷ parts) last n g h = by (few_later is_log k parts last (n - 1) g h) (nat_le 1 n) refl
     where
@@ -84,7 +83,7 @@ module _ (limits : Limits) (log : Log) where
       by later false e = omega arith
   few_later is_log k (Snapshot j ∷ parts) last n g h = absurd g
 
-  few_either : IsLog limits log → (fresh : Bool) (start : ℕ) (more : List Part) (last n : ℕ) → GoOn start more last → last ≤ length log → length (blocks_within log (first_parts fresh start ++ more) n) ≤ n
+  few_either : IsLog limits log → (fresh : Bool) (start : ℕ) (more : List Part) (last n : ℕ) → GoOn start more last → last ≤ length log.commits → length (blocks_within log (first_parts fresh start ++ more) n) ≤ n
   few_either is_log false start more last n g h = few_later is_log start more last n g h
   few_either is_log true start more last n g h = by (nat_le (length (part_text log (Snapshot start))) n) refl
     where
@@ -97,7 +96,7 @@ module _ (limits : Limits) (log : Log) where
       by false e = omega arith
 
   -- there are no more blocks than bytes
-  pub parts_have_text : (c : Connection) → IsLog limits log → IsInOrder c → c.last ≤ length log → (n : ℕ) → length (blocks_within log c.parts n) ≤ n
+  pub parts_have_text : (c : Connection) → IsLog limits log → IsInOrder c → c.last ≤ length log.commits → (n : ℕ) → length (blocks_within log c.parts n) ≤ n
   parts_have_text c is_log order sent n =
       subst (λ ps. length (blocks_within log ps n) ≤ n) (sym order.parts) (few_either is_log c.fresh c.start order.more c.last n order.go_on sent)
 
@@ -105,7 +104,7 @@ module _ (limits : Limits) (log : Log) where
   no_block [] h = refl
   no_block (b ∷ bs) h = absurd (omega (arith, h))
 
-  pub none_at_first : (c : Connection) → IsLog limits log → IsInOrder c → c.last ≤ length log → blocks_within log c.parts 0 ≡ []
+  pub none_at_first : (c : Connection) → IsLog limits log → IsInOrder c → c.last ≤ length log.commits → blocks_within log c.parts 0 ≡ []
   none_at_first c is_log order sent = no_block (blocks_within log c.parts 0) (parts_have_text c is_log order sent 0)
 
 module _ (limits : Limits) (log : Log) (m : Mirror) (c : Connection) (reader : ReaderState) (mirror : MirrorState) (reading : IsReading limits log m c reader mirror) (next : Option Connection) where
@@ -137,7 +136,7 @@ module _ (limits : Limits) (log : Log) (m : Mirror) (c : Connection) (reader : R
         afresh = reading.afresh;
       }
 
-  reading_on : (part : Part) (last : ℕ) → c.delivered ≤ bytes_sent log c → 0 < length (part_text log part) → last ≤ length log
+  reading_on : (part : Part) (last : ℕ) → c.delivered ≤ bytes_sent log c → 0 < length (part_text log part) → last ≤ length log.commits
       → IsInOrder (record c { parts = c.parts ++ part ∷ []; last = last })
       → IsReading limits log (linked m next) (record c { parts = c.parts ++ part ∷ []; last = last }) reader mirror
   reading_on part last within some sent order =
@@ -159,7 +158,7 @@ module _ (limits : Limits) (log : Log) (m : Mirror) (c : Connection) (reader : R
   line_feed_reading : c.delivered ≤ bytes_sent log c → IsReading limits log (linked m next) (with_line_feed c) reader mirror
   line_feed_reading within = reading_on Line_feed c.last within (omega arith) reading.opened.sent (sending_keeps_order.line_feed c reading.opened.order)
 
-  more_reading : IsLog limits log → c.delivered ≤ bytes_sent log c → c.last < length log → IsReading limits log (linked m next) (with_more c) reader mirror
+  more_reading : IsLog limits log → c.delivered ≤ bytes_sent log c → c.last < length log.commits → IsReading limits log (linked m next) (with_more c) reader mirror
   more_reading is_log within sent =
       reading_on (Commit (c.last + 1)) (c.last + 1) within (commit_has_text limits log (c.last + 1) is_log (omega arith) (omega (arith, sent))) (omega (arith, sent))
       (sending_keeps_order.commit c reading.opened.order)
@@ -175,7 +174,7 @@ both_true true b e = e
 both_true false b e = absurd (cc)
 
 served_any : (limits : Limits) (log : Log) (c : Connection) (place : Option Position) (P : Connection → Type 0) → IsPlace limits log place
-    → P c → P (ended c) → (c.last < length log → P (with_more c)) → P (serves c place).1
+    → P c → P (ended c) → (c.last < length log.commits → P (with_more c)) → P (serves c place).1
 served_any limits log c place P h now over more = chosen (λ (r : Pulled × Connection). P r.1) c.over (Gone, c) (serves_from c place) (λ e. now) (from place h)
   where
     from : (q : Option Position) → IsPlace limits log q → P (serves_from c q).1
@@ -195,7 +194,7 @@ mirror_on limits log m f next other is l = record { place = is.place; upstream =
 
 pub mirror_served : (limits : Limits) (log : Log) (m : Mirror) (place : Option Position) (f : FollowerState) (s : ConnectionState) → f.connection ≡ Some s
     → IsLog limits log → IsPlace limits log place → IsMirror limits log m f → (pulled : Pulled) (t : ConnectionState) → t.reader ≡ s.reader
-    → ((c : Connection) → c.last ≤ length log → IsConnection log c s → (pulled ≡ (serves c place).0) × IsConnection log (serves c place).1 t)
+    → ((c : Connection) → c.last ≤ length log.commits → IsConnection log c s → (pulled ≡ (serves c place).0) × IsConnection log (serves c place).1 t)
     → Moves limits log (mirror_serves m place) (Sent pulled) (record f { connection = Some t })
 mirror_served limits log m place f s held is_log is_place is pulled t same serving =
     by m.connection (subst (AreLinked limits log m m.connection f) held is.linked)

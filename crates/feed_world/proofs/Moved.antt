@@ -13,7 +13,7 @@ use Rattle.feed_world.specs.declared.event.Event.TheVariants.{Deliver, Connect}
 use Rattle.feed_world.specs.declared.event.Reply.{Reply}
 use Rattle.feed_world.specs.declared.event.WorldFault.{WorldFault}
 use Rattle.feed_world.specs.declared.event.WorldFault.TheVariants.{NoNode, NoConnection, Memory}
-use Rattle.feed_world.specs.Log.{Log}
+use Rattle.feed_world.specs.Log.{Log, numbered}
 use Rattle.feed_world.specs.Connection.{Connection}
 use Rattle.feed_world.specs.Position.{Position, IsPlace, node_where}
 use Rattle.feed_world.specs.States.{FollowerState, IsMirror, ConnectionState, AreLinked, AreMirrors, AreNodes, Moves, RefusesMove, BreaksMirror, BreaksConnect, NodesMove, IsBrought, all_shown}
@@ -76,7 +76,7 @@ length_set (m ∷ ms) (suc place) n = ap suc (length_set ms place n)
 -- ---- one mirror moves
 
 module _ (w : World) (primary : PrimaryState) (fs : List FollowerState) (h : AreNodes w primary fs) where
-  put_back : (place : ℕ) (n : Mirror) (f : FollowerState) → is_other w (suc place) n.upstream ≡ true → IsMirror w.limits w.log n f
+  put_back : (place : ℕ) (n : Mirror) (f : FollowerState) → is_other w (suc place) n.upstream ≡ true → IsMirror w.limits (numbered w.log) n f
       → AreNodes (with_mirror w (suc place) n) primary (slice_set fs place f)
   put_back place n f other k =
       record {
@@ -86,7 +86,7 @@ module _ (w : World) (primary : PrimaryState) (fs : List FollowerState) (h : Are
         shows = h.shows;
         others = λ i. subst (λ l. IfSome (slice_get (slice_set w.mirrors place n) i) (λ m. (nat_le m.upstream l && not (m.upstream == suc i)) ≡ true)) (sym (length_set w.mirrors place n))
             (each_put (λ j m. is_other w (suc j) m.upstream ≡ true) w.mirrors place n h.others other i);
-        mirrors = set_both w.limits w.log w.mirrors fs place n f h.mirrors k;
+        mirrors = set_both w.limits (numbered w.log) w.mirrors fs place n f h.mirrors k;
       }
 
 -- the outcome is this reply and a world of these nodes
@@ -99,7 +99,7 @@ pub record LeadsTo (w : World) (o : Outcome) (primary : PrimaryState) (reply : R
   pub nodes : AreNodes after primary fs
 
 pub moved : (w : World) (primary : PrimaryState) (fs : List FollowerState) → AreNodes w primary fs → (place : ℕ) (m : Mirror) (r : Result Move WorldFault) → slice_get w.mirrors place ≡ Some m
-    → IfOk r (λ move. is_other w (suc place) move.1.upstream ≡ true) → (reply : Reply) (f : FollowerState) → Moves w.limits w.log r reply f
+    → IfOk r (λ move. is_other w (suc place) move.1.upstream ≡ true) → (reply : Reply) (f : FollowerState) → Moves w.limits (numbered w.log) r reply f
     → LeadsTo w (after_move w (suc place) r) primary reply (slice_set fs place f)
 moved w primary fs h place m (Err fault) there keeps reply f k = absurd k
 moved w primary fs h place m (Ok move) there keeps reply f k =
@@ -178,26 +178,26 @@ keeps_serve w i m = still_other w i m.upstream (mirror_serves m (place_at w m.up
 pub keeps_idle : (w : World) (i : ℕ) → Keeps w i mirror_idles
 keeps_idle w i m = still_other w i m.upstream (mirror_idles m) (linked_keeps m m.connection _ (λ c. refl))
 
-keeps_deliver : (w : World) (i n : ℕ) → Keeps w i (mirror_delivers w.limits.history w.log n)
-keeps_deliver w i n m = still_other w i m.upstream (mirror_delivers w.limits.history w.log n m) (linked_keeps m m.connection _ (λ c. refl))
+keeps_deliver : (w : World) (i n : ℕ) → Keeps w i (mirror_delivers w.limits.history (numbered w.log) n)
+keeps_deliver w i n m = still_other w i m.upstream (mirror_delivers w.limits.history (numbered w.log) n m) (linked_keeps m m.connection _ (λ c. refl))
 
 pub keeps_cut : (w : World) (i : ℕ) → Keeps w i mirror_cuts
 keeps_cut w i m = still_other w i m.upstream (mirror_cuts m) (linked_keeps m m.connection _ (λ c. refl))
 
-pub keeps_save : (w : World) (i : ℕ) → Keeps w i (mirror_saves w.log)
-keeps_save w i m = still_other w i m.upstream (mirror_saves w.log m) refl
+pub keeps_save : (w : World) (i : ℕ) → Keeps w i (mirror_saves (numbered w.log))
+keeps_save w i m = still_other w i m.upstream (mirror_saves (numbered w.log) m) refl
 
-pub keeps_restart : (w : World) (i n : ℕ) → Keeps w i (mirror_restarts w.log n)
-keeps_restart w i n m = still_other w i m.upstream (mirror_restarts w.log n m) refl
+pub keeps_restart : (w : World) (i n : ℕ) → Keeps w i (mirror_restarts (numbered w.log) n)
+keeps_restart w i n m = still_other w i m.upstream (mirror_restarts (numbered w.log) n m) refl
 
 -- ---- where nodes are
 
 abbrev pub IsShown : World → ℕ → NodeState → Type 0
-IsShown w i node = (node ≡ node_where w.log (place_at w i)) × IsPlace w.limits w.log (place_at w i)
+IsShown w i node = (node ≡ node_where (numbered w.log) (place_at w i)) × IsPlace w.limits (numbered w.log) (place_at w i)
 
 module _ (w : World) (primary : PrimaryState) (fs : List FollowerState) (h : AreNodes w primary fs) where
-  shown_mirror : (ms : List Mirror) (gs : List FollowerState) (i : ℕ) (node : NodeState) → AreMirrors w.limits w.log ms gs → slice_get (map (λ f. f.mirror.node) gs) i ≡ Some node
-      → (node ≡ node_where w.log (option_and_then (λ m. m.place) (slice_get ms i))) × IsPlace w.limits w.log (option_and_then (λ m. m.place) (slice_get ms i))
+  shown_mirror : (ms : List Mirror) (gs : List FollowerState) (i : ℕ) (node : NodeState) → AreMirrors w.limits (numbered w.log) ms gs → slice_get (map (λ f. f.mirror.node) gs) i ≡ Some node
+      → (node ≡ node_where (numbered w.log) (option_and_then (λ m. m.place) (slice_get ms i))) × IsPlace w.limits (numbered w.log) (option_and_then (λ m. m.place) (slice_get ms i))
   shown_mirror [] [] i node k e = absurd (cc)
   shown_mirror [] (g ∷ gs) i node k e = absurd k
   shown_mirror (m ∷ ms) [] i node k e = absurd k
@@ -227,7 +227,7 @@ pub within : (w : World) (primary : PrimaryState) (fs : List FollowerState) → 
 within w primary fs h i node e =
     let a = slice_get_within (all_shown primary fs) i node e in
     let b = length-map fs (λ f. f.mirror.node) in
-    let l = same_length w.limits w.log w.mirrors fs h.mirrors in
+    let l = same_length w.limits (numbered w.log) w.mirrors fs h.mirrors in
     omega (arith, a, b, l)
 
 -- ---- events
@@ -258,18 +258,18 @@ no_mirror w (suc place) act k = ap (λ o. with_node w (suc place) o act) (slice_
 pub nobody : (w : World) (primary : PrimaryState) (fs : List FollowerState) → AreNodes w primary fs → (number : ℕ) (act : Mirror → Result Move WorldFault)
     → ((place : ℕ) → number ≡ suc place → length fs ≤ place) → at_node w number act ≡ Err NoNode
 nobody w primary fs h number act k =
-    no_mirror w number act (λ place e. let l = same_length w.limits w.log w.mirrors fs h.mirrors in let m = k place e in omega arith)
+    no_mirror w number act (λ place e. let l = same_length w.limits (numbered w.log) w.mirrors fs h.mirrors in let m = k place e in omega arith)
 
 module _ (w : World) (primary : PrimaryState) (fs : List FollowerState) (h : AreNodes w primary fs) (number place : ℕ) (same : number ≡ suc place) (d : FollowerState) (less : place < length fs) where
   -- the mirror of this number
-  pub at : (m : Mirror) × (slice_get w.mirrors place ≡ Some m) × IsMirror w.limits w.log m (get_or fs place d)
-  at = mirror_of w.limits w.log w.mirrors fs place (get_or fs place d) h.mirrors (slice_get-get_or fs place d less)
+  pub at : (m : Mirror) × (slice_get w.mirrors place ≡ Some m) × IsMirror w.limits (numbered w.log) m (get_or fs place d)
+  at = mirror_of w.limits (numbered w.log) w.mirrors fs place (get_or fs place d) h.mirrors (slice_get-get_or fs place d less)
 
   -- it connected to another node last
   other_at : is_other w (suc place) at.0.upstream ≡ true
   other_at = subst (λ o. IfSome o (λ m. is_other w (suc place) m.upstream ≡ true)) at.1 (h.others place)
 
-  pub leads : (act : Mirror → Result Move WorldFault) → Keeps w (suc place) act → (reply : Reply) (f : FollowerState) → Moves w.limits w.log (act at.0) reply f
+  pub leads : (act : Mirror → Result Move WorldFault) → Keeps w (suc place) act → (reply : Reply) (f : FollowerState) → Moves w.limits (numbered w.log) (act at.0) reply f
       → LeadsTo w (at_node w number act) primary reply (slice_set fs place f)
   leads act keeps reply f k =
       subst (λ n. LeadsTo w (at_node w n act) primary reply (slice_set fs place f)) (sym same)
@@ -282,7 +282,7 @@ module _ (w : World) (primary : PrimaryState) (fs : List FollowerState) (h : Are
 
   -- an event at which the mirror makes this move
   pub move_leads : (event : Event) (act : Mirror → Result Move WorldFault) → at_node w number act ≡ outcome w event → Keeps w (suc place) act → (r : Result Reply WorldFault) (f : FollowerState)
-      → ((m : Mirror) → IsMirror w.limits w.log m (get_or fs place d) → IfOk r (λ reply. Moves w.limits w.log (act m) reply f))
+      → ((m : Mirror) → IsMirror w.limits (numbered w.log) m (get_or fs place d) → IfOk r (λ reply. Moves w.limits (numbered w.log) (act m) reply f))
       → IfOk r (λ reply. NodesMove w primary event reply (slice_set fs place f))
   move_leads event act is keeps (Ok reply) f k =
       event_moves w primary event reply _ (subst (λ o. LeadsTo w o primary reply (slice_set fs place f)) is (leads act keeps reply f (k at.0 at.2)))
@@ -290,14 +290,14 @@ module _ (w : World) (primary : PrimaryState) (fs : List FollowerState) (h : Are
 
   -- why it makes none; a want of memory is told so
   pub move_fails : (act : Mirror → Result Move WorldFault) (r : Result Reply WorldFault)
-      → ((m : Mirror) → IsMirror w.limits w.log m (get_or fs place d) → IfErr r (λ fault. RefusesMove (act m) fault))
+      → ((m : Mirror) → IsMirror w.limits (numbered w.log) m (get_or fs place d) → IfErr r (λ fault. RefusesMove (act m) fault))
       → IfErr r (λ fault. (at_node w number act ≡ Err fault) ⊎ ((fault ≡ Memory) × ¬ (IsTrue (is_free (at_node w number act)))))
   move_fails act (Ok reply) k = tt
   move_fails act (Err fault) k = refused_by (at_node w number act) fault (refuses act fault (k at.0 at.2))
 
-  broken : (n : ℕ) (reply : Reply) (f : FollowerState) → BrokeForMemory number reply → BreaksMirror w.limits w.log at.0 n f → NodesMove w primary (Deliver number n) reply (slice_set fs place f)
+  broken : (n : ℕ) (reply : Reply) (f : FollowerState) → BrokeForMemory number reply → BreaksMirror w.limits (numbered w.log) at.0 n f → NodesMove w primary (Deliver number n) reply (slice_set fs place f)
   broken n reply f is b =
-      let after : World = with_mirror w (suc place) (brought_to w.limits.history w.log at.0 b.connection b.e None) in
+      let after : World = with_mirror w (suc place) (brought_to w.limits.history (numbered w.log) at.0 b.connection b.e None) in
       let breaks : Breaks w number n after = record {
         mirror = at.0;
         connection = b.connection;
@@ -307,18 +307,18 @@ module _ (w : World) (primary : PrimaryState) (fs : List FollowerState) (h : Are
         e = b.e;
         from = b.from;
         to = b.to;
-        after = ap (λ j. with_mirror w j (brought_to w.limits.history w.log at.0 b.connection b.e None)) (sym same);
+        after = ap (λ j. with_mirror w j (brought_to w.limits.history (numbered w.log) at.0 b.connection b.e None)) (sym same);
       } in
       (after, record { step = inr (is, breaks); limits = refl; framing = refl; log = refl }, put_back w primary fs h place _ f other_at b.is_mirror)
 
-  delivered : (n : ℕ) (reply : Reply) (f : FollowerState) → IsBrought w.limits w.log at.0 number n reply f → NodesMove w primary (Deliver number n) reply (slice_set fs place f)
+  delivered : (n : ℕ) (reply : Reply) (f : FollowerState) → IsBrought w.limits (numbered w.log) at.0 number n reply f → NodesMove w primary (Deliver number n) reply (slice_set fs place f)
   delivered n reply f (inl moves) =
-      event_moves w primary (Deliver number n) reply _ (leads (mirror_delivers w.limits.history w.log n) (keeps_deliver w (suc place) n) reply f moves)
+      event_moves w primary (Deliver number n) reply _ (leads (mirror_delivers w.limits.history (numbered w.log) n) (keeps_deliver w (suc place) n) reply f moves)
   delivered n reply f (inr broke) = broken n reply f broke.0 broke.1
 
   -- a connect at which following the refusal broke off
   pub refusal_broke : (j back : ℕ) (reply : Reply) (f : FollowerState) → is_other w number j ≡ true → BrokeForMemory number reply
-      → BreaksConnect w.limits w.log w.framing at.0 j back (place_at w j) f → NodesMove w primary (Connect number j back) reply (slice_set fs place f)
+      → BreaksConnect w.limits (numbered w.log) w.framing at.0 j back (place_at w j) f → NodesMove w primary (Connect number j back) reply (slice_set fs place f)
   refusal_broke j back reply f other is b =
       let after : World = with_mirror w (suc place) (linked (turned_to j at.0) None) in
       let breaks : BreaksRefusal w number j back after = record {
@@ -331,7 +331,7 @@ module _ (w : World) (primary : PrimaryState) (fs : List FollowerState) (h : Are
       (after, record { step = inr (is, breaks); limits = refl; framing = refl; log = refl }, put_back w primary fs h place _ f (ap (λ k. is_other w k j) (sym same) ∙ other) b.is_mirror)
 
   pub deliver_leads : (n : ℕ) (r : Result Reply WorldFault) (f : FollowerState)
-      → ((m : Mirror) → IsMirror w.limits w.log m (get_or fs place d) → IfOk r (λ reply. IsBrought w.limits w.log m number n reply f)) → IfOk r (λ reply. NodesMove w primary (Deliver number n) reply (slice_set fs place f))
+      → ((m : Mirror) → IsMirror w.limits (numbered w.log) m (get_or fs place d) → IfOk r (λ reply. IsBrought w.limits (numbered w.log) m number n reply f)) → IfOk r (λ reply. NodesMove w primary (Deliver number n) reply (slice_set fs place f))
   deliver_leads n (Ok reply) f k = delivered n reply f (k at.0 at.2)
   deliver_leads n (Err fault) f k = tt
 
@@ -339,7 +339,7 @@ module _ (w : World) (primary : PrimaryState) (fs : List FollowerState) (h : Are
   deliver_fails n (Ok reply) k = tt
   deliver_fails n (Err fault) k =
       inl (refused_as (outcome w (Deliver number n)) fault (λ e. let both : NoConnection ≡ Memory = sym k.0 ∙ e in absurd (cc))
-      (refuses (mirror_delivers w.limits.history w.log n) fault (unlinked w.limits w.log at.0 _ _ fault at.2 k)))
+      (refuses (mirror_delivers w.limits.history (numbered w.log) n) fault (unlinked w.limits (numbered w.log) at.0 _ _ fault at.2 k)))
 
 -- ---- a mirror between the others
 

@@ -1,5 +1,5 @@
 -- Whatever prefix of what was sent came, its lines are taken one after another, and each whole block moves the mirror on.
-use Rattle.std.proofs.Common.{◌≡◌, refl, sym, ap, ◌∙◌, subst, ℕ, suc, ◌+◌, ◌-◌, ◌<◌, ◌≤◌, ◌^◌, Bool, true, false, not, ◌&&◌, arith, List, [], ◌∷◌, ◌++◌, length, Option, Some, None, nat_le, nat_lt, ltb-true, ltb-false, ◌||◌, leb-true, leb-false, eqb-true, length-append}
+use Rattle.std.proofs.Common.{◌≡◌, refl, sym, ap, ◌∙◌, subst, ℕ, suc, ◌+◌, ◌-◌, ◌<◌, ◌≤◌, Bool, true, false, not, ◌&&◌, arith, List, [], ◌∷◌, ◌++◌, length, Option, Some, None, nat_le, nat_lt, ltb-true, ltb-false, ◌||◌, leb-true, leb-false, eqb-true, length-append}
 use Rattle.std.specs.Prelude.{if◌then◌else◌, ◌==◌, ◌≢◌}
 use Rattle.std.proofs.lemmas.Bool.{le-leb}
 use Rattle.std.proofs.lemmas.List.Sums.{fold-append}
@@ -10,16 +10,15 @@ use Rattle.feed_note.specs.declared.line.Line.TheVariants.{Note, KeepAlive}
 use Rattle.feed_note.specs.Lines.{lines, rest}
 use Rattle.feed_node.specs.Bounds.{is_large}
 use Rattle.feed_node.specs.declared.fault.FeedFault.TheVariants.{StageFull}
-use Rattle.feed_node.specs.Log.{token_after, tokens_from}
 use Rattle.feed_node.specs.Sent.{TakesText, TextsGoOn, PublishesNothing, PublishesAtEnd, BatchesPublishAtEnd, SnapshotsPublishAtEnd, fresh_on, renewed_on}
 use Rattle.feed_node.specs.States.{Node, holds_token, published_tables}
 use Rattle.feed_node.specs.Staging.{Standing, staging, publishing, step, steps, times_published, AllTaken}
 use Rattle.feed_node.specs.Steps.{StepsRead, StepsCount, TakenAreGood, standing_after}
 use Rattle.feed_world.specs.Connection.{Part, Snapshot, Commit, Line_feed, part_text, parts_text, block_onto, blocks_within, moved, moved_by, count_new, GoOn, first_parts}
-use Rattle.feed_world.specs.Log.{Log, changes_of_commit, IsLog}
+use Rattle.feed_world.specs.Log.{Log, changes_of_commit, IsLog, tokens_of}
 use Rattle.feed_world.specs.Position.{Position, commits_after, node_where, renewed, node_at, IsPosition, IsPlace}
 use Rattle.feed_world.specs.Reading.{opening_at, PrefixesAreRead}
-use Rattle.feed_world.proofs.Commits.{state_one_more, token_is_name, next_not_held, next_position, renewed_is_position, latest_at, state_at, state_is_small, state_is_sendable}
+use Rattle.feed_world.proofs.Commits.{state_one_more, next_not_held, next_position, renewed_is_position, latest_at, state_at, state_is_small, state_is_sendable}
 use Rattle.feed_world.proofs.Growth.{goes_up}
 use Rattle.feed_world.proofs.Listings.{full_none}
 use Rattle.feed_world.proofs.Lists.{cuts_of_one}
@@ -161,17 +160,15 @@ module _ (goes_on : TextsGoOn) (batches : BatchesPublishAtEnd) (snapshots : Snap
   at_end : (s t : Standing) (part : Part) (many : ℕ) (end : Standing) (count : ℕ) → PublishesAtEnd limits s (part_text log part) end count → end ≡ t → count ≡ many → IsTakenPart limits log s part t many
   at_end s t part many end count p e same = record { notes = p.notes; takes = p.takes; ended = p.ended; leads_to = p.leads_to ∙ e; count = p.counted ∙ same; before = p.before }
 
-  taken_commit : (p : Position) → IsPosition limits log p → suc p.at ≤ length log
+  taken_commit : (p : Position) → IsPosition limits log p → suc p.at ≤ length log.commits
       → IsTakenPart limits log (standing limits.history log (Some p) false) (Commit (suc p.at)) (standing limits.history log (Some (renewed limits.history (suc p.at) p.low)) false) 1
   taken_commit p h within =
       let s = standing limits.history log (Some p) false in
       let cs = changes_of_commit log (suc p.at) in
-      let token = token_after (suc p.at) in
+      let token = log.token (suc p.at) in
       let accepted = is_log.accepted (suc p.at) (omega arith) within in
-      let count = is_log.count in
-      let fits : suc p.at < 2 ^ 64 = omega arith in
       let position = next_position limits.history log p h.order within in
-      let held = next_not_held log p h.order fits in
+      let held = next_not_held log is_log.named p h.order within in
       let leads : step s (Note cs (Some token)) ≡ publishing (staging s cs) token = ap (λ b. if b then s else publishing (staging s cs) token) held in
       let many : times_published s (Note cs (Some token) ∷ []) ≡ 1 = ap (λ b. (if not b then 1 else 0) + 0) held in
       at_end s (standing limits.history log (Some (renewed limits.history (suc p.at) p.low)) false) (Commit (suc p.at)) 1 (step s (Note cs (Some token)))
@@ -179,7 +176,7 @@ module _ (goes_on : TextsGoOn) (batches : BatchesPublishAtEnd) (snapshots : Snap
       (batches limits s cs token (record {
         some = accepted.some;
         within = accepted.changes;
-        name = token_is_name (suc p.at) fits;
+        name = is_log.named.names (suc p.at) within;
         few = accepted.few;
         small = subst (λ z. is_large limits (published_tables z.node.shown) ≡ false) (sym leads) (subst (λ t. is_large limits t ≡ false) (state_one_more log p.at (omega arith)) accepted.small);
       }))
@@ -191,19 +188,17 @@ module _ (goes_on : TextsGoOn) (batches : BatchesPublishAtEnd) (snapshots : Snap
   taken_again p n h from to =
       let s = standing limits.history log (Some p) false in
       let cs = changes_of_commit log n in
-      let token = token_after n in
+      let token = log.token n in
       let in_log = h.in_log in
       let accepted = is_log.accepted n (omega arith) (omega arith) in
-      let count = is_log.count in
-      let fits : n < 2 ^ 64 = omega arith in
-      let held : holds_token (node_at log p) token ≡ true = holds log p h.order (omega arith) n fits ∙ both (le-leb p.low n (omega arith)) (le-leb n p.at to) in
+      let held : holds_token (node_at log p) token ≡ true = holds log is_log.named p h.order in_log n (omega (arith, to, in_log)) ∙ both (le-leb p.low n (omega arith)) (le-leb n p.at to) in
       let leads : step s (Note cs (Some token)) ≡ s = ap (λ b. if b then s else publishing (staging s cs) token) held in
       let many : times_published s (Note cs (Some token) ∷ []) ≡ 0 = ap (λ b. (if not b then 1 else 0) + 0) held in
       at_end s s (Commit n) 0 (step s (Note cs (Some token))) (times_published s (Note cs (Some token) ∷ []))
       (batches limits s cs token (record {
         some = accepted.some;
         within = accepted.changes;
-        name = token_is_name n fits;
+        name = is_log.named.names n (omega (arith, to, in_log));
         few = accepted.few;
         small = subst (λ z. is_large limits (published_tables z.node.shown) ≡ false) (sym leads) (state_is_small limits log is_log p.at in_log);
       }))
@@ -212,7 +207,7 @@ module _ (goes_on : TextsGoOn) (batches : BatchesPublishAtEnd) (snapshots : Snap
       both : {a b : Bool} → a ≡ true → b ≡ true → (a && b) ≡ true
       both e f = λ i. e i && f i
 
-  taken_snapshot : (place : Option Position) (k : ℕ) → k ≤ length log
+  taken_snapshot : (place : Option Position) (k : ℕ) → k ≤ length log.commits
       → IsTakenPart limits log (standing limits.history log place true) (Snapshot k) (standing limits.history log (Some (record { at = k; low = k })) false) 1
   taken_snapshot place k within =
       let z : 0 ≡ k - k = omega arith in
@@ -220,7 +215,7 @@ module _ (goes_on : TextsGoOn) (batches : BatchesPublishAtEnd) (snapshots : Snap
       at_end (fresh_on node) (standing limits.history log (Some (record { at = k; low = k })) false) (Snapshot k) 1 (renewed_on node (state_at log k)) 1
       (snapshots limits node (state_at log k) (state_is_sendable listed_within limits log is_log k within) is_log.range.staged_from (state_is_small limits log is_log k within))
       (λ i. record {
-        node = record { shown = record { published = Some (state_at log k); held = tokens_from k (suc (z i)); kept = commits_after log k (z i) }; history = limits.history };
+        node = record { shown = record { published = Some (state_at log k); held = tokens_of log k (suc (z i)); kept = commits_after log k (z i) }; history = limits.history };
         afresh = false;
         changes = [];
       })
@@ -239,7 +234,7 @@ module _ (goes_on : TextsGoOn) (batches : BatchesPublishAtEnd) (snapshots : Snap
       }
 
   -- from a number on of which the mirror holds the token
-  since : (more : List Part) (p : Position) (k last : ℕ) → IsPosition limits log p → p.low ≤ k → k ≤ p.at → GoOn k more last → last ≤ length log
+  since : (more : List Part) (p : Position) (k last : ℕ) → IsPosition limits log p → p.low ≤ k → k ≤ p.at → GoOn k more last → last ≤ length log.commits
       → (prefix behind : List ℕ) → prefix ++ behind ≡ parts_text log more → IsTakenPrefix limits log (Some p) false more prefix
   since [] p k last h from to g within prefix behind e = no_part goes_on limits log (Some p) false prefix behind e
   since (Snapshot n ∷ more) p k last h from to g within prefix behind e = absurd g
@@ -249,14 +244,14 @@ module _ (goes_on : TextsGoOn) (batches : BatchesPublishAtEnd) (snapshots : Snap
   since (Commit n ∷ more) p k last h from to g within prefix behind e =
       by (λ q. since more q (k + 1) last) (nat_lt p.at n) refl prefix behind e
     where
-      by : ((q : Position) → IsPosition limits log q → q.low ≤ k + 1 → k + 1 ≤ q.at → GoOn (k + 1) more last → last ≤ length log
+      by : ((q : Position) → IsPosition limits log q → q.low ≤ k + 1 → k + 1 ≤ q.at → GoOn (k + 1) more last → last ≤ length log.commits
           → (prefix behind : List ℕ) → prefix ++ behind ≡ parts_text log more → IsTakenPrefix limits log (Some q) false more prefix)
           → (b : Bool) → nat_lt p.at n ≡ b
           → (prefix behind : List ℕ) → prefix ++ behind ≡ parts_text log (Commit n ∷ more) → IsTakenPrefix limits log (Some p) false (Commit n ∷ more) prefix
       by go true is =
           let less = ltb-true p.at n is in
           let up = goes_up (k + 1) more last g.1 in
-          let next : suc p.at ≤ length log = omega (arith, g.0) in
+          let next : suc p.at ≤ length log.commits = omega (arith, g.0) in
           let same : suc p.at ≡ n = omega (arith, g.0) in
           let q = renewed limits.history (suc p.at) p.low in
           let there = renewed_is_position limits log p h next in
@@ -272,11 +267,11 @@ module _ (goes_on : TextsGoOn) (batches : BatchesPublishAtEnd) (snapshots : Snap
           (go p h (omega arith) (omega (arith, g.0)) g.1 within)
 
   -- a fresh connection
-  fresh : (place : Option Position) (start : ℕ) (more : List Part) (last : ℕ) → GoOn start more last → last ≤ length log
+  fresh : (place : Option Position) (start : ℕ) (more : List Part) (last : ℕ) → GoOn start more last → last ≤ length log.commits
       → (prefix behind : List ℕ) → prefix ++ behind ≡ parts_text log (Snapshot start ∷ more) → IsTakenPrefix limits log place true (Snapshot start ∷ more) prefix
   fresh place start more last g within prefix behind e =
       let up = goes_up start more last g in
-      let here : start ≤ length log = omega arith in
+      let here : start ≤ length log.commits = omega arith in
       let h : IsPosition limits log (record { at = start; low = start }) = record { order = omega arith; kept = omega arith; in_log = here } in
       one_part goes_on limits log place (Some (record { at = start; low = start })) true false 1 (Snapshot start) more (taken_snapshot place start here)
       (record { place = λ bs. refl; anew = λ bs. sym (not_zero (length bs)); count = λ bs. omega arith })
@@ -284,7 +279,7 @@ module _ (goes_on : TextsGoOn) (batches : BatchesPublishAtEnd) (snapshots : Snap
 
   either : (is_fresh : Bool) (place : Option Position) (start : ℕ) (parts : List Part) (last : ℕ) → IsPlace limits log place
       → (is_fresh ≡ false → (own : Position) × (place ≡ Some own) × (own.low ≤ start) × (start ≤ own.at))
-      → (more : List Part) → parts ≡ first_parts is_fresh start ++ more → GoOn start more last → last ≤ length log
+      → (more : List Part) → parts ≡ first_parts is_fresh start ++ more → GoOn start more last → last ≤ length log.commits
       → (prefix behind : List ℕ) → prefix ++ behind ≡ parts_text log parts → IsTakenPrefix limits log place is_fresh parts prefix
   either true place start parts last p at more e g within prefix behind f =
       subst (λ ps. IsTakenPrefix limits log place true ps prefix) (sym e) (fresh place start more last g within prefix behind (f ∙ ap (parts_text log) e))

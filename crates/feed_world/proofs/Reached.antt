@@ -4,7 +4,7 @@ use Rattle.std.specs.Prelude.{if◌then◌else◌}
 use Rattle.std.specs.Option.{option_and_then}
 use Rattle.feed_settings.specs.Limits.{Limits}
 use Rattle.feed_world.specs.Connection.{Part, Snapshot, Commit, Line_feed, Connection, part_text, parts_text, come_by, block_onto, blocks_within, blocks_come, moved_by, GoOn, first_parts}
-use Rattle.feed_world.specs.Log.{Log}
+use Rattle.feed_world.specs.Log.{Log, numbered}
 use Rattle.feed_world.specs.Position.{Position, renewed}
 use Rattle.feed_world.specs.States.{ConnectionState, FollowerState, WorldState, AreLinked, AreMirrors, IsWorld, HasReached, HasReadAll}
 use Rattle.feed_world.specs.World.{Mirror, World, place_at, connection_at}
@@ -71,6 +71,6 @@ all_at limits log (m ∷ ms) [] i h = absurd h
 all_at limits log (m ∷ ms) (f ∷ fs) zero h = linked_all limits log m f m.connection f.connection h.0.linked
 all_at limits log (m ∷ ms) (f ∷ fs) (suc i) h = all_at limits log ms fs i h.1
 
-pub has_read_all : (w : World) (s : WorldState) → IsWorld w s → (i : ℕ) → IfSome (connection_at w i) (HasReadAll w.log (place_at w i))
+pub has_read_all : (w : World) (s : WorldState) → IsWorld w s → (i : ℕ) → IfSome (connection_at w i) (HasReadAll (numbered w.log) (place_at w i))
 has_read_all w s h zero = tt
-has_read_all w s h (suc i) = all_at w.limits w.log w.mirrors s.followers i h.nodes.mirrors
+has_read_all w s h (suc i) = all_at w.limits (numbered w.log) w.mirrors s.followers i h.nodes.mirrors

@@ -23,7 +23,6 @@ use Rattle.feed_world.specs.declared.event.Reply.TheVariants.{Committed, Opened,
 use Rattle.feed_world.specs.declared.event.WorldFault.{WorldFault}
 use Rattle.feed_world.specs.declared.event.WorldFault.TheVariants.{NoNode, NoConnection, Commit as CommitRefused}
 use Rattle.feed_world.specs.Connection.{Connection, Snapshot}
-use Rattle.feed_world.specs.Log.{Log}
 use Rattle.feed_world.specs.Position.{Position}
 use Rattle.feed_world.specs.World.{World, Mirror, new_world, node_of}
 use Rattle.feed_world.specs.Step.{Outcome, outcome}
@@ -104,7 +103,7 @@ abbrev mirror : Option Position → ℕ → Bool → Option Connection → Mirro
 mirror p upstream afresh connection = record { place = p; upstream = upstream; afresh = afresh; connection = connection; saved = None }
 
 -- a mirror whose token is no longer held, with a cut within the second snapshot
-abbrev a_log : Log
+abbrev a_log : List (List Change)
 a_log = (set_team (codes "1") ∷ []) ∷ (Single state (codes "{}") ∷ []) ∷ (Clear teams ∷ [])
     ∷ (Set groups (codes "1") (obj (codes "1")) ∷ []) ∷ (Set groups (codes "2") (obj (codes "2")) ∷ []) ∷ []
 
@@ -144,7 +143,7 @@ unfolding digits after written_string
 a_shown_last = simp (entries-inserted, entries-removed, get-entries, len-entries, entries-empty)
 
 -- a relay that is reset while the session of a mirror behind it is open
-abbrev b_log : Log
+abbrev b_log : List (List Change)
 b_log = (set_team (codes "1") ∷ []) ∷ (set_team (codes "2") ∷ []) ∷ (Remove teams (codes "1") ∷ []) ∷ (Single state (codes "{}") ∷ []) ∷ []
 
 abbrev b_world : List Mirror → World
@@ -196,7 +195,7 @@ unfolding digits after is_full is_large written_string
 d_shown = simp (entries-inserted, entries-removed, get-entries, len-entries, entries-empty)
 
 -- a mirror that was cut between two commits, and is sent again what it holds
-abbrev e_log : Log
+abbrev e_log : List (List Change)
 e_log = (Set (codes "t") (codes "1") (codes "{}") ∷ []) ∷ (Remove (codes "t") (codes "1") ∷ []) ∷ []
 
 abbrev e_cut : World
@@ -225,7 +224,7 @@ unfolding digits after is_full is_large written_string
 e_last = simp (entries-inserted, entries-removed, get-entries, len-entries, entries-empty)
 
 -- a mirror that is restarted from a prefix of what was saved, and then from all of it
-abbrev c_log : Log
+abbrev c_log : List (List Change)
 c_log = (set_team (codes "1") ∷ set_team (codes "2") ∷ []) ∷ []
 
 abbrev c_at : Option Position → World

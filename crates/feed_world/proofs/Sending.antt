@@ -1,5 +1,5 @@
 -- What a node at a place of a log sends.
-use Rattle.std.proofs.Common.{◌≡◌, refl, sym, ap, ◌∙◌, ℕ, zero, suc, ◌+◌, ◌-◌, ◌<◌, ◌≤◌, ◌^◌, max, Bool, true, false, List, [], length, Option, Some, None, Result, Ok, Err, arith, nat_le, leb-true, leb-false}
+use Rattle.std.proofs.Common.{◌≡◌, refl, sym, ap, ◌∙◌, ℕ, zero, suc, ◌+◌, ◌-◌, ◌<◌, ◌≤◌, max, Bool, true, false, List, [], length, Option, Some, None, Result, Ok, Err, arith, nat_le, leb-true, leb-false}
 use Rattle.std.specs.Prelude.{◌≢◌, slice_get, ◌&&◌, if◌then◌else◌}
 use Rattle.std.specs.Option.{option_and_then}
 use Rattle.std.proofs.lemmas.Option.{slice_get_past}
@@ -8,7 +8,6 @@ use Rattle.feed_settings.specs.declared.framing.Framing.{Framing}
 use Rattle.feed_node.specs.declared.commit.Commit.{Commit as Batch}
 use Rattle.feed_node.specs.declared.session.OpenFault.{OpenFault}
 use Rattle.feed_node.specs.declared.session.OpenFault.TheVariants.{NotYet, NotHeld, Memory}
-use Rattle.feed_node.specs.Log.{token_after, tokens_from}
 use Rattle.feed_node.specs.Serving.{commit_after, token_before}
 use Rattle.feed_node.specs.States.{place_of}
 use Rattle.feed_answer.specs.Answered.{AnswerParts, answer_to, answer_opened}
@@ -16,7 +15,7 @@ use Rattle.feed_answer.specs.Asked.{Asked, refused, feed, framing_for}
 use Rattle.feed_answer.specs.Opening.{Started, opens, starts_behind}
 use Rattle.feed_answer.specs.Served.{opening_text}
 use Rattle.feed_world.specs.Laws.{opened_text, OpensInLog, NodesOpenInLog, SessionsStartBefore, NodesSendTheNext, PartsGoOn}
-use Rattle.feed_world.specs.Log.{Log, state_text}
+use Rattle.feed_world.specs.Log.{Log, IsNamed, tokens_of, state_text}
 use Rattle.feed_world.specs.Position.{Position, IsPosition, IsPlace, commits_after, node_at, node_where}
 use Rattle.feed_world.specs.Step.{holds_number}
 use Rattle.feed_world.proofs.Answered.{Nothing_new, Commit_after, next, or_lost}
@@ -32,13 +31,12 @@ parts_go_on = record { commit = commit_next; line_feed = line_feed_next }
 
 pub sessions_start : SessionsStartBefore
 sessions_start limits log p k back is_log is from to =
-    let count = is_log.count in
     let within = is.in_log in
     let low = leb-there p.low k from in
     let high = leb-there k p.at to in
     let held : holds_number p k ≡ true = ap (λ b. b && nat_le k p.at) low ∙ high in
     let number : p.low + ((k - p.low) - back) ≡ max p.low (k - back) = omega (arith, from) in
-    starts_there log p is.order (omega (arith, within, count)) k held back ∙ ap (λ n. Some (token_after n)) number
+    starts_there log is_log p is.order within k held back ∙ ap (λ n. Some (log.token n)) number
   where
     leb-there : (a b : ℕ) → a ≤ b → nat_le a b ≡ true
     leb-there a b h = by (nat_le a b) refl
@@ -49,19 +47,19 @@ sessions_start limits log p k back is_log is from to =
 
 -- ---- the commit after a token
 
-module _ (log : Log) (p : Position) (order : p.low ≤ p.at) (small : p.at < 2 ^ 64) (k : ℕ) (named : k < 2 ^ 64) (commit : Batch)
-    (comes : commit_after (node_at log p) (token_after k) ≡ Some commit) where
+module _ (log : Log) (is : IsNamed log) (p : Position) (order : p.low ≤ p.at) (small : p.at ≤ length log.commits) (k : ℕ) (named : k ≤ length log.commits) (commit : Batch)
+    (comes : commit_after (node_at log p) (log.token k) ≡ Some commit) where
   -- the token is held
   not_out : (p.low ≤ k → ¬ (k ≤ p.at)) → ⊥
   not_out h =
-      let none = token_missing p.low (suc (p.at - p.low)) k (λ a b. h a (omega (arith, b, order))) (omega arith) named in
+      let none = token_missing log is p.low (suc (p.at - p.low)) k (λ a b. h a (omega (arith, b, order))) (omega arith) named in
       let nothing : None ≡ Some commit = sym (ap (option_and_then (slice_get (commits_after log p.low (p.at - p.low)))) none) ∙ comes in
       absurd (cc)
 
   -- and it is not the newest
   not_newest : k ≢ p.at
   not_newest same =
-      let place = token_found p.low (suc (p.at - p.low)) k (omega (arith, same, order)) (omega (arith, same, order)) (omega arith) in
+      let place = token_found log is p.low (suc (p.at - p.low)) k (omega (arith, same, order)) (omega (arith, same, order)) (omega arith) in
       let long = commits-length log p.low (p.at - p.low) in
       let past : slice_get (commits_after log p.low (p.at - p.low)) (k - p.low) ≡ None = slice_get_past (commits_after log p.low (p.at - p.low)) (k - p.low) (omega (arith, same, long)) in
       let nothing : None ≡ Some commit = sym past ∙ sym (ap (option_and_then (slice_get (commits_after log p.low (p.at - p.low)))) place) ∙ comes in
@@ -80,10 +78,10 @@ module _ (log : Log) (p : Position) (order : p.low ≤ p.at) (small : p.at < 2 ^
 
   is_next : (commit ≡ commit_of log (k + 1)) × (k < p.at)
   is_next =
-      let apart = tokens_apart p.at k small named (λ same. not_newest (sym same)) in
-      let this : next (node_at log p) (token_after k) ≡ Commit_after commit =
-      ap (λ b. if b then Nothing_new else or_lost (commit_after (node_at log p) (token_after k))) apart ∙ ap or_lost comes in
-      (same_commit commit (commit_of log (k + 1)) (sym this ∙ next_commit log p order small k named stands.0 stands.1), stands.1)
+      let apart = tokens_apart log is p.at k small named (λ same. not_newest (sym same)) in
+      let this : next (node_at log p) (log.token k) ≡ Commit_after commit =
+      ap (λ b. if b then Nothing_new else or_lost (commit_after (node_at log p) (log.token k))) apart ∙ ap or_lost comes in
+      (same_commit commit (commit_of log (k + 1)) (sym this ∙ next_commit log is p order small k named stands.0 stands.1), stands.1)
     where
       same_commit : (a b : Batch) → Commit_after a ≡ Commit_after b → a ≡ b
       same_commit a b f = cc
@@ -94,9 +92,8 @@ nodes_send limits log None k commit is_log is small comes = absurd (nothing come
     nothing : None ≡ Some commit → ⊥
     nothing e = absurd (cc)
 nodes_send limits log (Some p) k commit is_log is small comes =
-    let count = is_log.count in
     let within = is.in_log in
-    let n = is_next log p is.order (omega (arith, within, count)) k (omega (arith, small, count)) commit comes in
+    let n = is_next log is_log p is.order within k small commit comes in
     let less = n.1 in
     record {
       in_log = omega (arith, less, within);
@@ -106,38 +103,38 @@ nodes_send limits log (Some p) k commit is_log is small comes =
 
 -- ---- the opening of an answer
 
-pub token_there : (low many i : ℕ) (token : List ℕ) → slice_get (tokens_from low many) i ≡ Some token → (token ≡ token_after (low + i)) × (i < many)
-token_there low zero i token e = let nothing : None ≡ Some token = e in absurd (cc)
-token_there low (suc many) zero token e =
-    let this : Some (token_after low) ≡ Some token = e in
-    let same : token_after low ≡ token = cc in
+pub token_there : (log : Log) (low many i : ℕ) (token : List ℕ) → slice_get (tokens_of log low many) i ≡ Some token → (token ≡ log.token (low + i)) × (i < many)
+token_there log low zero i token e = let nothing : None ≡ Some token = e in absurd (cc)
+token_there log low (suc many) zero token e =
+    let this : Some (log.token low) ≡ Some token = e in
+    let same : log.token low ≡ token = cc in
     let n : low ≡ low + 0 = omega arith in
-    (sym same ∙ ap token_after n, omega arith)
-token_there low (suc many) (suc i) token e =
-    let t = token_there (low + 1) many i token e in
+    (sym same ∙ ap log.token n, omega arith)
+token_there log low (suc many) (suc i) token e =
+    let t = token_there log (low + 1) many i token e in
     let n : (low + 1) + i ≡ low + suc i = omega arith in
     let less : i < many = t.1 in
-    (t.0 ∙ ap token_after n, omega (arith, less))
+    (t.0 ∙ ap log.token n, omega (arith, less))
 
 -- a session that starts in the log
 record StartsInLog (log : Log) (started : Started) : Type 0 where
   k : ℕ
   fresh : Bool
-  in_log : k ≤ length log
-  token_is : started.token ≡ token_after k
+  in_log : k ≤ length log.commits
+  token_is : started.token ≡ log.token k
   text_is : started.text ≡ opened_text log fresh k
 
 behind : (limits : Limits) (log : Log) (p : Position) (back : ℕ) (started : Started) → IsPosition limits log p
-    → (held : Option (List ℕ)) (at : Option ℕ) → option_and_then (λ place. slice_get (tokens_from p.low (suc (p.at - p.low))) (place - back)) at ≡ held
+    → (held : Option (List ℕ)) (at : Option ℕ) → option_and_then (λ place. slice_get (tokens_of log p.low (suc (p.at - p.low))) (place - back)) at ≡ held
     → starts_behind held ≡ Ok started → StartsInLog log started
 behind limits log p back started is None at e f = let no : Err NotHeld ≡ Ok started = f in absurd (cc)
 behind limits log p back started is (Some token) None e f = let no : None ≡ Some token = e in absurd (cc)
 behind limits log p back started is (Some token) (Some j) e f =
-    let t = token_there p.low (suc (p.at - p.low)) (j - back) token e in
+    let t = token_there log p.low (suc (p.at - p.low)) (j - back) token e in
     let this : Ok (record { token = token; text = [] }) ≡ Ok started = f in
     let same : record { token = token; text = [] } ≡ started = cc in
     let order : p.low ≤ p.at = is.order in
-    let within : p.at ≤ length log = is.in_log in
+    let within : p.at ≤ length log.commits = is.in_log in
     let less : j - back < suc (p.at - p.low) = t.1 in
     record {
       k = p.low + (j - back);
@@ -151,8 +148,8 @@ starts : (limits : Limits) (log : Log) (place : Option Position) (back : ℕ) (s
     → IsPlace limits log place → opens (node_where log place) back since ≡ Ok started → StartsInLog log started
 starts limits log None back since started is e = let no : Err NotYet ≡ Ok started = e in absurd (cc)
 starts limits log (Some p) back None started is e =
-    let this : Ok (record { token = token_after p.at; text = state_text log p.at }) ≡ Ok started = e in
-    let same : record { token = token_after p.at; text = state_text log p.at } ≡ started = cc in
+    let this : Ok (record { token = log.token p.at; text = state_text log p.at }) ≡ Ok started = e in
+    let same : record { token = log.token p.at; text = state_text log p.at } ≡ started = cc in
     record { k = p.at; fresh = true; in_log = is.in_log; token_is = sym (ap (λ s. s.token) same); text_is = sym (ap (λ s. s.text) same) }
 starts limits log (Some p) back (Some token) started is e =
     behind limits log p back started is (token_before (node_at log p) back token) (place_of (node_at log p) token) refl e

@@ -3,7 +3,6 @@
 use Rattle.std.specs.Prelude.{◌≡◌, ◌⊎◌, ◌==◌, ◌&&◌, ℕ, ◌-◌, ◌≤◌, max, Bool, List, ◌++◌, length, take, Option, Some, None, is_none, if◌then◌else◌}
 use Rattle.feed_settings.specs.Limits.{Limits}
 use Rattle.feed_settings.specs.declared.framing.Framing.{Framing}
-use Rattle.feed_node.specs.Log.{token_after}
 use Rattle.feed_node.specs.Mirroring.{MirrorState, cut_off}
 use Rattle.feed_node.specs.States.{NodeState, published_token}
 use Rattle.feed_follow.specs.declared.fault.FollowFault.{FollowFault}
@@ -21,7 +20,7 @@ use Rattle.feed_answer.specs.FollowLaws.{StandsOnly}
 use Rattle.feed_answer.specs.Served.{opening_text}
 use Rattle.feed_world.specs.Connection.{Connection, part_texts, sent_text, blocks_within, moved_by}
 use Rattle.feed_world.specs.Laws.{opened_text}
-use Rattle.feed_world.specs.Log.{Log, IsLog}
+use Rattle.feed_world.specs.Log.{Log, IsLog, IsNamed}
 use Rattle.feed_world.specs.Position.{Position, IsPlace, node_where}
 use Rattle.feed_world.specs.Reading.{IsOpened}
 use Rattle.feed_world.specs.States.{HasAsked, HasReached}
@@ -33,13 +32,13 @@ use Rattle.feed_world.specs.Step.{IsMemory}
 pub record OpensAsked (log : Log) (p : Position) (since : Option (List ℕ)) (back : ℕ)
     (answer : AnswerParts) (opened : List ℕ) : Type 0 where
   pub k : ℕ
-  pub in_log : k ≤ length log
-  pub token_is : opened ≡ token_after k
+  pub in_log : k ≤ length log.commits
+  pub token_is : opened ≡ log.token k
   -- with a snapshot where none was asked with, and with nothing after a token
   pub text_is : answer.text ≡ opening_text answer.framing (opened_text log (is_none since) k)
   pub newest : since ≡ None → k ≡ p.at
   -- that token is held, and the session starts so many commits before it, or at the oldest one
-  pub own : (m : ℕ) → m ≤ length log → since ≡ Some (token_after m)
+  pub own : (m : ℕ) → m ≤ length log.commits → since ≡ Some (log.token m)
       → (p.low ≤ m) × (m ≤ p.at) × (k ≡ max p.low (m - back))
 
 -- A session is opened only by a node that has published, and as it was asked for. With no tokens
@@ -48,7 +47,7 @@ abbrev pub SessionsOpenAsAsked : Type 0
 SessionsOpenAsAsked =
     (limits : Limits) (log : Log) (node : NodeState) (place : Option Position)
     (head contest : List ℕ) (minor : ℕ) (since : Option (List ℕ)) (framing : Framing) (back : ℕ)
-    (answer : AnswerParts) (opened : List ℕ) → IsLog limits log → IsPlace limits log place
+    (answer : AnswerParts) (opened : List ℕ) → IsNamed log → IsPlace limits log place
     → node ≡ node_where log place → Asks head contest (feed minor since)
     → AnswersTo head contest node framing back answer → answer.session ≡ Some opened
     → (p : Position) × (place ≡ Some p) × OpensAsked log p since back answer opened

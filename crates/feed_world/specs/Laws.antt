@@ -5,24 +5,23 @@ use Rattle.feed_settings.specs.Limits.{Limits}
 use Rattle.feed_settings.specs.declared.framing.Framing.{Framing}
 use Rattle.feed_tables.specs.declared.change.Change.{Change}
 use Rattle.feed_node.specs.declared.commit.Commit.{Commit as Batch}
-use Rattle.feed_node.specs.Log.{token_after}
 use Rattle.feed_node.specs.Serving.{commit_after, token_before}
 use Rattle.feed_node.specs.States.{NodeState}
 use Rattle.feed_answer.specs.Answered.{AnswerParts, AnswersTo}
 use Rattle.feed_answer.specs.Served.{opening_text}
 use Rattle.feed_world.specs.Connection.{Part, Commit, Line_feed, Connection, GoOn, IsInOrder, sent_text, sent_bytes, blocks_within, moved_by}
-use Rattle.feed_world.specs.Log.{Log, IsLog, state_text, changes_of_commit}
+use Rattle.feed_world.specs.Log.{Log, IsNamed, further, state_text, changes_of_commit}
 use Rattle.feed_world.specs.Position.{Position, IsPosition, IsPlace, node_at, node_where}
 use Rattle.feed_world.specs.Step.{with_more, with_line_feed}
 
 -- a further commit changes nothing of what a node shows, nor of what was sent
 pub record GrowthKeeps : Type 0 where
   pub nodes : (log : Log) (changes : List Change) (p : Position) → p.low ≤ p.at
-      → p.at ≤ length log → node_at (log ++ changes ∷ []) p ≡ node_at log p
+      → p.at ≤ length log.commits → node_at (further log changes) p ≡ node_at log p
   pub texts : (log : Log) (changes : List Change) (c : Connection) → IsInOrder c
-      → c.last ≤ length log → sent_text (log ++ changes ∷ []) c ≡ sent_text log c
+      → c.last ≤ length log.commits → sent_text (further log changes) c ≡ sent_text log c
   pub bytes : (log : Log) (changes : List Change) (c : Connection) → IsInOrder c
-      → c.last ≤ length log → sent_bytes (log ++ changes ∷ []) c ≡ sent_bytes log c
+      → c.last ≤ length log.commits → sent_bytes (further log changes) c ≡ sent_bytes log c
 
 -- what is sent next stands in order behind what was sent
 pub record SendingKeepsOrder : Type 0 where
@@ -47,8 +46,8 @@ opened_text log fresh k = if fresh then state_text log k else []
 pub record OpensInLog (log : Log) (answer : AnswerParts) (opened : List ℕ) : Type 0 where
   pub k : ℕ
   pub fresh : Bool
-  pub in_log : k ≤ length log
-  pub token_is : opened ≡ token_after k
+  pub in_log : k ≤ length log.commits
+  pub token_is : opened ≡ log.token k
   pub text_is : answer.text ≡ opening_text answer.framing (opened_text log fresh k)
 
 -- whatever request a node at a place of the log answers with a session
@@ -64,22 +63,22 @@ NodesOpenInLog =
 -- and at the oldest token that is held where there are fewer
 abbrev pub SessionsStartBefore : Type 0
 SessionsStartBefore =
-    (limits : Limits) (log : Log) (p : Position) (k back : ℕ) → IsLog limits log
+    (limits : Limits) (log : Log) (p : Position) (k back : ℕ) → IsNamed log
     → IsPosition limits log p → p.low ≤ k → k ≤ p.at
-    → token_before (node_at log p) back (token_after k) ≡ Some (token_after (max p.low (k - back)))
+    → token_before (node_at log p) back (log.token k) ≡ Some (log.token (max p.low (k - back)))
 
 -- the commit is the one after number k of the log
 pub record IsNextInLog (log : Log) (k : ℕ) (commit : Batch) : Type 0 where
-  pub in_log : k < length log
+  pub in_log : k < length log.commits
   pub changes_are : commit.changes ≡ changes_of_commit log (k + 1)
-  pub token_is : commit.token ≡ token_after (k + 1)
+  pub token_is : commit.token ≡ log.token (k + 1)
 
 -- whatever commit a node at a place of the log has after a token
 abbrev pub NodesSendTheNext : Type 0
 NodesSendTheNext =
     (limits : Limits) (log : Log) (place : Option Position) (k : ℕ) (commit : Batch)
-    → IsLog limits log → IsPlace limits log place → k ≤ length log
-    → commit_after (node_where log place) (token_after k) ≡ Some commit → IsNextInLog log k commit
+    → IsNamed log → IsPlace limits log place → k ≤ length log.commits
+    → commit_after (node_where log place) (log.token k) ≡ Some commit → IsNextInLog log k commit
 
 -- parts that go on to a number still do with the next commit after them, or a line feed
 pub record PartsGoOn : Type 0 where

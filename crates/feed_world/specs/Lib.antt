@@ -8,3 +8,4 @@ pub mod Reading
 pub mod States
 pub mod Step
 pub mod World
+pub mod Telling

@@ -1,11 +1,10 @@
 -- What a mirror makes of what was sent to it, whatever prefix of it came.
-use Rattle.std.specs.Prelude.{◌≡◌, ℕ, ◌≤◌, ◌<◌, ◌^◌, Bool, false, ◌&&◌, List, ◌++◌, length, Option, Some, ◌==◌}
+use Rattle.std.specs.Prelude.{◌≡◌, ℕ, ◌≤◌, Bool, false, ◌&&◌, List, ◌++◌, length, Option, Some, ◌==◌}
 use Rattle.feed_settings.specs.Limits.{Limits}
 use Rattle.feed_note.specs.declared.line.Line.{Line}
-use Rattle.feed_node.specs.Log.{token_after}
 use Rattle.feed_node.specs.Mirroring.{publications}
 use Rattle.feed_node.specs.Reading.{Opening, Reads, reads, keep_latest, awaits_reset}
-use Rattle.feed_world.specs.Log.{Log, IsLog, state_after}
+use Rattle.feed_world.specs.Log.{Log, IsLog, IsNamed, state_after}
 use Rattle.feed_world.specs.Position.{Position, IsPlace, node_where}
 use Rattle.feed_world.specs.Connection.{Connection, IsInOrder, sent_text, blocks_within, moved_by, count_new}
 
@@ -21,7 +20,7 @@ pub record IsOpened (limits : Limits) (log : Log) (place : Option Position)
   pub start : c.fresh ≡ false → (own : Position) × (place ≡ Some own) × (own.low ≤ c.start)
       × (c.start ≤ own.at)
   pub order : IsInOrder c
-  pub sent : c.last ≤ length log
+  pub sent : c.last ≤ length log.commits
 
 -- A prefix of what was sent has nothing bad, and the mirror that reads it is where its whole blocks
 -- bring it: it publishes at each of them that is new, and nothing else.
@@ -46,5 +45,5 @@ PrefixesAreRead =
 -- numbers of a log have one token each, so nodes at one token have equal tables
 abbrev pub TokensTellStates : Type 0
 TokensTellStates =
-    (log : Log) (m n : ℕ) → length log < 2 ^ 64 → m ≤ length log → n ≤ length log
-    → token_after m ≡ token_after n → (m ≡ n) × (state_after log m ≡ state_after log n)
+    (log : Log) (m n : ℕ) → IsNamed log → m ≤ length log.commits → n ≤ length log.commits
+    → log.token m ≡ log.token n → (m ≡ n) × (state_after log m ≡ state_after log n)

@@ -27,7 +27,7 @@ use Rattle.feed_node.specs.Mirroring.{MirrorState, present_opening, new_mirror, 
 use Rattle.feed_node.specs.States.{NodeState, published_token}
 use Rattle.feed_note.specs.Publishing.{Published}
 use Rattle.feed_world.specs.Connection.{Connection, sent_bytes, bytes_sent, blocks_come, moved_by}
-use Rattle.feed_world.specs.Log.{Log, IsLog}
+use Rattle.feed_world.specs.Log.{Log, IsLog, numbered}
 use Rattle.feed_world.specs.Position.{Position, IsPosition, IsPlace, commits_after, node_where}
 use Rattle.feed_world.specs.Reading.{IsOpened, opening_at}
 use Rattle.feed_world.specs.Step.{Move, Step, Run, RunUpTo, primary_of, mirror_connects, mirror_serves, mirror_delivers, brought_to, reached, connects, linked, turned_to, IsRefusal, IsMemory, BrokeForMemory, is_free_reply}
@@ -125,7 +125,7 @@ RefusesShape nodes NoMemory = HasShape nodes
 pub record IsConnection (log : Log) (c : Connection) (s : ConnectionState) : Type 0 where
   pub framing : s.framing ≡ c.framing
   pub bytes : s.bytes ≡ sent_bytes log c
-  pub token : s.token ≡ token_after c.last
+  pub token : s.token ≡ log.token c.last
   pub start : s.start ≡ c.start
   pub delivered : s.delivered ≡ c.delivered
   pub within : c.delivered ≤ bytes_sent log c
@@ -174,7 +174,7 @@ pub record IsMirror (limits : Limits) (log : Log) (m : Mirror) (f : FollowerStat
   pub node : f.mirror.node ≡ node_where log m.place
   pub since : f.mirror.since ≡ asks_with log m
   pub linked : AreLinked limits log m m.connection f f.connection
-  pub in_log : IfSome m.saved (λ k. k ≤ length log)
+  pub in_log : IfSome m.saved (λ k. k ≤ length log.commits)
   pub saved : f.saved ≡ saved_text log m.saved
 
 -- the mirror made this move, and gave its reply
@@ -239,17 +239,17 @@ ConnectToOthers w =
 
 -- the primary and the mirrors are those of this world
 pub record AreNodes (w : World) (primary : PrimaryState) (fs : List FollowerState) : Type 0 where
-  pub log : IsLog w.limits w.log
+  pub log : IsLog w.limits (numbered w.log)
   pub latest : w.primary.at ≡ length w.log
-  pub place : IsPosition w.limits w.log w.primary
+  pub place : IsPosition w.limits (numbered w.log) w.primary
   pub shows : primary ≡ primary_of w
   pub others : ConnectToOthers w
-  pub mirrors : AreMirrors w.limits w.log w.mirrors fs
+  pub mirrors : AreMirrors w.limits (numbered w.log) w.mirrors fs
 
 -- the state is that of this world
 pub record IsWorld (w : World) (s : WorldState) : Type 0 where
   pub framing : s.framing ≡ w.framing
-  pub commits : s.log ≡ commits_after w.log 0 (length w.log)
+  pub commits : s.log ≡ commits_after (numbered w.log) 0 (length w.log)
   pub nodes : AreNodes w s.primary s.followers
 
 -- the state is that of some world
@@ -378,11 +378,11 @@ pub record NoFalseState (s : WorldState) : Type 0 where
 
 -- what a connection of numbers has carried
 abbrev pub carried_on : Log → Connection → Carried
-carried_on log c = carrying (bytes_sent log c) c.delivered (token_after c.last)
+carried_on log c = carrying (bytes_sent log c) c.delivered (log.token c.last)
 
 -- what the connection of this mirror of the world has carried, where it has one
 abbrev pub carried_at : World → ℕ → Option Carried
-carried_at w i = option_map (carried_on w.log) (connection_at w i)
+carried_at w i = option_map (carried_on (numbered w.log)) (connection_at w i)
 
 -- a node at this place has this number, or a later one
 abbrev pub HasReached : Option Position → ℕ → Type 0

@@ -17,7 +17,7 @@ use Rattle.feed_world.specs.declared.event.Reply.TheVariants.{Committed, Opened,
 use Rattle.feed_world.specs.declared.event.WorldFault.{WorldFault}
 use Rattle.feed_world.specs.declared.event.WorldFault.TheVariants.{NoNode, NoConnection, Commit as CommitRefused, Memory}
 use Rattle.feed_world.specs.Connection.{Part, Commit, Line_feed, Connection, bytes_sent, blocks_between, moved_by, count_new, first_parts}
-use Rattle.feed_world.specs.Log.{Log, state_text}
+use Rattle.feed_world.specs.Log.{Log, numbered, state_text}
 use Rattle.feed_world.specs.Position.{Position, node_at, renewed}
 use Rattle.feed_world.specs.World.{Mirror, World, is_other, mirror_at, with_mirror, place_at, saved_text}
 
@@ -36,7 +36,7 @@ primary_of world =
     record {
       limits = world.limits;
       count = world.primary.at;
-      node = node_at world.log world.primary;
+      node = node_at (numbered world.log) world.primary;
     }
 
 abbrev pub committed : World → List Change → World
@@ -277,10 +277,10 @@ outcome world (Connect i j back) =
 outcome world (Serve i) =
     at_node world i (λ mirror. mirror_serves mirror (place_at world mirror.upstream))
 outcome world (Idle i) = at_node world i mirror_idles
-outcome world (Deliver i n) = at_node world i (mirror_delivers world.limits.history world.log n)
+outcome world (Deliver i n) = at_node world i (mirror_delivers world.limits.history (numbered world.log) n)
 outcome world (DoCut i) = at_node world i mirror_cuts
-outcome world (Save i) = at_node world i (mirror_saves world.log)
-outcome world (Restart i n) = at_node world i (mirror_restarts world.log n)
+outcome world (Save i) = at_node world i (mirror_saves (numbered world.log))
+outcome world (Restart i n) = at_node world i (mirror_restarts (numbered world.log) n)
 
 -- The connection broke for want of memory, with bytes to deliver: some of them count, and the
 -- connection is gone.
@@ -289,12 +289,12 @@ pub record Breaks (old : World) (i n : ℕ) (new : World) : Type 0 where
   pub connection : Connection
   pub is_there : mirror_at old i ≡ Some mirror
   pub is_linked : mirror.connection ≡ Some connection
-  pub some : connection.delivered < reached old.log connection n
+  pub some : connection.delivered < reached (numbered old.log) connection n
   pub e : ℕ
   pub from : connection.delivered ≤ e
-  pub to : e ≤ reached old.log connection n
+  pub to : e ≤ reached (numbered old.log) connection n
   pub after : new ≡ with_mirror old i
-      (brought_to old.limits.history old.log mirror connection e None)
+      (brought_to old.limits.history (numbered old.log) mirror connection e None)
 
 -- The answer refused a connection, and memory ran out while the mirror read it: there is no
 -- connection, and the mirror asks with what it asked with.

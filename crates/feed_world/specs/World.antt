@@ -4,7 +4,8 @@ use Rattle.std.specs.Option.{option_and_then}
 use Rattle.feed_settings.specs.Limits.{Limits}
 use Rattle.feed_settings.specs.declared.framing.Framing.{Framing}
 use Rattle.feed_node.specs.States.{NodeState}
-use Rattle.feed_world.specs.Log.{Log, state_text}
+use Rattle.feed_tables.specs.declared.change.Change.{Change}
+use Rattle.feed_world.specs.Log.{Log, numbered, state_text}
 use Rattle.feed_world.specs.Position.{Position, node_where}
 use Rattle.feed_world.specs.Connection.{Connection}
 
@@ -19,12 +20,12 @@ pub record Mirror : Type 0 where
   pub connection : Option Connection
   pub saved : Option ℕ
 
--- a world: the limits of its nodes, how the bodies of responses are framed, the log, where the
--- primary is, and the mirrors
+-- a world: the limits of its nodes, how the bodies of responses are framed, the changes of each
+-- commit of its primary, where the primary is, and the mirrors
 pub record World : Type 0 where
   pub limits : Limits
   pub framing : Framing
-  pub log : Log
+  pub log : List (List Change)
   pub primary : Position
   pub mirrors : List Mirror
 
@@ -91,7 +92,7 @@ saved_text log (Some k) = state_text log k
 
 -- what the node of this number shows
 abbrev pub node_of : World → ℕ → NodeState
-node_of world i = node_where world.log (place_at world i)
+node_of world i = node_where (numbered world.log) (place_at world i)
 
 -- the connection of the mirror of this number, where there is one
 abbrev pub connection_at : World → ℕ → Option Connection

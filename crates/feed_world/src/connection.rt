@@ -88,13 +88,13 @@ impl Connection {
     pub fn serve(&mut self, alloc: Global, server: &Node) -> Result<Pulled, AllocError>
         ensures ok { (limits : Bounds) (log : Log) (c : Sending) (place : Option Position)
             → IsLog limits log → IsPlace limits log place
-            → server.now.shown ≡ node_where log place → c.last ≤ length log
+            → server.now.shown ≡ node_where log place → c.last ≤ length log.commits
             → IsConnection log c self.old
             → IfOk result (λ pulled. (pulled ≡ (serves c place).0)
             × IsConnection log (serves c place).1 self.new) }
         ensures err { (limits : Bounds) (log : Log) (c : Sending) (place : Option Position)
             → IsLog limits log → IsPlace limits log place
-            → server.now.shown ≡ node_where log place → c.last ≤ length log
+            → server.now.shown ≡ node_where log place → c.last ≤ length log.commits
             → IsConnection log c self.old
             → OnErr result ((serves c place).0 ≡ More) }
         ensures reader { self.new.reader ≡ self.old.reader }

@@ -3,6 +3,7 @@
 ghost use Rattle.feed_world.specs.Laws.{GrowthKeeps, SendingKeepsOrder, DeliveriesCompose, NodesOpenInLog, SessionsStartBefore, NodesSendTheNext, PartsGoOn};
 ghost use Rattle.feed_world.specs.Following.{SessionsOpenAsAsked, PlacesStay, AllIsReached, ResponsesCarryFeed, MirrorsFollow, FailsKeepStates, RefusalsKeepNodes};
 ghost use Rattle.feed_world.specs.Reading.{PrefixesAreRead, TokensTellStates};
+ghost use Rattle.feed_world.specs.Telling.{TellsShow};
 
 use feed_answer::{answer_laws, followed_laws};
 use feed_node::{node_laws, reading_laws};
@@ -53,4 +54,12 @@ pub fn following_laws()
     followed_laws();
     world_laws();
     sending_laws();
+}
+
+/// What a mirror makes of lines that tell a log with any tokens, whoever wrote them: it is at a
+/// place of that log. This is what servers of other make are measured by.
+pub fn telling_laws()
+    ensures { TellsShow }
+{
+    node_laws();
 }

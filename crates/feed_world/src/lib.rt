@@ -11,5 +11,5 @@ mod world;
 
 pub use event::{Event, Reply, ShapeFault, WorldFault};
 pub use feed_answer::Framing;
-pub use laws::{following_laws, sending_laws, world_laws};
+pub use laws::{following_laws, sending_laws, telling_laws, world_laws};
 pub use world::{Link, MOST_NODES, World};

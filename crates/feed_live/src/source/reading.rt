@@ -1,6 +1,10 @@
 //! The response is read, followed and said.
 
-ghost use Rattle.std.specs.Prelude.{◌≡◌, ◌++◌, [], List, ℕ, OnOk, false, true};
+ghost use Rattle.std.specs.Prelude.{◌≡◌, ◌++◌, [], List, ℕ, OnOk, IfOk, IfErr, Bool, is_some, false, true};
+ghost use Rattle.feed_node.specs.Mirroring.{MirrorState};
+ghost use Rattle.feed_follow.specs.Following.{Fails};
+ghost use Rattle.feed_follow.specs.Standing.{Standing};
+ghost use Rattle.feed_hub.specs.Upstream.{IsFollowing, IsPushed};
 
 use crate::figures::Following;
 use crate::screens::Screens;
@@ -19,7 +23,7 @@ const PIECE: usize = 16_384;
 
 impl Source {
     ghost use Rattle.feed_live.specs.Relaying.{StillFollows, StillServes, SameSource};
-    ghost use Rattle.feed_live.specs.Relaying.{IsKeeping, IsLeft};
+    ghost use Rattle.feed_live.specs.Relaying.{IsKeeping, IsLeft, PushesOnly, followed_by};
     ghost use Rattle.feed_live.specs.declared.source.Reach.TheVariants.{Away, Reads as Read};
 
     /// Reads what came, so many times.
@@ -65,11 +69,13 @@ impl Source {
         let mut buf = [0u8; PIECE];
         match link.read(&mut buf) {
             Ok(0) => {
+                self.settle_ended(alloc, told, screens, now);
                 self.lost(link, told, Why::Ended, now);
                 false
             }
             Ok(count) => {
                 self.figures.hear(count, now);
+                self.settling.hear(count, now);
                 self.take(alloc, link, told, screens, &buf[..count], now);
                 self.reach == Reach::Reads
             }
@@ -146,17 +152,17 @@ impl Source {
             × (self.new.rest.items ≡ self.old.rest.items) }
         ensures stops { result ≡ false → self.new.reach ≡ Away }
     {
-        let mirror = self.answers.shown.change();
-        match self.upstream.take(alloc, mirror, line, now) {
+        match self.push(alloc, line, now) {
             Ok(Progress::Head) => true,
             Ok(Progress::Body) => {
                 self.found(told, now);
-                self.say(alloc, screens, now);
+                self.say(alloc, told, screens, now);
                 true
             }
             Ok(Progress::Done) => {
                 self.found(told, now);
-                self.say(alloc, screens, now);
+                self.say(alloc, told, screens, now);
+                self.settle(alloc, told, screens, now);
                 self.lost(link, told, Why::Ended, now);
                 false
             }
@@ -165,9 +171,31 @@ impl Source {
                 false
             }
             Err(fault) => {
-                self.say(alloc, screens, now);
+                self.say(alloc, told, screens, now);
                 self.lost(link, told, why_of(fault), now);
                 false
+            }
+        }
+    }
+
+    /// The mirror that follows the response takes bytes of it: what comes afresh is shown to nobody
+    /// until it has settled.
+    fn push(&mut self, alloc: Global, line: &[u8], now: u64) -> Result<Progress, FollowFault>
+        ensures ok { (start : MirrorState) (before : List ℕ) (standing : Standing)
+            → IsFollowing start before standing self.old.upstream.follower (followed_by self.old)
+            → IfOk result (IsPushed start (before ++ line.now) self.new.upstream.follower
+            (followed_by self.new)) }
+        ensures err { (start : MirrorState) (before : List ℕ) (standing : Standing)
+            → IsFollowing start before standing self.old.upstream.follower (followed_by self.old)
+            → IfErr result (λ fault. (had_token : Bool) × (had_token ≡ is_some start.since)
+            × Fails start had_token before line.now (followed_by self.new) fault) }
+        ensures only { PushesOnly self.old self.new }
+    {
+        match &mut self.coming {
+            Some(coming) => self.upstream.take(alloc, coming, line, now),
+            None => {
+                let mirror = self.answers.shown.change();
+                self.upstream.take(alloc, mirror, line, now)
             }
         }
     }
@@ -199,12 +227,16 @@ impl Source {
         });
     }
 
-    /// Says what was published. Where a connection published afresh, no screen goes on from what
-    /// it has.
-    fn say(&mut self, alloc: Global, screens: &mut Screens, now: u64)
+    /// Says what was published, where it is to be shown now. Where a connection published afresh, no
+    /// screen goes on from what it has.
+    pub(crate) fn say(&mut self, alloc: Global, told: &mut Telling, screens: &mut Screens, now: u64)
         ensures same { SameSource self.old self.new }
         ensures serves { StillServes self.old.answers.shown.mirror.node screens.old screens.new }
     {
+        if self.coming.is_some() {
+            self.compare(told);
+            return;
+        }
         if self.is_fresh && self.answers.shown.mirror().since().is_some() {
             self.is_fresh = false;
             self.epoch = self.epoch.saturating_add(1);

@@ -16,7 +16,7 @@ use feed_settings::{Framing, Limits, MOST_COMMITS, MOST_MEMORY};
 
 /// The number that an option's value says; none where it is out of its range, which its parser has
 /// refused.
-fn number_up_to(matches: &ArgMatches<'_>, name: &str, most: u64) -> Option<u64>
+pub(super) fn number_up_to(matches: &ArgMatches<'_>, name: &str, most: u64) -> Option<u64>
     ensures { IfSome result (λ n. IsNumberUpTo name.now most (rows_of (found_of matches.now)) n) }
 {
     let number = matches.get_one::<u64>(name)?;

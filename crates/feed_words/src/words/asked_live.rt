@@ -8,9 +8,10 @@ ghost use Rattle.feed_words.specs.Live.{AsksUpstream, IsUpstream, AsksLive};
 ghost use Rattle.feed_words.specs.Options.{IsNumberIfGiven, IsGiven};
 
 use super::asked::{
-    framing, identity, is_given, limits, number, number_if_given, port, text, text_if_given,
+    framing, identity, is_given, limits, number, number_if_given, number_up_to, port, text,
+    text_if_given,
 };
-use super::live::{MOST_IDLE, MOST_SCREENS, MOST_WINDOW};
+use super::live::{MOST_IDLE, MOST_SCREENS, MOST_SETTLE, MOST_WINDOW};
 use super::options::MOST_PORT;
 use crate::request::{LiveOptions, UpstreamOptions, Verbosity};
 use clap::ArgMatches;
@@ -89,6 +90,7 @@ pub(super) fn live_options<'a>(matches: &ArgMatches<'a>) -> Option<LiveOptions<'
     let screens = number(matches, "screens", MOST_SCREENS)?;
     let idle = number(matches, "idle", MOST_IDLE)?;
     let window = number(matches, "window", MOST_WINDOW)?;
+    let settle = number_up_to(matches, "settle", MOST_SETTLE)?;
     let verbosity = verbosity(matches)?;
     let limits = limits(matches)?;
     Some(LiveOptions {
@@ -105,6 +107,8 @@ pub(super) fn live_options<'a>(matches: &ArgMatches<'a>) -> Option<LiveOptions<'
         window,
         framing: framing(matches),
         state,
+        settle,
+        fresh: is_given(matches, "fresh"),
         until_eof: is_given(matches, "until-eof"),
         verbosity,
         limits,

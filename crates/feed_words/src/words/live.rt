@@ -5,7 +5,7 @@ ghost use Rattle.feed_words.specs.Live as live;
 
 use super::line::{add_option, command, with_limits};
 use super::options;
-use super::options::{MOST_PORT, flag, number, text};
+use super::options::{MOST_PORT, flag, number, number_between, text};
 use clap::{Arg, Command};
 use std::alloc::{AllocError, Global};
 
@@ -17,6 +17,10 @@ pub(super) const MOST_IDLE: u64 = 3_600;
 
 /// The most bytes that a screen may be late.
 pub(super) const MOST_WINDOW: u64 = 1_073_741_824;
+
+/// The most milliseconds that a feed which was asked for from the start may be quiet before it is
+/// shown.
+pub(super) const MOST_SETTLE: u64 = 60_000;
 
 /// `--host H`, with `--port`.
 fn host<'a>(alloc: Global) -> Result<Arg<'a>, AllocError>
@@ -177,6 +181,27 @@ fn state<'a>(alloc: Global) -> Arg<'a>
     text(alloc, "state", "FILE").help("The file that keeps what was published, for the next start")
 }
 
+/// `--settle MS`.
+fn settle<'a>(alloc: Global) -> Arg<'a>
+    ensures rule { rule_of result ≡ live.settle }
+    ensures local { result.global ≡ false }
+{
+    number_between(alloc, "settle", "MS", 0, MOST_SETTLE)
+        .help(
+            "For how many milliseconds nothing more has come of a feed that was asked for from the \
+              start before it is shown, 0 to 60000; 0 shows each of its states as it comes",
+        )
+        .default_value("2000")
+}
+
+/// `--fresh`.
+fn fresh<'a>(alloc: Global) -> Arg<'a>
+    ensures rule { rule_of result ≡ live.fresh }
+    ensures local { result.global ≡ false }
+{
+    flag(alloc, "fresh").help("Ask for everything on each connection, never with since_token")
+}
+
 /// `--until-eof`.
 fn until_eof<'a>(alloc: Global) -> Arg<'a>
     ensures rule { rule_of result ≡ live.until_eof }
@@ -265,6 +290,18 @@ fn with_feed<'a>(
     add_tied(followed, from(alloc))
 }
 
+/// A command with the options that say how a feed is asked for, and when it is shown.
+fn with_settling<'a>(
+    alloc: Global,
+    command: Result<Command<'a>, AllocError>,
+) -> Result<Command<'a>, AllocError>
+    ensures { (app : App) → IfOk command.entry (λ c. app_of c ≡ app)
+        → IfOk result (λ c. app_of c ≡ live.with_settling app) }
+{
+    let settled = add_option(command, settle(alloc));
+    add_option(settled, fresh(alloc))
+}
+
 /// A command with the options that say what is followed, as whom, and until when.
 fn with_upstream<'a>(
     alloc: Global,
@@ -274,7 +311,7 @@ fn with_upstream<'a>(
         → IfOk result (λ c. app_of c ≡ live.with_upstream app) }
 {
     let followed = with_feed(alloc, under(command, "Upstream"));
-    let followed = with_identity(alloc, followed);
+    let followed = with_settling(alloc, with_identity(alloc, followed));
     add_option(followed, until_eof(alloc))
 }
 

@@ -145,6 +145,8 @@ fn limits_of(options: &LiveOptions<'_>) -> LiveLimits {
         window: options.window,
         idle: options.idle.saturating_mul(1_000),
         framing: options.framing,
+        settle: options.settle,
+        is_fresh: options.fresh,
         is_verbose: options.verbosity == Verbosity::Verbose,
         has_store: options.state.is_some(),
         ends_with_input: options.until_eof,

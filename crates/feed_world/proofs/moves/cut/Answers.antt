@@ -1,5 +1,6 @@
 use Rattle.std.proofs.Common.{refl, inl, suc}
 use Rattle.std.proofs.lemmas.Result.{err_from_is_err_and}
+use Rattle.feed_world.specs.Log.{numbered}
 use Rattle.feed_world.specs.declared.event.Event.TheVariants.{Cut as DoCut}
 use Rattle.feed_world.specs.Step.{mirror_cuts}
 use Rattle.feed_world.proofs.Moved.{nobody, move_leads, move_fails, keeps_cut}
@@ -14,9 +15,9 @@ returns-in_err-place-clause-err c w primary h =
 pub returns-clause-ok : goal.returns-clause-ok
 returns-clause-ok c w primary h =
     move_leads w primary _ h c.args.number c.in_ok-place.place c.in_ok-place.ensures.ok.0 c.index-followers-place.result c.in_ok-place.ensures.ok.1
-    (DoCut c.args.number) mirror_cuts refl (keeps_cut w (suc c.in_ok-place.place)) c.cut.result c.cut.new.self (λ m k. c.cut.ensures.ok w.limits w.log m k)
+    (DoCut c.args.number) mirror_cuts refl (keeps_cut w (suc c.in_ok-place.place)) c.cut.result c.cut.new.self (λ m k. c.cut.ensures.ok w.limits (numbered w.log) m k)
 
 pub returns-clause-err : goal.returns-clause-err
 returns-clause-err c w primary h =
     move_fails w primary _ h c.args.number c.in_ok-place.place c.in_ok-place.ensures.ok.0 c.index-followers-place.result c.in_ok-place.ensures.ok.1
-    mirror_cuts c.cut.result (λ m k. refused_unlinked w.limits w.log m _ _ c.cut.result k c.cut.ensures.err)
+    mirror_cuts c.cut.result (λ m k. refused_unlinked w.limits (numbered w.log) m _ _ c.cut.result k c.cut.ensures.err)

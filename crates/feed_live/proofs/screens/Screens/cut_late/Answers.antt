@@ -7,4 +7,5 @@ returns c =
     record {
       serving = λ nodes contest sockets serving.
           serving_on (λ key. still_sits contest (late_stays nodes _ _ key c.cut_late.ensures.cuts c.cut_late.ensures.broadcast)) (omega (arith, c.cut_late.ensures.next)) serving;
+      cuts = c.cut_late.ensures.cuts;
     }

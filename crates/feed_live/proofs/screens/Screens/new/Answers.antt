@@ -9,4 +9,5 @@ returns c =
     record {
       serving = λ nodes contest sockets closed.
           serving_none _ c.new-2.result sockets (λ at. ap (λ (slots : List (Option Conn)). slice_index_or slots at None) c.new-2.ensures.empty) closed;
+      most = c.new.ensures.limits.1;
     }

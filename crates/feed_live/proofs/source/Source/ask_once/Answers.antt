@@ -1,5 +1,5 @@
 use Rattle.std.proofs.Common.{◌∙◌, ap, subst, drop}
-use Rattle.feed_live.specs.Relaying.{MayFollow}
+use Rattle.feed_live.specs.Relaying.{MayFollow, followed_by}
 use Rattle.feed_live.proofs.RelayLemmas.{asked_more_honest, asks_follows}
 use Rattle.feed_live.proofs.source.Source.ask_once.Goals as goal
 
@@ -13,7 +13,7 @@ returns-in-Ok g c =
               here.0,
               asks_follows limits log servers c.args.self.now.request.items c.args.self.now.rest.items c.behind-rest.result.now _ _ c.args.count c.in-Ok.more _ _
                   c.in-Ok.ensures.bytes (c.behind-rest.ensures ∙ ap (drop c.args.count) c.deref.ensures.value)
-                  (subst (λ r. MayFollow limits log servers r c.args.self.now.request.items c.args.self.now.rest.items (g.L.Link.exchanges c.args.link.now) c.args.self.now.upstream.follower c.args.self.now.answers.shown.mirror) asks here.1),
+                  (subst (λ r. MayFollow limits log servers r c.args.self.now.request.items c.args.self.now.rest.items (g.L.Link.exchanges c.args.link.now) c.args.self.now.upstream.follower (followed_by c.args.self.now)) asks here.1),
             ),
       );
     }

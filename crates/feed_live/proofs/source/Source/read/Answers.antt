@@ -1,14 +1,18 @@
 use Rattle.std.proofs.Common.{◌∙◌}
+use Rattle.feed_live.specs.Relaying.{followed_by}
 use Rattle.feed_live.proofs.RelayLemmas.{with_left, received_more_honest, reads_follows}
 use Rattle.feed_live.proofs.source.Source.read.Goals as goal
 
 pub returns-in-Ok-eq0 : goal.returns-in-Ok-eq0
 returns-in-Ok-eq0 g c =
     record {
-      follows = λ reads none limits log servers contest sockets follows. (
-        c.lost.ensures.left.servers ∙ follows.0,
-        with_left limits log servers c.lost.ensures.left c.lost.new.self.rest.items (λ honest. (follows.1 (received_more_honest limits log servers _ _ _ c.in-Ok-eq0.ensures.bytes honest)).0),
-      );
+      follows = λ reads none limits log servers contest sockets follows.
+          let shows = c.settle_ended.ensures.shows reads _ _ limits log servers contest sockets (
+            follows.0,
+            λ honest. let here = follows.1 (received_more_honest limits log servers _ _ _ c.in-Ok-eq0.ensures.bytes honest) in
+                (here.0, reads_follows limits log servers c.args.self.now.reach c.args.self.now.request.items _ _ _ c.args.self.now.upstream.follower (followed_by c.args.self.now) c.in-Ok-eq0.ensures.bytes here.1),
+          ) in
+          (c.lost.ensures.left.servers ∙ shows.0, with_left limits log servers c.lost.ensures.left c.lost.new.self.rest.items shows.1);
     }
 
 pub returns-in-Ok : goal.returns-in-Ok
@@ -18,6 +22,6 @@ returns-in-Ok g c =
           c.take.ensures.follows reads none limits log servers contest sockets (
             follows.0,
             λ honest. let here = follows.1 (received_more_honest limits log servers _ _ _ c.in-Ok.ensures.bytes honest) in
-                (here.0, reads_follows limits log servers c.args.self.now.reach c.args.self.now.request.items _ _ _ c.args.self.now.upstream.follower c.args.self.now.answers.shown.mirror c.in-Ok.ensures.bytes here.1),
+                (here.0, reads_follows limits log servers c.args.self.now.reach c.args.self.now.request.items _ _ _ c.args.self.now.upstream.follower (followed_by c.args.self.now) c.in-Ok.ensures.bytes here.1),
           );
     }

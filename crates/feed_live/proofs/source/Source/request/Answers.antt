@@ -11,5 +11,5 @@ returns-clause-asks c =
       is_place = ap (λ xs. slice_get xs c.args.self.now.upstream.place) (sym c.deref.ensures.value) ∙ ap (λ at. slice_get c.deref.result.now at) (sym c.place.ensures.place)
           ∙ slice_get_read c.deref.result.now (length c.deref.result.now) c.place.result c.in-Some.place.now refl c.in-Some.ensures.lookup.3.0 c.in-Some.ensures.lookup.1;
       text_is = c.in_ok-request_text_as.ensures.ok ∙ ap (λ i. i ++ request_text_as c.in-Some.place.now (option_copied c.since-since.result) c.args.self.now.identity) c.new-text.ensures.items
-          ∙ ap (λ s. request_text_as c.in-Some.place.now s c.args.self.now.identity) (c.since-since.ensures.since ∙ ap (λ m. m.since) c.mirror.ensures);
+          ∙ ap (λ s. request_text_as c.in-Some.place.now s c.args.self.now.identity) c.since-since.ensures.since;
     }

@@ -18,4 +18,5 @@ returns g c =
       taking = λ limits log begun input is.
           let taken = c.take_input.ensures.taking _ limits log begun input (takes_only limits log said is) in
           takes_only limits log served (takes_still limits log (c.follow.ensures.nothing taken.no_places) taken);
+      wakes = c.next.ensures.wakes;
     }

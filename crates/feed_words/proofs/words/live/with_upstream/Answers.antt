@@ -2,4 +2,4 @@ use Rattle.feed_words.proofs.words.live.with_upstream.Goals as goal
 
 pub returns : goal.returns
 returns c =
-    λ app is. c.add_option.ensures _ _ (c.with_identity-followed.ensures _ (c.with_feed-followed.ensures _ (c.under.ensures _ is))) c.until_eof.ensures.rule
+    λ app is. c.add_option.ensures _ _ (c.with_settling-followed.ensures _ (c.with_identity.ensures _ (c.with_feed-followed.ensures _ (c.under.ensures _ is)))) c.until_eof.ensures.rule

@@ -1,0 +1,72 @@
+-- Why a state is none of the primary's.
+use Rattle.std.proofs.Common.{◌≡◌, ◌≢◌, refl, sym, ap, ◌∙◌, subst, ℕ, true≢false, List, [], ◌∷◌, ◌++◌, Option, None, Some, Result, Ok, Err}
+use Rattle.std.specs.Prelude.{IfSome, IsSome, IfOk}
+use Rattle.feed_settings.specs.Limits.{Limits}
+use Rattle.feed_note.specs.Meaning.{OnlyOne}
+use Rattle.feed_note.specs.Publishing.{Published}
+use Rattle.feed_note.specs.declared.line.Line.{Line}
+use Rattle.feed_node.specs.Mirroring.{MirrorState, first_opening}
+use Rattle.feed_node.specs.Reading.{AllGood}
+use Rattle.feed_node.specs.States.{NodeState}
+use Rattle.feed_audit.specs.Differences.{Tells, Explains}
+use Rattle.feed_audit.specs.States.{IsStateOf}
+use Rattle.feed_audit.specs.Walks.{Walked, GoesOn, GoesToEnd, AllAre}
+use Rattle.feed_audit.specs.declared.difference.Difference.{Difference}
+use Rattle.feed_audit.specs.declared.difference.Difference.TheVariants.{NoToken, At, Unknown}
+use Rattle.feed_audit.proofs.Agreeing.{agree_by, all_lines, good_of, state_of}
+use Rattle.feed_audit.proofs.Walking.{all_end, all_goes}
+
+-- what was read of the primary's publishes no such token
+abbrev pub Lacks : Limits → List ℕ → List ℕ → ℕ → MirrorState → Published → Type 0
+Lacks limits primary behind count mirror state =
+    (notes : List Line) × Walked limits primary behind notes count mirror × AllAre limits (λ shown. shown.token ≢ state.token) notes
+
+pub no_token : OnlyOne → (limits : Limits) (primary left : List ℕ) (count new_count : ℕ) (old new : MirrorState) (state : Published)
+    (l : Lacks limits primary left count old state) → GoesToEnd limits primary l.0 new_count new → Explains limits primary state NoToken
+no_token only limits primary left count new_count old new state l g shown is =
+    let notes = l.0 ++ g.passes.more in
+    let all = all_lines limits primary g.behind notes new_count new g.passes.walked g.part in
+    agree_by only limits (λ (s : Published). s.token ≢ state.token) primary notes
+    (subst (λ ls. AllGood limits first_opening ls notes) (sym all.0) (good_of limits primary g.behind notes new_count new g.passes.walked))
+    (all_end limits (λ (s : Published). s.token ≢ state.token) l.0 g.passes.more l.2 g.passes.quiet) shown is
+
+some_is : (o : Option Published) → IsSome o → (shown : Published) × (o ≡ Some shown)
+some_is None h = absurd (true≢false (sym h))
+some_is (Some shown) h = (shown, refl)
+
+explains : (limits : Limits) (primary : List ℕ) (state shown : Published) (told : Difference) → IsStateOf limits primary shown → shown.token ≡ state.token
+    → Tells shown.tables state.tables told → Explains limits primary state told
+explains limits primary state shown NoToken is same t = absurd t
+explains limits primary state shown (At kind id side other) is same t = (shown, is, same, t)
+explains limits primary state shown Unknown is same t = tt
+
+pub found_token : (limits : Limits) (primary left behind : List ℕ) (count new_count : ℕ) (old new : MirrorState) (node : NodeState) (state : Published) (told : Difference)
+    (l : Lacks limits primary left count old state) → GoesOn limits primary behind l.0 new_count new → IsSome new.node.published → node ≡ new.node
+    → ((shown : Published) → node.published ≡ Some shown → shown.token ≡ state.token)
+    → ((shown : Published) → node.published ≡ Some shown → Tells shown.tables state.tables told)
+    → Explains limits primary state told
+found_token limits primary left behind count new_count old new node state told l g some is same tells =
+    let its = some_is new.node.published some in
+    let here = ap (λ (n : NodeState). n.published) is ∙ its.1 in
+    explains limits primary state its.0 told
+    (state_of limits primary behind (l.0 ++ (g.before ++ g.note ∷ [])) new_count new its.0 g.walked its.1) (same its.0 here) (tells its.0 here)
+
+other_token : (shown : Option Published) (state : Published) → ((s : Published) → shown ≡ Some s → s.token ≢ state.token)
+    → IfSome shown (λ (s : Published). s.token ≢ state.token)
+other_token None state h = tt
+other_token (Some s) state h = h s refl
+
+pub lacks_on : (limits : Limits) (primary left behind : List ℕ) (count new_count : ℕ) (old new : MirrorState) (node : NodeState) (state : Published)
+    (l : Lacks limits primary left count old state) → GoesOn limits primary behind l.0 new_count new → node ≡ new.node
+    → ((shown : Published) → node.published ≡ Some shown → shown.token ≢ state.token)
+    → Lacks limits primary behind new_count new state
+lacks_on limits primary left behind count new_count old new node state l g is other = (
+  l.0 ++ (g.before ++ g.note ∷ []),
+  g.walked,
+  all_goes limits (λ (s : Published). s.token ≢ state.token) primary behind l.0 new_count new l.2 g
+      (other_token new.node.published state (λ s e. other s (ap (λ (n : NodeState). n.published) is ∙ e))),
+)
+
+pub if_ok_on : {X Y : Type 0} {P Q : X → Type 0} (r : Result X Y) → ((x : X) → P x → Q x) → IfOk r P → IfOk r Q
+if_ok_on (Ok x) f h = f x h
+if_ok_on (Err y) f h = tt

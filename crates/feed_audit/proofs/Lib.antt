@@ -1,0 +1,6 @@
+pub mod Agreeing
+pub mod Explaining
+pub mod Meeting
+pub mod Prefixes
+pub mod Verdicts
+pub mod Walking

@@ -1,0 +1,42 @@
+use Rattle.std.proofs.Common.{◌≢◌, [], sym, ap, ◌∙◌, subst, true≢false}
+use Rattle.std.specs.Prelude.{IfSome, IfNone}
+use Rattle.feed_note.specs.Publishing.{Published}
+use Rattle.feed_node.specs.States.{NodeState}
+use Rattle.feed_audit.specs.Walks.{GoesOn, GoesToEnd, CommitsOn}
+use Rattle.feed_audit.proofs.Agreeing.{walked_none}
+use Rattle.feed_audit.proofs.Explaining.{no_token, found_token, lacks_on, if_ok_on}
+use Rattle.feed_audit.proofs.Walking.{all_none}
+use Rattle.feed_audit.proofs.difference.explain.Goals as goal
+
+pub states-init : goal.states-init
+states-init c state is = (
+  [],
+  walked_none c.args.limits c.args.primary.now _ _ c.in_ok-mirror.ensures c.begin.ensures.stands c.begin.ensures.limits,
+  all_none c.args.limits (λ (s : Published). s.token ≢ state.token),
+)
+
+pub returns-in-Ok-None : goal.returns-in-Ok-None
+returns-in-Ok-None c state is =
+    let l = c.states.invariant state is in
+    no_token c.line_laws.ensures.one_meaning _ _ _ _ _ _ _ state l
+    (subst (λ o. IfNone o (GoesToEnd c.args.limits c.args.primary.now l.0 c.next_state.new.lines c.next_state.new.mirror)) c.in-Ok-None.field-0-is
+    (c.in-Ok-None.ensures.none c.args.limits c.args.primary.now l.0 l.1))
+
+pub returns-then-has_token : goal.returns-then-has_token
+returns-then-has_token c = if_ok_on c.tell.result (λ told tells state is.
+    let l = c.states.invariant state is in
+    let on = subst (λ o. IfSome o (λ behind. GoesOn c.args.limits c.args.primary.now behind.now l.0 c.next_state.new.lines c.next_state.new.mirror)) c.in-Ok-Some.field-0-is
+    (c.in-Ok-Some.ensures.some c.args.limits c.args.primary.now l.0 l.1) in
+    let commits = subst (λ o. IfSome o (λ _. CommitsOn c.states.mirror.node c.next_state.new.mirror.node)) c.in-Ok-Some.field-0-is
+    (c.in-Ok-Some.ensures.commits c.args.limits c.args.primary.now l.0 l.1) in
+    found_token _ _ _ _ _ _ _ _ c.node.result.now.shown state told l on commits.some c.node.ensures.node
+    (λ shown here. c.has_token.ensures.same shown state here is c.if-has_token.true)
+    (λ shown here. tells shown state (ap (λ (n : NodeState). n.published) (c.node-then-has_token.ensures.node ∙ sym c.node.ensures.node) ∙ here) is)) c.tell.ensures
+
+pub states-preserved : goal.states-preserved
+states-preserved c state is =
+    let l = c.states.invariant state is in
+    let on = subst (λ o. IfSome o (λ behind. GoesOn c.args.limits c.args.primary.now behind.now l.0 c.next_state.new.lines c.next_state.new.mirror)) c.in-Ok-Some.field-0-is
+    (c.in-Ok-Some.ensures.some c.args.limits c.args.primary.now l.0 l.1) in
+    lacks_on _ _ _ _ _ _ _ _ c.node.result.now.shown state l on c.node.ensures.node
+    (λ shown here e. absurd (true≢false (sym (c.if-has_token.ensures.other shown state here is e))))

@@ -1,0 +1,14 @@
+-- What was read so far published no such token.
+use Rattle.std.proofs.Common.{◌≡◌, ◌≢◌, List, Some, length}
+use Rattle.feed_note.specs.Publishing.{Published}
+use Rattle.feed_note.specs.declared.line.Line.{Line}
+use Rattle.feed_audit.specs.Walks.{Walked, AllAre}
+use Rattle.feed_audit.proofs.difference.explain.Given as goal
+
+abbrev pub invariant-states : goal.invariant-states
+invariant-states l = (state : Published) → l.wanted.shown.published ≡ Some state
+    → (notes : List Line) × Walked l.fn.limits l.primary l.rest notes l.lines l.mirror
+    × AllAre l.fn.limits (λ shown. shown.token ≢ state.token) notes
+
+abbrev pub decreases-states : goal.decreases-states
+decreases-states l = length l.rest

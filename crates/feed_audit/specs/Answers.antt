@@ -1,0 +1,60 @@
+-- What an audit answers.
+use Rattle.std.specs.Prelude.{◌≡◌, ℕ, ◌+◌, min, Some, List, [], ◌∷◌, ◌++◌, length}
+use Rattle.feed_settings.specs.Limits.{Limits}
+use Rattle.feed_note.specs.Lines.{lines, ended}
+use Rattle.feed_note.specs.Publishing.{Published}
+use Rattle.feed_note.specs.declared.line.Line.{Line}
+use Rattle.feed_node.specs.Mirroring.{MirrorState, first_opening, publications}
+use Rattle.feed_node.specs.Reading.{AllGood, Reads}
+use Rattle.feed_node.specs.States.{NodeState}
+use Rattle.feed_audit.specs.Differences.{Explains}
+use Rattle.feed_audit.specs.States.{IsStateOf, AgreesWith}
+use Rattle.feed_audit.specs.Walks.{Walked, FaultsIn}
+use Rattle.feed_audit.specs.declared.verdict.AuditFault.{AuditFault}
+use Rattle.feed_audit.specs.declared.verdict.AuditFault.TheVariants as fault
+use Rattle.feed_audit.specs.declared.verdict.Stray.{Stray}
+use Rattle.feed_audit.specs.declared.verdict.Verdict.{Verdict}
+use Rattle.feed_audit.specs.declared.verdict.Verdict.TheVariants as verdict
+
+-- nothing is wrong with the screen's text, it publishes so many times, and each state of it is one of the primary's
+pub record Agreement (limits : Limits) (primary screen : List ℕ) (states : ℕ) : Type 0 where
+  pub notes : List Line
+  pub read : Reads limits first_opening screen notes
+  pub counted : states ≡ min (publications limits.history first_opening notes) 18446744073709551615
+  pub agrees : AgreesWith limits primary screen
+
+-- A line of the screen's text brings a state that is none of the primary's; all those of the lines before it are.
+pub record Straying (limits : Limits) (primary screen : List ℕ) (stray : Stray) : Type 0 where
+  pub earlier : List (List ℕ)
+  pub line : List ℕ
+  pub later : List (List ℕ)
+  pub whole : lines screen ≡ earlier ++ line ∷ later
+  pub counted : stray.line ≡ min (length earlier + 1) 18446744073709551615
+  pub notes : List Line
+  pub good : AllGood limits first_opening earlier notes
+  pub before : stray.before ≡ min (publications limits.history first_opening notes) 18446744073709551615
+  pub agrees : AgreesWith limits primary (ended earlier)
+  pub state : Published
+  pub is : IsStateOf limits (ended (earlier ++ line ∷ [])) state
+  pub named : stray.token ≡ state.token
+  pub strays : ¬ (IsStateOf limits primary state)
+  pub explained : Explains limits primary state stray.difference
+
+abbrev pub IsVerdict : Limits → List ℕ → List ℕ → Verdict → Type 0
+IsVerdict limits primary screen (verdict.Agrees states) = Agreement limits primary screen states
+IsVerdict limits primary screen (verdict.Strays stray) = Straying limits primary screen stray
+
+-- the first lines of a text are good, up to one with this fault; a want of memory says nothing
+abbrev pub FailsToAudit : Limits → List ℕ → List ℕ → AuditFault → Type 0
+FailsToAudit limits primary screen (fault.Primary line why) = FaultsIn limits primary line why
+FailsToAudit limits primary screen (fault.Screen line why) = FaultsIn limits screen line why
+FailsToAudit limits primary screen fault.Memory = Unit {0}
+
+-- a mirror has read some of the lines of a text
+abbrev pub IsReading : Limits → List ℕ → List ℕ → ℕ → MirrorState → Type 0
+IsReading limits text behind lines mirror = (notes : List Line) × Walked limits text behind notes lines mirror
+
+-- what the node shows is no state of the text
+abbrev pub IsStrange : Limits → List ℕ → NodeState → Type 0
+IsStrange limits text node =
+    (state : Published) → node.published ≡ Some state → ¬ (IsStateOf limits text state)

@@ -1,0 +1,52 @@
+//! What an audit answers.
+
+ghost use Rattle.std.specs.Prelude.{◌≡◌, IfErr};
+ghost use Rattle.feed_audit.specs.declared.verdict.AuditFault.TheVariants.{Memory};
+
+use crate::difference::Difference;
+use feed_node::FeedFault;
+use feed_tables::Name;
+use std::alloc::AllocError;
+use thiserror::Error;
+
+/// What an audit found.
+#[derive(Drop)]
+pub enum Verdict {
+    /// Each state of the screen's record is one of the primary's. There are this many, or
+    /// `usize::MAX` where they are more.
+    Agrees(usize),
+    /// This is the first that is none of the primary's.
+    Strays(Stray),
+}
+
+/// A state of the screen's record that the primary's doesn't have.
+#[derive(Drop)]
+pub struct Stray {
+    pub token: Name,
+    /// How many states the screen's record has before it.
+    pub before: usize,
+    /// The line that publishes it, counted from 1.
+    pub line: usize,
+    pub difference: Difference,
+}
+
+/// Why an audit has no answer: a record has a fault, at this line, counted from 1.
+#[derive(Clone, Copy, Debug, PartialEq, Eq, Error)]
+pub enum AuditFault {
+    /// The state that was looked for stands nowhere before it.
+    #[error("primary: line {0}: {1}")]
+    Primary(usize, FeedFault),
+    /// All states before it are the primary's.
+    #[error("screen: line {0}: {1}")]
+    Screen(usize, FeedFault),
+    #[error("out of memory")]
+    Memory,
+}
+
+impl From<AllocError> for AuditFault {
+    ghost from_gives = { λ _ fault. fault ≡ Memory };
+
+    fn from(_error: AllocError) -> AuditFault {
+        AuditFault::Memory
+    }
+}
