@@ -1,8 +1,8 @@
 //! What a turn reads from and writes to, by what a contract can say of it.
 
-ghost use Rattle.std.specs.Prelude.{◌≡◌, ◌≢◌, ◌<◌, ◌≤◌, ℕ, List, [], Option, None, Some, length, take, IfOk, OnOk, OnErr};
+ghost use Rattle.std.specs.Prelude.{◌≡◌, ◌≢◌, ◌<◌, ◌≤◌, ℕ, List, [], Option, None, Some, length, take, option_map, IfOk, OnOk, OnErr};
 ghost use Rattle.std.specs.Io.KnownBytes.{Keeps, WriteAppends};
-ghost use Rattle.feed_device.specs.Links.{Exchange, Begins, Asks, Receives};
+ghost use Rattle.feed_device.specs.Links.{Exchange, Begins, Asks, Receives, shown_so, once_at, all_from};
 ghost use Rattle.feed_device.specs.Sockets.{Socket, Closed, Opened, IsSocket, IsWrite, SameSockets, OtherSockets};
 
 use std::alloc::AllocError;
@@ -89,6 +89,18 @@ pub trait Link {
     /// Closes the connection, where there is one.
     fn close(&mut self)
         ensures unchanged { exchanges self.new ≡ exchanges self.old };
+
+    /// Screens are shown what came of this response, all but so many bytes, as it is now. No more
+    /// of the response will be shown. A device need do nothing.
+    fn show_once(&mut self, unread: usize)
+        ensures shown { exchanges self.new
+            ≡ option_map (shown_so once_at unread) (exchanges self.old) };
+
+    /// Screens are shown what came of this response, all but so many bytes, and each state that it
+    /// publishes from there on. A device need do nothing.
+    fn show_all(&mut self, unread: usize)
+        ensures shown { exchanges self.new
+            ≡ option_map (shown_so all_from unread) (exchanges self.old) };
 }
 
 /// What becomes of the file that is kept beside the state file, when that is begun again.

@@ -22,8 +22,6 @@ pub enum Why {
     Fault(FollowFault),
     /// Memory ran out.
     Memory,
-    /// It had another state at the token that was shown: what it shows now is asked for anew.
-    Anew,
 }
 
 impl fmt::Display for Why {
@@ -36,7 +34,6 @@ impl fmt::Display for Why {
             Why::Silent => f.write_str("silent"),
             Why::Fault(fault) => write!(f, "{fault}"),
             Why::Memory => f.write_str("out of memory"),
-            Why::Anew => f.write_str("asked anew, after another state at our token"),
         }
     }
 }
@@ -92,6 +89,19 @@ pub enum Told {
     Settled {
         server: usize,
         time: u64,
+    },
+    /// So much came of a server that was asked for everything, in so long, and has not settled yet;
+    /// and whether a line had a token.
+    Coming {
+        server: usize,
+        bytes: u64,
+        time: u64,
+        has_token: bool,
+    },
+    /// A connection over which so much came ended before that had settled: nothing of it is shown.
+    Unsettled {
+        server: usize,
+        bytes: u64,
     },
     /// The input can't be followed: nothing more of it is read.
     BadInput(FeedFault),

@@ -25,20 +25,20 @@ use Rattle.feed_follow.specs.Standing.{Standing}
 use Rattle.feed_follow.specs.Follower.{FollowerState}
 use Rattle.feed_world.specs.Position.{node_where}
 use Rattle.feed_live.proofs.ServingLemmas.{sockets_are_faithful}
-use Rattle.feed_live.proofs.StateLemmas.{states_in_log}
+use Rattle.feed_live.proofs.StateLemmas.{states_in_log, states_within, honest_however}
 
 begins : (before behind text : List ℕ) → before ++ behind ≡ text → take (length before) text ≡ before
 begins before behind text is = ap (λ t. take (length before) t) (sym is) ∙ take-append_seam before behind
 
 stays : {limits : Limits} {log : Log} {begun : MirrorState} (answer : AnswerParts) (received behind text : List ℕ) → received ++ behind ≡ text
-    → FollowsInLog limits log answer begun text → StaysInLog limits log begun received
+    → FollowsInLog limits log answer begun text → StaysInLog limits log begun 0 received
 stays {begun = begun} answer received behind text is follows =
     record {
-      shows = λ before later standing follower mirror here at.
+      shows = λ before later standing follower mirror here long at.
           follows.shows (length before) standing follower mirror
           (subst (λ b. FollowsAt begun b standing follower mirror)
           (sym (begins before (later ++ behind) text (sym (append_assoc before later behind) ∙ ap (λ r. r ++ behind) here ∙ is))) at);
-      fails = λ before piece later mirror fault here failed.
+      fails = λ before piece later mirror fault here long failed.
           (follows.fails before piece (later ++ behind) mirror fault (sym (append_assoc (before ++ piece) later behind) ∙ ap (λ r. r ++ behind) here ∙ is) failed).1;
     }
 
@@ -47,7 +47,7 @@ followed_is_honest limits log servers head contest text behind exchange followed
     λ begun request more asks is_request asked.
     let reads = meant begun request more is_request asked in
     let there = followed begun (record { minor = reads.0; asks = reads.1; place = asks.place; is_place = asks.is_place; asked = asks.asks }) in
-    stays there.0 exchange.received behind text is there.1
+    honest_however exchange.shown (stays there.0 exchange.received behind text is there.1)
 
 pub relays_show_the_log : RelaysShowTheLog
 relays_show_the_log limits log servers exchanges live sockets honest relaying =
@@ -55,6 +55,7 @@ relays_show_the_log limits log servers exchanges live sockets honest relaying =
     record {
       shown = here.shown_is;
       states = states_in_log limits log;
+      within = states_within limits log;
       written = λ at bytes open'. sockets_are_faithful (states_of limits log) _ _ _ sockets at bytes here.serving open';
     }
 
@@ -66,6 +67,7 @@ input_shows_the_log limits log begun input live sockets honest taking =
     record {
       shown = here.shown_is;
       states = states_in_log limits log;
+      within = states_within limits log;
       written = λ at bytes open'. sockets_are_faithful (states_of limits log) _ _ _ sockets at bytes here.serving open';
     }
 

@@ -1,5 +1,5 @@
 -- How a relay stays at places of the log, step by step.
-use Rattle.std.proofs.Common.{◌≡◌, ◌⊎◌, inl, inr, suc, ◌-◌, refl, sym, ap, ◌∙◌, subst, ℕ, ◌+◌, arith, List, [], ◌∷◌, ◌++◌, take, drop, append-nil, append_assoc, Option, Some, None}
+use Rattle.std.proofs.Common.{◌≡◌, ◌⊎◌, inl, inr, suc, ◌-◌, refl, sym, ap, ◌∙◌, subst, ℕ, ◌+◌, ◌≤◌, arith, List, [], ◌∷◌, ◌++◌, length, length-append, take, drop, append-nil, append_assoc, Option, Some, None}
 use Rattle.std.specs.Result.{is_err}
 use Rattle.std.specs.Prelude.{Result, Ok, Err, OnOk, Bool, true, false, Contains, option_map, is_none, is_some, IfSome, if◌then◌else◌}
 use Rattle.std.proofs.lemmas.List.{take-take, drop-take, take-append-drop}
@@ -21,17 +21,18 @@ use Rattle.feed_world.specs.Position.{Position, node_at, commits_after}
 use Rattle.feed_hub.specs.declared.hub.Hub.{Hub}
 use Rattle.feed_hub.specs.Laws.{IsInLog}
 use Rattle.feed_hub.specs.Upstream.{IsFollowing, IsPushed}
-use Rattle.feed_device.specs.Links.{Exchange, Exchanges, one_more, asked_more, received_more}
+use Rattle.feed_device.specs.Links.{Exchange, Exchanges, Shown, nothing_shown, once_at, all_from, shown_first, shown_so, one_more, asked_more, received_more}
 use Rattle.feed_device.specs.Sockets.{AllSockets}
 use Rattle.feed_live.specs.declared.conn.Conn.{Conn}
+use Rattle.feed_live.specs.declared.screens.Screens.{Screens}
 use Rattle.feed_live.specs.declared.source.Reach.{Reach}
 use Rattle.feed_live.specs.declared.source.Reach.TheVariants.{Away, Connects, Asks, Reads}
 use Rattle.feed_live.specs.declared.source.Source.{Source}
-use Rattle.feed_live.specs.Relaying.{servers_of, IsAsked, Follows, MayFollow, Shows, SameSource, IsKeeping, IsLeft, KeepsShown, PushesOnly, IsNowShown, ShowsAlone, followed, followed_by}
+use Rattle.feed_live.specs.Relaying.{servers_of, IsAsked, IsShownSo, Follows, MayFollow, MayShow, FollowsLog, IsToShow, Shows, SameSource, IsKeeping, IsLeft, KeepsShown, PushesOnly, IsNowShown, ShowsAlone, followed, followed_by}
 use Rattle.feed_live.specs.Serving.{Serving}
 use Rattle.feed_live.specs.States.{states_of}
-use Rattle.feed_live.specs.Upstream.{AsksInLog, Servers, IsRequestOf, StaysInLog, IsHonest, AreKnownHonest}
-use Rattle.feed_live.proofs.StateLemmas.{among_states}
+use Rattle.feed_live.specs.Upstream.{AsksInLog, Servers, IsRequestOf, IsOfLog, StaysInLog, EndsInLog, IsHonestAs, IsHonest, AreKnownHonest}
+use Rattle.feed_live.proofs.StateLemmas.{among_states, of_log}
 
 -- what holds where it is no error
 pub where_ok : {A E P : Type 0} (result : Result A E) → is_err result ≡ false → OnOk result P → P
@@ -64,9 +65,9 @@ pub done_goes_on : {p : Progress} → p ≡ reached.Done → p ≡ reached.Token
 done_goes_on is refused = let e = sym is ∙ refused in cc
 
 -- bytes were followed, and more may be
-pub record IsTaken (bounds : Limits) (lines : Log) (asked : Servers) (request next : List ℕ) (exchanges : Exchanges) (follower : Option FollowerState) (mirror : MirrorState) : Type 0 where
-  pub at : IsInLog bounds lines mirror.node
-  pub follows : MayFollow bounds lines asked Reads request next exchanges follower mirror
+pub record IsTaken (bounds : Limits) (lines : Log) (asked : Servers) (is_shown : Bool) (request next : List ℕ) (exchanges : Exchanges) (follower : Option FollowerState) (mirror : MirrorState) : Type 0 where
+  pub at : is_shown ≡ true → IsInLog bounds lines mirror.node
+  pub follows : MayFollow bounds lines asked is_shown Reads request next exchanges follower mirror
 
 module _ (limits : Limits) (log : Log) where
   -- ---- what is shown
@@ -114,24 +115,25 @@ same_followed {before} {after} {old} {new} coming shown = ap (λ c. followed c n
 
 module _ (limits : Limits) (log : Log) (servers : Servers) where
   -- all that is followed may be written in another way
-  pub follows_as : (exchanges : Exchanges) {reach reach_new : Reach} {request request_new unread unread_new : List ℕ} {follower follower_new : Option FollowerState} {mirror mirror_new : MirrorState}
-      → request_new ≡ request → unread_new ≡ unread → reach_new ≡ reach → follower_new ≡ follower → mirror_new ≡ mirror
-      → MayFollow limits log servers reach request unread exchanges follower mirror
-      → MayFollow limits log servers reach_new request_new unread_new exchanges follower_new mirror_new
-  follows_as exchanges {reach} {reach_new} {request} {request_new} {unread} {unread_new} {follower} {follower_new} {mirror} {mirror_new} request_is unread_is reach_is follower_is mirror_is follows =
-      subst (λ m. MayFollow limits log servers reach_new request_new unread_new exchanges follower_new m) (sym mirror_is)
-      (subst (λ f. MayFollow limits log servers reach_new request_new unread_new exchanges f mirror) (sym follower_is)
-      (subst (λ u. MayFollow limits log servers reach_new request_new u exchanges follower mirror) (sym unread_is)
-      (subst (λ r. MayFollow limits log servers reach_new r unread exchanges follower mirror) (sym request_is)
-      (subst (λ r. MayFollow limits log servers r request unread exchanges follower mirror) (sym reach_is) follows))))
+  pub follows_as : (exchanges : Exchanges) {is_shown is_shown_new : Bool} {reach reach_new : Reach} {request request_new unread unread_new : List ℕ} {follower follower_new : Option FollowerState} {mirror mirror_new : MirrorState}
+      → is_shown_new ≡ is_shown → request_new ≡ request → unread_new ≡ unread → reach_new ≡ reach → follower_new ≡ follower → mirror_new ≡ mirror
+      → MayFollow limits log servers is_shown reach request unread exchanges follower mirror
+      → MayFollow limits log servers is_shown_new reach_new request_new unread_new exchanges follower_new mirror_new
+  follows_as exchanges {is_shown} {is_shown_new} {reach} {reach_new} {request} {request_new} {unread} {unread_new} {follower} {follower_new} {mirror} {mirror_new} shown_is request_is unread_is reach_is follower_is mirror_is follows =
+      subst (λ s. MayFollow limits log servers s reach_new request_new unread_new exchanges follower_new mirror_new) (sym shown_is)
+      (subst (λ m. MayFollow limits log servers is_shown reach_new request_new unread_new exchanges follower_new m) (sym mirror_is)
+      (subst (λ f. MayFollow limits log servers is_shown reach_new request_new unread_new exchanges f mirror) (sym follower_is)
+      (subst (λ u. MayFollow limits log servers is_shown reach_new request_new u exchanges follower mirror) (sym unread_is)
+      (subst (λ r. MayFollow limits log servers is_shown reach_new r unread exchanges follower mirror) (sym request_is)
+      (subst (λ r. MayFollow limits log servers is_shown r request unread exchanges follower mirror) (sym reach_is) follows)))))
 
   -- it is followed as before
   pub same_follows : {old new : Source} → SameSource old new
       → (exchanges : Exchanges) (unread left : List ℕ) → left ≡ unread
-      → MayFollow limits log servers old.reach old.request.items unread exchanges old.upstream.follower (followed_by old)
-      → MayFollow limits log servers new.reach new.request.items left exchanges new.upstream.follower (followed_by new)
+      → MayFollow limits log servers (is_none old.coming) old.reach old.request.items unread exchanges old.upstream.follower (followed_by old)
+      → MayFollow limits log servers (is_none new.coming) new.reach new.request.items left exchanges new.upstream.follower (followed_by new)
   same_follows {old} {new} same exchanges unread left rest follows =
-      follows_as exchanges same.request rest same.reach same.follower (same_followed same.coming same.shown) follows
+      follows_as exchanges (ap is_none same.coming) same.request rest same.reach same.follower (same_followed same.coming same.shown) follows
 
   -- ---- a server is left
 
@@ -148,18 +150,40 @@ module _ (limits : Limits) (log : Log) (servers : Servers) where
 
   pub left_follows : {old new : Source} {before after : Exchanges} → IsLeft old new before after
       → (request unread : List ℕ) (mirror : MirrorState)
-      → MayFollow limits log servers new.reach request unread after new.upstream.follower mirror
+      → MayFollow limits log servers (is_none new.coming) new.reach request unread after new.upstream.follower mirror
   left_follows {old} {new} {before} {after} left request unread mirror =
-      subst (λ f. MayFollow limits log servers new.reach request unread after f mirror) (sym left.follower) left.reach
+      subst (λ f. MayFollow limits log servers (is_none new.coming) new.reach request unread after f mirror) (sym left.follower) left.reach
 
   -- there is no connection: whatever is unread
-  pub away_follows : (reach : Reach) (request unread other : List ℕ) (exchanges : Exchanges) (follower : Option FollowerState) (mirror : MirrorState)
-      → reach ≡ Away → MayFollow limits log servers reach request unread exchanges follower mirror → MayFollow limits log servers reach request other exchanges follower mirror
+  pub away_follows : {is_shown : Bool} (reach : Reach) (request unread other : List ℕ) (exchanges : Exchanges) (follower : Option FollowerState) (mirror : MirrorState)
+      → reach ≡ Away → MayFollow limits log servers is_shown reach request unread exchanges follower mirror → MayFollow limits log servers is_shown reach request other exchanges follower mirror
   away_follows reach request unread other exchanges None mirror away follows = follows
   away_follows reach request unread other exchanges (Some follower) mirror away follows =
       absurd (subst (λ r. IsAsked r request follows.latest.asked) away follows.asked)
 
+  -- ---- what is shown is noted
+
+  as_first : {begun : MirrorState} {received : List ℕ} (shown now : Shown) → IsHonestAs limits log begun (shown_first shown now) received → IsHonestAs limits log begun shown received
+  as_first nothing_shown now honest = tt
+  as_first (once_at count) now honest = honest
+  as_first (all_from least) now honest = honest
+
+  pub shown_so_honest : (how : ℕ → Shown) (unread : ℕ) (before after : Exchanges) → after ≡ option_map (shown_so how unread) before
+      → AreKnownHonest limits log servers after → AreKnownHonest limits log servers before
+  shown_so_honest how unread None after is honest = subst (λ e. AreKnownHonest limits log servers e) is honest
+  shown_so_honest how unread (Some []) after is honest = subst (λ e. AreKnownHonest limits log servers e) is honest
+  shown_so_honest how unread (Some (e ∷ es)) after is honest =
+      let there = subst (λ e. AreKnownHonest limits log servers e) is honest in
+      (λ begun text more asks is_request asked. as_first e.shown (how (length e.received - unread)) (there.0 begun text more asks is_request asked), there.1)
+
   -- ---- a connection is begun
+
+  -- what comes to the mirror that is shown is shown from the first byte on
+  pub begun_honest : (coming : Option MirrorState) (before after : Exchanges)
+      → after ≡ (if is_none coming then option_map (shown_so all_from 0) before else before)
+      → AreKnownHonest limits log servers after → AreKnownHonest limits log servers before
+  begun_honest None before after is honest = shown_so_honest all_from 0 before after is honest
+  begun_honest (Some coming) before after is honest = subst (λ e. AreKnownHonest limits log servers e) is honest
 
   pub one_more_honest : (server : ℕ) (before after : Exchanges) → after ≡ option_map (one_more server) before
       → AreKnownHonest limits log servers after → AreKnownHonest limits log servers before
@@ -184,28 +208,45 @@ module _ (limits : Limits) (log : Log) (servers : Servers) where
         };
       }
 
-  pub begun_follows : (server : ℕ) (request : List ℕ) (before after : Exchanges) (since : ℕ) (follower : Option FollowerState) (mirror : MirrorState)
-      → after ≡ option_map (one_more server) before → AreKnownHonest limits log servers after
+  pub begun_follows : (coming : Option MirrorState) (server : ℕ) (request : List ℕ) (before begun after : Exchanges) (since : ℕ) (follower : Option FollowerState) (mirror : MirrorState)
+      → begun ≡ option_map (one_more server) before → after ≡ (if is_none coming then option_map (shown_so all_from 0) begun else begun)
+      → AreKnownHonest limits log servers after
       → mirror.limits ≡ limits → IsInLog limits log mirror.node
       → IfSome mirror.since (λ token. published_token mirror.node ≡ Some token)
       → IsRequestOf servers server mirror request → IsFollowing mirror [] in_head follower mirror
-      → MayFollow limits log servers (Connects since) request [] after follower mirror
-  begun_follows server request before after since None mirror is honest bounds at asks is_request following = absurd following
-  begun_follows server request None after since (Some follower) mirror is honest bounds at asks is_request following =
-      absurd (subst (λ e. AreKnownHonest limits log servers e) is honest)
-  begun_follows server request (Some before) after since (Some follower) mirror is honest bounds at asks is_request following =
+      → MayFollow limits log servers (is_none coming) (Connects since) request [] after follower mirror
+  begun_follows coming server request before begun after since None mirror is noted honest bounds at asks is_request following = absurd following
+  begun_follows coming server request None begun after since (Some follower) mirror is noted honest bounds at asks is_request following =
+      absurd (subst (λ e. AreKnownHonest limits log servers e) is (begun_honest coming begun after noted honest))
+  begun_follows None server request (Some before) begun after since (Some follower) mirror is noted honest bounds at asks is_request following =
       record {
         start = mirror;
         asks = asks_in_log mirror bounds at asks;
         is_request = is_request;
-        latest = record { server = server; asked = []; received = [] };
+        latest = record { server = server; asked = []; received = []; shown = all_from 0 };
         before = before;
-        exchanges_are = is;
+        exchanges_are = noted ∙ ap (λ e. option_map (shown_so all_from 0) e) is;
         asked = refl;
         bytes = [];
         received = refl;
         standing = in_head;
         follows = following;
+        shown = omega arith;
+      }
+  begun_follows (Some coming) server request (Some before) begun after since (Some follower) mirror is noted honest bounds at asks is_request following =
+      record {
+        start = mirror;
+        asks = asks_in_log mirror bounds at asks;
+        is_request = is_request;
+        latest = record { server = server; asked = []; received = []; shown = nothing_shown };
+        before = before;
+        exchanges_are = noted ∙ is;
+        asked = refl;
+        bytes = [];
+        received = refl;
+        standing = in_head;
+        follows = following;
+        shown = refl;
       }
 
   -- what may be asked with: what is shown, or a mirror that begins afresh
@@ -216,7 +257,7 @@ module _ (limits : Limits) (log : Log) (servers : Servers) where
 
   -- ---- more is asked
 
-  asked_honest : (bytes : List ℕ) (e : Exchange) → IsHonest limits log servers (record { server = e.server; asked = e.asked ++ bytes; received = e.received }) → IsHonest limits log servers e
+  asked_honest : (bytes : List ℕ) (e : Exchange) → IsHonest limits log servers (record { server = e.server; asked = e.asked ++ bytes; received = e.received; shown = e.shown }) → IsHonest limits log servers e
   asked_honest bytes e honest =
       λ begun text more asks is_request is. honest begun text (more ++ bytes) asks is_request (ap (λ a. a ++ bytes) is ∙ append_assoc text more bytes)
 
@@ -234,10 +275,10 @@ module _ (limits : Limits) (log : Log) (servers : Servers) where
       ap (λ f. f ++ take more (drop count xs)) (sym front) ∙ ap (λ b. take count (take (count + more) xs) ++ b) (sym (drop-take count more xs))
       ∙ take-append-drop count (take (count + more) xs)
 
-  pub asks_follows : (request unread rest : List ℕ) (before after : Exchanges) (count more : ℕ) (follower : Option FollowerState) (mirror : MirrorState)
+  pub asks_follows : {is_shown : Bool} (request unread rest : List ℕ) (before after : Exchanges) (count more : ℕ) (follower : Option FollowerState) (mirror : MirrorState)
       → after ≡ option_map (asked_more (take more rest)) before → rest ≡ drop count request
-      → MayFollow limits log servers (Asks count) request unread before follower mirror
-      → MayFollow limits log servers (Asks (count + more)) request unread after follower mirror
+      → MayFollow limits log servers is_shown (Asks count) request unread before follower mirror
+      → MayFollow limits log servers is_shown (Asks (count + more)) request unread after follower mirror
   asks_follows request unread rest before after count more None mirror is here follows = absurd (no_away follows)
     where
       no_away : Asks count ≡ Away → ⊥
@@ -247,7 +288,7 @@ module _ (limits : Limits) (log : Log) (servers : Servers) where
         start = follows.start;
         asks = follows.asks;
         is_request = follows.is_request;
-        latest = record { server = follows.latest.server; asked = follows.latest.asked ++ take more rest; received = follows.latest.received };
+        latest = record { server = follows.latest.server; asked = follows.latest.asked ++ take more rest; received = follows.latest.received; shown = follows.latest.shown };
         before = follows.before;
         exchanges_are = is ∙ ap (λ e. option_map (asked_more (take more rest)) e) follows.exchanges_are;
         asked = ap (λ a. a ++ take more rest) follows.asked ∙ ap (λ r. take count request ++ take more r) here ∙ take_more count more request;
@@ -255,16 +296,17 @@ module _ (limits : Limits) (log : Log) (servers : Servers) where
         received = follows.received;
         standing = follows.standing;
         follows = follows.follows;
+        shown = follows.shown;
       }
 
   take_whole : (count : ℕ) (xs : List ℕ) → [] ≡ drop count xs → take count xs ≡ xs
   take_whole count xs none = sym (append-nil (take count xs)) ∙ ap (λ b. take count xs ++ b) none ∙ take-append-drop count xs
 
   -- all was asked
-  pub asked_follows : (request unread rest : List ℕ) (exchanges : Exchanges) (count : ℕ) (follower : Option FollowerState) (mirror : MirrorState)
+  pub asked_follows : {is_shown : Bool} (request unread rest : List ℕ) (exchanges : Exchanges) (count : ℕ) (follower : Option FollowerState) (mirror : MirrorState)
       → rest ≡ [] → rest ≡ drop count request
-      → MayFollow limits log servers (Asks count) request unread exchanges follower mirror
-      → MayFollow limits log servers Reads request unread exchanges follower mirror
+      → MayFollow limits log servers is_shown (Asks count) request unread exchanges follower mirror
+      → MayFollow limits log servers is_shown Reads request unread exchanges follower mirror
   asked_follows request unread rest exchanges count None mirror none here follows = absurd (no_away follows)
     where
       no_away : Asks count ≡ Away → ⊥
@@ -282,12 +324,13 @@ module _ (limits : Limits) (log : Log) (servers : Servers) where
         received = follows.received;
         standing = follows.standing;
         follows = follows.follows;
+        shown = follows.shown;
       }
 
   -- the connection is open, and nothing is asked yet
-  pub opens_follows : (request unread : List ℕ) (exchanges : Exchanges) (since : ℕ) (follower : Option FollowerState) (mirror : MirrorState)
-      → MayFollow limits log servers (Connects since) request unread exchanges follower mirror
-      → MayFollow limits log servers (Asks 0) request unread exchanges follower mirror
+  pub opens_follows : {is_shown : Bool} (request unread : List ℕ) (exchanges : Exchanges) (since : ℕ) (follower : Option FollowerState) (mirror : MirrorState)
+      → MayFollow limits log servers is_shown (Connects since) request unread exchanges follower mirror
+      → MayFollow limits log servers is_shown (Asks 0) request unread exchanges follower mirror
   opens_follows request unread exchanges since None mirror follows = absurd (no_away follows)
     where
       no_away : Connects since ≡ Away → ⊥
@@ -305,17 +348,31 @@ module _ (limits : Limits) (log : Log) (servers : Servers) where
         received = follows.received;
         standing = follows.standing;
         follows = follows.follows;
+        shown = follows.shown;
       }
 
   -- ---- more is received
 
-  received_stays : {begun : MirrorState} (more bytes : List ℕ) → StaysInLog limits log begun (bytes ++ more) → StaysInLog limits log begun bytes
-  received_stays more bytes stays =
+  received_stays : {begun : MirrorState} (least : ℕ) (more bytes : List ℕ) → StaysInLog limits log begun least (bytes ++ more) → StaysInLog limits log begun least bytes
+  received_stays least more bytes stays =
       record {
         shows = λ before behind standing follower mirror is. stays.shows before (behind ++ more) standing follower mirror (sym (append_assoc before behind more) ∙ ap (λ b. b ++ more) is);
         fails = λ before piece behind mirror fault is.
             stays.fails before piece (behind ++ more) mirror fault (sym (append_assoc (before ++ piece) behind more) ∙ ap (λ b. b ++ more) is);
       }
+
+  received_ends : {begun : MirrorState} (count : ℕ) (more bytes : List ℕ) → EndsInLog log begun count (bytes ++ more) → EndsInLog log begun count bytes
+  received_ends count more bytes ends =
+      record {
+        shows = λ before behind standing follower mirror is. ends.shows before (behind ++ more) standing follower mirror (sym (append_assoc before behind more) ∙ ap (λ b. b ++ more) is);
+        fails = λ before piece behind mirror fault is.
+            ends.fails before piece (behind ++ more) mirror fault (sym (append_assoc (before ++ piece) behind more) ∙ ap (λ b. b ++ more) is);
+      }
+
+  received_as : {begun : MirrorState} (shown : Shown) (more bytes : List ℕ) → IsHonestAs limits log begun shown (bytes ++ more) → IsHonestAs limits log begun shown bytes
+  received_as nothing_shown more bytes honest = tt
+  received_as (once_at count) more bytes honest = received_ends count more bytes honest
+  received_as (all_from least) more bytes honest = received_stays least more bytes honest
 
   pub received_more_honest : (bytes : List ℕ) (before after : Exchanges) → after ≡ option_map (received_more bytes) before
       → AreKnownHonest limits log servers after → AreKnownHonest limits log servers before
@@ -323,19 +380,19 @@ module _ (limits : Limits) (log : Log) (servers : Servers) where
   received_more_honest bytes (Some []) after is honest = subst (λ e. AreKnownHonest limits log servers e) is honest
   received_more_honest bytes (Some (e ∷ es)) after is honest =
       let there = subst (λ e. AreKnownHonest limits log servers e) is honest in
-      (λ begun text more asks is_request asked. received_stays bytes e.received (there.0 begun text more asks is_request asked), there.1)
+      (λ begun text more asks is_request asked. received_as e.shown bytes e.received (there.0 begun text more asks is_request asked), there.1)
 
-  pub reads_follows : (reach : Reach) (request bytes : List ℕ) (before after : Exchanges) (follower : Option FollowerState) (mirror : MirrorState)
+  pub reads_follows : {is_shown : Bool} (reach : Reach) (request bytes : List ℕ) (before after : Exchanges) (follower : Option FollowerState) (mirror : MirrorState)
       → after ≡ option_map (received_more bytes) before
-      → MayFollow limits log servers reach request [] before follower mirror
-      → MayFollow limits log servers reach request bytes after follower mirror
+      → MayFollow limits log servers is_shown reach request [] before follower mirror
+      → MayFollow limits log servers is_shown reach request bytes after follower mirror
   reads_follows reach request bytes before after None mirror is follows = follows
   reads_follows reach request bytes before after (Some follower) mirror is follows =
       record {
         start = follows.start;
         asks = follows.asks;
         is_request = follows.is_request;
-        latest = record { server = follows.latest.server; asked = follows.latest.asked; received = follows.latest.received ++ bytes };
+        latest = record { server = follows.latest.server; asked = follows.latest.asked; received = follows.latest.received ++ bytes; shown = follows.latest.shown };
         before = follows.before;
         exchanges_are = is ∙ ap (λ e. option_map (received_more bytes) e) follows.exchanges_are;
         asked = follows.asked;
@@ -343,17 +400,39 @@ module _ (limits : Limits) (log : Log) (servers : Servers) where
         received = ap (λ r. r ++ bytes) (follows.received ∙ append-nil follows.bytes);
         standing = follows.standing;
         follows = follows.follows;
+        shown = follows.shown;
       }
 
   -- ---- what came is taken
 
-  -- what is followed stays in the log, since the exchange is honest
-  stays_in_log : (request unread : List ℕ) (exchanges : Exchanges) (follower : FollowerState) (mirror : MirrorState)
-      → AreKnownHonest limits log servers exchanges → (follows : Follows limits log servers Reads request unread exchanges follower mirror)
-      → StaysInLog limits log follows.start (follows.bytes ++ unread)
-  stays_in_log request unread exchanges follower mirror honest follows =
+  longer : (n : ℕ) (xs ys : List ℕ) → n ≤ length xs → n ≤ length (xs ++ ys)
+  longer n xs ys le = let e = length-append xs ys in omega (arith, e)
+
+  later_shown : (is_shown : Bool) (shown : Shown) (xs ys : List ℕ) → IsShownSo is_shown shown (length xs) → IsShownSo is_shown shown (length (xs ++ ys))
+  later_shown false shown xs ys is = is
+  later_shown true (all_from least) xs ys is = longer least xs ys is
+  later_shown true (once_at count) xs ys is = is
+  later_shown true nothing_shown xs ys is = is
+
+  -- the mirror that is shown stays in the log from some byte on
+  record StaysFrom (start : MirrorState) (count : ℕ) (bytes : List ℕ) : Type 0 where
+    pub least : ℕ
+    pub within : least ≤ count
+    pub stays : StaysInLog limits log start least bytes
+
+  stays_from : {start : MirrorState} (shown : Shown) (count : ℕ) (received bytes : List ℕ) → received ≡ bytes → IsShownSo true shown count → IsHonestAs limits log start shown received → StaysFrom start count bytes
+  stays_from {start} (all_from least) count received bytes is so honest = record { least = least; within = so; stays = subst (λ b. StaysInLog limits log start least b) is honest }
+  stays_from (once_at at) count received bytes is so honest = absurd so
+  stays_from nothing_shown count received bytes is so honest = absurd so
+
+  -- what is followed and shown stays in the log, since the exchange is honest
+  stays_in_log : {is_shown : Bool} (request unread : List ℕ) (exchanges : Exchanges) (follower : FollowerState) (mirror : MirrorState) → is_shown ≡ true
+      → AreKnownHonest limits log servers exchanges → (follows : Follows limits log servers is_shown Reads request unread exchanges follower mirror)
+      → StaysFrom follows.start (length follows.bytes) (follows.bytes ++ unread)
+  stays_in_log request unread exchanges follower mirror is honest follows =
       let all : AreKnownHonest limits log servers (Some (follows.latest ∷ follows.before)) = subst (λ e. AreKnownHonest limits log servers e) follows.exchanges_are honest in
-      subst (λ b. StaysInLog limits log follows.start b) follows.received
+      stays_from follows.latest.shown (length follows.bytes) follows.latest.received (follows.bytes ++ unread) follows.received
+      (subst (λ b. IsShownSo b follows.latest.shown (length follows.bytes)) is follows.shown)
       (all.0 follows.start request [] follows.asks follows.is_request (follows.asked ∙ sym (append-nil request)))
 
   -- a push that goes on, where a response is followed then
@@ -369,23 +448,25 @@ module _ (limits : Limits) (log : Log) (servers : Servers) where
   goes_on start bytes (Some follower) mirror reached.Done on pushed = pushed
   goes_on start bytes (Some follower) mirror reached.TokenRefused on pushed = absurd (on refl)
 
-  pub taken : (request line next : List ℕ) (exchanges : Exchanges) (old new : Option FollowerState) (before after : MirrorState) (progress : Progress)
+  pub taken : {is_shown : Bool} (request line next : List ℕ) (exchanges : Exchanges) (old new : Option FollowerState) (before after : MirrorState) (progress : Progress)
       → (progress ≡ reached.TokenRefused → ⊥)
       → ((start : MirrorState) (bytes : List ℕ) (standing : Standing) → IsFollowing start bytes standing old before → IsPushed start (bytes ++ line) new after progress)
-      → AreKnownHonest limits log servers exchanges → MayFollow limits log servers Reads request (line ++ next) exchanges old before
-      → IsTaken limits log servers request next exchanges new after
+      → AreKnownHonest limits log servers exchanges → MayFollow limits log servers is_shown Reads request (line ++ next) exchanges old before
+      → IsTaken limits log servers is_shown request next exchanges new after
   taken request line next exchanges None new before after progress on push honest follows = absurd (no_away follows)
     where
       no_away : Reads ≡ Away → ⊥
       no_away e = cc
-  taken request line next exchanges (Some follower) new before after progress on push honest follows =
+  taken {is_shown} request line next exchanges (Some follower) new before after progress on push honest follows =
       by new (goes_on follows.start (follows.bytes ++ line) new after progress on (push follows.start follows.bytes follows.standing follows.follows))
     where
-      by : (now : Option FollowerState) → GoesOnSo follows.start (follows.bytes ++ line) now after progress → IsTaken limits log servers request next exchanges now after
+      by : (now : Option FollowerState) → GoesOnSo follows.start (follows.bytes ++ line) now after progress → IsTaken limits log servers is_shown request next exchanges now after
       by None goes = absurd goes
       by (Some now) goes =
           record {
-            at = (stays_in_log request (line ++ next) exchanges follower before honest follows).shows (follows.bytes ++ line) next goes.0 now after (append_assoc follows.bytes line next) goes.2;
+            at = λ is.
+                let st = stays_in_log request (line ++ next) exchanges follower before is honest follows in
+                st.stays.shows (follows.bytes ++ line) next goes.0 now after (append_assoc follows.bytes line next) (longer st.least follows.bytes line st.within) goes.2;
             follows = record {
               start = follows.start;
               asks = follows.asks;
@@ -398,40 +479,43 @@ module _ (limits : Limits) (log : Log) (servers : Servers) where
               received = follows.received ∙ sym (append_assoc follows.bytes line next);
               standing = goes.0;
               follows = goes.2;
+              shown = later_shown is_shown follows.latest.shown follows.bytes line follows.shown;
             };
           }
 
   -- the token was refused: the mirror stays where it was
-  pub refused_at : (request line next : List ℕ) (exchanges : Exchanges) (old new : Option FollowerState) (before after : MirrorState) (progress : Progress)
+  pub refused_at : {is_shown : Bool} (request line next : List ℕ) (exchanges : Exchanges) (old new : Option FollowerState) (before after : MirrorState) (progress : Progress)
       → progress ≡ reached.TokenRefused
       → ((start : MirrorState) (bytes : List ℕ) (standing : Standing) → IsFollowing start bytes standing old before → IsPushed start (bytes ++ line) new after progress)
-      → AreKnownHonest limits log servers exchanges → MayFollow limits log servers Reads request (line ++ next) exchanges old before
-      → IsInLog limits log after.node
-  refused_at request line next exchanges None new before after progress is push honest follows = absurd (no_away follows)
+      → AreKnownHonest limits log servers exchanges → MayFollow limits log servers is_shown Reads request (line ++ next) exchanges old before
+      → is_shown ≡ true → IsInLog limits log after.node
+  refused_at request line next exchanges None new before after progress is push honest follows shown = absurd (no_away follows)
     where
       no_away : Reads ≡ Away → ⊥
       no_away e = cc
-  refused_at request line next exchanges (Some follower) new before after progress is push honest follows =
+  refused_at request line next exchanges (Some follower) new before after progress is push honest follows shown =
       by new (subst (λ p. IsPushed follows.start (follows.bytes ++ line) new after p) is (push follows.start follows.bytes follows.standing follows.follows))
     where
       by : (now : Option FollowerState) → IsPushed follows.start (follows.bytes ++ line) now after reached.TokenRefused → IsInLog limits log after.node
       by None pushed = absurd pushed
       by (Some now) pushed =
-          (stays_in_log request (line ++ next) exchanges follower before honest follows).shows (follows.bytes ++ line) next _ now (refused_off after) (append_assoc follows.bytes line next) pushed.1
+          let st = stays_in_log request (line ++ next) exchanges follower before shown honest follows in
+          st.stays.shows (follows.bytes ++ line) next _ now (refused_off after) (append_assoc follows.bytes line next) (longer st.least follows.bytes line st.within) pushed.1
 
   -- a fault
-  pub failed_at : (request line next : List ℕ) (exchanges : Exchanges) (old : Option FollowerState) (before after : MirrorState) (fault : FollowFault)
+  pub failed_at : {is_shown : Bool} (request line next : List ℕ) (exchanges : Exchanges) (old : Option FollowerState) (before after : MirrorState) (fault : FollowFault)
       → ((start : MirrorState) (bytes : List ℕ) (standing : Standing) → IsFollowing start bytes standing old before
       → (had_token : Bool) × (had_token ≡ is_some start.since) × Fails start had_token bytes line after fault)
-      → AreKnownHonest limits log servers exchanges → MayFollow limits log servers Reads request (line ++ next) exchanges old before
-      → IsInLog limits log after.node
-  failed_at request line next exchanges None before after fault fail honest follows = absurd (no_away follows)
+      → AreKnownHonest limits log servers exchanges → MayFollow limits log servers is_shown Reads request (line ++ next) exchanges old before
+      → is_shown ≡ true → IsInLog limits log after.node
+  failed_at request line next exchanges None before after fault fail honest follows shown = absurd (no_away follows)
     where
       no_away : Reads ≡ Away → ⊥
       no_away e = cc
-  failed_at request line next exchanges (Some follower) before after fault fail honest follows =
+  failed_at request line next exchanges (Some follower) before after fault fail honest follows shown =
       let failed = fail follows.start follows.bytes follows.standing follows.follows in
-      (stays_in_log request (line ++ next) exchanges follower before honest follows).fails follows.bytes line next after fault (append_assoc follows.bytes line next)
+      let st = stays_in_log request (line ++ next) exchanges follower before shown honest follows in
+      st.stays.fails follows.bytes line next after fault (append_assoc follows.bytes line next) (longer st.least follows.bytes line st.within)
       (subst (λ had. Fails follows.start had follows.bytes line after fault) failed.1 failed.2)
 
   -- ---- whole states: what is shown and what is followed, as long as all was honest
@@ -447,9 +531,9 @@ module _ (limits : Limits) (log : Log) (servers : Servers) where
   pub with_same : {contest : List ℕ} {old new : Source} → SameSource old new
       → (exchanges : Exchanges) {hub : Hub} {conns : Slab Conn} {sockets : AllSockets} (unread left : List ℕ) → left ≡ unread
       → (AreKnownHonest limits log servers exchanges → Shows limits log contest old.answers.shown.mirror old.answers.blank.mirror hub conns sockets
-      × MayFollow limits log servers old.reach old.request.items unread exchanges old.upstream.follower (followed_by old))
+      × MayFollow limits log servers (is_none old.coming) old.reach old.request.items unread exchanges old.upstream.follower (followed_by old))
       → AreKnownHonest limits log servers exchanges → Shows limits log contest new.answers.shown.mirror new.answers.blank.mirror hub conns sockets
-      × MayFollow limits log servers new.reach new.request.items left exchanges new.upstream.follower (followed_by new)
+      × MayFollow limits log servers (is_none new.coming) new.reach new.request.items left exchanges new.upstream.follower (followed_by new)
   with_same same exchanges unread left rest follows honest = let here = follows honest in (same_shows limits log same here.0, same_follows same exchanges unread left rest here.1)
 
   -- the server is left
@@ -457,43 +541,43 @@ module _ (limits : Limits) (log : Log) (servers : Servers) where
       → {hub : Hub} {conns : Slab Conn} {sockets : AllSockets} (unread : List ℕ)
       → (AreKnownHonest limits log servers before → Shows limits log contest old.answers.shown.mirror old.answers.blank.mirror hub conns sockets)
       → AreKnownHonest limits log servers after → Shows limits log contest new.answers.shown.mirror new.answers.blank.mirror hub conns sockets
-      × MayFollow limits log servers new.reach new.request.items unread after new.upstream.follower (followed_by new)
+      × MayFollow limits log servers (is_none new.coming) new.reach new.request.items unread after new.upstream.follower (followed_by new)
   with_left {old} {new} left unread shows honest =
       (left_shows left (shows (left_honest left honest)), left_follows left new.request.items unread (followed_by new))
 
   -- what is unread is this
-  pub with_unread : {X : Type 0} (exchanges : Exchanges) (reach : Reach) (request : List ℕ) (follower : Option FollowerState) (mirror : MirrorState) {unread other : List ℕ} → other ≡ unread
-      → (AreKnownHonest limits log servers exchanges → X × MayFollow limits log servers reach request unread exchanges follower mirror)
-      → AreKnownHonest limits log servers exchanges → X × MayFollow limits log servers reach request other exchanges follower mirror
-  with_unread exchanges reach request follower mirror is follows honest =
-      let here = follows honest in (here.0, subst (λ u. MayFollow limits log servers reach request u exchanges follower mirror) (sym is) here.1)
+  pub with_unread : {X : Type 0} {is_shown : Bool} (exchanges : Exchanges) (reach : Reach) (request : List ℕ) (follower : Option FollowerState) (mirror : MirrorState) {unread other : List ℕ} → other ≡ unread
+      → (AreKnownHonest limits log servers exchanges → X × MayFollow limits log servers is_shown reach request unread exchanges follower mirror)
+      → AreKnownHonest limits log servers exchanges → X × MayFollow limits log servers is_shown reach request other exchanges follower mirror
+  with_unread {is_shown = is_shown} exchanges reach request follower mirror is follows honest =
+      let here = follows honest in (here.0, subst (λ u. MayFollow limits log servers is_shown reach request u exchanges follower mirror) (sym is) here.1)
 
   -- what is kept changed alone
   pub with_kept : {contest : List ℕ} {hub : Hub} {conns : Slab Conn} {sockets : AllSockets} {old new : Source} → IsKeeping old new
       → (exchanges : Exchanges) (unread left : List ℕ) → left ≡ unread
       → (AreKnownHonest limits log servers exchanges → Shows limits log contest old.answers.shown.mirror old.answers.blank.mirror hub conns sockets
-      × MayFollow limits log servers old.reach old.request.items unread exchanges old.upstream.follower (followed_by old))
+      × MayFollow limits log servers (is_none old.coming) old.reach old.request.items unread exchanges old.upstream.follower (followed_by old))
       → AreKnownHonest limits log servers exchanges → Shows limits log contest new.answers.shown.mirror new.answers.blank.mirror hub conns sockets
-      × MayFollow limits log servers new.reach new.request.items left exchanges new.upstream.follower (followed_by new)
+      × MayFollow limits log servers (is_none new.coming) new.reach new.request.items left exchanges new.upstream.follower (followed_by new)
   with_kept {contest} {hub} {conns} {sockets} {old} {new} same exchanges unread left rest follows honest =
       let here = follows honest in (
         subst (λ a. Shows limits log contest a.shown.mirror a.blank.mirror hub conns sockets) (sym same.answers) here.0,
-        follows_as exchanges (ap (λ r. r.items) same.request) rest same.reach (ap (λ u. u.follower) same.upstream) (same_followed same.coming (ap (λ a. a.shown.mirror) same.answers)) here.1,
+        follows_as exchanges (ap is_none same.coming) (ap (λ r. r.items) same.request) rest same.reach (ap (λ u. u.follower) same.upstream) (same_followed same.coming (ap (λ a. a.shown.mirror) same.answers)) here.1,
       )
 
   -- ---- bytes come to the mirror that follows
 
   -- what follows is at a place of the log then: so is what is shown
   shown_after : (coming now : Option MirrorState) {contest : List ℕ} {hub : Hub} {conns : Slab Conn} {sockets : AllSockets} (old new blank blank_new : MirrorState)
-      → KeepsShown coming now old new → (followed now new).limits ≡ (followed coming old).limits → IsInLog limits log (followed now new).node → blank_new ≡ blank
+      → KeepsShown coming now old new → (followed now new).limits ≡ (followed coming old).limits → (is_none coming ≡ true → IsInLog limits log (followed now new).node) → blank_new ≡ blank
       → Shows limits log contest old blank hub conns sockets → Shows limits log contest new blank_new hub conns sockets
   shown_after None now {contest} {hub} {conns} {sockets} old new blank blank_new keeps bounds at same shows =
-      shows_at limits log (subst (λ n. (followed n new).limits ≡ old.limits) keeps bounds) (subst (λ n. IsInLog limits log (followed n new).node) keeps at) same shows
+      shows_at limits log (subst (λ n. (followed n new).limits ≡ old.limits) keeps bounds) (subst (λ n. IsInLog limits log (followed n new).node) keeps (at refl)) same shows
   shown_after (Some coming) now {contest} {hub} {conns} {sockets} old new blank blank_new keeps bounds at same shows =
       shows_at limits log (ap (λ m. m.limits) keeps) (subst (λ m. IsInLog limits log m.node) (sym keeps) shows.shown_is) same shows
 
   pub with_shown : (exchanges : Exchanges) {contest : List ℕ} {hub : Hub} {conns : Slab Conn} {sockets : AllSockets} {X : Type 0} {old new : Source} → PushesOnly old new
-      → (AreKnownHonest limits log servers exchanges → X → IsInLog limits log (followed_by new).node)
+      → (AreKnownHonest limits log servers exchanges → X → is_none old.coming ≡ true → IsInLog limits log (followed_by new).node)
       → (AreKnownHonest limits log servers exchanges → Shows limits log contest old.answers.shown.mirror old.answers.blank.mirror hub conns sockets × X)
       → AreKnownHonest limits log servers exchanges → Shows limits log contest new.answers.shown.mirror new.answers.blank.mirror hub conns sockets
   with_shown exchanges {old = old} {new = new} only at follows honest =
@@ -505,15 +589,15 @@ module _ (limits : Limits) (log : Log) (servers : Servers) where
       → old.reach ≡ Reads → PushesOnly old new → (progress ≡ reached.TokenRefused → ⊥)
       → ((start : MirrorState) (bytes : List ℕ) (standing : Standing) → IsFollowing start bytes standing old.upstream.follower (followed_by old) → IsPushed start (bytes ++ line) new.upstream.follower (followed_by new) progress)
       → (AreKnownHonest limits log servers exchanges → Shows limits log contest old.answers.shown.mirror old.answers.blank.mirror hub conns sockets
-      × MayFollow limits log servers old.reach old.request.items (line ++ next) exchanges old.upstream.follower (followed_by old))
+      × MayFollow limits log servers (is_none old.coming) old.reach old.request.items (line ++ next) exchanges old.upstream.follower (followed_by old))
       → AreKnownHonest limits log servers exchanges → Shows limits log contest new.answers.shown.mirror new.answers.blank.mirror hub conns sockets
-      × MayFollow limits log servers new.reach new.request.items next exchanges new.upstream.follower (followed_by new)
+      × MayFollow limits log servers (is_none new.coming) new.reach new.request.items next exchanges new.upstream.follower (followed_by new)
   with_taken exchanges {old = old} {new = new} line next progress reads only on push follows honest =
       let here = follows honest in
       let is_taken = taken old.request.items line next exchanges old.upstream.follower new.upstream.follower (followed_by old) (followed_by new) progress on push honest
-      (subst (λ r. MayFollow limits log servers r old.request.items (line ++ next) exchanges old.upstream.follower (followed_by old)) reads here.1) in (
+      (subst (λ r. MayFollow limits log servers (is_none old.coming) r old.request.items (line ++ next) exchanges old.upstream.follower (followed_by old)) reads here.1) in (
         with_shown exchanges only (λ _ _. is_taken.at) follows honest,
-        follows_as exchanges only.request refl (only.reach ∙ reads) refl refl is_taken.follows,
+        follows_as exchanges only.coming only.request refl (only.reach ∙ reads) refl refl is_taken.follows,
       )
 
   -- or the token was refused
@@ -521,11 +605,11 @@ module _ (limits : Limits) (log : Log) (servers : Servers) where
       → old.reach ≡ Reads → PushesOnly old new → progress ≡ reached.TokenRefused
       → ((start : MirrorState) (bytes : List ℕ) (standing : Standing) → IsFollowing start bytes standing old.upstream.follower (followed_by old) → IsPushed start (bytes ++ line) new.upstream.follower (followed_by new) progress)
       → (AreKnownHonest limits log servers exchanges → Shows limits log contest old.answers.shown.mirror old.answers.blank.mirror hub conns sockets
-      × MayFollow limits log servers old.reach old.request.items (line ++ next) exchanges old.upstream.follower (followed_by old))
+      × MayFollow limits log servers (is_none old.coming) old.reach old.request.items (line ++ next) exchanges old.upstream.follower (followed_by old))
       → AreKnownHonest limits log servers exchanges → Shows limits log contest new.answers.shown.mirror new.answers.blank.mirror hub conns sockets
   with_refused exchanges {old = old} {new = new} line next progress reads only is push follows =
       with_shown exchanges only (λ honest here. refused_at old.request.items line next exchanges old.upstream.follower new.upstream.follower (followed_by old) (followed_by new) progress is push honest
-      (subst (λ r. MayFollow limits log servers r old.request.items (line ++ next) exchanges old.upstream.follower (followed_by old)) reads here)) follows
+      (subst (λ r. MayFollow limits log servers (is_none old.coming) r old.request.items (line ++ next) exchanges old.upstream.follower (followed_by old)) reads here)) follows
 
   -- or it failed
   pub with_failed : (exchanges : Exchanges) {contest : List ℕ} {hub : Hub} {conns : Slab Conn} {sockets : AllSockets} {old new : Source} (line next : List ℕ) (fault : FollowFault)
@@ -533,11 +617,11 @@ module _ (limits : Limits) (log : Log) (servers : Servers) where
       → ((start : MirrorState) (bytes : List ℕ) (standing : Standing) → IsFollowing start bytes standing old.upstream.follower (followed_by old)
       → (had_token : Bool) × (had_token ≡ is_some start.since) × Fails start had_token bytes line (followed_by new) fault)
       → (AreKnownHonest limits log servers exchanges → Shows limits log contest old.answers.shown.mirror old.answers.blank.mirror hub conns sockets
-      × MayFollow limits log servers old.reach old.request.items (line ++ next) exchanges old.upstream.follower (followed_by old))
+      × MayFollow limits log servers (is_none old.coming) old.reach old.request.items (line ++ next) exchanges old.upstream.follower (followed_by old))
       → AreKnownHonest limits log servers exchanges → Shows limits log contest new.answers.shown.mirror new.answers.blank.mirror hub conns sockets
   with_failed exchanges {old = old} {new = new} line next fault reads only fail follows =
       with_shown exchanges only (λ honest here. failed_at old.request.items line next exchanges old.upstream.follower (followed_by old) (followed_by new) fault fail honest
-      (subst (λ r. MayFollow limits log servers r old.request.items (line ++ next) exchanges old.upstream.follower (followed_by old)) reads here)) follows
+      (subst (λ r. MayFollow limits log servers (is_none old.coming) r old.request.items (line ++ next) exchanges old.upstream.follower (followed_by old)) reads here)) follows
 
   -- ---- what came afresh is shown
 
@@ -550,79 +634,259 @@ module _ (limits : Limits) (log : Log) (servers : Servers) where
   limits_stay bytes (failed BadChunk payload) follows = ap (λ m. m.limits) follows.leaves.state
   limits_stay bytes (failed fault payload) follows = ap (λ m. m.limits) follows.leaves
 
-  -- what follows is at a place of the log, and may be shown
-  pub follows_in_log : (reach : Reach) (request unread : List ℕ) (exchanges : Exchanges) (follower : Option FollowerState) (mirror : MirrorState) → reach ≡ Reads
-      → AreKnownHonest limits log servers exchanges → MayFollow limits log servers reach request unread exchanges follower mirror
-      → (mirror.limits ≡ limits) × IsInLog limits log mirror.node
-  follows_in_log reach request unread exchanges None mirror reads honest follows = absurd (no_away (sym reads ∙ follows))
+  counted : (bytes unread received : List ℕ) → received ≡ bytes ++ unread → length bytes ≡ length received - length unread
+  counted bytes unread received is = let e : length received ≡ length bytes + length unread = ap length is ∙ length-append bytes unread in omega (arith, e)
+
+  -- what was pushed last goes on, or failed: then so much of the response came
+  module _ (start : MirrorState) (whole unread received : List ℕ) (received_is : received ≡ whole ++ unread) (mirror : MirrorState)
+      (shows : (least : ℕ) → least ≤ length whole → StaysInLog limits log start least received → IsInLog limits log mirror.node)
+      (ends : EndsInLog log start (length whole) received → IsOfLog log mirror.node.published) where
+    once_so : (is_shown : Bool) (shown : Shown) → IsShownSo is_shown shown (length whole) → IsHonestAs limits log start (shown_first shown (once_at (length received - length unread))) received
+        → IsOfLog log mirror.node.published
+    once_so true (all_from least) so honest = of_log limits log mirror.node (shows least so honest)
+    once_so true (once_at count) so honest = absurd so
+    once_so true nothing_shown so honest = absurd so
+    once_so false shown so honest =
+        ends (subst (λ n. EndsInLog log start n received) (sym (counted whole unread received received_is))
+        (subst (λ s. IsHonestAs limits log start (shown_first s (once_at (length received - length unread))) received) so honest))
+
+    all_so : (is_shown : Bool) (shown : Shown) → IsShownSo is_shown shown (length whole) → IsHonestAs limits log start (shown_first shown (all_from (length received - length unread))) received
+        → IsInLog limits log mirror.node
+    all_so true (all_from least) so honest = shows least so honest
+    all_so true (once_at count) so honest = absurd so
+    all_so true nothing_shown so honest = absurd so
+    all_so false shown so honest =
+        let here : StaysInLog limits log start (length received - length unread) received = subst (λ s. IsHonestAs limits log start (shown_first s (all_from (length received - length unread))) received) so honest in
+        let e = counted whole unread received received_is in
+        shows (length received - length unread) (omega (arith, e)) here
+
+  -- the latest exchange, with what is shown of it then
+  latest_so : (how : ℕ → Shown) (unread : ℕ) (exchanges : Exchanges) (latest : Exchange) (before : List Exchange) → exchanges ≡ Some (latest ∷ before)
+      → AreKnownHonest limits log servers (option_map (shown_so how unread) exchanges)
+      → IsHonest limits log servers (record { server = latest.server; asked = latest.asked; received = latest.received; shown = shown_first latest.shown (how (length latest.received - unread)) })
+  latest_so how unread exchanges latest before is honest =
+      let there : AreKnownHonest limits log servers (option_map (shown_so how unread) (Some (latest ∷ before))) = subst (λ e. AreKnownHonest limits log servers (option_map (shown_so how unread) e)) is honest in
+      there.0
+
+  -- what follows may be shown
+  pub follows_may_show : {is_shown : Bool} (reach : Reach) (request unread : List ℕ) (exchanges : Exchanges) (follower : Option FollowerState) (mirror : MirrorState) → reach ≡ Reads
+      → (AreKnownHonest limits log servers exchanges → MayFollow limits log servers is_shown reach request unread exchanges follower mirror)
+      → MayShow limits log servers (length unread) exchanges mirror
+  follows_may_show reach request unread exchanges None mirror reads follows =
+      record {
+        once = λ honest. absurd (no_away (sym reads ∙ follows (shown_so_honest once_at (length unread) exchanges _ refl honest)));
+        all = λ honest. absurd (no_away (sym reads ∙ follows (shown_so_honest all_from (length unread) exchanges _ refl honest)));
+      }
     where
       no_away : Reads ≡ Away → ⊥
       no_away e = cc
-  follows_in_log reach request unread exchanges (Some follower) mirror reads honest follows =
-      let here = subst (λ r. Follows limits log servers r request unread exchanges follower mirror) reads follows in (
-        limits_stay here.bytes here.standing here.follows ∙ here.asks.asks.limits_are,
-        (stays_in_log request unread exchanges follower mirror honest here).shows here.bytes unread here.standing follower mirror refl here.follows,
-      )
+  follows_may_show {is_shown} reach request unread exchanges (Some follower) mirror reads follows =
+      record {
+        once = λ honest.
+            let here = read (follows (shown_so_honest once_at (length unread) exchanges _ refl honest)) in (
+              bounds here,
+              once_so here.start here.bytes unread here.latest.received here.received mirror (shows here) (ends here) is_shown here.latest.shown here.shown
+                  (latest_so once_at (length unread) exchanges here.latest here.before here.exchanges_are honest here.start request [] here.asks here.is_request (here.asked ∙ sym (append-nil request))),
+            );
+        all = λ honest.
+            let here = read (follows (shown_so_honest all_from (length unread) exchanges _ refl honest)) in (
+              bounds here,
+              all_so here.start here.bytes unread here.latest.received here.received mirror (shows here) (ends here) is_shown here.latest.shown here.shown
+                  (latest_so all_from (length unread) exchanges here.latest here.before here.exchanges_are honest here.start request [] here.asks here.is_request (here.asked ∙ sym (append-nil request))),
+            );
+      }
+    where
+      read : Follows limits log servers is_shown reach request unread exchanges follower mirror → Follows limits log servers is_shown Reads request unread exchanges follower mirror
+      read here = subst (λ r. Follows limits log servers is_shown r request unread exchanges follower mirror) reads here
 
-  pub with_now_shown : (exchanges : Exchanges) {contest : List ℕ} {hub : Hub} {conns : Slab Conn} {sockets : AllSockets} {old new : Source} (unread : List ℕ) → old.reach ≡ Reads → IsNowShown old new
-      → (AreKnownHonest limits log servers exchanges → Shows limits log contest old.answers.shown.mirror old.answers.blank.mirror hub conns sockets
-      × MayFollow limits log servers old.reach old.request.items unread exchanges old.upstream.follower (followed_by old))
-      → AreKnownHonest limits log servers exchanges → Shows limits log contest new.answers.shown.mirror new.answers.blank.mirror hub conns sockets
-      × MayFollow limits log servers new.reach new.request.items unread exchanges new.upstream.follower (followed_by new)
-  with_now_shown exchanges {old = old} {new = new} unread reads now follows honest =
-      let here = follows honest in
-      let at = follows_in_log old.reach old.request.items unread exchanges old.upstream.follower (followed_by old) reads honest here.1 in (
-        record {
-          limits_are = ap (λ m. m.limits) now.shown ∙ at.0;
-          shown_is = subst (λ m. IsInLog limits log m.node) (sym now.shown) at.1;
-          blank_is = subst (λ m. IsInLog limits log m.node) (sym now.blank) here.0.blank_is;
-          serving = here.0.serving;
-        },
-        follows_as exchanges now.request refl now.reach now.follower (ap (λ c. followed c new.answers.shown.mirror) now.coming ∙ now.shown) here.1,
+      bounds : (here : Follows limits log servers is_shown Reads request unread exchanges follower mirror) → mirror.limits ≡ limits
+      bounds here = limits_stay here.bytes here.standing here.follows ∙ here.asks.asks.limits_are
+
+      shows : (here : Follows limits log servers is_shown Reads request unread exchanges follower mirror) (least : ℕ) → least ≤ length here.bytes → StaysInLog limits log here.start least here.latest.received → IsInLog limits log mirror.node
+      shows here least within stays = stays.shows here.bytes unread here.standing follower mirror (sym here.received) within here.follows
+
+      ends : (here : Follows limits log servers is_shown Reads request unread exchanges follower mirror) → EndsInLog log here.start (length here.bytes) here.latest.received → IsOfLog log mirror.node.published
+      ends here end = end.shows here.bytes unread here.standing follower mirror (sym here.received) refl here.follows
+
+  -- so may what failed: what the good lines before that published
+  pub failed_may_show : {is_shown : Bool} (reach : Reach) (request line next : List ℕ) (exchanges : Exchanges) (old : Option FollowerState) (before after : MirrorState) (fault : FollowFault) → reach ≡ Reads
+      → after.limits ≡ before.limits
+      → ((start : MirrorState) (bytes : List ℕ) (standing : Standing) → IsFollowing start bytes standing old before
+      → (had_token : Bool) × (had_token ≡ is_some start.since) × Fails start had_token bytes line after fault)
+      → (AreKnownHonest limits log servers exchanges → MayFollow limits log servers is_shown reach request (line ++ next) exchanges old before)
+      → MayShow limits log servers (length next) exchanges after
+  failed_may_show reach request line next exchanges None before after fault reads same fail follows =
+      record {
+        once = λ honest. absurd (no_away (sym reads ∙ follows (shown_so_honest once_at (length next) exchanges _ refl honest)));
+        all = λ honest. absurd (no_away (sym reads ∙ follows (shown_so_honest all_from (length next) exchanges _ refl honest)));
+      }
+    where
+      no_away : Reads ≡ Away → ⊥
+      no_away e = cc
+  failed_may_show {is_shown} reach request line next exchanges (Some follower) before after fault reads same fail follows =
+      record {
+        once = λ honest.
+            let here = read (follows (shown_so_honest once_at (length next) exchanges _ refl honest)) in (
+              bounds here,
+              once_so here.start (here.bytes ++ line) next here.latest.received (came here) after (shows here) (ends here) is_shown here.latest.shown (later_shown is_shown here.latest.shown here.bytes line here.shown)
+                  (latest_so once_at (length next) exchanges here.latest here.before here.exchanges_are honest here.start request [] here.asks here.is_request (here.asked ∙ sym (append-nil request))),
+            );
+        all = λ honest.
+            let here = read (follows (shown_so_honest all_from (length next) exchanges _ refl honest)) in (
+              bounds here,
+              all_so here.start (here.bytes ++ line) next here.latest.received (came here) after (shows here) (ends here) is_shown here.latest.shown (later_shown is_shown here.latest.shown here.bytes line here.shown)
+                  (latest_so all_from (length next) exchanges here.latest here.before here.exchanges_are honest here.start request [] here.asks here.is_request (here.asked ∙ sym (append-nil request))),
+            );
+      }
+    where
+      read : Follows limits log servers is_shown reach request (line ++ next) exchanges follower before → Follows limits log servers is_shown Reads request (line ++ next) exchanges follower before
+      read here = subst (λ r. Follows limits log servers is_shown r request (line ++ next) exchanges follower before) reads here
+
+      bounds : (here : Follows limits log servers is_shown Reads request (line ++ next) exchanges follower before) → after.limits ≡ limits
+      bounds here = same ∙ limits_stay here.bytes here.standing here.follows ∙ here.asks.asks.limits_are
+
+      came : (here : Follows limits log servers is_shown Reads request (line ++ next) exchanges follower before) → here.latest.received ≡ (here.bytes ++ line) ++ next
+      came here = here.received ∙ sym (append_assoc here.bytes line next)
+
+      failed : (here : Follows limits log servers is_shown Reads request (line ++ next) exchanges follower before) → Fails here.start (is_some here.start.since) here.bytes line after fault
+      failed here = let f = fail here.start here.bytes here.standing here.follows in subst (λ had. Fails here.start had here.bytes line after fault) f.1 f.2
+
+      shows : (here : Follows limits log servers is_shown Reads request (line ++ next) exchanges follower before) (least : ℕ) → least ≤ length (here.bytes ++ line) → StaysInLog limits log here.start least here.latest.received → IsInLog limits log after.node
+      shows here least within stays = stays.fails here.bytes line next after fault (sym (came here)) within (failed here)
+
+      ends : (here : Follows limits log servers is_shown Reads request (line ++ next) exchanges follower before) → EndsInLog log here.start (length (here.bytes ++ line)) here.latest.received → IsOfLog log after.node.published
+      ends here end = end.fails here.bytes line next after fault (sym (came here)) refl (failed here)
+
+  now_shown : (is_shown : Bool) (shown : Shown) (bytes unread received : List ℕ) → received ≡ bytes ++ unread → IsShownSo is_shown shown (length bytes)
+      → IsShownSo true (shown_first shown (all_from (length received - length unread))) (length bytes)
+  now_shown true (all_from least) bytes unread received is so = so
+  now_shown true (once_at count) bytes unread received is so = absurd so
+  now_shown true nothing_shown bytes unread received is so = absurd so
+  now_shown false shown bytes unread received is so =
+      let e = counted bytes unread received is in
+      let le : length received - length unread ≤ length bytes = omega (arith, e) in
+      subst (λ s. IsShownSo true (shown_first s (all_from (length received - length unread))) (length bytes)) (sym so) le
+
+  -- what follows is shown from here on
+  now_follows : {is_shown : Bool} (request unread : List ℕ) (before after : Exchanges) (follower : Option FollowerState) (mirror : MirrorState)
+      → after ≡ option_map (shown_so all_from (length unread)) before
+      → MayFollow limits log servers is_shown Reads request unread before follower mirror
+      → MayFollow limits log servers true Reads request unread after follower mirror
+  now_follows request unread before after None mirror is follows = follows
+  now_follows {is_shown} request unread before after (Some follower) mirror is follows =
+      record {
+        start = follows.start;
+        asks = follows.asks;
+        is_request = follows.is_request;
+        latest = record {
+          server = follows.latest.server;
+          asked = follows.latest.asked;
+          received = follows.latest.received;
+          shown = shown_first follows.latest.shown (all_from (length follows.latest.received - length unread));
+        };
+        before = follows.before;
+        exchanges_are = is ∙ ap (λ e. option_map (shown_so all_from (length unread)) e) follows.exchanges_are;
+        asked = follows.asked;
+        bytes = follows.bytes;
+        received = follows.received;
+        standing = follows.standing;
+        follows = follows.follows;
+        shown = now_shown is_shown follows.latest.shown follows.bytes unread follows.latest.received follows.received follows.shown;
+      }
+
+  pub shows_now : {contest : List ℕ} {hub : Hub} {conns : Slab Conn} {sockets : AllSockets} {old new : Source} (unread : ℕ) (before after : Exchanges)
+      → after ≡ option_map (shown_so all_from unread) before → IsNowShown old new
+      → (AreKnownHonest limits log servers before → Shows limits log contest old.answers.shown.mirror old.answers.blank.mirror hub conns sockets)
+      → MayShow limits log servers unread before (followed_by old)
+      → AreKnownHonest limits log servers after → Shows limits log contest new.answers.shown.mirror new.answers.blank.mirror hub conns sockets
+  shows_now {old = old} unread before after is now shows may honest =
+      let here = shows (shown_so_honest all_from unread before after is honest) in
+      let at = may.all (subst (λ e. AreKnownHonest limits log servers e) is honest) in
+      record {
+        limits_are = ap (λ m. m.limits) now.shown ∙ at.0;
+        shown_is = subst (λ m. IsInLog limits log m.node) (sym now.shown) at.1;
+        blank_is = subst (λ m. IsInLog limits log m.node) (sym now.blank) here.blank_is;
+        serving = here.serving;
+      }
+
+  pub with_now_shown : {contest : List ℕ} {hub : Hub} {conns : Slab Conn} {sockets : AllSockets} {old new : Source} (unread : List ℕ) (before after : Exchanges)
+      → after ≡ option_map (shown_so all_from (length unread)) before → old.reach ≡ Reads → IsNowShown old new
+      → (AreKnownHonest limits log servers before → Shows limits log contest old.answers.shown.mirror old.answers.blank.mirror hub conns sockets
+      × MayFollow limits log servers (is_none old.coming) old.reach old.request.items unread before old.upstream.follower (followed_by old))
+      → AreKnownHonest limits log servers after → Shows limits log contest new.answers.shown.mirror new.answers.blank.mirror hub conns sockets
+      × MayFollow limits log servers (is_none new.coming) new.reach new.request.items unread after new.upstream.follower (followed_by new)
+  with_now_shown {old = old} {new = new} unread before after is reads now follows honest =
+      let earlier = shown_so_honest all_from (length unread) before after is honest in (
+        shows_now (length unread) before after is now (λ h. (follows h).0)
+            (follows_may_show old.reach old.request.items unread before old.upstream.follower (followed_by old) reads (λ h. (follows h).1)) honest,
+        follows_as after (ap is_none now.coming) now.request refl (now.reach ∙ reads) now.follower (ap (λ c. followed c new.answers.shown.mirror) now.coming ∙ now.shown)
+            (now_follows old.request.items unread before after old.upstream.follower (followed_by old) is
+            (subst (λ r. MayFollow limits log servers (is_none old.coming) r old.request.items unread before old.upstream.follower (followed_by old)) reads (follows earlier).1)),
       )
 
   -- a mirror that shows the same at its own token alone is at a place of the log, too
-  alone_in_log : (bounds : Limits) (node : NodeState) → IsInLog limits log node → IsInLog limits log (restored_from bounds node.published).node
-  alone_in_log bounds node (None, is_place, is) = subst (λ n. IsInLog limits log (restored_from bounds n.published).node) (sym is) (None, tt, refl)
-  alone_in_log bounds node (Some p, is_place, is) =
-      let none : p.at - p.at ≡ 0 = omega arith in
-      let alone : Position = record { at = p.at; low = p.at } in
-      let there : IsInLog limits log (restored_from bounds (node_at log p).published).node = (
+  alone_in_log : (bounds : Limits) (published : Option Published) → IsOfLog log published → IsInLog limits log (restored_from bounds published).node
+  alone_in_log bounds None of = (None, tt, refl)
+  alone_in_log bounds (Some published) (k, within, is) =
+      let none : k - k ≡ 0 = omega arith in
+      let alone : Position = record { at = k; low = k } in
+      let there : IsInLog limits log (restored_from bounds (node_at log alone).published).node = (
         Some alone,
-        record { order = omega arith; kept = omega arith; in_log = is_place.in_log },
+        record { order = omega arith; kept = omega arith; in_log = within },
         ap (λ n. record {
-          published = Some (record { tables = state_after log p.at; token = log.token p.at });
-          held = tokens_of log p.at (suc n);
-          kept = commits_after log p.at n;
+          published = Some (record { tables = state_after log k; token = log.token k });
+          held = tokens_of log k (suc n);
+          kept = commits_after log k n;
         }) (sym none),
       ) in
-      subst (λ n. IsInLog limits log (restored_from bounds n.published).node) (sym is) there
+      subst (λ p. IsInLog limits log (restored_from bounds (Some p)).node) (sym is) there
 
   restored_limits : (bounds : Limits) (published : Option Published) → (restored_from bounds published).limits ≡ bounds
   restored_limits bounds None = refl
   restored_limits bounds (Some p) = refl
 
-  pub with_alone : (exchanges : Exchanges) {contest : List ℕ} {hub : Hub} {conns : Slab Conn} {sockets : AllSockets} {old new : Source} (unread : List ℕ) → old.reach ≡ Reads → ShowsAlone old new
-      → (AreKnownHonest limits log servers exchanges → Shows limits log contest old.answers.shown.mirror old.answers.blank.mirror hub conns sockets
-      × MayFollow limits log servers old.reach old.request.items unread exchanges old.upstream.follower (followed_by old))
-      → AreKnownHonest limits log servers exchanges → Shows limits log contest new.answers.shown.mirror new.answers.blank.mirror hub conns sockets
-  with_alone exchanges {contest} {hub} {conns} {sockets} {old = old} {new = new} unread reads alone follows honest =
-      let here = follows honest in
-      let at = follows_in_log old.reach old.request.items unread exchanges old.upstream.follower (followed_by old) reads honest here.1 in
-      by at alone.shown here.0
+  pub with_alone : {contest : List ℕ} {hub : Hub} {conns : Slab Conn} {sockets : AllSockets} {old new : Source} (unread : ℕ) (before after : Exchanges)
+      → after ≡ option_map (shown_so once_at unread) before → ShowsAlone old new
+      → (AreKnownHonest limits log servers before → Shows limits log contest old.answers.shown.mirror old.answers.blank.mirror hub conns sockets)
+      → MayShow limits log servers unread before (followed_by old)
+      → AreKnownHonest limits log servers after → Shows limits log contest new.answers.shown.mirror new.answers.blank.mirror hub conns sockets
+  with_alone {contest} {hub} {conns} {sockets} {old} {new} unread before after is alone shows may honest =
+      by (may.once (subst (λ e. AreKnownHonest limits log servers e) is honest)) alone.shown (shows (shown_so_honest once_at unread before after is honest))
     where
-      by : (followed_by old).limits ≡ limits × IsInLog limits log (followed_by old).node
+      by : (followed_by old).limits ≡ limits × IsOfLog log (followed_by old).node.published
           → (new.answers.shown.mirror ≡ old.answers.shown.mirror) ⊎ (new.answers.shown.mirror ≡ restored_from (followed_by old).limits (followed_by old).node.published)
           → Shows limits log contest old.answers.shown.mirror old.answers.blank.mirror hub conns sockets
           → Shows limits log contest new.answers.shown.mirror new.answers.blank.mirror hub conns sockets
-      by at (inl same) shows = shows_at limits log (ap (λ m. m.limits) same) (subst (λ m. IsInLog limits log m.node) (sym same) shows.shown_is) alone.blank shows
-      by at (inr is) shows =
-          shows_at limits log (ap (λ m. m.limits) is ∙ restored_limits _ (followed_by old).node.published ∙ at.0 ∙ sym shows.limits_are)
-          (subst (λ m. IsInLog limits log m.node) (sym is) (alone_in_log _ (followed_by old).node at.1)) alone.blank shows
+      by at (inl same) here = shows_at limits log (ap (λ m. m.limits) same) (subst (λ m. IsInLog limits log m.node) (sym same) here.shown_is) alone.blank here
+      by at (inr is_it) here =
+          shows_at limits log (ap (λ m. m.limits) is_it ∙ restored_limits _ (followed_by old).node.published ∙ at.0 ∙ sym here.limits_are)
+          (subst (λ m. IsInLog limits log m.node) (sym is_it) (alone_in_log _ (followed_by old).node.published at.1)) alone.blank here
 
   -- there is no connection: whatever is unread
-  pub with_away : {X : Type 0} (exchanges : Exchanges) (reach : Reach) (request unread other : List ℕ) (follower : Option FollowerState) (mirror : MirrorState)
-      → reach ≡ Away → (AreKnownHonest limits log servers exchanges → X × MayFollow limits log servers reach request unread exchanges follower mirror)
-      → AreKnownHonest limits log servers exchanges → X × MayFollow limits log servers reach request other exchanges follower mirror
+  pub with_away : {X : Type 0} {is_shown : Bool} (exchanges : Exchanges) (reach : Reach) (request unread other : List ℕ) (follower : Option FollowerState) (mirror : MirrorState)
+      → reach ≡ Away → (AreKnownHonest limits log servers exchanges → X × MayFollow limits log servers is_shown reach request unread exchanges follower mirror)
+      → AreKnownHonest limits log servers exchanges → X × MayFollow limits log servers is_shown reach request other exchanges follower mirror
   with_away exchanges reach request unread other follower mirror away follows honest =
       let here = follows honest in (here.0, away_follows reach request unread other exchanges follower mirror away here.1)
+
+  -- ---- what follows may be shown
+
+  pub to_show : {contest : List ℕ} {source : Source} {screens : Screens} {sockets : AllSockets} (exchanges : Exchanges) (unread : List ℕ) → source.reach ≡ Reads
+      → FollowsLog limits log servers contest exchanges source unread screens sockets → IsToShow limits log servers contest exchanges source (length unread) screens sockets
+  to_show {source = source} exchanges unread reads follows = (
+    follows.0,
+    λ honest. (follows.1 honest).0,
+    follows_may_show source.reach source.request.items unread exchanges source.upstream.follower (followed_by source) reads (λ honest. (follows.1 honest).1),
+  )
+
+  pub same_to_show : {contest : List ℕ} {old new : Source} {screens : Screens} {sockets : AllSockets} {exchanges : Exchanges} {unread : ℕ} → SameSource old new
+      → IsToShow limits log servers contest exchanges old unread screens sockets → IsToShow limits log servers contest exchanges new unread screens sockets
+  same_to_show {exchanges = exchanges} {unread = unread} same to = (
+    same.servers ∙ to.0,
+    λ honest. same_shows limits log same (to.1 honest),
+    subst (λ m. MayShow limits log servers unread exchanges m) (sym (same_followed same.coming same.shown)) to.2,
+  )
+
+  pub to_show_of : {contest : List ℕ} {source : Source} {screens : Screens} {sockets : AllSockets} {exchanges : Exchanges} {count unread : ℕ} → count ≡ unread
+      → IsToShow limits log servers contest exchanges source count screens sockets → IsToShow limits log servers contest exchanges source unread screens sockets
+  to_show_of {contest} {source} {screens} {sockets} {exchanges} is to = subst (λ n. IsToShow limits log servers contest exchanges source n screens sockets) is to

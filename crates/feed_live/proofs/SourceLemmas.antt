@@ -1,5 +1,6 @@
 -- How the steps of a source stay at places of the log.
 use Rattle.std.proofs.Common.{◌≡◌, sym, ◌∙◌, subst, ℕ, List, Option}
+use Rattle.std.specs.Prelude.{Bool}
 use Rattle.feed_settings.specs.Limits.{Limits}
 use Rattle.feed_node.specs.Mirroring.{MirrorState}
 use Rattle.feed_follow.specs.Follower.{FollowerState}
@@ -20,14 +21,14 @@ left_still {old} {new} left screens limits log servers contest sockets follows =
     (left.servers ∙ follows.0, with_left limits log servers left new.rest.items (λ honest. (follows.1 honest).0))
 
 -- the connection is open
-pub with_open : (limits : Limits) (log : Log) (servers : Servers) {X : Type 0} (reach : Reach) (request unread : List ℕ) (before after : Exchanges) (since : ℕ) (follower : Option FollowerState) (mirror : MirrorState)
+pub with_open : (limits : Limits) (log : Log) (servers : Servers) {X : Type 0} {is_shown : Bool} (reach : Reach) (request unread : List ℕ) (before after : Exchanges) (since : ℕ) (follower : Option FollowerState) (mirror : MirrorState)
     → reach ≡ Connects since → after ≡ before
-    → (AreKnownHonest limits log servers before → X × MayFollow limits log servers reach request unread before follower mirror)
-    → AreKnownHonest limits log servers after → X × MayFollow limits log servers (Asks 0) request unread after follower mirror
-with_open limits log servers reach request unread before after since follower mirror is same follows honest =
+    → (AreKnownHonest limits log servers before → X × MayFollow limits log servers is_shown reach request unread before follower mirror)
+    → AreKnownHonest limits log servers after → X × MayFollow limits log servers is_shown (Asks 0) request unread after follower mirror
+with_open limits log servers {X} {is_shown} reach request unread before after since follower mirror is same follows honest =
     let here = follows (subst (λ e. AreKnownHonest limits log servers e) same honest) in (
       here.0,
-      subst (λ e. MayFollow limits log servers (Asks 0) request unread e follower mirror) (sym same)
+      subst (λ e. MayFollow limits log servers is_shown (Asks 0) request unread e follower mirror) (sym same)
           (opens_follows limits log servers request unread before since follower mirror
-          (subst (λ r. MayFollow limits log servers r request unread before follower mirror) is here.1)),
+          (subst (λ r. MayFollow limits log servers is_shown r request unread before follower mirror) is here.1)),
     )

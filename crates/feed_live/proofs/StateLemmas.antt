@@ -1,5 +1,5 @@
 -- The states of a log are all that nodes at its places show, and nothing else.
-use Rattle.std.proofs.Common.{◌≡◌, ◌≢◌, sym, subst, ℕ, zero, suc, ◌+◌, ◌-◌, ◌≤◌, ◌⊎◌, inl, inr, arith, List, [], ◌∷◌, length, Some, None}
+use Rattle.std.proofs.Common.{◌≡◌, ◌≢◌, refl, sym, subst, ℕ, zero, suc, ◌+◌, ◌-◌, ◌≤◌, ◌⊎◌, inl, inr, arith, List, [], ◌∷◌, length, Some, None}
 use Rattle.std.specs.Prelude.{Contains}
 use Rattle.std.proofs.lemmas.List.Elements.{Contains-append_left, Contains-append_right, Contains-append_cases, Contains-push, Contains-push_cases}
 use Rattle.feed_settings.specs.Limits.{Limits}
@@ -7,7 +7,10 @@ use Rattle.feed_node.specs.States.{NodeState, nothing_published}
 use Rattle.feed_world.specs.Log.{Log}
 use Rattle.feed_world.specs.Position.{Position, node_at}
 use Rattle.feed_hub.specs.Laws.{IsInLog, AreInLog}
+use Rattle.feed_node.specs.Mirroring.{MirrorState}
+use Rattle.feed_device.specs.Links.{Shown, nothing_shown, once_at, all_from}
 use Rattle.feed_live.specs.States.{states_at, states_to, states_of}
+use Rattle.feed_live.specs.Upstream.{IsOfLog, StaysInLog, IsHonestAs}
 use Rattle.feed_live.proofs.ServingLemmas.{number_tells}
 
 -- ---- lists
@@ -105,9 +108,9 @@ in_states_to history log (suc last) node there = by (in_states_to history log la
     by rest (inl here) = in_states_at log (suc last) history node here
     by rest (inr before) = more (rest before)
 
-pub states_in_log : (limits : Limits) (log : Log) → AreInLog log (states_of limits log)
+pub states_within : (limits : Limits) (log : Log) (node : NodeState) → Contains (states_of limits log) node → IsInLog limits log node
 unfolding states_of
-states_in_log limits log node there = (limits, by (among_cases _ (states_to limits.history log (length log.commits)) _ there))
+states_within limits log node there = by (among_cases _ (states_to limits.history log (length log.commits)) _ there)
   where
     at : IsWithin limits.history log (length log.commits) node → IsInLog limits log node
     at w = (Some w.place, record { order = w.order; kept = w.kept; in_log = w.in_log }, w.shows)
@@ -115,3 +118,25 @@ states_in_log limits log node there = (limits, by (among_cases _ (states_to limi
     by : (nothing_published ≡ node) ⊎ Contains (states_to limits.history log (length log.commits)) node → IsInLog limits log node
     by (inl is) = (None, tt, sym is)
     by (inr later) = at (in_states_to limits.history log (length log.commits) node later)
+
+pub states_in_log : (limits : Limits) (log : Log) → AreInLog log (states_of limits log)
+states_in_log limits log node there = (limits, states_within limits log node there)
+
+-- what a node at a place of the log has published is a state of the log
+pub of_log : (limits : Limits) (log : Log) (node : NodeState) → IsInLog limits log node → IsOfLog log node.published
+of_log limits log node (None, is_place, is) = subst (λ n. IsOfLog log n.published) (sym is) tt
+of_log limits log node (Some p, is_place, is) = subst (λ n. IsOfLog log n.published) (sym is) (p.at, is_place.in_log, refl)
+
+-- a response that keeps a mirror in the log is honest, however much of it is shown
+pub honest_however : {limits : Limits} {log : Log} {begun : MirrorState} {received : List ℕ} (shown : Shown) → StaysInLog limits log begun 0 received → IsHonestAs limits log begun shown received
+honest_however nothing_shown stays = tt
+honest_however {limits} {log} (once_at count) stays =
+    record {
+      shows = λ before behind standing follower mirror is long at. of_log limits log mirror.node (stays.shows before behind standing follower mirror is (omega arith) at);
+      fails = λ before piece behind mirror fault is long failed. of_log limits log mirror.node (stays.fails before piece behind mirror fault is (omega arith) failed);
+    }
+honest_however (all_from least) stays =
+    record {
+      shows = λ before behind standing follower mirror is long at. stays.shows before behind standing follower mirror is (omega arith) at;
+      fails = λ before piece behind mirror fault is long failed. stays.fails before piece behind mirror fault is (omega arith) failed;
+    }

@@ -22,6 +22,7 @@ use Rattle.feed_world.specs.Telling.{Tells, TellsShow, told_to}
 use Rattle.feed_hub.specs.Laws.{IsInLog}
 use Rattle.feed_device.specs.Links.{Exchange}
 use Rattle.feed_live.specs.Upstream.{AsksInLog}
+use Rattle.feed_live.proofs.StateLemmas.{honest_however}
 use Rattle.feed_live.specs.Telling.{AreMeant, TextTells, MeaningTells, MayBegin, ToldIsHonest, IsTold, TellingIsHonest, FeedIsHonest}
 
 -- ---- the lines of a prefix
@@ -209,11 +210,11 @@ module _ (show : TellsShow) (limits : Limits) (log : Log) (named : IsNamed log) 
 pub telling_is_honest : TellsShow → TellingIsHonest
 telling_is_honest show limits log servers exchange named tells begun request more asks is_request asked =
     let told = tells begun request more asks is_request asked in
-    record {
-      shows = λ before behind standing follower mirror whole at.
+    honest_however exchange.shown (record {
+      shows = λ before behind standing follower mirror whole long at.
           left show limits log named exchange begun asks told before behind whole standing mirror (subst (λ h. Stands h before standing) at.asked at.stands) at.leaves;
-      fails = λ before piece behind mirror fault whole failed. failed_told show limits log named exchange begun asks told before piece behind whole mirror fault failed;
-    }
+      fails = λ before piece behind mirror fault whole long failed. failed_told show limits log named exchange begun asks told before piece behind whole mirror fault failed;
+    })
 
 pub feed_is_honest : FeedsCarryText → TellsShow → FeedIsHonest
 feed_is_honest carry show limits log servers exchange named feeds =

@@ -1,6 +1,6 @@
 -- How a turn stays at places of the log.
 use Rattle.std.proofs.Common.{◌≡◌, ◌≢◌, refl, eqb-true, sym, ap, ◌∙◌, subst, ℕ, List, [], length, nat_eq, Bool, None}
-use Rattle.std.specs.Prelude.{Contains, false, string_bytes}
+use Rattle.std.specs.Prelude.{Contains, false, is_none, string_bytes}
 use Rattle.std.proofs.lemmas.List.{nil_from_length}
 use Rattle.slab.specs.Slab.{Slab}
 use Rattle.feed_settings.specs.Limits.{Limits}
@@ -105,7 +105,7 @@ module _ (limits : Limits) (log : Log) (servers : Servers) where
       → source.answers.shown.mirror ≡ mirror → source.answers.blank.mirror ≡ blank → source.upstream.follower ≡ None → source.reach ≡ Away
       → mirror.limits ≡ limits → IsInLog limits log mirror.node → IsInLog limits log blank.node → Serving (states_of limits log) contest hub conns sockets
       → AreKnownHonest limits log servers exchanges → Shows limits log contest source.answers.shown.mirror source.answers.blank.mirror hub conns sockets
-      × MayFollow limits log servers source.reach source.request.items source.rest.items exchanges source.upstream.follower (followed_by source)
+      × MayFollow limits log servers (is_none source.coming) source.reach source.request.items source.rest.items exchanges source.upstream.follower (followed_by source)
   with_begun exchanges source mirror blank shown blank_is follower away bounds at blank_at serving honest = (
     record {
       limits_are = ap (λ m. m.limits) shown ∙ bounds;
@@ -113,7 +113,7 @@ module _ (limits : Limits) (log : Log) (servers : Servers) where
       blank_is = subst (λ m. IsInLog limits log m.node) (sym blank_is) blank_at;
       serving = serving;
     },
-    subst (λ f. MayFollow limits log servers source.reach source.request.items source.rest.items exchanges f (followed_by source)) (sym follower) away,
+    subst (λ f. MayFollow limits log servers (is_none source.coming) source.reach source.request.items source.rest.items exchanges f (followed_by source)) (sym follower) away,
   )
 
   -- a whole turn

@@ -1,5 +1,5 @@
 -- What the sockets of screens were written, and what mirrors make of that.
-use Rattle.std.specs.Prelude.{◌≡◌, ℕ, ◌≤◌, Bool, true, false, List, ◌++◌, length, Option, Some, string_bytes}
+use Rattle.std.specs.Prelude.{◌≡◌, ℕ, ◌≤◌, Bool, true, false, List, ◌++◌, length, Option, Some, Contains, string_bytes}
 use Rattle.slab.specs.Slab.{Slab}
 use Rattle.feed_settings.specs.Limits.{Limits}
 use Rattle.feed_note.specs.declared.line.Line.{Line}
@@ -49,11 +49,13 @@ HandedIsFollowed =
 -- ---- a relay that follows servers
 
 -- A relay whose servers were honest so far shows nothing or a state of the log at its token. What
--- was written to any socket that is open is faithful, for nodes that are at places of the log.
+-- was written to any socket that is open is faithful, for nodes that are at places of the log, within
+-- the relay's own limits.
 pub record ShowsTheLog (limits : Limits) (log : Log) (live : Live) (sockets : AllSockets)
     : Type 0 where
   pub shown : IsInLog limits log live.source.answers.shown.mirror.node
   pub states : AreInLog log (states_of limits log)
+  pub within : (node : NodeState) → Contains (states_of limits log) node → IsInLog limits log node
   pub written : (at : ℕ) (bytes : List ℕ) → sockets at ≡ Some (Opened bytes)
       → IsFaithful (states_of limits log) (string_bytes live.contest) bytes
 

@@ -1,6 +1,6 @@
 -- THE PROMISE of a relay that follows servers: what it shows, and what each socket was handed, is of
 -- the primary's log, as long as the servers are honest.
-use Rattle.std.specs.Prelude.{◌≡◌, ◌⊎◌, ℕ, false, List, [], ◌∷◌, ◌++◌, take, Option, Some, None, Contains, string_bytes}
+use Rattle.std.specs.Prelude.{◌≡◌, ◌⊎◌, ℕ, ◌≤◌, Bool, false, true, List, [], ◌∷◌, ◌++◌, length, take, Option, Some, None, option_map, is_none, Contains, string_bytes}
 use Rattle.slab.specs.Slab.{Slab}
 use Rattle.feed_settings.specs.Limits.{Limits}
 use Rattle.feed_node.specs.Mirroring.{MirrorState}
@@ -11,7 +11,7 @@ use Rattle.feed_follow.specs.Standing.{Standing}
 use Rattle.feed_world.specs.Log.{Log}
 use Rattle.feed_hub.specs.declared.hub.Hub.{Hub}
 use Rattle.feed_hub.specs.Laws.{IsInLog}
-use Rattle.feed_device.specs.Links.{Exchange, Exchanges}
+use Rattle.feed_device.specs.Links.{Exchange, Exchanges, Shown, nothing_shown, once_at, all_from, shown_so}
 use Rattle.feed_device.specs.Sockets.{AllSockets}
 use Rattle.feed_live.specs.declared.conn.Conn.{Conn}
 use Rattle.feed_live.specs.declared.screens.Screens.{Screens}
@@ -21,7 +21,7 @@ use Rattle.feed_live.specs.declared.source.Source.{Source}
 use Rattle.feed_live.specs.declared.turn.Live.{Live}
 use Rattle.feed_live.specs.Serving.{Serving, StillServing}
 use Rattle.feed_live.specs.States.{states_of}
-use Rattle.feed_live.specs.Upstream.{AsksInLog, Servers, IsRequestOf, AreKnownHonest}
+use Rattle.feed_live.specs.Upstream.{AsksInLog, Servers, IsRequestOf, AreKnownHonest, IsOfLog}
 
 -- so much of the request was written where the connection has come so far
 abbrev pub IsAsked : Reach → List ℕ → List ℕ → Type 0
@@ -30,11 +30,18 @@ IsAsked (Connects since) request asked = asked ≡ []
 IsAsked (Asks count) request asked = asked ≡ take count request
 IsAsked Reads request asked = asked ≡ request
 
+-- the mirror that follows is what is shown, and was so from some byte on; or nothing of it is shown
+abbrev pub IsShownSo : Bool → Shown → ℕ → Type 0
+IsShownSo false shown count = shown ≡ nothing_shown
+IsShownSo true (all_from least) count = least ≤ count
+IsShownSo true (once_at at) count = ⊥
+IsShownSo true nothing_shown count = ⊥
+
 -- A response is followed: that to the request of a mirror at a place of the log, which was written
 -- on the latest connection, as it is asked of that server. What was read there came to the mirror,
--- but for what is still unread.
-pub record Follows (limits : Limits) (log : Log) (servers : Servers) (reach : Reach)
-    (request unread : List ℕ) (exchanges : Exchanges) (follower : FollowerState)
+-- but for what is still unread. The mirror is the one that is shown, or nothing of it is shown.
+pub record Follows (limits : Limits) (log : Log) (servers : Servers) (is_shown : Bool)
+    (reach : Reach) (request unread : List ℕ) (exchanges : Exchanges) (follower : FollowerState)
     (mirror : MirrorState) : Type 0 where
   pub start : MirrorState
   pub asks : AsksInLog limits log start
@@ -47,13 +54,14 @@ pub record Follows (limits : Limits) (log : Log) (servers : Servers) (reach : Re
   pub received : latest.received ≡ bytes ++ unread
   pub standing : Standing
   pub follows : FollowsAt start bytes standing follower mirror
+  pub shown : IsShownSo is_shown latest.shown (length bytes)
 
 -- so it is where one is followed; else there is no connection
-abbrev pub MayFollow : Limits → Log → Servers → Reach → List ℕ → List ℕ → Exchanges
+abbrev pub MayFollow : Limits → Log → Servers → Bool → Reach → List ℕ → List ℕ → Exchanges
     → Option FollowerState → MirrorState → Type 0
-MayFollow limits log servers reach request unread exchanges None mirror = reach ≡ Away
-MayFollow limits log servers reach request unread exchanges (Some follower) mirror =
-    Follows limits log servers reach request unread exchanges follower mirror
+MayFollow limits log servers is_shown reach request unread exchanges None mirror = reach ≡ Away
+MayFollow limits log servers is_shown reach request unread exchanges (Some follower) mirror =
+    Follows limits log servers is_shown reach request unread exchanges follower mirror
 
 -- What requests are answered with is at places of the log. So each socket was handed a prefix of
 -- what is due to an answer that a state of the log gave.
@@ -85,8 +93,8 @@ FollowsLog limits log servers contest exchanges source unread screens sockets =
     × (AreKnownHonest limits log servers exchanges
     → Shows limits log contest source.answers.shown.mirror source.answers.blank.mirror screens.hub
     screens.conns sockets
-    × MayFollow limits log servers source.reach source.request.items unread exchanges
-    source.upstream.follower (followed_by source))
+    × MayFollow limits log servers (is_none source.coming) source.reach source.request.items unread
+    exchanges source.upstream.follower (followed_by source))
 
 -- THE PROMISE: so it is with a relay whose feed is not its input
 abbrev pub IsRelaying : Limits → Log → Servers → Exchanges → Live → AllSockets → Type 0
@@ -105,13 +113,32 @@ StillFollows old new before after unread left screens later =
     → FollowsLog limits log servers contest before old unread screens sockets
     → FollowsLog limits log servers contest after new left later sockets
 
--- What it shows is still of the log. It is to leave the server that it follows.
-abbrev pub StillShows : Source → Source → Exchanges → List ℕ → Screens → Screens → Type 0
-StillShows old new exchanges unread screens later =
-    (limits : Limits) (log : Log) (servers : Servers) (contest : List ℕ) (sockets : AllSockets)
-    → FollowsLog limits log servers contest exchanges old unread screens sockets
-    → (servers_of new ≡ servers)
+-- What follows may be shown: where the servers are honest in that, too, it is of the log. So may be
+-- what it has published, at its token alone, or all of it. So many bytes that came are unread.
+pub record MayShow (limits : Limits) (log : Log) (servers : Servers) (unread : ℕ)
+    (exchanges : Exchanges) (mirror : MirrorState) : Type 0 where
+  pub once : AreKnownHonest limits log servers (option_map (shown_so once_at unread) exchanges)
+      → (mirror.limits ≡ limits) × IsOfLog log mirror.node.published
+  pub all : AreKnownHonest limits log servers (option_map (shown_so all_from unread) exchanges)
+      → (mirror.limits ≡ limits) × IsInLog limits log mirror.node
+
+-- what a relay of this contest shows is of the log, and so is what follows, once it may be shown
+abbrev pub IsToShow : Limits → Log → Servers → List ℕ → Exchanges → Source → ℕ → Screens
+    → AllSockets → Type 0
+IsToShow limits log servers contest exchanges source unread screens sockets =
+    (servers_of source ≡ servers)
     × (AreKnownHonest limits log servers exchanges
+    → Shows limits log contest source.answers.shown.mirror source.answers.blank.mirror screens.hub
+    screens.conns sockets)
+    × MayShow limits log servers unread exchanges (followed_by source)
+
+-- What it shows is still of the log, whether what followed is shown now or not.
+abbrev pub StillShows : Source → Source → Exchanges → Exchanges → ℕ → Screens → Screens → Type 0
+StillShows old new before after unread screens later =
+    (limits : Limits) (log : Log) (servers : Servers) (contest : List ℕ) (sockets : AllSockets)
+    → IsToShow limits log servers contest before old unread screens sockets
+    → (servers_of new ≡ servers)
+    × (AreKnownHonest limits log servers after
     → Shows limits log contest new.answers.shown.mirror new.answers.blank.mirror later.hub
     later.conns sockets)
 
@@ -166,6 +193,7 @@ KeepsShown (Some coming) now old new = new ≡ old
 pub record PushesOnly (old new : Source) : Type 0 where
   pub servers : servers_of new ≡ servers_of old
   pub limits : (followed_by new).limits ≡ (followed_by old).limits
+  pub coming : is_none new.coming ≡ is_none old.coming
   pub shown : KeepsShown old.coming new.coming old.answers.shown.mirror new.answers.shown.mirror
   pub blank : new.answers.blank.mirror ≡ old.answers.blank.mirror
   pub reach : new.reach ≡ old.reach

@@ -1,9 +1,10 @@
 -- What is supposed of the servers that a relay follows, of what they sent it alone; and of its
 -- input, where that is the feed.
-use Rattle.std.specs.Prelude.{◌≡◌, ℕ, List, [], ◌∷◌, ◌++◌, Option, Some, None, is_none, is_some, slice_get}
+use Rattle.std.specs.Prelude.{◌≡◌, ℕ, ◌≤◌, List, [], ◌∷◌, ◌++◌, length, Option, Some, None, is_none, is_some, slice_get}
 use Rattle.feed_settings.specs.Limits.{Limits}
 use Rattle.feed_settings.specs.Place.{Place}
 use Rattle.feed_note.specs.declared.line.Line.{Line}
+use Rattle.feed_note.specs.Publishing.{Published}
 use Rattle.feed_node.specs.declared.fault.FeedFault.{FeedFault}
 use Rattle.feed_node.specs.Mirroring.{MirrorState, StandsAt, Faulted, present_opening}
 use Rattle.feed_follow.specs.declared.fault.FollowFault.{FollowFault}
@@ -12,11 +13,11 @@ use Rattle.feed_follow.specs.Following.{Fails}
 use Rattle.feed_follow.specs.Standing.{Standing}
 use Rattle.feed_answer.specs.Identity.{Identity}
 use Rattle.feed_answer.specs.RequestText.{request_text_as}
-use Rattle.feed_world.specs.Log.{Log}
+use Rattle.feed_world.specs.Log.{Log, state_after}
 use Rattle.feed_world.specs.Position.{Position, IsPlace}
 use Rattle.feed_world.specs.States.{HasAsked}
 use Rattle.feed_hub.specs.Laws.{IsInLog}
-use Rattle.feed_device.specs.Links.{Exchange, Exchanges}
+use Rattle.feed_device.specs.Links.{Exchange, Exchanges, Shown, nothing_shown, once_at, all_from}
 
 -- the mirror is at a place of the log, and asks with the token of that, or with none
 pub record AsksInLog (limits : Limits) (log : Log) (mirror : MirrorState) : Type 0 where
@@ -36,27 +37,53 @@ pub record IsRequestOf (servers : Servers) (server : ℕ) (mirror : MirrorState)
   pub is_place : slice_get servers.places server ≡ Some place
   pub text_is : text ≡ request_text_as place mirror.since servers.identity
 
--- Whatever prefix of these bytes comes to the mirror, in any pieces: it shows nothing or a state of
--- the log at its token, also once it stopped.
-pub record StaysInLog (limits : Limits) (log : Log) (begun : MirrorState) (bytes : List ℕ)
-    : Type 0 where
+-- nothing, or a state of the log with its token
+abbrev pub IsOfLog : Log → Option Published → Type 0
+IsOfLog log None = Unit {0}
+IsOfLog log (Some published) =
+    (k : ℕ) × (k ≤ length log.commits)
+    × (published ≡ record { tables = state_after log k; token = log.token k })
+
+-- Whatever prefix of these bytes comes to the mirror, of at least so many, in any pieces: it shows
+-- nothing or a state of the log at its token, also once it stopped.
+pub record StaysInLog (limits : Limits) (log : Log) (begun : MirrorState) (least : ℕ)
+    (bytes : List ℕ) : Type 0 where
   pub shows : (before behind : List ℕ) (standing : Standing) (follower : FollowerState)
-      (mirror : MirrorState) → before ++ behind ≡ bytes
+      (mirror : MirrorState) → before ++ behind ≡ bytes → least ≤ length before
       → FollowsAt begun before standing follower mirror → IsInLog limits log mirror.node
   pub fails : (before piece behind : List ℕ) (mirror : MirrorState) (fault : FollowFault)
-      → (before ++ piece) ++ behind ≡ bytes
+      → (before ++ piece) ++ behind ≡ bytes → least ≤ length (before ++ piece)
       → Fails begun (is_some begun.since) before piece mirror fault
       → IsInLog limits log mirror.node
 
+-- What the first so many of these bytes published, in any pieces, is a state of the log: whatever
+-- was published before.
+pub record EndsInLog (log : Log) (begun : MirrorState) (count : ℕ) (bytes : List ℕ)
+    : Type 0 where
+  pub shows : (before behind : List ℕ) (standing : Standing) (follower : FollowerState)
+      (mirror : MirrorState) → before ++ behind ≡ bytes → length before ≡ count
+      → FollowsAt begun before standing follower mirror → IsOfLog log mirror.node.published
+  pub fails : (before piece behind : List ℕ) (mirror : MirrorState) (fault : FollowFault)
+      → (before ++ piece) ++ behind ≡ bytes → length (before ++ piece) ≡ count
+      → Fails begun (is_some begun.since) before piece mirror fault
+      → IsOfLog log mirror.node.published
+
+-- what is supposed of the bytes that came, by what of them is shown
+abbrev pub IsHonestAs : Limits → Log → MirrorState → Shown → List ℕ → Type 0
+IsHonestAs limits log begun nothing_shown received = Unit {0}
+IsHonestAs limits log begun (once_at count) received = EndsInLog log begun count received
+IsHonestAs limits log begun (all_from least) received = StaysInLog limits log begun least received
+
 -- THE PREMISE: where the request of a mirror at a place of the log was written first, as it is asked
--- of that server, what was read keeps that mirror at places of the log. So is what `serve_node` and
--- `serve_live` write for a node of that log, what a relay hands on, and any error that carries no
--- feed.
+-- of that server, what was read keeps that mirror at places of the log, as far as it is shown. Of a
+-- server that was asked for everything it is shown only once that has settled: what it sends until
+-- then may be any replay. So is what `serve_node` and `serve_live` write for a node of that log, what
+-- a relay hands on, and any error that carries no feed.
 abbrev pub IsHonest : Limits → Log → Servers → Exchange → Type 0
 IsHonest limits log servers exchange =
     (begun : MirrorState) (text more : List ℕ) → AsksInLog limits log begun
     → IsRequestOf servers exchange.server begun text → exchange.asked ≡ text ++ more
-    → StaysInLog limits log begun exchange.received
+    → IsHonestAs limits log begun exchange.shown exchange.received
 
 abbrev pub AreHonest : Limits → Log → Servers → List Exchange → Type 0
 AreHonest limits log servers [] = Unit {0}

@@ -9,6 +9,8 @@ use crate::turn::Live;
 pub enum Following {
     /// A server answers with the feed.
     Answered,
+    /// A server sends all that it has: nothing of it is shown until it has settled.
+    Settling,
     /// A server is asked, and has not answered yet.
     Asked,
     /// No server is asked at the moment.
@@ -33,6 +35,10 @@ pub struct FeedFigures {
     pub failures: u64,
     pub commits: u64,
     pub bytes: u64,
+    /// How many lines and bytes came on a connection of which nothing is shown until it has settled;
+    /// zero where none is to settle.
+    pub coming_lines: u64,
+    pub coming_bytes: u64,
 }
 
 impl FeedFigures {
@@ -45,6 +51,8 @@ impl FeedFigures {
             failures: 0,
             commits: 0,
             bytes: 0,
+            coming_lines: 0,
+            coming_bytes: 0,
         }
     }
 
@@ -72,10 +80,15 @@ impl FeedFigures {
         self.change(Following::Asked, now);
     }
 
-    /// The server answers.
-    pub(crate) fn find(&mut self, now: u64) {
+    /// The server answers, with what is shown at once or is to settle.
+    pub(crate) fn find(&mut self, is_to_settle: bool, now: u64) {
         self.failures = 0;
-        self.change(Following::Answered, now);
+        let following = if is_to_settle {
+            Following::Settling
+        } else {
+            Following::Answered
+        };
+        self.change(following, now);
     }
 
     /// The server is lost.

@@ -4,13 +4,14 @@ ghost use Rattle.std.specs.Prelude.{◌≡◌, [], None, Some, IfOk, IfSome, dro
 ghost use Rattle.feed_node.specs.States.{published_token};
 
 mod input;
+mod rate;
 mod reading;
 mod settling;
 
 use crate::figures::{FeedFigures, Following};
 use crate::options::LiveLimits;
 use crate::screens::{Answers, Screens};
-use crate::source::settling::{Settling, followed_of};
+use crate::source::settling::{Settling, begin_shown, followed_of};
 use crate::told::Telling;
 use feed_answer::{Identity, Place, request_text_as};
 use feed_device::{Link, Stop, Told, Why};
@@ -129,8 +130,10 @@ impl Source {
         self.answers.shown.tidy();
     }
 
+    /// Whether requests may be answered: a server was heard, and what comes at a first start has
+    /// settled.
     pub(crate) fn is_heard(&self) -> bool {
-        self.is_heard
+        self.is_heard && !self.is_first()
     }
 
     /// How often the feed was published afresh.
@@ -143,7 +146,12 @@ impl Source {
     }
 
     pub(crate) fn figures(&self) -> FeedFigures {
-        self.figures
+        let (coming_lines, coming_bytes) = self.come();
+        FeedFigures {
+            coming_lines,
+            coming_bytes,
+            ..self.figures
+        }
     }
 
     /// An event came for the connection.
@@ -160,14 +168,8 @@ impl Source {
             Reach::Connects(since) => due.min(since.saturating_add(CONNECT_TIME)),
             _ => due,
         };
-        let due = match self.settles_at() {
-            Some(at) => due.min(at),
-            None => due,
-        };
-        match self.heard_at() {
-            Some(at) => due.min(at),
-            None => due,
-        }
+        let dues = [self.settles_at(), self.tells_at(), self.heard_at()];
+        dues.iter().flatten().fold(due, |due, at| due.min(*at))
     }
 
     /// When the server counts as heard though it publishes nothing: it answered with what comes after
@@ -246,6 +248,7 @@ impl Source {
         self.request = request;
         // What is unread of the last connection is forgotten.
         self.rest.clear();
+        begin_shown(link, &coming);
         let followed = followed_of(&coming, self.answers.shown.mirror());
         self.is_fresh = followed.since().is_none();
         self.upstream.opened(followed, now);
@@ -277,6 +280,7 @@ impl Source {
     {
         let server = self.upstream.place();
         self.hear_end(why);
+        self.tell_unsettled(told);
         self.leave(link, now);
         self.figures.lose(now);
         self.upstream.lost(self.answers.shown.change(), now);

@@ -92,4 +92,8 @@ impl Link for Servers<'_> {
     fn close(&mut self) {
         self.stream = None;
     }
+
+    fn show_once(&mut self, _unread: usize) {}
+
+    fn show_all(&mut self, _unread: usize) {}
 }

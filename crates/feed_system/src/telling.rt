@@ -59,6 +59,35 @@ pub(crate) fn text_of(
             let name = name_of(alloc, servers, server)?;
             format!(in alloc; "upstream {name}: all of it came, in {time} ms")
         }
+        _ => text_of_coming(alloc, told, servers),
+    }
+}
+
+/// The text of what is told of a feed that has not settled.
+fn text_of_coming(
+    alloc: Global,
+    told: &Told,
+    servers: &Servers<'_>,
+) -> Result<String, AllocError> {
+    match *told {
+        Told::Coming {
+            server,
+            bytes,
+            time,
+            has_token,
+        } => {
+            let name = name_of(alloc, servers, server)?;
+            let seconds = time / 1_000;
+            let state = if has_token { "it has not settled yet" } else { "no line has a token yet" };
+            format!(in alloc; "upstream {name}: {bytes} bytes came in {seconds} s, {state}")
+        }
+        Told::Unsettled { server, bytes } => {
+            let name = name_of(alloc, servers, server)?;
+            format!(
+                in alloc;
+                "upstream {name}: {bytes} bytes came, and had not settled: none is shown (see --settle)"
+            )
+        }
         _ => text_of_rest(alloc, told),
     }
 }

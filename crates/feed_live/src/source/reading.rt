@@ -1,6 +1,6 @@
 //! The response is read, followed and said.
 
-ghost use Rattle.std.specs.Prelude.{◌≡◌, ◌++◌, [], List, ℕ, OnOk, IfOk, IfErr, Bool, is_some, false, true};
+ghost use Rattle.std.specs.Prelude.{◌≡◌, ◌++◌, [], List, ℕ, OnOk, IfOk, IfErr, IfSome, None, Bool, is_some, false, true};
 ghost use Rattle.feed_node.specs.Mirroring.{MirrorState};
 ghost use Rattle.feed_follow.specs.Following.{Fails};
 ghost use Rattle.feed_follow.specs.Standing.{Standing};
@@ -69,7 +69,7 @@ impl Source {
         let mut buf = [0u8; PIECE];
         match link.read(&mut buf) {
             Ok(0) => {
-                self.settle_ended(alloc, told, screens, now);
+                self.settle_ended(alloc, link, told, screens, 0, now);
                 self.lost(link, told, Why::Ended, now);
                 false
             }
@@ -81,6 +81,7 @@ impl Source {
             }
             Err(Stop::Waits) => false,
             Err(_) => {
+                self.settle_ended(alloc, link, told, screens, 0, now);
                 self.lost(link, told, Why::Broke, now);
                 false
             }
@@ -107,10 +108,9 @@ impl Source {
             if rest.is_empty() || screens.says_at().is_some() {
                 break;
             }
-            let (line, next) = split_line(rest);
-            rest = next;
-            if !self.take_line(alloc, link, told, screens, line, now) {
-                return;
+            match self.take_line(alloc, link, told, screens, rest, now) {
+                Some(next) => rest = next,
+                None => return,
             }
         }
         if self.keep(rest).is_err() {
@@ -135,45 +135,54 @@ impl Source {
         mem::replace(&mut self.rest, Vec::new(alloc))
     }
 
-    /// One line came, or a part of one. Whether the connection goes on.
-    fn take_line<L: Link>(
+    /// The first line of the piece, or a part of one, is taken. What comes after it, where the
+    /// connection goes on.
+    fn take_line<'a, L: Link>(
         &mut self,
         alloc: Global,
         link: &mut L,
         told: &mut Telling,
         screens: &mut Screens,
-        line: &[u8],
+        piece: &'a [u8],
         now: u64,
-    ) -> bool
-        ensures follows { self.old.reach ≡ Read → (next : List ℕ)
-            → StillFollows self.old self.new (L.exchanges link.old) (L.exchanges link.new)
-            (line.now ++ next) next screens.old screens.new }
-        ensures goes_on { result ≡ true → (self.new.reach ≡ self.old.reach)
-            × (self.new.rest.items ≡ self.old.rest.items) }
-        ensures stops { result ≡ false → self.new.reach ≡ Away }
+    ) -> Option<&'a [u8]>
+        ensures goes_on { IfSome result (λ next. (self.new.reach ≡ self.old.reach)
+            × (self.new.rest.items ≡ self.old.rest.items)
+            × (self.old.reach ≡ Read → StillFollows self.old self.new (L.exchanges link.old)
+            (L.exchanges link.new) piece.entry.now next.now screens.old screens.new)) }
+        ensures stops { result ≡ None → (self.new.reach ≡ Away) × (self.old.reach ≡ Read
+            → (left : List ℕ) → StillFollows self.old self.new (L.exchanges link.old)
+            (L.exchanges link.new) piece.entry.now left screens.old screens.new) }
     {
+        let (line, next) = split_line(piece);
         match self.push(alloc, line, now) {
-            Ok(Progress::Head) => true,
+            Ok(Progress::Head) => Some(next),
             Ok(Progress::Body) => {
                 self.found(told, now);
+                self.settling.count_line();
                 self.say(alloc, told, screens, now);
-                true
+                Some(next)
             }
             Ok(Progress::Done) => {
                 self.found(told, now);
                 self.say(alloc, told, screens, now);
-                self.settle(alloc, told, screens, now);
+                self.settle(alloc, link, told, screens, next.len(), now);
                 self.lost(link, told, Why::Ended, now);
-                false
+                None
             }
             Ok(Progress::TokenRefused) => {
                 self.refused(link, told, now);
-                false
+                None
+            }
+            Err(FollowFault::Memory) => {
+                self.lost(link, told, Why::Memory, now);
+                None
             }
             Err(fault) => {
                 self.say(alloc, told, screens, now);
-                self.lost(link, told, why_of(fault), now);
-                false
+                self.settle_ended(alloc, link, told, screens, next.len(), now);
+                self.lost(link, told, Why::Fault(fault), now);
+                None
             }
         }
     }
@@ -220,7 +229,7 @@ impl Source {
             return;
         }
         self.body_since = Some(now);
-        self.figures.find(now);
+        self.figures.find(self.coming.is_some(), now);
         told.tell(Told::Found {
             server: self.upstream.place(),
             away: now.saturating_sub(self.away_since),
@@ -265,12 +274,5 @@ pub(crate) fn split_line(piece: &[u8]) -> (&[u8], &[u8])
     match memchr(b'\n', piece) {
         Some(at) => piece.split_at(at + 1),
         None => (piece, &[]),
-    }
-}
-
-fn why_of(fault: FollowFault) -> Why {
-    match fault {
-        FollowFault::Memory => Why::Memory,
-        _ => Why::Fault(fault),
     }
 }

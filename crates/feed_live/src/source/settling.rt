@@ -2,13 +2,15 @@
 //! have a token on each line send all that ever happened, or all that there is, line by line. No
 //! state but the last one of that is to be shown.
 
-ghost use Rattle.std.specs.Prelude.{◌≡◌, ℕ, List, None, IfOk, IfSome};
+ghost use Rattle.std.specs.Prelude.{◌≡◌, ◌<◌, ℕ, List, length, None, IfOk, IfSome, is_none, option_map, if◌then◌else◌};
+ghost use Rattle.feed_device.specs.Links.{shown_so, all_from};
 ghost use Rattle.feed_node.specs.Mirroring.{new_mirror};
 ghost use Rattle.feed_node.specs.Saved.{restored_from};
-ghost use Rattle.feed_device.specs.Links.{Exchanges};
 ghost use Rattle.feed_live.specs.Relaying.{followed};
 
+use crate::figures::Following;
 use crate::screens::Screens;
+use crate::source::rate::Rate;
 use crate::source::{Reach, Source};
 use crate::told::Telling;
 use feed_device::{Link, Told, Why};
@@ -17,26 +19,35 @@ use std::alloc::{AllocError, Global};
 
 /// After so many milliseconds what comes afresh is shown as far as it has come, also where more
 /// comes all the time.
-const SETTLE_TIME: u64 = 60_000;
+const LONGEST: u64 = 600_000;
+
+/// How often it is told that it has not settled yet, in milliseconds.
+const REPORT: u64 = 30_000;
 
 /// A read of no more bytes may be a line feed in a chunk, which only keeps the connection alive.
 const ALIVE: usize = 8;
 
-/// When what comes afresh has settled.
+/// What is known of what comes afresh: when it has settled, and what becomes of it then.
 #[derive(Clone, Copy)]
 pub(crate) struct Settling {
-    /// For how long nothing more has come then.
+    /// How long "of late" is, in milliseconds.
     pause: u64,
     /// Whether each connection asks for everything.
     is_always: bool,
     /// When the first byte of the connection came, or it was begun.
     began: u64,
     is_begun: bool,
-    /// When something came last that was more than a line feed.
-    moved: u64,
+    rate: Rate,
+    /// How many bytes and whole lines came on the connection.
+    bytes: u64,
+    lines: u64,
+    /// When it was told last how much has come.
+    told: u64,
     /// Whether it was at the token that is shown, and had the same state there.
     is_compared: bool,
     is_same: bool,
+    /// Whether what settled last was shown at its own token alone.
+    was_alone: bool,
 }
 
 impl Settling {
@@ -46,19 +57,24 @@ impl Settling {
             is_always,
             began: 0,
             is_begun: false,
-            moved: 0,
+            rate: Rate::new(pause),
+            bytes: 0,
+            lines: 0,
+            told: 0,
             is_compared: false,
             is_same: false,
+            was_alone: false,
         }
     }
 
     /// A connection begins.
     pub(crate) fn begin(&mut self, now: u64) {
-        self.began = now;
-        self.is_begun = false;
-        self.moved = now;
-        self.is_compared = false;
-        self.is_same = false;
+        *self = Settling {
+            began: now,
+            told: now,
+            was_alone: self.was_alone,
+            ..Settling::new(self.pause, self.is_always)
+        };
     }
 
     /// So many bytes came.
@@ -67,10 +83,39 @@ impl Settling {
             self.is_begun = true;
             self.began = now;
         }
+        self.bytes = self.bytes.saturating_add(count as u64);
         if count > ALIVE {
-            self.moved = now;
+            self.rate.add(count as u64, now);
         }
     }
+
+    /// A line came whole.
+    pub(crate) fn count_line(&mut self) {
+        self.lines = self.lines.saturating_add(1);
+    }
+
+    /// When all that came has settled, if nothing more comes.
+    fn calm_at(&self) -> u64 {
+        if self.pause == 0 {
+            0
+        } else {
+            self.rate.calm_at()
+        }
+    }
+
+    /// When it is shown as far as it has come.
+    fn late_at(&self) -> u64 {
+        self.began.saturating_add(LONGEST)
+    }
+}
+
+/// Why a server is left at which a feed settled.
+#[derive(Clone, Copy, PartialEq, Eq)]
+pub(crate) enum Leaves {
+    /// What comes after the token that is shown is asked for.
+    Again,
+    /// Memory ran out.
+    Memory,
 }
 
 /// The mirror that a connection is to follow: one that begins afresh, or the one that is shown.
@@ -80,6 +125,16 @@ pub(crate) fn followed_of<'a>(coming: &'a Option<Mirror>, shown: &'a Mirror) -> 
     match coming {
         Some(coming) => coming,
         None => shown,
+    }
+}
+
+/// What comes to the mirror that is shown is shown from the first byte on.
+pub(crate) fn begin_shown<L: Link>(link: &mut L, coming: &Option<Mirror>)
+    ensures { L.exchanges link.new ≡ (if is_none coming.now
+        then option_map (shown_so all_from 0) (L.exchanges link.old) else L.exchanges link.old) }
+{
+    if coming.is_none() {
+        link.show_all(0);
     }
 }
 
@@ -112,7 +167,7 @@ fn alone(alloc: Global, mirror: &Mirror) -> Result<Mirror, AllocError>
 }
 
 impl Source {
-    ghost use Rattle.feed_live.specs.Relaying.{StillFollows, StillShows, SameSource, IsNowShown, ShowsAlone};
+    ghost use Rattle.feed_live.specs.Relaying.{StillFollows, StillShows, SameSource, IsLeft, IsNowShown, ShowsAlone};
     ghost use Rattle.feed_live.specs.declared.source.Reach.TheVariants.{Reads as Read};
 
     /// A mirror that follows the next connection, where that asks for everything and is to settle.
@@ -152,11 +207,59 @@ impl Source {
     pub(crate) fn settles_at(&self) -> Option<u64> {
         // It has published.
         self.coming.as_ref()?.since()?;
-        let late = self.settling.began.saturating_add(SETTLE_TIME);
+        let late = self.settling.late_at();
         if self.has_more || !self.rest.is_empty() {
             return Some(late);
         }
-        Some(late.min(self.settling.moved.saturating_add(self.settling.pause)))
+        Some(late.min(self.settling.calm_at()))
+    }
+
+    /// When it is told the next time how much has come.
+    pub(crate) fn tells_at(&self) -> Option<u64> {
+        self.coming.as_ref()?;
+        Some(self.settling.told.saturating_add(REPORT))
+    }
+
+    /// How many lines and bytes came of what has not settled yet.
+    pub(crate) fn come(&self) -> (u64, u64) {
+        match self.coming {
+            Some(_) => (self.settling.lines, self.settling.bytes),
+            None => (0, 0),
+        }
+    }
+
+    /// Whether nothing was shown yet, and what comes is to settle: requests wait for it.
+    pub(crate) fn is_first(&self) -> bool {
+        self.coming.is_some() && self.answers.shown.node().token().is_none()
+    }
+
+    /// Tells how much has come, where it has not settled for long.
+    fn tell_coming(&mut self, told: &mut Telling, now: u64)
+        ensures { SameSource self.old self.new }
+    {
+        let Some(at) = self.tells_at() else {
+            return;
+        };
+        if at > now {
+            return;
+        }
+        self.settling.told = now;
+        told.tell(Told::Coming {
+            server: self.upstream.place(),
+            bytes: self.settling.bytes,
+            time: now.saturating_sub(self.settling.began),
+            has_token: self.has_published(),
+        });
+    }
+
+    /// Tells that the connection ends before what came on it has settled.
+    pub(crate) fn tell_unsettled(&self, told: &mut Telling) {
+        if self.coming.is_some() && self.settling.bytes > 0 {
+            told.tell(Told::Unsettled {
+                server: self.upstream.place(),
+                bytes: self.settling.bytes,
+            });
+        }
     }
 
     /// Shows what came afresh, where that has settled by now.
@@ -171,11 +274,17 @@ impl Source {
         ensures follows { StillFollows self.old self.new (L.exchanges link.old)
             (L.exchanges link.new) self.old.rest.items self.new.rest.items screens.old screens.new }
     {
-        if self.reach != Reach::Reads || !self.is_due_to_settle(now) {
+        if self.reach != Reach::Reads {
             return;
         }
-        match self.settle(alloc, told, screens, now) {
-            Some(why) => self.lost(link, told, why, now),
+        if !self.is_due_to_settle(now) {
+            self.tell_coming(told, now);
+            return;
+        }
+        let unread = self.rest.len();
+        match self.settle(alloc, link, told, screens, unread, now) {
+            Some(Leaves::Again) => self.ask_again(link, now),
+            Some(Leaves::Memory) => self.lost(link, told, Why::Memory, now),
             None => {}
         }
     }
@@ -187,20 +296,32 @@ impl Source {
         }
     }
 
-    /// The connection ended. Where that ends the body, what came afresh may be all, or the server was
-    /// killed. It counts as all where it ended at the same token the last time, too.
-    pub(crate) fn settle_ended(
+    /// What comes after the token that is shown is asked for, at the same server.
+    fn ask_again<L: Link>(&mut self, link: &mut L, now: u64)
+        ensures left { IsLeft self.old self.new (L.exchanges link.old) (L.exchanges link.new) }
+    {
+        self.leave(link, now);
+        self.figures.change(Following::Away, now);
+        self.upstream.again(self.answers.shown.change(), now);
+    }
+
+    /// The connection ended, or what comes on it can't be followed any more. What came afresh may be
+    /// all, or the server was killed. It counts as all where it ended at the same token the last
+    /// time, too. So many bytes of it are unread.
+    pub(crate) fn settle_ended<L: Link>(
         &mut self,
         alloc: Global,
+        link: &mut L,
         told: &mut Telling,
         screens: &mut Screens,
+        unread: usize,
         now: u64,
     )
-        ensures shows { self.old.reach ≡ Read → (exchanges : Exchanges) (unread : List ℕ)
-            → StillShows self.old self.new exchanges unread screens.old screens.new }
+        ensures shows { StillShows self.old self.new (L.exchanges link.old)
+            (L.exchanges link.new) unread screens.old screens.new }
     {
-        if self.upstream.ends_with_connection() && self.ends_again() {
-            self.settle(alloc, told, screens, now);
+        if self.ends_again() {
+            self.settle(alloc, link, told, screens, unread, now);
         }
     }
 
@@ -224,59 +345,65 @@ impl Source {
     }
 
     /// What came afresh takes the place of what is shown, where it has published. Screens go on from
-    /// what they have where it had the same state at that token, and has all since then. Why the
-    /// server is to be left then, if it is.
-    pub(crate) fn settle(
+    /// what they have where it had the same state at that token, and has all since then. Else it is
+    /// shown at its own token alone: it may hold tokens of states that were none. So many bytes that
+    /// came are unread. Why the server is to be left then, if it is.
+    pub(crate) fn settle<L: Link>(
         &mut self,
         alloc: Global,
+        link: &mut L,
         told: &mut Telling,
         screens: &mut Screens,
+        unread: usize,
         now: u64,
-    ) -> Option<Why>
-        ensures shows { self.old.reach ≡ Read → (exchanges : Exchanges) (unread : List ℕ)
-            → StillShows self.old self.new exchanges unread screens.old screens.new }
-        ensures follows { result ≡ None → self.old.reach ≡ Read → (exchanges : Exchanges)
-            (unread : List ℕ) → StillFollows self.old self.new exchanges exchanges unread unread
-            screens.old screens.new }
+    ) -> Option<Leaves>
+        ensures shows { StillShows self.old self.new (L.exchanges link.old)
+            (L.exchanges link.new) unread screens.old screens.new }
+        ensures follows { result ≡ None → self.old.reach ≡ Read → (left : List ℕ)
+            → length left ≡ unread → StillFollows self.old self.new (L.exchanges link.old)
+            (L.exchanges link.new) left left screens.old screens.new }
         ensures rest { result ≡ None → self.new.rest.items ≡ self.old.rest.items }
     {
-        if !self.has_settled() {
+        if !self.has_published() {
             return None;
         }
-        if self.is_apart() {
-            return Some(self.settle_apart(alloc, told, screens, now));
+        self.tell_settled(told, now);
+        if self.is_alone() {
+            return Some(self.settle_alone(alloc, link, told, screens, unread, now));
         }
         self.keep_screens();
+        link.show_all(unread);
         self.show();
-        self.tell_settled(told, now);
         self.say(alloc, told, screens, now);
         None
     }
 
-    /// What came afresh had another state at the token that is shown. It is shown at its own token
-    /// alone, or screens would go on from that other state; and what comes after that is asked for.
-    fn settle_apart(
+    /// What came afresh is shown at its own token alone. What comes after that is asked for.
+    fn settle_alone<L: Link>(
         &mut self,
         alloc: Global,
+        link: &mut L,
         told: &mut Telling,
         screens: &mut Screens,
+        unread: usize,
         now: u64,
-    ) -> Why
-        ensures shows { self.old.reach ≡ Read → (exchanges : Exchanges) (unread : List ℕ)
-            → StillShows self.old self.new exchanges unread screens.old screens.new }
+    ) -> Leaves
+        ensures shows { StillShows self.old self.new (L.exchanges link.old)
+            (L.exchanges link.new) unread screens.old screens.new }
     {
+        link.show_once(unread);
         if self.show_alone(alloc).is_err() {
-            return Why::Memory;
+            return Leaves::Memory;
         }
-        self.tell_settled(told, now);
         self.say(alloc, told, screens, now);
-        Why::Anew
+        Leaves::Again
     }
 
     /// Screens go on, where they may: what comes is no fresh publication to them.
     fn keep_screens(&mut self)
         ensures { SameSource self.old self.new }
     {
+        self.settling.was_alone = false;
         if self.goes_on() {
             self.is_fresh = false;
             self.is_heard = true;
@@ -286,6 +413,7 @@ impl Source {
     fn tell_settled(&mut self, told: &mut Telling, now: u64)
         ensures { SameSource self.old self.new }
     {
+        self.figures.change(Following::Answered, now);
         told.tell(Told::Settled {
             server: self.upstream.place(),
             time: now.saturating_sub(self.settling.began),
@@ -293,16 +421,19 @@ impl Source {
     }
 
     /// Whether what comes afresh has published.
-    fn has_settled(&self) -> bool {
+    fn has_published(&self) -> bool {
         match &self.coming {
             Some(coming) => coming.since().is_some(),
             None => false,
         }
     }
 
-    /// Whether it had another state at the token that is shown, and holds that yet.
-    fn is_apart(&self) -> bool {
-        self.settling.is_compared && !self.settling.is_same && self.holds_shown()
+    /// Whether what came afresh is to be shown at its own token alone. A server that is asked for
+    /// everything each time sends all of it again then, so that this is done once in a row.
+    fn is_alone(&self) -> bool {
+        let is_over = self.answers.shown.mirror().since().is_some();
+        let may_be = !self.settling.is_always || (is_over && !self.settling.was_alone);
+        may_be && !self.goes_on()
     }
 
     /// Whether screens may go on from what is shown with what came afresh.
@@ -336,6 +467,7 @@ impl Source {
             *self.answers.shown.change() = alone;
         }
         self.coming = None;
+        self.settling.was_alone = true;
         Ok(())
     }
 }

@@ -4,5 +4,5 @@ use Rattle.feed_live.proofs.screens.Screens.trim.Goals as goal
 
 pub returns-then-not-self-clause-serving : goal.returns-then-not-self-clause-serving
 returns-then-not-self-clause-serving c =
-      λ nodes contest sockets serving.
-          serving_on (λ key. still_sits contest (kept_stays nodes _ _ key c.trim.ensures.cuts (c.trim.ensures.served nodes key))) (omega (arith, c.trim.ensures.next)) serving
+    λ nodes contest sockets serving.
+    serving_on (λ key. still_sits contest (kept_stays nodes _ _ key c.trim.ensures.cuts (c.trim.ensures.served nodes key))) (omega (arith, c.trim.ensures.next)) serving

@@ -1,17 +1,17 @@
-use Rattle.std.proofs.Common.{◌∙◌}
-use Rattle.feed_live.specs.Relaying.{followed_by}
-use Rattle.feed_live.proofs.RelayLemmas.{with_left, received_more_honest, reads_follows}
+use Rattle.std.proofs.Common.{◌∙◌, sym, subst, []}
+use Rattle.feed_live.specs.Relaying.{FollowsLog, followed_by}
+use Rattle.feed_live.proofs.RelayLemmas.{with_left, received_more_honest, reads_follows, to_show}
 use Rattle.feed_live.proofs.source.Source.read.Goals as goal
 
 pub returns-in-Ok-eq0 : goal.returns-in-Ok-eq0
 returns-in-Ok-eq0 g c =
     record {
       follows = λ reads none limits log servers contest sockets follows.
-          let shows = c.settle_ended.ensures.shows reads _ _ limits log servers contest sockets (
+          let shows = c.settle_ended.ensures.shows limits log servers contest sockets (to_show limits log servers _ [] reads (
             follows.0,
             λ honest. let here = follows.1 (received_more_honest limits log servers _ _ _ c.in-Ok-eq0.ensures.bytes honest) in
                 (here.0, reads_follows limits log servers c.args.self.now.reach c.args.self.now.request.items _ _ _ c.args.self.now.upstream.follower (followed_by c.args.self.now) c.in-Ok-eq0.ensures.bytes here.1),
-          ) in
+          )) in
           (c.lost.ensures.left.servers ∙ shows.0, with_left limits log servers c.lost.ensures.left c.lost.new.self.rest.items shows.1);
     }
 
@@ -24,4 +24,13 @@ returns-in-Ok g c =
             λ honest. let here = follows.1 (received_more_honest limits log servers _ _ _ c.in-Ok.ensures.bytes honest) in
                 (here.0, reads_follows limits log servers c.args.self.now.reach c.args.self.now.request.items _ _ _ c.args.self.now.upstream.follower (followed_by c.args.self.now) c.in-Ok.ensures.bytes here.1),
           );
+    }
+
+pub returns-in-Err : goal.returns-in-Err
+returns-in-Err g c =
+    record {
+      follows = λ reads none limits log servers contest sockets follows.
+          let shows = c.settle_ended-in-Err.ensures.shows limits log servers contest sockets (to_show limits log servers _ [] reads
+          (subst (λ e. FollowsLog limits log servers contest e c.args.self.now [] c.args.screens.now sockets) (sym c.in-Err.ensures.bytes) follows)) in
+          (c.lost-in-Err.ensures.left.servers ∙ shows.0, with_left limits log servers c.lost-in-Err.ensures.left c.lost-in-Err.new.self.rest.items shows.1);
     }

@@ -1,27 +1,23 @@
 use Rattle.std.proofs.Common.{refl, sym, ap, ◌∙◌, subst, ◌++◌}
 use Rattle.feed_live.specs.Relaying.{Shows}
-use Rattle.feed_live.proofs.RelayLemmas.{with_left, with_away, with_unread, with_kept, where_ok, within}
+use Rattle.feed_live.proofs.RelayLemmas.{with_left, with_kept, where_ok}
 use Rattle.feed_live.proofs.source.Source.take.Goals as goal
 
-pub returns-then-not-take_line : goal.returns-then-not-take_line
-returns-then-not-take_line g c =
+pub returns-in-None : goal.returns-in-None
+returns-in-None g c =
     record {
       follows = λ reads none limits log servers contest sockets follows.
           let now = c.loop.invariant reads none in
-          within (with_away limits log servers _ _ _ c.split_line.result.1.now c.take_line.new.self.rest.items _ _ (c.if-not-take_line.ensures.stops refl))
-          (c.take_line.ensures.follows now.0 c.split_line.result.1.now limits log servers contest sockets
-          (within (with_unread limits log servers _ _ _ _ _ c.split_line.ensures) (now.2 limits log servers contest sockets follows)));
+          (c.in-None.ensures.stops refl).1 now.0 c.take_line.new.self.rest.items limits log servers contest sockets (now.2 limits log servers contest sockets follows);
     }
 
 pub loop-preserved : goal.loop-preserved
 loop-preserved g c =
     λ reads none.
     let now = c.loop.invariant reads none in (
-      (c.take_line.ensures.goes_on c.if-not-take_line.false).0 ∙ now.0,
-      (c.take_line.ensures.goes_on c.if-not-take_line.false).1 ∙ now.1,
-      λ limits log servers contest sockets follows.
-          c.take_line.ensures.follows now.0 c.split_line.result.1.now limits log servers contest sockets
-          (within (with_unread limits log servers _ _ _ _ _ c.split_line.ensures) (now.2 limits log servers contest sockets follows)),
+      c.in-Some.ensures.goes_on.0 ∙ now.0,
+      c.in-Some.ensures.goes_on.1 ∙ now.1,
+      λ limits log servers contest sockets follows. c.in-Some.ensures.goes_on.2 now.0 limits log servers contest sockets (now.2 limits log servers contest sockets follows),
     )
 
 pub returns-then-is_err : goal.returns-then-is_err
