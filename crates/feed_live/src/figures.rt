@@ -9,6 +9,8 @@ use crate::turn::Live;
 pub enum Following {
     /// A server answers with the feed.
     Answered,
+    /// A server sends all that it has: nothing of it is shown until it has settled.
+    Settling,
     /// A server is asked, and has not answered yet.
     Asked,
     /// No server is asked at the moment.
@@ -33,6 +35,10 @@ pub struct FeedFigures {
     pub failures: u64,
     pub commits: u64,
     pub bytes: u64,
+    /// How many lines came on this connection since it was begun; 0 where nothing settles.
+    pub coming_lines: u64,
+    /// How many bytes came on it; 0 where nothing settles.
+    pub coming_bytes: u64,
 }
 
 impl FeedFigures {
@@ -45,6 +51,8 @@ impl FeedFigures {
             failures: 0,
             commits: 0,
             bytes: 0,
+            coming_lines: 0,
+            coming_bytes: 0,
         }
     }
 
