@@ -73,7 +73,7 @@ impl fmt::Display for Coming<'_> {
             lines => write!(f, "{lines} lines")?,
         }
         let bytes = self.0.coming_bytes;
-        write!(f, ", {bytes} bytes so far; nothing of it is shown yet")
+        write!(f, ", {bytes} bytes")
     }
 }
 
@@ -93,7 +93,11 @@ impl fmt::Display for Followed<'_> {
             }
             UpstreamState::Following | UpstreamState::Input => write!(f, "following {name}"),
             UpstreamState::Settling => {
-                write!(f, "settling {name} for {since} s: {}", Coming(upstream))
+                let coming = Coming(upstream);
+                write!(
+                    f,
+                    "settling {name} for {since} s: {coming} so far; nothing of it is shown yet"
+                )
             }
             UpstreamState::Asking => write!(f, "asking {name}, nothing heard for {silent} s"),
             UpstreamState::Pausing => write!(f, "{name} is lost, nothing heard for {silent} s"),

@@ -51,7 +51,7 @@ fn number(alloc: Global, label: &'static str, value: u64) -> Result<Row, AllocEr
 }
 
 /// What came and has not settled.
-fn settling(alloc: Global, upstream: &Upstream<'_>) -> Result<String, AllocError> {
+fn coming(alloc: Global, upstream: &Upstream<'_>) -> Result<String, AllocError> {
     match upstream.state {
         UpstreamState::Settling => format!(in alloc; "{}", Coming(upstream)),
         _ => String::from_str(alloc, "nothing"),
@@ -89,7 +89,7 @@ fn of_feed(alloc: Global, status: &Status<'_>, to: &mut Vec<Row>) -> Result<(), 
     to.push(row_of("Contest", String::from_str(alloc, status.contest))?)?;
     to.push(row_of("Upstream", String::from_str(alloc, upstream.name))?)?;
     to.push(row_of("State", format!(in alloc; "{state}, for {since}"))?)?;
-    to.push(row_of("Settling", settling(alloc, upstream))?)?;
+    to.push(row_of("Not shown yet", coming(alloc, upstream))?)?;
     to.push(row_of("Last heard", format!(in alloc; "{silent} ago"))?)?;
     to.push(number(alloc, "Failures in a row", upstream.failures)?)?;
     to.push(row_of(
