@@ -1,6 +1,6 @@
 //! Whether a relay is well.
 
-use crate::status::{Status, UpstreamState};
+use crate::status::{Status, Upstream, UpstreamState};
 use serde::Serialize;
 use std::fmt;
 
@@ -10,7 +10,7 @@ use std::fmt;
 pub enum Level {
     /// It follows.
     Good,
-    /// It doesn't follow at the moment, and heard upstream not long ago.
+    /// It shows nothing new at the moment, and heard upstream not long ago.
     Doubtful,
     /// Nothing was heard of upstream for longer than it may be silent.
     Bad,
@@ -30,12 +30,19 @@ impl Level {
 impl Status<'_> {
     /// Whether upstream was heard not longer ago than it may be silent, or the feed is standard
     /// input, which may be silent for ever.
-    pub fn is_healthy(&self) -> bool {
+    fn is_heard(&self) -> bool {
         match self.upstream.state {
             UpstreamState::Input => true,
             UpstreamState::Ended => false,
             _ => self.upstream.silent_ms <= self.silence_ms,
         }
+    }
+
+    /// Whether screens may be sent to this relay: it hears upstream. Where nothing was published yet,
+    /// what comes has to settle first.
+    pub fn is_healthy(&self) -> bool {
+        let settles = self.upstream.state == UpstreamState::Settling;
+        self.is_heard() && (self.token.is_some() || !settles)
     }
 
     /// How well it follows.
@@ -45,12 +52,56 @@ impl Status<'_> {
             UpstreamState::Input => true,
             _ => false,
         };
-        if !self.is_healthy() {
+        if !self.is_heard() {
             Level::Bad
         } else if follows {
             Level::Good
         } else {
             Level::Doubtful
+        }
+    }
+}
+
+/// What came and has not settled.
+#[derive(Clone, Copy)]
+pub(crate) struct Coming<'a>(pub(crate) &'a Upstream<'a>);
+
+impl fmt::Display for Coming<'_> {
+    fn fmt<W: fmt::Write>(&self, f: &mut fmt::Formatter<W>) -> fmt::Result {
+        match self.0.coming_lines {
+            1 => f.write_str("1 line")?,
+            lines => write!(f, "{lines} lines")?,
+        }
+        let bytes = self.0.coming_bytes;
+        write!(f, ", {bytes} bytes")
+    }
+}
+
+/// How the server is.
+#[derive(Clone, Copy)]
+struct Followed<'a>(&'a Status<'a>);
+
+impl fmt::Display for Followed<'_> {
+    fn fmt<W: fmt::Write>(&self, f: &mut fmt::Formatter<W>) -> fmt::Result {
+        let upstream = &self.0.upstream;
+        let name = upstream.name;
+        let silent = upstream.silent_ms / 1_000;
+        let since = upstream.since_ms / 1_000;
+        match upstream.state {
+            UpstreamState::Following | UpstreamState::Settling if !self.0.is_heard() => {
+                write!(f, "{name} is silent for {silent} s")
+            }
+            UpstreamState::Following | UpstreamState::Input => write!(f, "following {name}"),
+            UpstreamState::Settling => {
+                let coming = Coming(upstream);
+                write!(
+                    f,
+                    "settling {name} for {since} s: {coming} so far; nothing of it is shown yet"
+                )
+            }
+            UpstreamState::Asking => write!(f, "asking {name}, nothing heard for {silent} s"),
+            UpstreamState::Pausing => write!(f, "{name} is lost, nothing heard for {silent} s"),
+            UpstreamState::Ended => write!(f, "the end of {name}"),
         }
     }
 }
@@ -61,19 +112,12 @@ pub(crate) struct Headline<'a>(pub(crate) &'a Status<'a>);
 
 impl fmt::Display for Headline<'_> {
     fn fmt<W: fmt::Write>(&self, f: &mut fmt::Formatter<W>) -> fmt::Result {
-        let upstream = &self.0.upstream;
-        let name = upstream.name;
-        let silent = upstream.silent_ms / 1_000;
-        match upstream.state {
-            UpstreamState::Following if self.0.is_healthy() => write!(f, "following {name}"),
-            UpstreamState::Following => write!(f, "{name} is silent for {silent} s"),
-            UpstreamState::Asking => write!(f, "asking {name}, nothing heard for {silent} s"),
-            UpstreamState::Pausing => write!(f, "{name} is lost, nothing heard for {silent} s"),
-            UpstreamState::Input => write!(f, "following {name}"),
-            UpstreamState::Ended => write!(f, "the end of {name}"),
-        }?;
+        let settles = self.0.upstream.state == UpstreamState::Settling;
+        write!(f, "{}", Followed(self.0))?;
         match self.0.token {
+            Some(token) if settles => write!(f, ", still at token {token}")?,
             Some(token) => write!(f, ", token {token}")?,
+            None if settles => {}
             None => f.write_str(", nothing published yet")?,
         }
         let screens = &self.0.screens;

@@ -1,6 +1,6 @@
 //! The metrics, in the text format of Prometheus (version 0.0.4).
 
-use crate::status::{BOUNDS, Latency, Status, UpstreamState};
+use crate::status::{BOUNDS, Latency, Status, Upstream, UpstreamState};
 use std::fmt;
 use std::fmt::Write;
 
@@ -106,6 +106,7 @@ impl fmt::Display for Metrics<'_> {
         let status = self.0;
         write!(f, "{}{}", About(status), Feed(status))?;
         write!(f, "{}{}", UpstreamInfo(status), OfUpstream(status))?;
+        write!(f, "{}", OfComing(&status.upstream))?;
         write!(f, "{}{}", OfScreens(status), OfRefused(status))?;
         write!(f, "{}{}", OfFile(status), Histogram(&status.latency))
     }
@@ -199,16 +200,12 @@ impl fmt::Display for OfUpstream<'_> {
         write!(
             f,
             "{}",
-            gauge(
-                "healthy",
-                "1 unless upstream is silent for too long.",
-                healthy
-            )
+            gauge("healthy", "1 where /health answers 200.", healthy)
         )?;
         write!(
             f,
             "{}",
-            gauge("following", "1 while upstream is followed.", follows)
+            gauge("following", "1 while what comes is shown.", follows)
         )?;
         write!(
             f,
@@ -220,6 +217,33 @@ impl fmt::Display for OfUpstream<'_> {
             f,
             "{}",
             gauge("upstream_failures", "Attempts failed in a row.", failures)
+        )
+    }
+}
+
+#[derive(Clone, Copy)]
+struct OfComing<'a>(&'a Upstream<'a>);
+
+impl fmt::Display for OfComing<'_> {
+    fn fmt<W: fmt::Write>(&self, f: &mut fmt::Formatter<W>) -> fmt::Result {
+        let (lines, bytes) = (self.0.coming_lines, self.0.coming_bytes);
+        write!(
+            f,
+            "{}",
+            gauge(
+                "upstream_coming_lines",
+                "Lines not shown until they settle.",
+                lines
+            )
+        )?;
+        write!(
+            f,
+            "{}",
+            gauge(
+                "upstream_coming_bytes",
+                "Bytes not shown until they settle.",
+                bytes
+            )
         )
     }
 }

@@ -1,6 +1,7 @@
 //! The table of the page.
 
-use crate::status::{Screens, StateFile, Status, UpstreamState};
+use crate::health::Coming;
+use crate::status::{Screens, StateFile, Status, Upstream, UpstreamState};
 use serde::Serialize;
 use std::alloc::{AllocError, Global};
 use std::fmt;
@@ -33,6 +34,7 @@ impl fmt::Display for Time {
 fn word(state: UpstreamState) -> &'static str {
     match state {
         UpstreamState::Following => "following",
+        UpstreamState::Settling => "settling",
         UpstreamState::Asking => "asking",
         UpstreamState::Pausing => "waiting to ask again",
         UpstreamState::Input => "following",
@@ -46,6 +48,14 @@ fn row_of(label: &'static str, text: Result<String, AllocError>) -> Result<Row, 
 
 fn number(alloc: Global, label: &'static str, value: u64) -> Result<Row, AllocError> {
     row_of(label, format!(in alloc; "{value}"))
+}
+
+/// What came and has not settled.
+fn coming(alloc: Global, upstream: &Upstream<'_>) -> Result<String, AllocError> {
+    match upstream.state {
+        UpstreamState::Settling => format!(in alloc; "{}", Coming(upstream)),
+        _ => String::from_str(alloc, "nothing"),
+    }
 }
 
 /// How many were refused, and how many of them with which status.
@@ -79,6 +89,7 @@ fn of_feed(alloc: Global, status: &Status<'_>, to: &mut Vec<Row>) -> Result<(), 
     to.push(row_of("Contest", String::from_str(alloc, status.contest))?)?;
     to.push(row_of("Upstream", String::from_str(alloc, upstream.name))?)?;
     to.push(row_of("State", format!(in alloc; "{state}, for {since}"))?)?;
+    to.push(row_of("Not shown yet", coming(alloc, upstream))?)?;
     to.push(row_of("Last heard", format!(in alloc; "{silent} ago"))?)?;
     to.push(number(alloc, "Failures in a row", upstream.failures)?)?;
     to.push(row_of(

@@ -16,6 +16,8 @@ pub const BOUNDS: [u64; BUCKETS] = [
 pub enum UpstreamState {
     /// Its answer is followed.
     Following,
+    /// It sends all that it has. Nothing of it is shown until it has settled.
+    Settling,
     /// It is asked, and has not answered yet.
     Asking,
     /// It is asked after a pause.
@@ -31,6 +33,7 @@ impl UpstreamState {
     pub(crate) fn word(self) -> &'static str {
         match self {
             UpstreamState::Following => "following",
+            UpstreamState::Settling => "settling",
             UpstreamState::Asking => "asking",
             UpstreamState::Pausing => "pausing",
             UpstreamState::Input => "input",
@@ -51,6 +54,10 @@ pub struct Upstream<'a> {
     pub silent_ms: u64,
     /// How many attempts failed since the last one that was answered.
     pub failures: u64,
+    /// How many lines came on its connection that are not shown yet; 0 unless it settles.
+    pub coming_lines: u64,
+    /// How many bytes came on its connection that are not shown yet; 0 unless it settles.
+    pub coming_bytes: u64,
 }
 
 /// How many statuses a request can be refused with.

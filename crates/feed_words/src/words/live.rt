@@ -188,8 +188,8 @@ fn settle<'a>(alloc: Global) -> Arg<'a>
 {
     number_between(alloc, "settle", "MS", 0, MOST_SETTLE)
         .help(
-            "For how many milliseconds nothing more has come of a feed that was asked for from the \
-              start before it is shown, 0 to 60000; 0 shows each of its states as it comes",
+            "In how many milliseconds no more than 1/64 of a feed that was asked for from the start \
+              came before it is shown, 0 to 60000; 0 shows each of its states as it comes",
         )
         .default_value("2000")
 }
@@ -199,7 +199,10 @@ fn fresh<'a>(alloc: Global) -> Arg<'a>
     ensures rule { rule_of result ≡ live.fresh }
     ensures local { result.global ≡ false }
 {
-    flag(alloc, "fresh").help("Ask for everything on each connection, never with since_token")
+    flag(alloc, "fresh").help(
+        "Ask for everything on each connection, never with since_token: for servers that don't have \
+          the same tokens",
+    )
 }
 
 /// `--until-eof`.

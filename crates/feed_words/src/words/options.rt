@@ -186,7 +186,8 @@ pub(crate) fn from<'a>(alloc: Global) -> Arg<'a>
     ensures local { result.global ≡ false }
 {
     text(alloc, "from", "LIST").help(
-        "Further servers, as host:port,host:port, of which each is asked where those before fail",
+        "Further servers of the same log with the same tokens, as host:port,host:port, of which \
+          each is asked where those before fail; never a shadow with event ids of its own",
     )
 }
 

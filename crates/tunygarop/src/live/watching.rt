@@ -72,6 +72,7 @@ fn upstream_of<'a>(feed: &FeedFigures, name: &'a str, now: u64) -> Upstream<'a> 
         name,
         state: match feed.following {
             Following::Answered => UpstreamState::Following,
+            Following::Settling => UpstreamState::Settling,
             Following::Asked => UpstreamState::Asking,
             Following::Away => UpstreamState::Pausing,
             Following::Input => UpstreamState::Input,
@@ -80,6 +81,8 @@ fn upstream_of<'a>(feed: &FeedFigures, name: &'a str, now: u64) -> Upstream<'a> 
         since_ms: now.saturating_sub(feed.changed),
         silent_ms: now.saturating_sub(feed.heard),
         failures: feed.failures,
+        coming_lines: feed.coming_lines,
+        coming_bytes: feed.coming_bytes,
     }
 }
 
