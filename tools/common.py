@@ -7,9 +7,6 @@ import socket
 import sys
 from pathlib import Path
 
-# A tool that is loaded as a module leaves no folder behind.
-sys.dont_write_bytecode = True
-
 TOP = Path(__file__).resolve().parent.parent
 
 # An unproved build stops by default where memory is refused.
