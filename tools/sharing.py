@@ -121,6 +121,8 @@ def is_priority_kept():
 
 
 if __name__ == "__main__":
+    if sys.argv[1:] in ([], ["-h"], ["--help"]):
+        sys.exit(print(__doc__))
     with suppress(PermissionError):
         os.setsid()
     lower_priority()
