@@ -1,5 +1,5 @@
 -- What is followed in a log is an honest response, or an honest input.
-use Rattle.std.proofs.Common.{◌≡◌, refl, sym, ap, ◌∙◌, subst, ℕ, Bool, List, [], ◌++◌, take, length, append_assoc, append-nil, Option, Some, None}
+use Rattle.std.proofs.Common.{◌≡◌, refl, sym, ap, ◌∙◌, subst, ℕ, Bool, List, ◌++◌, take, length, append_assoc, Option}
 use Rattle.std.proofs.Math.Seq.{take-append_seam}
 use Rattle.feed_settings.specs.Limits.{Limits}
 use Rattle.feed_note.specs.declared.line.Line.{Line}
@@ -8,7 +8,6 @@ use Rattle.feed_node.specs.declared.fault.FeedFault.TheVariants.{NotOpen, LongLi
 use Rattle.feed_node.specs.Mirroring.{MirrorState, StandsAt, HasStopped, HasLost, Faulted}
 use Rattle.feed_node.specs.Reading.{Reads, FaultsAt, reads, keep_latest}
 use Rattle.feed_node.specs.Steps.{ReadingIsOne}
-use Rattle.feed_node.specs.States.{NodeState, published_token}
 use Rattle.feed_follow.specs.Follower.{FollowsAt}
 use Rattle.feed_answer.specs.Answered.{AnswerParts}
 use Rattle.feed_world.specs.Log.{Log}
@@ -19,11 +18,7 @@ use Rattle.feed_hub.specs.Laws.{IsInLog, ShowsState, ScreensShowStates}
 use Rattle.feed_hub.specs.Files.{FilesRestore, FilesFollow}
 use Rattle.feed_live.specs.Laws.{RelaysShowTheLog, FollowedIsHonest, InputShowsTheLog, ShownIsHonest, SentIsHonest, FilesAreHonest, FilesGoOnHonestly}
 use Rattle.feed_live.specs.States.{states_of}
-use Rattle.feed_live.specs.Upstream.{StaysInLog, AsksInLog, Servers, IsRequestOf, IsHonest}
-use Rattle.feed_device.specs.Links.{Exchange}
-use Rattle.feed_follow.specs.Standing.{Standing}
-use Rattle.feed_follow.specs.Follower.{FollowerState}
-use Rattle.feed_world.specs.Position.{node_where}
+use Rattle.feed_live.specs.Upstream.{StaysInLog}
 use Rattle.feed_live.proofs.ServingLemmas.{sockets_are_faithful}
 use Rattle.feed_live.proofs.StateLemmas.{states_in_log, states_within, honest_however}
 

@@ -28,7 +28,7 @@ use Rattle.feed_live.specs.declared.screens.Screens.{Screens}
 use Rattle.feed_live.specs.declared.source.Reach.{Reach}
 use Rattle.feed_live.specs.declared.source.Reach.TheVariants.{Away, Connects, Asks, Reads}
 use Rattle.feed_live.specs.declared.source.Source.{Source}
-use Rattle.feed_live.specs.Relaying.{servers_of, IsAsked, IsShownSo, Follows, MayFollow, MayShow, FollowsLog, IsToShow, Shows, SameSource, IsKeeping, IsLeft, KeepsShown, PushesOnly, IsNowShown, ShowsAlone, followed, followed_by}
+use Rattle.feed_live.specs.Relaying.{servers_of, IsShownSo, Follows, MayFollow, MayShow, FollowsLog, IsToShow, Shows, SameSource, IsKeeping, IsLeft, KeepsShown, PushesOnly, IsNowShown, ShowsAlone, followed, followed_by}
 use Rattle.feed_live.specs.Serving.{Serving}
 use Rattle.feed_live.specs.States.{states_of}
 use Rattle.feed_live.specs.Upstream.{AsksInLog, Servers, IsRequestOf, IsOfLog, StaysInLog, EndsInLog, IsHonestAs, IsHonest, AreKnownHonest}
@@ -154,19 +154,12 @@ module _ (limits : Limits) (log : Log) (servers : Servers) where
   left_follows {old} {new} {before} {after} left request unread mirror =
       subst (λ f. MayFollow limits log servers (is_none new.coming) new.reach request unread after f mirror) (sym left.follower) left.reach
 
-  -- there is no connection: whatever is unread
-  pub away_follows : {is_shown : Bool} (reach : Reach) (request unread other : List ℕ) (exchanges : Exchanges) (follower : Option FollowerState) (mirror : MirrorState)
-      → reach ≡ Away → MayFollow limits log servers is_shown reach request unread exchanges follower mirror → MayFollow limits log servers is_shown reach request other exchanges follower mirror
-  away_follows reach request unread other exchanges None mirror away follows = follows
-  away_follows reach request unread other exchanges (Some follower) mirror away follows =
-      absurd (subst (λ r. IsAsked r request follows.latest.asked) away follows.asked)
-
   -- ---- what is shown is noted
 
-  as_first : {begun : MirrorState} {received : List ℕ} (shown now : Shown) → IsHonestAs limits log begun (shown_first shown now) received → IsHonestAs limits log begun shown received
-  as_first nothing_shown now honest = tt
-  as_first (once_at count) now honest = honest
-  as_first (all_from least) now honest = honest
+  as_first : (begun : MirrorState) (received : List ℕ) (shown now : Shown) → IsHonestAs limits log begun (shown_first shown now) received → IsHonestAs limits log begun shown received
+  as_first begun received nothing_shown now honest = tt
+  as_first begun received (once_at count) now honest = honest
+  as_first begun received (all_from least) now honest = honest
 
   pub shown_so_honest : (how : ℕ → Shown) (unread : ℕ) (before after : Exchanges) → after ≡ option_map (shown_so how unread) before
       → AreKnownHonest limits log servers after → AreKnownHonest limits log servers before
@@ -174,7 +167,7 @@ module _ (limits : Limits) (log : Log) (servers : Servers) where
   shown_so_honest how unread (Some []) after is honest = subst (λ e. AreKnownHonest limits log servers e) is honest
   shown_so_honest how unread (Some (e ∷ es)) after is honest =
       let there = subst (λ e. AreKnownHonest limits log servers e) is honest in
-      (λ begun text more asks is_request asked. as_first e.shown (how (length e.received - unread)) (there.0 begun text more asks is_request asked), there.1)
+      (λ begun text more asks is_request asked. as_first begun e.received e.shown (how (length e.received - unread)) (there.0 begun text more asks is_request asked), there.1)
 
   -- ---- a connection is begun
 
@@ -275,15 +268,15 @@ module _ (limits : Limits) (log : Log) (servers : Servers) where
       ap (λ f. f ++ take more (drop count xs)) (sym front) ∙ ap (λ b. take count (take (count + more) xs) ++ b) (sym (drop-take count more xs))
       ∙ take-append-drop count (take (count + more) xs)
 
-  pub asks_follows : {is_shown : Bool} (request unread rest : List ℕ) (before after : Exchanges) (count more : ℕ) (follower : Option FollowerState) (mirror : MirrorState)
+  pub asks_follows : (is_shown : Bool) (request unread rest : List ℕ) (before after : Exchanges) (count more : ℕ) (follower : Option FollowerState) (mirror : MirrorState)
       → after ≡ option_map (asked_more (take more rest)) before → rest ≡ drop count request
       → MayFollow limits log servers is_shown (Asks count) request unread before follower mirror
       → MayFollow limits log servers is_shown (Asks (count + more)) request unread after follower mirror
-  asks_follows request unread rest before after count more None mirror is here follows = absurd (no_away follows)
+  asks_follows is_shown request unread rest before after count more None mirror is here follows = absurd (no_away follows)
     where
       no_away : Asks count ≡ Away → ⊥
       no_away e = cc
-  asks_follows request unread rest before after count more (Some follower) mirror is here follows =
+  asks_follows is_shown request unread rest before after count more (Some follower) mirror is here follows =
       record {
         start = follows.start;
         asks = follows.asks;
@@ -303,15 +296,15 @@ module _ (limits : Limits) (log : Log) (servers : Servers) where
   take_whole count xs none = sym (append-nil (take count xs)) ∙ ap (λ b. take count xs ++ b) none ∙ take-append-drop count xs
 
   -- all was asked
-  pub asked_follows : {is_shown : Bool} (request unread rest : List ℕ) (exchanges : Exchanges) (count : ℕ) (follower : Option FollowerState) (mirror : MirrorState)
+  pub asked_follows : (is_shown : Bool) (request unread rest : List ℕ) (exchanges : Exchanges) (count : ℕ) (follower : Option FollowerState) (mirror : MirrorState)
       → rest ≡ [] → rest ≡ drop count request
       → MayFollow limits log servers is_shown (Asks count) request unread exchanges follower mirror
       → MayFollow limits log servers is_shown Reads request unread exchanges follower mirror
-  asked_follows request unread rest exchanges count None mirror none here follows = absurd (no_away follows)
+  asked_follows is_shown request unread rest exchanges count None mirror none here follows = absurd (no_away follows)
     where
       no_away : Asks count ≡ Away → ⊥
       no_away e = cc
-  asked_follows request unread rest exchanges count (Some follower) mirror none here follows =
+  asked_follows is_shown request unread rest exchanges count (Some follower) mirror none here follows =
       record {
         start = follows.start;
         asks = follows.asks;
@@ -328,14 +321,14 @@ module _ (limits : Limits) (log : Log) (servers : Servers) where
       }
 
   -- the connection is open, and nothing is asked yet
-  pub opens_follows : {is_shown : Bool} (request unread : List ℕ) (exchanges : Exchanges) (since : ℕ) (follower : Option FollowerState) (mirror : MirrorState)
+  pub opens_follows : (is_shown : Bool) (request unread : List ℕ) (exchanges : Exchanges) (since : ℕ) (follower : Option FollowerState) (mirror : MirrorState)
       → MayFollow limits log servers is_shown (Connects since) request unread exchanges follower mirror
       → MayFollow limits log servers is_shown (Asks 0) request unread exchanges follower mirror
-  opens_follows request unread exchanges since None mirror follows = absurd (no_away follows)
+  opens_follows is_shown request unread exchanges since None mirror follows = absurd (no_away follows)
     where
       no_away : Connects since ≡ Away → ⊥
       no_away e = cc
-  opens_follows request unread exchanges since (Some follower) mirror follows =
+  opens_follows is_shown request unread exchanges since (Some follower) mirror follows =
       record {
         start = follows.start;
         asks = follows.asks;
@@ -369,10 +362,10 @@ module _ (limits : Limits) (log : Log) (servers : Servers) where
             ends.fails before piece (behind ++ more) mirror fault (sym (append_assoc (before ++ piece) behind more) ∙ ap (λ b. b ++ more) is);
       }
 
-  received_as : {begun : MirrorState} (shown : Shown) (more bytes : List ℕ) → IsHonestAs limits log begun shown (bytes ++ more) → IsHonestAs limits log begun shown bytes
-  received_as nothing_shown more bytes honest = tt
-  received_as (once_at count) more bytes honest = received_ends count more bytes honest
-  received_as (all_from least) more bytes honest = received_stays least more bytes honest
+  received_as : (begun : MirrorState) (shown : Shown) (more bytes : List ℕ) → IsHonestAs limits log begun shown (bytes ++ more) → IsHonestAs limits log begun shown bytes
+  received_as begun nothing_shown more bytes honest = tt
+  received_as begun (once_at count) more bytes honest = received_ends count more bytes honest
+  received_as begun (all_from least) more bytes honest = received_stays least more bytes honest
 
   pub received_more_honest : (bytes : List ℕ) (before after : Exchanges) → after ≡ option_map (received_more bytes) before
       → AreKnownHonest limits log servers after → AreKnownHonest limits log servers before
@@ -380,14 +373,14 @@ module _ (limits : Limits) (log : Log) (servers : Servers) where
   received_more_honest bytes (Some []) after is honest = subst (λ e. AreKnownHonest limits log servers e) is honest
   received_more_honest bytes (Some (e ∷ es)) after is honest =
       let there = subst (λ e. AreKnownHonest limits log servers e) is honest in
-      (λ begun text more asks is_request asked. received_as e.shown bytes e.received (there.0 begun text more asks is_request asked), there.1)
+      (λ begun text more asks is_request asked. received_as begun e.shown bytes e.received (there.0 begun text more asks is_request asked), there.1)
 
-  pub reads_follows : {is_shown : Bool} (reach : Reach) (request bytes : List ℕ) (before after : Exchanges) (follower : Option FollowerState) (mirror : MirrorState)
+  pub reads_follows : (is_shown : Bool) (reach : Reach) (request bytes : List ℕ) (before after : Exchanges) (follower : Option FollowerState) (mirror : MirrorState)
       → after ≡ option_map (received_more bytes) before
       → MayFollow limits log servers is_shown reach request [] before follower mirror
       → MayFollow limits log servers is_shown reach request bytes after follower mirror
-  reads_follows reach request bytes before after None mirror is follows = follows
-  reads_follows reach request bytes before after (Some follower) mirror is follows =
+  reads_follows is_shown reach request bytes before after None mirror is follows = follows
+  reads_follows is_shown reach request bytes before after (Some follower) mirror is follows =
       record {
         start = follows.start;
         asks = follows.asks;
@@ -546,10 +539,10 @@ module _ (limits : Limits) (log : Log) (servers : Servers) where
       (left_shows left (shows (left_honest left honest)), left_follows left new.request.items unread (followed_by new))
 
   -- what is unread is this
-  pub with_unread : {X : Type 0} {is_shown : Bool} (exchanges : Exchanges) (reach : Reach) (request : List ℕ) (follower : Option FollowerState) (mirror : MirrorState) {unread other : List ℕ} → other ≡ unread
+  pub with_unread : {X : Type 0} (is_shown : Bool) (exchanges : Exchanges) (reach : Reach) (request : List ℕ) (follower : Option FollowerState) (mirror : MirrorState) {unread other : List ℕ} → other ≡ unread
       → (AreKnownHonest limits log servers exchanges → X × MayFollow limits log servers is_shown reach request unread exchanges follower mirror)
       → AreKnownHonest limits log servers exchanges → X × MayFollow limits log servers is_shown reach request other exchanges follower mirror
-  with_unread {is_shown = is_shown} exchanges reach request follower mirror is follows honest =
+  with_unread is_shown exchanges reach request follower mirror is follows honest =
       let here = follows honest in (here.0, subst (λ u. MayFollow limits log servers is_shown reach request u exchanges follower mirror) (sym is) here.1)
 
   -- what is kept changed alone
@@ -669,10 +662,10 @@ module _ (limits : Limits) (log : Log) (servers : Servers) where
       there.0
 
   -- what follows may be shown
-  pub follows_may_show : {is_shown : Bool} (reach : Reach) (request unread : List ℕ) (exchanges : Exchanges) (follower : Option FollowerState) (mirror : MirrorState) → reach ≡ Reads
+  pub follows_may_show : (is_shown : Bool) (reach : Reach) (request unread : List ℕ) (exchanges : Exchanges) (follower : Option FollowerState) (mirror : MirrorState) → reach ≡ Reads
       → (AreKnownHonest limits log servers exchanges → MayFollow limits log servers is_shown reach request unread exchanges follower mirror)
       → MayShow limits log servers (length unread) exchanges mirror
-  follows_may_show reach request unread exchanges None mirror reads follows =
+  follows_may_show is_shown reach request unread exchanges None mirror reads follows =
       record {
         once = λ honest. absurd (no_away (sym reads ∙ follows (shown_so_honest once_at (length unread) exchanges _ refl honest)));
         all = λ honest. absurd (no_away (sym reads ∙ follows (shown_so_honest all_from (length unread) exchanges _ refl honest)));
@@ -680,7 +673,7 @@ module _ (limits : Limits) (log : Log) (servers : Servers) where
     where
       no_away : Reads ≡ Away → ⊥
       no_away e = cc
-  follows_may_show {is_shown} reach request unread exchanges (Some follower) mirror reads follows =
+  follows_may_show is_shown reach request unread exchanges (Some follower) mirror reads follows =
       record {
         once = λ honest.
             let here = read (follows (shown_so_honest once_at (length unread) exchanges _ refl honest)) in (
@@ -709,13 +702,13 @@ module _ (limits : Limits) (log : Log) (servers : Servers) where
       ends here end = end.shows here.bytes unread here.standing follower mirror (sym here.received) refl here.follows
 
   -- so may what failed: what the good lines before that published
-  pub failed_may_show : {is_shown : Bool} (reach : Reach) (request line next : List ℕ) (exchanges : Exchanges) (old : Option FollowerState) (before after : MirrorState) (fault : FollowFault) → reach ≡ Reads
+  pub failed_may_show : (is_shown : Bool) (reach : Reach) (request line next : List ℕ) (exchanges : Exchanges) (old : Option FollowerState) (before after : MirrorState) (fault : FollowFault) → reach ≡ Reads
       → after.limits ≡ before.limits
       → ((start : MirrorState) (bytes : List ℕ) (standing : Standing) → IsFollowing start bytes standing old before
       → (had_token : Bool) × (had_token ≡ is_some start.since) × Fails start had_token bytes line after fault)
       → (AreKnownHonest limits log servers exchanges → MayFollow limits log servers is_shown reach request (line ++ next) exchanges old before)
       → MayShow limits log servers (length next) exchanges after
-  failed_may_show reach request line next exchanges None before after fault reads same fail follows =
+  failed_may_show is_shown reach request line next exchanges None before after fault reads same fail follows =
       record {
         once = λ honest. absurd (no_away (sym reads ∙ follows (shown_so_honest once_at (length next) exchanges _ refl honest)));
         all = λ honest. absurd (no_away (sym reads ∙ follows (shown_so_honest all_from (length next) exchanges _ refl honest)));
@@ -723,7 +716,7 @@ module _ (limits : Limits) (log : Log) (servers : Servers) where
     where
       no_away : Reads ≡ Away → ⊥
       no_away e = cc
-  failed_may_show {is_shown} reach request line next exchanges (Some follower) before after fault reads same fail follows =
+  failed_may_show is_shown reach request line next exchanges (Some follower) before after fault reads same fail follows =
       record {
         once = λ honest.
             let here = read (follows (shown_so_honest once_at (length next) exchanges _ refl honest)) in (
@@ -768,12 +761,12 @@ module _ (limits : Limits) (log : Log) (servers : Servers) where
       subst (λ s. IsShownSo true (shown_first s (all_from (length received - length unread))) (length bytes)) (sym so) le
 
   -- what follows is shown from here on
-  now_follows : {is_shown : Bool} (request unread : List ℕ) (before after : Exchanges) (follower : Option FollowerState) (mirror : MirrorState)
+  now_follows : (is_shown : Bool) (request unread : List ℕ) (before after : Exchanges) (follower : Option FollowerState) (mirror : MirrorState)
       → after ≡ option_map (shown_so all_from (length unread)) before
       → MayFollow limits log servers is_shown Reads request unread before follower mirror
       → MayFollow limits log servers true Reads request unread after follower mirror
-  now_follows request unread before after None mirror is follows = follows
-  now_follows {is_shown} request unread before after (Some follower) mirror is follows =
+  now_follows is_shown request unread before after None mirror is follows = follows
+  now_follows is_shown request unread before after (Some follower) mirror is follows =
       record {
         start = follows.start;
         asks = follows.asks;
@@ -818,9 +811,9 @@ module _ (limits : Limits) (log : Log) (servers : Servers) where
   with_now_shown {old = old} {new = new} unread before after is reads now follows honest =
       let earlier = shown_so_honest all_from (length unread) before after is honest in (
         shows_now (length unread) before after is now (λ h. (follows h).0)
-            (follows_may_show old.reach old.request.items unread before old.upstream.follower (followed_by old) reads (λ h. (follows h).1)) honest,
+            (follows_may_show (is_none old.coming) old.reach old.request.items unread before old.upstream.follower (followed_by old) reads (λ h. (follows h).1)) honest,
         follows_as after (ap is_none now.coming) now.request refl (now.reach ∙ reads) now.follower (ap (λ c. followed c new.answers.shown.mirror) now.coming ∙ now.shown)
-            (now_follows old.request.items unread before after old.upstream.follower (followed_by old) is
+            (now_follows (is_none old.coming) old.request.items unread before after old.upstream.follower (followed_by old) is
             (subst (λ r. MayFollow limits log servers (is_none old.coming) r old.request.items unread before old.upstream.follower (followed_by old)) reads (follows earlier).1)),
       )
 
@@ -862,31 +855,24 @@ module _ (limits : Limits) (log : Log) (servers : Servers) where
           shows_at limits log (ap (λ m. m.limits) is_it ∙ restored_limits _ (followed_by old).node.published ∙ at.0 ∙ sym here.limits_are)
           (subst (λ m. IsInLog limits log m.node) (sym is_it) (alone_in_log _ (followed_by old).node.published at.1)) alone.blank here
 
-  -- there is no connection: whatever is unread
-  pub with_away : {X : Type 0} {is_shown : Bool} (exchanges : Exchanges) (reach : Reach) (request unread other : List ℕ) (follower : Option FollowerState) (mirror : MirrorState)
-      → reach ≡ Away → (AreKnownHonest limits log servers exchanges → X × MayFollow limits log servers is_shown reach request unread exchanges follower mirror)
-      → AreKnownHonest limits log servers exchanges → X × MayFollow limits log servers is_shown reach request other exchanges follower mirror
-  with_away exchanges reach request unread other follower mirror away follows honest =
-      let here = follows honest in (here.0, away_follows reach request unread other exchanges follower mirror away here.1)
-
   -- ---- what follows may be shown
 
-  pub to_show : {contest : List ℕ} {source : Source} {screens : Screens} {sockets : AllSockets} (exchanges : Exchanges) (unread : List ℕ) → source.reach ≡ Reads
+  pub to_show : {contest : List ℕ} (source : Source) (screens : Screens) {sockets : AllSockets} (exchanges : Exchanges) (unread : List ℕ) → source.reach ≡ Reads
       → FollowsLog limits log servers contest exchanges source unread screens sockets → IsToShow limits log servers contest exchanges source (length unread) screens sockets
-  to_show {source = source} exchanges unread reads follows = (
+  to_show source screens exchanges unread reads follows = (
     follows.0,
     λ honest. (follows.1 honest).0,
-    follows_may_show source.reach source.request.items unread exchanges source.upstream.follower (followed_by source) reads (λ honest. (follows.1 honest).1),
+    follows_may_show (is_none source.coming) source.reach source.request.items unread exchanges source.upstream.follower (followed_by source) reads (λ honest. (follows.1 honest).1),
   )
 
-  pub same_to_show : {contest : List ℕ} {old new : Source} {screens : Screens} {sockets : AllSockets} {exchanges : Exchanges} {unread : ℕ} → SameSource old new
+  pub same_to_show : {contest : List ℕ} {old new : Source} (screens : Screens) {sockets : AllSockets} {exchanges : Exchanges} {unread : ℕ} → SameSource old new
       → IsToShow limits log servers contest exchanges old unread screens sockets → IsToShow limits log servers contest exchanges new unread screens sockets
-  same_to_show {exchanges = exchanges} {unread = unread} same to = (
+  same_to_show screens {exchanges = exchanges} {unread = unread} same to = (
     same.servers ∙ to.0,
     λ honest. same_shows limits log same (to.1 honest),
     subst (λ m. MayShow limits log servers unread exchanges m) (sym (same_followed same.coming same.shown)) to.2,
   )
 
-  pub to_show_of : {contest : List ℕ} {source : Source} {screens : Screens} {sockets : AllSockets} {exchanges : Exchanges} {count unread : ℕ} → count ≡ unread
+  pub to_show_of : {contest : List ℕ} (source : Source) (screens : Screens) {sockets : AllSockets} {exchanges : Exchanges} {count unread : ℕ} → count ≡ unread
       → IsToShow limits log servers contest exchanges source count screens sockets → IsToShow limits log servers contest exchanges source unread screens sockets
-  to_show_of {contest} {source} {screens} {sockets} {exchanges} is to = subst (λ n. IsToShow limits log servers contest exchanges source n screens sockets) is to
+  to_show_of {contest} source screens {sockets} {exchanges} is to = subst (λ n. IsToShow limits log servers contest exchanges source n screens sockets) is to

@@ -1,11 +1,12 @@
 -- How the steps of a source stay at places of the log.
 use Rattle.std.proofs.Common.{◌≡◌, sym, ◌∙◌, subst, ℕ, List, Option}
-use Rattle.std.specs.Prelude.{Bool}
+use Rattle.std.specs.Prelude.{Bool, false, Result, Ok, Err, option_map}
+use Rattle.std.specs.Result.{is_err}
 use Rattle.feed_settings.specs.Limits.{Limits}
 use Rattle.feed_node.specs.Mirroring.{MirrorState}
 use Rattle.feed_follow.specs.Follower.{FollowerState}
 use Rattle.feed_world.specs.Log.{Log}
-use Rattle.feed_device.specs.Links.{Exchanges}
+use Rattle.feed_device.specs.Links.{Exchanges, Begins, one_more}
 use Rattle.feed_live.specs.declared.screens.Screens.{Screens}
 use Rattle.feed_live.specs.declared.source.Reach.{Reach}
 use Rattle.feed_live.specs.declared.source.Reach.TheVariants.{Connects, Asks}
@@ -21,14 +22,19 @@ left_still {old} {new} left screens limits log servers contest sockets follows =
     (left.servers ∙ follows.0, with_left limits log servers left new.rest.items (λ honest. (follows.1 honest).0))
 
 -- the connection is open
-pub with_open : (limits : Limits) (log : Log) (servers : Servers) {X : Type 0} {is_shown : Bool} (reach : Reach) (request unread : List ℕ) (before after : Exchanges) (since : ℕ) (follower : Option FollowerState) (mirror : MirrorState)
+pub with_open : (limits : Limits) (log : Log) (servers : Servers) {X : Type 0} (is_shown : Bool) (reach : Reach) (request unread : List ℕ) (before after : Exchanges) (since : ℕ) (follower : Option FollowerState) (mirror : MirrorState)
     → reach ≡ Connects since → after ≡ before
     → (AreKnownHonest limits log servers before → X × MayFollow limits log servers is_shown reach request unread before follower mirror)
     → AreKnownHonest limits log servers after → X × MayFollow limits log servers is_shown (Asks 0) request unread after follower mirror
-with_open limits log servers {X} {is_shown} reach request unread before after since follower mirror is same follows honest =
+with_open limits log servers is_shown reach request unread before after since follower mirror is same follows honest =
     let here = follows (subst (λ e. AreKnownHonest limits log servers e) same honest) in (
       here.0,
       subst (λ e. MayFollow limits log servers is_shown (Asks 0) request unread e follower mirror) (sym same)
-          (opens_follows limits log servers request unread before since follower mirror
+          (opens_follows limits log servers is_shown request unread before since follower mirror
           (subst (λ r. MayFollow limits log servers is_shown r request unread before follower mirror) is here.1)),
     )
+
+-- a connection was begun, which did not fail
+pub begins_so : {A E : Type 0} (result : Result A E) (old new : Exchanges) (server : ℕ) → is_err result ≡ false → Begins old new result server → new ≡ option_map (one_more server) old
+begins_so (Ok a) old new server none begins = begins
+begins_so (Err e) old new server none begins = absurd (cc)

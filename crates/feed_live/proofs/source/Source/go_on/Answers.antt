@@ -1,3 +1,4 @@
+use Rattle.std.specs.Prelude.{is_none}
 use Rattle.std.proofs.Common.{rules, ◌≡◌}
 use Rattle.feed_live.specs.Relaying.{StillFollows, followed_by}
 use Rattle.feed_live.specs.declared.source.Reach.TheVariants.{Reads}
@@ -12,7 +13,7 @@ returns-then-eq g c =
     let opened : StillFollows c.args.self.now c.match-self.self (g.L.Link.exchanges c.args.link.now) (g.L.Link.exchanges c.match-self.link) c.args.self.now.rest.items c.match-self.self.rest.items c.args.screens.now c.args.screens.now =
     elim c.match-self.branch [
       | in-Connects+in-Ok-true w ↦ rw (w.self-is, w.link-is) (λ limits log servers contest sockets follows. within (
-          with_open limits log servers c.args.self.now.reach c.args.self.now.request.items c.args.self.now.rest.items _ _ _ c.args.self.now.upstream.follower (followed_by c.args.self.now) w.in-Connects.is w.is_open.ensures.unchanged) follows)
+          with_open limits log servers (is_none c.args.self.now.coming) c.args.self.now.reach c.args.self.now.request.items c.args.self.now.rest.items _ _ _ c.args.self.now.upstream.follower (followed_by c.args.self.now) w.in-Connects.is w.is_open.ensures.unchanged) follows)
       | in_default w ↦ rw (w.self-is, w.link-is) (λ limits log servers contest sockets follows. follows)
     ] in
     record {
@@ -25,7 +26,7 @@ returns-else-eq g c =
     let opened : StillFollows c.args.self.now c.match-self.self (g.L.Link.exchanges c.args.link.now) (g.L.Link.exchanges c.match-self.link) c.args.self.now.rest.items c.match-self.self.rest.items c.args.screens.now c.args.screens.now =
     elim c.match-self.branch [
       | in-Connects+in-Ok-true w ↦ rw (w.self-is, w.link-is) (λ limits log servers contest sockets follows. within (
-          with_open limits log servers c.args.self.now.reach c.args.self.now.request.items c.args.self.now.rest.items _ _ _ c.args.self.now.upstream.follower (followed_by c.args.self.now) w.in-Connects.is w.is_open.ensures.unchanged) follows)
+          with_open limits log servers (is_none c.args.self.now.coming) c.args.self.now.reach c.args.self.now.request.items c.args.self.now.rest.items _ _ _ c.args.self.now.upstream.follower (followed_by c.args.self.now) w.in-Connects.is w.is_open.ensures.unchanged) follows)
       | in_default w ↦ rw (w.self-is, w.link-is) (λ limits log servers contest sockets follows. follows)
     ] in
     record {

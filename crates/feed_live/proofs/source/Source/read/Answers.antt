@@ -1,17 +1,22 @@
-use Rattle.std.proofs.Common.{◌∙◌, sym, subst, []}
+use Rattle.std.specs.Prelude.{is_none}
+use Rattle.std.proofs.Common.{◌≡◌, ◌∙◌, sym, ap, subst, [], take, length}
 use Rattle.feed_live.specs.Relaying.{FollowsLog, followed_by}
-use Rattle.feed_live.proofs.RelayLemmas.{with_left, received_more_honest, reads_follows, to_show}
+use Rattle.feed_live.proofs.RelayLemmas.{with_left, received_more_honest, reads_follows, to_show, to_show_of}
 use Rattle.feed_live.proofs.source.Source.read.Goals as goal
 
 pub returns-in-Ok-eq0 : goal.returns-in-Ok-eq0
 returns-in-Ok-eq0 g c =
     record {
       follows = λ reads none limits log servers contest sockets follows.
-          let shows = c.settle_ended.ensures.shows limits log servers contest sockets (to_show limits log servers _ [] reads (
+          let none_came : length (take c.in-Ok-eq0.field-0 c.read.new.buf) ≡ 0 = ap (λ n. length (take n c.read.new.buf)) c.in-Ok-eq0.field-0-test in
+          let shows = c.settle_ended.ensures.shows limits log servers contest sockets (to_show_of limits log servers c.args.self.now c.args.screens.now none_came
+          (to_show limits log servers c.args.self.now c.args.screens.now _ (take c.in-Ok-eq0.field-0 c.read.new.buf) reads (
             follows.0,
-            λ honest. let here = follows.1 (received_more_honest limits log servers _ _ _ c.in-Ok-eq0.ensures.bytes honest) in
-                (here.0, reads_follows limits log servers c.args.self.now.reach c.args.self.now.request.items _ _ _ c.args.self.now.upstream.follower (followed_by c.args.self.now) c.in-Ok-eq0.ensures.bytes here.1),
-          )) in
+            λ honest. let here = follows.1 (received_more_honest limits log servers _ _ _ c.in-Ok-eq0.ensures.bytes honest) in (
+              here.0,
+              reads_follows limits log servers (is_none c.args.self.now.coming) c.args.self.now.reach c.args.self.now.request.items (take c.in-Ok-eq0.field-0 c.read.new.buf) _ _ c.args.self.now.upstream.follower (followed_by c.args.self.now) c.in-Ok-eq0.ensures.bytes here.1,
+            ),
+          ))) in
           (c.lost.ensures.left.servers ∙ shows.0, with_left limits log servers c.lost.ensures.left c.lost.new.self.rest.items shows.1);
     }
 
@@ -22,7 +27,7 @@ returns-in-Ok g c =
           c.take.ensures.follows reads none limits log servers contest sockets (
             follows.0,
             λ honest. let here = follows.1 (received_more_honest limits log servers _ _ _ c.in-Ok.ensures.bytes honest) in
-                (here.0, reads_follows limits log servers c.args.self.now.reach c.args.self.now.request.items _ _ _ c.args.self.now.upstream.follower (followed_by c.args.self.now) c.in-Ok.ensures.bytes here.1),
+                (here.0, reads_follows limits log servers (is_none c.args.self.now.coming) c.args.self.now.reach c.args.self.now.request.items _ _ _ c.args.self.now.upstream.follower (followed_by c.args.self.now) c.in-Ok.ensures.bytes here.1),
           );
     }
 
@@ -30,7 +35,7 @@ pub returns-in-Err : goal.returns-in-Err
 returns-in-Err g c =
     record {
       follows = λ reads none limits log servers contest sockets follows.
-          let shows = c.settle_ended-in-Err.ensures.shows limits log servers contest sockets (to_show limits log servers _ [] reads
+          let shows = c.settle_ended-in-Err.ensures.shows limits log servers contest sockets (to_show limits log servers c.args.self.now c.args.screens.now _ [] reads
           (subst (λ e. FollowsLog limits log servers contest e c.args.self.now [] c.args.screens.now sockets) (sym c.in-Err.ensures.bytes) follows)) in
           (c.lost-in-Err.ensures.left.servers ∙ shows.0, with_left limits log servers c.lost-in-Err.ensures.left c.lost-in-Err.new.self.rest.items shows.1);
     }

@@ -1,3 +1,4 @@
+use Rattle.std.specs.Prelude.{is_none}
 use Rattle.std.proofs.Common.{rules, ◌≡◌, ◌∙◌, sym, [], eqb-true}
 use Rattle.std.proofs.lemmas.List.{nil_from_length}
 use Rattle.feed_live.specs.declared.source.Reach.TheVariants.{Reads}
@@ -13,7 +14,7 @@ returns-then-not-read g c =
     record {
       follows = λ reads limits log servers contest sockets follows.
           c.read.ensures.follows on none limits log servers contest sockets
-          (within (with_unread limits log servers _ c.loop.self.reach c.loop.self.request.items c.loop.self.upstream.follower (followed_by c.loop.self) (sym none))
+          (within (with_unread limits log servers (is_none c.loop.self.coming) _ c.loop.self.reach c.loop.self.request.items c.loop.self.upstream.follower (followed_by c.loop.self) (sym none))
           (c.loop.invariant limits log servers contest sockets
           (c.take.ensures.follows (c.kept-rest.ensures.same.reach ∙ reads) c.kept-rest.ensures.rest limits log servers contest sockets
           (c.kept-rest.ensures.same.servers ∙ follows.0, with_kept limits log servers c.kept-rest.ensures.same _ c.args.self.now.rest.items c.as_slice.result.now (c.as_slice.ensures.value ∙ c.kept-rest.ensures.kept) follows.1))));
@@ -26,7 +27,7 @@ loop-preserved g c =
     let none : c.loop.self.rest.items ≡ [] = nil_from_length c.loop.self.rest.items (sym c.loop.self.rest.ok.0 ∙ zero) in
     λ limits log servers contest sockets follows.
     c.read.ensures.follows on none limits log servers contest sockets
-    (within (with_unread limits log servers _ c.loop.self.reach c.loop.self.request.items c.loop.self.upstream.follower (followed_by c.loop.self) (sym none))
+    (within (with_unread limits log servers (is_none c.loop.self.coming) _ c.loop.self.reach c.loop.self.request.items c.loop.self.upstream.follower (followed_by c.loop.self) (sym none))
     (c.loop.invariant limits log servers contest sockets follows))
 
 pub returns : goal.returns

@@ -7,7 +7,7 @@ pub returns-then-is_err : goal.returns-then-is_err
 returns-then-is_err g c =
     record {
       shows = λ limits log servers contest sockets to.
-          (c.show_alone.ensures.servers ∙ to.0, with_alone limits log servers c.args.unread _ _ c.show_once.ensures c.show_alone.ensures to.1 to.2);
+          (c.show_alone.ensures.servers ∙ to.0, with_alone limits log servers c.args.unread _ _ c.show_once.ensures.shown c.show_alone.ensures to.1 to.2);
     }
 
 pub returns : goal.returns
@@ -16,7 +16,7 @@ returns g c =
       shows = λ limits log servers contest sockets to. (
         c.say.ensures.same.servers ∙ c.show_alone.ensures.servers ∙ to.0,
         λ honest.
-            let shown = with_alone limits log servers c.args.unread _ _ c.show_once.ensures c.show_alone.ensures to.1 to.2 honest in
+            let shown = with_alone limits log servers c.args.unread _ _ c.show_once.ensures.shown c.show_alone.ensures to.1 to.2 honest in
             same_shows limits log c.say.ensures.same (shows_still limits log (c.say.ensures.serves (states_of limits log) contest sockets (among_shown limits log shown)) shown),
       );
     }

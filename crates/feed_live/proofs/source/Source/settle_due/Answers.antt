@@ -1,4 +1,5 @@
-use Rattle.std.proofs.Common.{◌∙◌, rules, ◌≡◌, refl, sym, length}
+use Rattle.std.specs.Prelude.{is_none}
+use Rattle.std.proofs.Common.{◌∙◌, rules, ◌≡◌, refl, length}
 use Rattle.feed_live.specs.declared.source.Reach.TheVariants.{Reads}
 use Rattle.feed_live.specs.Relaying.{followed_by}
 use Rattle.feed_live.proofs.RelayLemmas.{with_left, with_same, with_unread, within, to_show, to_show_of}
@@ -17,7 +18,7 @@ returns-in-Some-Again g c =
     let many : length c.args.self.now.rest.items ≡ c.len-unread.result = search rules in
     record {
       follows = λ limits log servers contest sockets follows.
-          let shows = c.settle.ensures.shows limits log servers contest sockets (to_show_of limits log servers many (to_show limits log servers _ c.args.self.now.rest.items reads follows)) in
+          let shows = c.settle.ensures.shows limits log servers contest sockets (to_show_of limits log servers c.args.self.now c.args.screens.now many (to_show limits log servers c.args.self.now c.args.screens.now _ c.args.self.now.rest.items reads follows)) in
           (c.ask_again.ensures.left.servers ∙ shows.0, with_left limits log servers c.ask_again.ensures.left c.ask_again.new.self.rest.items shows.1);
     }
 
@@ -27,7 +28,7 @@ returns-in-Some-Memory g c =
     let many : length c.args.self.now.rest.items ≡ c.len-unread.result = search rules in
     record {
       follows = λ limits log servers contest sockets follows.
-          let shows = c.settle.ensures.shows limits log servers contest sockets (to_show_of limits log servers many (to_show limits log servers _ c.args.self.now.rest.items reads follows)) in
+          let shows = c.settle.ensures.shows limits log servers contest sockets (to_show_of limits log servers c.args.self.now c.args.screens.now many (to_show limits log servers c.args.self.now c.args.screens.now _ c.args.self.now.rest.items reads follows)) in
           (c.lost.ensures.left.servers ∙ shows.0, with_left limits log servers c.lost.ensures.left c.lost.new.self.rest.items shows.1);
     }
 
@@ -37,6 +38,6 @@ returns-in-None g c =
     let many : length c.args.self.now.rest.items ≡ c.len-unread.result = search rules in
     record {
       follows = λ limits log servers contest sockets follows.
-          within (with_unread limits log servers _ c.settle.new.self.reach c.settle.new.self.request.items c.settle.new.self.upstream.follower (followed_by c.settle.new.self) (c.in-None.ensures.rest refl))
+          within (with_unread limits log servers (is_none c.settle.new.self.coming) _ c.settle.new.self.reach c.settle.new.self.request.items c.settle.new.self.upstream.follower (followed_by c.settle.new.self) (c.in-None.ensures.rest refl))
           (c.in-None.ensures.follows refl reads c.args.self.now.rest.items many limits log servers contest sockets follows);
     }

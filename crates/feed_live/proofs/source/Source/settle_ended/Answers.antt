@@ -5,7 +5,7 @@ use Rattle.feed_live.proofs.source.Source.settle_ended.Goals as goal
 pub returns-then-ends_again : goal.returns-then-ends_again
 returns-then-ends_again g c =
     record {
-      shows = λ limits log servers contest sockets to. c.settle.ensures.shows limits log servers contest sockets (same_to_show limits log servers c.ends_again.ensures to);
+      shows = λ limits log servers contest sockets to. c.settle.ensures.shows limits log servers contest sockets (same_to_show limits log servers c.args.screens.now c.ends_again.ensures to);
     }
 
 pub returns-else-ends_again : goal.returns-else-ends_again

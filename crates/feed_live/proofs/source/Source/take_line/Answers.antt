@@ -1,7 +1,8 @@
-use Rattle.std.proofs.Common.{refl, ◌∙◌, sym, ap, subst}
-use Rattle.feed_live.specs.Relaying.{FollowsLog, MayShow, followed_by}
+use Rattle.std.specs.Prelude.{is_none}
+use Rattle.std.proofs.Common.{refl, ◌∙◌, sym, subst, length}
+use Rattle.feed_live.specs.Relaying.{MayShow, followed_by}
 use Rattle.feed_live.specs.States.{states_of}
-use Rattle.feed_live.proofs.RelayLemmas.{among_shown, shows_still, same_shows, same_followed, with_screens, with_same, with_unread, within, with_left, with_taken, with_refused, with_failed, to_show, failed_may_show, head_goes_on, body_goes_on, done_goes_on}
+use Rattle.feed_live.proofs.RelayLemmas.{among_shown, shows_still, same_shows, same_followed, with_screens, with_same, with_unread, with_left, with_taken, with_refused, with_failed, to_show, failed_may_show, head_goes_on, body_goes_on, done_goes_on}
 use Rattle.feed_live.proofs.source.Source.take_line.Goals as goal
 
 pub returns-in-Ok-Head : goal.returns-in-Ok-Head
@@ -13,9 +14,10 @@ returns-in-Ok-Head g c =
         λ reads limits log servers contest sockets follows. (
           c.push.ensures.only.servers ∙ follows.0,
           with_taken limits log servers _ c.split_line.result.0.now c.split_line.result.1.now _ reads c.push.ensures.only (head_goes_on c.in-Ok-Head.field-0-is) c.in-Ok-Head.ensures.ok
-              (with_unread limits log servers _ _ _ _ _ c.split_line.ensures follows.1),
+              (with_unread limits log servers (is_none c.args.self.now.coming) _ _ _ _ _ c.split_line.ensures follows.1),
         ),
       );
+      stops = λ none. absurd (cc);
     }
 
 pub returns-in-Ok-Body : goal.returns-in-Ok-Body
@@ -30,14 +32,16 @@ returns-in-Ok-Body g c =
               (with_screens limits log servers _ (λ shows serving. c.say.ensures.serves (states_of limits log) contest sockets (among_shown limits log shows) serving)
               (with_same limits log servers c.found.ensures _ c.split_line.result.1.now c.split_line.result.1.now refl
               (with_taken limits log servers _ c.split_line.result.0.now c.split_line.result.1.now _ reads c.push.ensures.only (body_goes_on c.in-Ok-Body.field-0-is) c.in-Ok-Body.ensures.ok
-              (with_unread limits log servers _ _ _ _ _ c.split_line.ensures follows.1)))),
+              (with_unread limits log servers (is_none c.args.self.now.coming) _ _ _ _ _ c.split_line.ensures follows.1)))),
         ),
       );
+      stops = λ none. absurd (cc);
     }
 
 pub returns-in-Ok-Done : goal.returns-in-Ok-Done
 returns-in-Ok-Done g c =
     record {
+      goes_on = tt;
       stops = λ none. (
         c.lost.ensures.left.reach,
         λ reads left limits log servers contest sockets follows.
@@ -46,9 +50,9 @@ returns-in-Ok-Done g c =
             (with_screens limits log servers _ (λ shows serving. c.say-in-Ok-Done.ensures.serves (states_of limits log) contest sockets (among_shown limits log shows) serving)
             (with_same limits log servers c.found-in-Ok-Done.ensures _ next next refl
             (with_taken limits log servers _ c.split_line.result.0.now next _ reads c.push.ensures.only (done_goes_on c.in-Ok-Done.field-0-is) c.in-Ok-Done.ensures.ok
-            (with_unread limits log servers _ _ _ _ _ c.split_line.ensures follows.1)))) in
+            (with_unread limits log servers (is_none c.args.self.now.coming) _ _ _ _ _ c.split_line.ensures follows.1)))) in
             let settled = c.settle.ensures.shows limits log servers contest sockets
-            (to_show limits log servers _ next (c.say-in-Ok-Done.ensures.same.reach ∙ c.found-in-Ok-Done.ensures.reach ∙ c.push.ensures.only.reach ∙ reads)
+            (to_show limits log servers c.say-in-Ok-Done.new.self c.say-in-Ok-Done.new.screens _ next (c.say-in-Ok-Done.ensures.same.reach ∙ c.found-in-Ok-Done.ensures.reach ∙ c.push.ensures.only.reach ∙ reads)
             (c.say-in-Ok-Done.ensures.same.servers ∙ c.found-in-Ok-Done.ensures.servers ∙ c.push.ensures.only.servers ∙ follows.0, said)) in (
               c.lost.ensures.left.servers ∙ settled.0,
               with_left limits log servers c.lost.ensures.left left settled.1,
@@ -59,13 +63,14 @@ returns-in-Ok-Done g c =
 pub returns-in-Ok-TokenRefused : goal.returns-in-Ok-TokenRefused
 returns-in-Ok-TokenRefused g c =
     record {
+      goes_on = tt;
       stops = λ none. (
         c.refused.ensures.left.reach,
         λ reads left limits log servers contest sockets follows. (
           c.refused.ensures.left.servers ∙ c.push.ensures.only.servers ∙ follows.0,
           with_left limits log servers c.refused.ensures.left left
               (with_refused limits log servers _ c.split_line.result.0.now c.split_line.result.1.now _ reads c.push.ensures.only c.in-Ok-TokenRefused.field-0-is c.in-Ok-TokenRefused.ensures.ok
-              (with_unread limits log servers _ _ _ _ _ c.split_line.ensures follows.1)),
+              (with_unread limits log servers (is_none c.args.self.now.coming) _ _ _ _ _ c.split_line.ensures follows.1)),
         ),
       );
     }
@@ -73,13 +78,14 @@ returns-in-Ok-TokenRefused g c =
 pub returns-in-Err-Memory : goal.returns-in-Err-Memory
 returns-in-Err-Memory g c =
     record {
+      goes_on = tt;
       stops = λ none. (
         c.lost-in-Err-Memory.ensures.left.reach,
         λ reads left limits log servers contest sockets follows. (
           c.lost-in-Err-Memory.ensures.left.servers ∙ c.push.ensures.only.servers ∙ follows.0,
           with_left limits log servers c.lost-in-Err-Memory.ensures.left left
               (with_failed limits log servers _ c.split_line.result.0.now c.split_line.result.1.now _ reads c.push.ensures.only c.in-Err-Memory.ensures.err
-              (with_unread limits log servers _ _ _ _ _ c.split_line.ensures follows.1)),
+              (with_unread limits log servers (is_none c.args.self.now.coming) _ _ _ _ _ c.split_line.ensures follows.1)),
         ),
       );
     }
@@ -87,19 +93,20 @@ returns-in-Err-Memory g c =
 pub returns-in-Err : goal.returns-in-Err
 returns-in-Err g c =
     record {
+      goes_on = tt;
       stops = λ none. (
         c.lost-in-Err.ensures.left.reach,
         λ reads left limits log servers contest sockets follows.
             let next = c.split_line.result.1.now in
-            let here = with_unread limits log servers _ _ _ _ _ c.split_line.ensures follows.1 in
-            let shows = λ honest. let at = with_failed limits log servers _ c.split_line.result.0.now next c.in-Err.fault reads c.push.ensures.only c.in-Err.ensures.err here honest in
-            same_shows limits log c.say-in-Err.ensures.same (shows_still limits log (c.say-in-Err.ensures.serves (states_of limits log) contest sockets (among_shown limits log at)) at) in
-            let may = failed_may_show limits log servers c.args.self.now.reach c.args.self.now.request.items c.split_line.result.0.now next _ c.args.self.now.upstream.follower
+            let here = with_unread limits log servers (is_none c.args.self.now.coming) _ _ _ _ _ c.split_line.ensures follows.1 in
+            let may = failed_may_show limits log servers (is_none c.args.self.now.coming) c.args.self.now.reach c.args.self.now.request.items c.split_line.result.0.now next _ c.args.self.now.upstream.follower
             (followed_by c.args.self.now) (followed_by c.push.new.self) c.in-Err.fault reads c.push.ensures.only.limits c.in-Err.ensures.err (λ honest. (here honest).1) in
             let ended = c.settle_ended.ensures.shows limits log servers contest sockets (
               c.say-in-Err.ensures.same.servers ∙ c.push.ensures.only.servers ∙ follows.0,
-              shows,
-              subst (λ m. MayShow limits log servers _ _ m) (sym (same_followed c.say-in-Err.ensures.same.coming c.say-in-Err.ensures.same.shown)) may,
+              λ honest.
+                  let at = with_failed limits log servers _ c.split_line.result.0.now next c.in-Err.fault reads c.push.ensures.only c.in-Err.ensures.err here honest in
+                  same_shows limits log c.say-in-Err.ensures.same (shows_still limits log (c.say-in-Err.ensures.serves (states_of limits log) contest sockets (among_shown limits log at)) at),
+              subst (λ m. MayShow limits log servers (length next) (g.L.Link.exchanges c.args.link.now) m) (sym (same_followed c.say-in-Err.ensures.same.coming c.say-in-Err.ensures.same.shown)) may,
             ) in (
               c.lost-in-Err.ensures.left.servers ∙ ended.0,
               with_left limits log servers c.lost-in-Err.ensures.left left ended.1,
