@@ -4,13 +4,14 @@
 STYLE is domjudge, cds (the Contest Data Server) or kattis. There are 130 teams, 12 problems, 1,500 submissions and a hundred
 runs of each: some 156,000 notifications, 34 to 40 MB. The first two have a token on each line. Kattis has one on each but
 those of collections, which are arrays. tools/live serves them to a relay."""
-import argparse
 import base64
 import datetime
 import hashlib
 import json
 import random
 import sys
+
+from common import parser_of
 
 CONTEST = "wf49"
 START = datetime.datetime(2025, 9, 4, 11, 0, 0, tzinfo=datetime.timezone(datetime.timedelta(hours=4)))
@@ -196,8 +197,9 @@ def clarification(draw, number):
     at = draw.random() * 5 * HOUR
     team = str(draw.randrange(130)) if number % 2 else None
     reply = str(number - 1) if number % 2 == 0 and number else None
-    text = {"problem_id": "prob1", "text": f'Is the "input"\nsorted? §{number}'}
-    return at, "clarifications", {"id": str(number), "from_team_id": team, "to_team_id": None, "reply_to_id": reply, **text, **times(at)}
+    names = {"from_team_id": team, "to_team_id": None, "reply_to_id": reply, "problem_id": "prob1"}
+    text = f'Is the "input"\nsorted? §{number}'
+    return at, "clarifications", {"id": str(number), **names, "text": text, **times(at)}
 
 
 def happenings(draw):
@@ -249,7 +251,7 @@ def finals(style, seed=7):
 
 
 def main():
-    parser = argparse.ArgumentParser(prog="tools/finals.py", description=__doc__.partition("\n")[0])
+    parser = parser_of(__doc__)
     parser.add_argument("style", metavar="STYLE", choices=["domjudge", "cds", "kattis"])
     parser.add_argument("seed", metavar="SEED", type=int, nargs="?", default=7)
     asked = parser.parse_args()
