@@ -12,6 +12,8 @@ pub enum Why {
     Refuses,
     /// It did not take the connection within ten seconds.
     Late,
+    /// It took the connection, and did not answer within twenty seconds.
+    NoAnswer,
     /// The connection broke off.
     Broke,
     /// The response ended.
@@ -29,6 +31,7 @@ impl fmt::Display for Why {
         match self {
             Why::Refuses => f.write_str("can't connect"),
             Why::Late => f.write_str("no connection after 10 s"),
+            Why::NoAnswer => f.write_str("no answer after 20 s"),
             Why::Broke => f.write_str("connection lost"),
             Why::Ended => f.write_str("end of the feed"),
             Why::Silent => f.write_str("silent"),
@@ -75,6 +78,11 @@ pub enum Told {
         server: usize,
         why: Why,
         pause: u64,
+    },
+    /// A server had nothing new for so long: another one is asked.
+    Quiet {
+        server: usize,
+        time: u64,
     },
     /// A server doesn't hold the token that it was asked with.
     Refused {

@@ -29,7 +29,7 @@ pub struct FeedFigures {
     pub server: usize,
     /// When `following` became what it is.
     pub changed: u64,
-    /// When the last byte came.
+    /// When the last byte of a feed came.
     pub heard: u64,
     /// How many servers were lost since one answered.
     pub failures: u64,
@@ -56,9 +56,11 @@ impl FeedFigures {
         }
     }
 
-    /// So many bytes came.
-    pub(crate) fn hear(&mut self, bytes: usize, now: u64) {
-        self.heard = now;
+    /// So many bytes came: of a feed, or before it is known whether they are.
+    pub(crate) fn hear(&mut self, bytes: usize, is_feed: bool, now: u64) {
+        if is_feed {
+            self.heard = now;
+        }
         self.bytes = self.bytes.saturating_add(bytes as u64);
     }
 
@@ -83,6 +85,7 @@ impl FeedFigures {
     /// The server answers, with what is shown at once or is to settle.
     pub(crate) fn find(&mut self, is_to_settle: bool, now: u64) {
         self.failures = 0;
+        self.heard = now;
         let following = if is_to_settle {
             Following::Settling
         } else {

@@ -6,11 +6,13 @@ ghost use Rattle.feed_node.specs.States.{published_token};
 mod input;
 mod rate;
 mod reading;
+mod returning;
 mod settling;
 
 use crate::figures::{FeedFigures, Following};
 use crate::options::LiveLimits;
 use crate::screens::{Answers, Screens};
+use crate::source::returning::Returning;
 use crate::source::settling::{Settling, begin_shown, followed_of};
 use crate::told::Telling;
 use feed_answer::{Identity, Place, request_text_as};
@@ -22,6 +24,9 @@ use std::alloc::{AllocError, Global};
 
 /// How long a server may take to take a connection, in milliseconds.
 const CONNECT_TIME: u64 = 10_000;
+
+/// How long a server may take until the head of its answer has come whole, in milliseconds.
+const HEAD_TIME: u64 = 20_000;
 
 /// After so many milliseconds without a publication behind a good head, a server has nothing newer.
 const QUIET: u64 = 1_000;
@@ -52,8 +57,11 @@ pub(crate) struct Source {
     ended: Option<Name>,
     reach: Reach,
     request: Vec<u8>,
+    /// When the connection was begun.
+    opened: u64,
     /// Since when a response has a good head; and whether that was told.
     body_since: Option<u64>,
+    returning: Returning,
     is_heard: bool,
     /// Since when no server answers.
     away_since: u64,
@@ -106,7 +114,9 @@ impl Source {
             ended: None,
             reach: Reach::Away,
             request: Vec::new(alloc),
+            opened: now,
             body_since: None,
+            returning: Returning::new(now),
             is_heard,
             away_since: now,
             is_fresh: false,
@@ -164,11 +174,13 @@ impl Source {
     /// When something is due that no event will tell of.
     pub(crate) fn due(&self, idle: u64) -> u64 {
         let due = self.upstream.due(idle);
-        let due = match self.reach {
-            Reach::Connects(since) => due.min(since.saturating_add(CONNECT_TIME)),
-            _ => due,
-        };
-        let dues = [self.settles_at(), self.tells_at(), self.heard_at()];
+        let dues = [
+            self.late_at(),
+            self.returns_at(),
+            self.settles_at(),
+            self.tells_at(),
+            self.heard_at(),
+        ];
         dues.iter().flatten().fold(due, |due, at| due.min(*at))
     }
 
@@ -182,6 +194,36 @@ impl Source {
         Some(since.saturating_add(QUIET))
     }
 
+    /// When a server is late: it does not take the connection, or does not answer.
+    fn late_at(&self) -> Option<u64> {
+        match self.reach {
+            Reach::Away => None,
+            Reach::Connects(since) => Some(since.saturating_add(self.connect_time())),
+            _ => match self.body_since {
+                Some(_) => None,
+                None => Some(self.opened.saturating_add(HEAD_TIME)),
+            },
+        }
+    }
+
+    /// Why a server is late.
+    fn why_late(&self) -> Why {
+        match self.reach {
+            Reach::Connects(_) => Why::Late,
+            _ => Why::NoAnswer,
+        }
+    }
+
+    /// How long a server may take to take a connection: not long where another one was left for it
+    /// that did not fail.
+    fn connect_time(&self) -> u64 {
+        if self.returning.has_turned() {
+            CONNECT_TIME / 5
+        } else {
+            CONNECT_TIME
+        }
+    }
+
     /// Whether there is a server to be asked.
     pub(crate) fn has_servers(&self) -> bool
         ensures { self.now.places.items ≡ [] → result ≡ false }
@@ -189,7 +231,8 @@ impl Source {
         !self.places.is_empty()
     }
 
-    /// Leaves a server that is late or silent, and begins to connect where that is due.
+    /// Leaves a server that is late, silent or has nothing new for long, and begins to connect where
+    /// that is due.
     pub(crate) fn tick<L: Link>(
         &mut self,
         alloc: Global,
@@ -205,9 +248,14 @@ impl Source {
         if self.upstream.is_silent(idle, now) {
             self.lost(link, told, Why::Silent, now);
         }
-        if let Reach::Connects(since) = self.reach {
-            if since.saturating_add(CONNECT_TIME) <= now {
-                self.lost(link, told, Why::Late, now);
+        if let Some(at) = self.late_at() {
+            if at <= now {
+                self.lost(link, told, self.why_late(), now);
+            }
+        }
+        if let Some(at) = self.returns_at() {
+            if at <= now {
+                self.turn(link, told, now);
             }
         }
         if let Some(at) = self.heard_at() {
@@ -255,6 +303,7 @@ impl Source {
         self.coming = coming;
         self.settling.begin(now);
         self.figures.ask(self.upstream.place(), now);
+        self.opened = now;
         self.reach = Reach::Connects(now);
     }
 
@@ -279,13 +328,19 @@ impl Source {
         ensures left { IsLeft self.old self.new (L.exchanges link.old) (L.exchanges link.new) }
     {
         let server = self.upstream.place();
+        let is_told = !self.returning.has_turned() || self.body_since.is_some();
+        if self.body_since.is_some() {
+            self.returning.lose();
+        }
         self.hear_end(why);
         self.tell_unsettled(told);
         self.leave(link, now);
         self.figures.lose(now);
         self.upstream.lost(self.answers.shown.change(), now);
         let pause = self.upstream.due(0).saturating_sub(now);
-        told.tell(Told::Lost { server, why, pause });
+        if is_told {
+            told.tell(Told::Lost { server, why, pause });
+        }
     }
 
     /// A server that ended its answer has sent all that comes after our token.

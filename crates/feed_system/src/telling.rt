@@ -47,6 +47,11 @@ pub(crate) fn text_of(
             let name = name_of(alloc, servers, server)?;
             format!(in alloc; "upstream {name}: {why}; next in {pause} ms")
         }
+        Told::Quiet { server, time } => {
+            let name = name_of(alloc, servers, server)?;
+            let seconds = time / 1_000;
+            format!(in alloc; "upstream {name}: nothing new for {seconds} s; another one is asked")
+        }
         Told::Refused { server } => {
             let name = name_of(alloc, servers, server)?;
             format!(in alloc; "upstream {name}: doesn't hold our token")
@@ -64,11 +69,7 @@ pub(crate) fn text_of(
 }
 
 /// The text of what is told of a feed that has not settled.
-fn text_of_coming(
-    alloc: Global,
-    told: &Told,
-    servers: &Servers<'_>,
-) -> Result<String, AllocError> {
+fn text_of_coming(alloc: Global, told: &Told, servers: &Servers<'_>) -> Result<String, AllocError> {
     match *told {
         Told::Coming {
             server,
@@ -78,13 +79,16 @@ fn text_of_coming(
         } => {
             let name = name_of(alloc, servers, server)?;
             let seconds = time / 1_000;
-            let state = if has_token { "it has not settled yet" } else { "no line has a token yet" };
+            let state = if has_token {
+                "it has not settled yet"
+            } else {
+                "no line has a token yet"
+            };
             format!(in alloc; "upstream {name}: {bytes} bytes came in {seconds} s, {state}")
         }
         Told::Unsettled { server, bytes } => {
             let name = name_of(alloc, servers, server)?;
-            format!(
-                in alloc;
+            format!(in alloc;
                 "upstream {name}: {bytes} bytes came, and had not settled: none is shown (see --settle)"
             )
         }

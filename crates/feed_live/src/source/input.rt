@@ -55,7 +55,7 @@ impl Source {
         ensures { SameSource self.old self.new }
     {
         if !piece.is_empty() {
-            self.figures.hear(piece.len(), now);
+            self.figures.hear(piece.len(), true, now);
         }
     }
 

@@ -74,7 +74,7 @@ impl Source {
                 false
             }
             Ok(count) => {
-                self.figures.hear(count, now);
+                self.figures.hear(count, self.body_since.is_some(), now);
                 self.settling.hear(count, now);
                 self.take(alloc, link, told, screens, &buf[..count], now);
                 self.reach == Reach::Reads
@@ -213,9 +213,11 @@ impl Source {
     fn refused<L: Link>(&mut self, link: &mut L, told: &mut Telling, now: u64)
         ensures left { IsLeft self.old self.new (L.exchanges link.old) (L.exchanges link.new) }
     {
-        told.tell(Told::Refused {
-            server: self.upstream.place(),
-        });
+        if !self.returning.has_turned() {
+            told.tell(Told::Refused {
+                server: self.upstream.place(),
+            });
+        }
         self.leave(link, now);
         self.figures.change(Following::Away, now);
         self.upstream.refused(self.answers.shown.change(), now);
@@ -229,11 +231,16 @@ impl Source {
             return;
         }
         self.body_since = Some(now);
+        if !self.is_fresh {
+            self.upstream.held();
+        }
         self.figures.find(self.coming.is_some(), now);
-        told.tell(Told::Found {
-            server: self.upstream.place(),
-            away: now.saturating_sub(self.away_since),
-        });
+        if !self.returning.has_turned() {
+            told.tell(Told::Found {
+                server: self.upstream.place(),
+                away: now.saturating_sub(self.away_since),
+            });
+        }
     }
 
     /// Says what was published, where it is to be shown now. Where a connection published afresh, no
@@ -255,6 +262,7 @@ impl Source {
             self.is_heard = true;
             self.figures.publish();
             self.upstream.published();
+            self.returning.publish(now);
         }
     }
 

@@ -302,7 +302,9 @@ impl Source {
     {
         self.leave(link, now);
         self.figures.change(Following::Away, now);
-        self.upstream.again(self.answers.shown.change(), now);
+        let place = self.upstream.place();
+        self.upstream
+            .turn_to(place, self.answers.shown.change(), now);
     }
 
     /// The connection ended, or what comes on it can't be followed any more. What came afresh may be

@@ -1,0 +1,100 @@
+//! A server that has nothing new for long may have lost its own way to the primary, or may be a
+//! relay that follows this one. So the others are asked in turn with our token: whoever has something
+//! new is followed then. That costs screens nothing. Where nobody has, it ends at the first one.
+
+use crate::figures::Following;
+use crate::source::{Reach, Source};
+use crate::told::Telling;
+use feed_device::{Link, Told};
+use std::mem;
+
+/// After so many milliseconds in which nothing was published, another server is asked.
+const RETURN_TIME: u64 = 30_000;
+
+/// How long each of those has then that are asked in turn, in milliseconds.
+const TURN_TIME: u64 = 10_000;
+
+/// When something was published last, and how often a server was left since then that had nothing.
+#[derive(Clone, Copy)]
+pub(crate) struct Returning {
+    published: u64,
+    turns: usize,
+    /// Whether it was told that one was left so.
+    was_told: bool,
+}
+
+impl Returning {
+    pub(crate) fn new(now: u64) -> Returning {
+        Returning {
+            published: now,
+            turns: 0,
+            was_told: false,
+        }
+    }
+
+    /// Something was published.
+    pub(crate) fn publish(&mut self, now: u64) {
+        self.published = now;
+        self.turns = 0;
+    }
+
+    /// Another server has its turn. Whether that is to be told: not where it was, and none was lost
+    /// since then.
+    fn turn(&mut self) -> bool {
+        self.turns = self.turns.saturating_add(1);
+        !mem::replace(&mut self.was_told, true)
+    }
+
+    /// Whether a server was left for having nothing new.
+    pub(crate) fn has_turned(&self) -> bool {
+        self.turns > 0
+    }
+
+    /// A server was lost that was followed: what becomes of the others is news again.
+    pub(crate) fn lose(&mut self) {
+        self.turns = 0;
+        self.was_told = false;
+    }
+}
+
+impl Source {
+    ghost use Rattle.feed_live.specs.Relaying.{IsLeft};
+
+    /// When a server is left that has nothing new, where there are others. Once each had its turn
+    /// since something was published, the first one stays.
+    pub(crate) fn returns_at(&self) -> Option<u64> {
+        let since = self.body_since?;
+        let is_first = self.upstream.place() == 0;
+        let had_turns = self.returning.turns >= self.places.len();
+        if self.reach != Reach::Reads || self.coming.is_some() || (is_first && had_turns) {
+            return None;
+        }
+        if self.places.len() < 2 || self.has_more || !self.rest.is_empty() {
+            return None;
+        }
+        let time = if self.returning.has_turned() && !had_turns {
+            TURN_TIME
+        } else {
+            RETURN_TIME
+        };
+        Some(since.max(self.returning.published).saturating_add(time))
+    }
+
+    /// The server is left, and the next one is asked.
+    pub(crate) fn turn<L: Link>(&mut self, link: &mut L, told: &mut Telling, now: u64)
+        ensures left { IsLeft self.old self.new (L.exchanges link.old) (L.exchanges link.new) }
+    {
+        let server = self.upstream.place();
+        if self.returning.turn() {
+            told.tell(Told::Quiet {
+                server,
+                time: RETURN_TIME,
+            });
+        }
+        self.leave(link, now);
+        self.figures.change(Following::Away, now);
+        let next = server.saturating_add(1);
+        self.upstream
+            .turn_to(next, self.answers.shown.change(), now);
+    }
+}
