@@ -21,18 +21,18 @@ use Rattle.feed_follow.proofs.ChunkedRuns.{stands_on, starts, is_prefix, body_ru
 
 -- ---- a chunked body, by what comes of its bytes
 
-abbrev behind : List ℕ → Standing → Standing
+abbrev pub behind : List ℕ → Standing → Standing
 behind prefix (in_body payload) = in_body (prefix ++ payload)
 behind prefix (done payload) = done (prefix ++ payload)
 behind prefix (failed fault payload) = failed fault (prefix ++ payload)
 behind prefix in_head = in_head
 behind prefix token_refused = token_refused
 
-abbrev is_end : Chunking → Bool
+abbrev pub is_end : Chunking → Bool
 is_end Whole = true
 is_end at = false
 
-abbrev comes_to : Chunking → List ℕ → Standing
+abbrev pub comes_to : Chunking → List ℕ → Standing
 comes_to at [] = if is_end at then done [] else in_body []
 comes_to at (b ∷ bytes) =
     if is_end at then done [] else unwrap_or
@@ -144,12 +144,12 @@ chunked_bad text payload bad =
 
 -- ---- each body
 
-abbrev body_comes_to : BodyFraming → List ℕ → Standing
+abbrev pub body_comes_to : BodyFraming → List ℕ → Standing
 body_comes_to ToEnd text = in_body text
 body_comes_to (Sized n) text = if nat_lt (length text) n then in_body text else done (take n text)
 body_comes_to InChunks text = comes_to LineStart text
 
-body_is : (framing : BodyFraming) (text : List ℕ) (s : Standing) → StandsInBody framing text s
+pub body_is : (framing : BodyFraming) (text : List ℕ) (s : Standing) → StandsInBody framing text s
     → s ≡ body_comes_to framing text
 body_is ToEnd text (in_body payload) h = ap in_body h
 body_is ToEnd text (done payload) (body, ignored, split, is) = absurd is

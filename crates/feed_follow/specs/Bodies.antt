@@ -1,5 +1,5 @@
 -- The body of a response, whole and in part (RFC 9112, section 6.3).
-use Rattle.std.specs.Prelude.{◌≡◌, ℕ, ◌<◌, ◌⊎◌, List, length}
+use Rattle.std.specs.Prelude.{◌≡◌, ℕ, ◌<◌, List, length}
 use Rattle.feed_follow.specs.declared.coding.BodyFraming.{BodyFraming}
 use Rattle.feed_follow.specs.declared.coding.BodyFraming.TheVariants.{ToEnd, Sized, InChunks}
 use Rattle.feed_follow.specs.ChunkedBody.{IsChunkedBody, BreaksOff}
@@ -16,7 +16,3 @@ abbrev pub IsBodyPrefix : BodyFraming → List ℕ → List ℕ → Type 0
 IsBodyPrefix ToEnd text payload = payload ≡ text
 IsBodyPrefix (Sized n) text payload = (length text < n) × (payload ≡ text)
 IsBodyPrefix InChunks text payload = BreaksOff text payload
-
--- the bytes are a body so framed, whole or not, and this is its payload
-abbrev pub Carries : BodyFraming → List ℕ → List ℕ → Type 0
-Carries framing text payload = IsBodyPrefix framing text payload ⊎ IsBody framing text payload

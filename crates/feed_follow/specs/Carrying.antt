@@ -1,14 +1,10 @@
 -- What a response carries, whoever sent it.
-use Rattle.std.specs.Prelude.{◌≡◌, ℕ, Bool, List, ◌++◌, take, Ok}
+use Rattle.std.specs.Prelude.{◌≡◌, ℕ, Bool, List, ◌++◌, Ok}
 use Rattle.httparse.specs.Grammar.{ResponseHead}
-use Rattle.feed_follow.specs.declared.chunk.Chunking.{Chunking}
-use Rattle.feed_follow.specs.declared.chunk.Chunking.TheVariants.{LineStart}
 use Rattle.feed_follow.specs.declared.coding.BodyFraming.{BodyFraming}
-use Rattle.feed_follow.specs.declared.coding.BodyFraming.TheVariants.{ToEnd, Sized, InChunks}
 use Rattle.feed_follow.specs.declared.heads.Verdict.TheVariants.{Body}
-use Rattle.feed_follow.specs.ChunkReading.{Reads}
 use Rattle.feed_follow.specs.Heads.{BeginsWithResponse}
-use Rattle.feed_follow.specs.Standing.{Standing, in_head, token_refused, in_body, done, failed, Stands, verdict}
+use Rattle.feed_follow.specs.Standing.{Standing, in_head, token_refused, in_body, done, failed, Stands, StandsInBody, verdict}
 
 -- a response that stands so brought this payload
 abbrev pub HasPayload : Standing → List ℕ → Type 0
@@ -25,11 +21,11 @@ CarryText had_token bytes text =
     → Stands had_token before standing → HasPayload standing payload
     → (later : List ℕ) × (payload ++ later ≡ text)
 
--- bytes of a body that is framed so bring this text
+-- bytes behind a head that frames them so bring this text: the payload of their body as far as it
+-- came, or of the whole body, behind which bytes are ignored, or of what stands before a bad chunk
 abbrev pub BodyBrings : BodyFraming → List ℕ → List ℕ → Type 0
-BodyBrings ToEnd bytes text = text ≡ bytes
-BodyBrings (Sized n) bytes text = text ≡ take n bytes
-BodyBrings InChunks bytes text = (to : Chunking) × Reads LineStart bytes text to
+BodyBrings framing bytes text =
+    (standing : Standing) × StandsInBody framing bytes standing × HasPayload standing text
 
 -- The bytes are a response of whatever head, whose body, as far as it came, brings this text: to the
 -- end of the connection, of a length that the head says, or in chunks.

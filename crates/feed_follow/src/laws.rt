@@ -18,9 +18,8 @@ pub fn follow_laws()
 {}
 
 /// Whatever prefix came of a response that answers with a feed, of whatever head and framing: what
-/// it brought begins the text of the whole.
+/// it brought begins the text of the whole. Bytes behind the end of a body, of a length or in
+/// chunks, bring nothing, and neither does what comes from a bad chunk on.
 pub fn carry_laws()
     ensures { FeedsCarryText }
-{
-    chunk_laws();
-}
+{}
