@@ -18,7 +18,7 @@ use std::alloc::Global;
 pub const PROGRAM: &str = "tunygarop";
 
 /// The version of the program.
-pub const VERSION: &str = "0.1.0";
+pub const VERSION: &str = "0.2.0";
 
 /// What clap replies to words that ask for no command.
 fn reply(alloc: Global, error: &clap::Error) -> NoCommand {
