@@ -88,6 +88,10 @@ pub enum Told {
     Refused {
         server: usize,
     },
+    /// A server sends all that it has though it was asked for what comes after our token.
+    Ignores {
+        server: usize,
+    },
     /// A server that was asked for everything has another state at the token that is shown.
     Differs {
         server: usize,

@@ -55,6 +55,9 @@ pub(crate) struct Source {
     settling: Settling,
     /// The last token of what came afresh when the connection ended before it had settled.
     ended: Option<Name>,
+    /// The first line of the body that came afresh last; and whether no line of this one came yet.
+    replayed: Vec<u8>,
+    is_at_start: bool,
     reach: Reach,
     request: Vec<u8>,
     /// When the connection was begun.
@@ -112,6 +115,8 @@ impl Source {
             coming: None,
             settling: Settling::new(limits.settle, limits.is_fresh),
             ended: None,
+            replayed: Vec::new(alloc),
+            is_at_start: true,
             reach: Reach::Away,
             request: Vec::new(alloc),
             opened: now,
@@ -304,6 +309,7 @@ impl Source {
         self.settling.begin(now);
         self.figures.ask(self.upstream.place(), now);
         self.opened = now;
+        self.is_at_start = true;
         self.reach = Reach::Connects(now);
     }
 

@@ -56,6 +56,10 @@ pub(crate) fn text_of(
             let name = name_of(alloc, servers, server)?;
             format!(in alloc; "upstream {name}: doesn't hold our token")
         }
+        Told::Ignores { server } => {
+            let name = name_of(alloc, servers, server)?;
+            format!(in alloc; "upstream {name}: ignores since_token; from here on as with --fresh")
+        }
         Told::Differs { server } => {
             let name = name_of(alloc, servers, server)?;
             format!(in alloc; "upstream {name}: has another state at our token")

@@ -108,7 +108,7 @@ impl Source {
             if rest.is_empty() || screens.says_at().is_some() {
                 break;
             }
-            match self.take_line(alloc, link, told, screens, rest, now) {
+            match self.take_next(alloc, link, told, screens, rest, now) {
                 Some(next) => rest = next,
                 None => return,
             }
@@ -133,6 +133,32 @@ impl Source {
         ensures same { IsKeeping self.old self.new }
     {
         mem::replace(&mut self.rest, Vec::new(alloc))
+    }
+
+    /// The first line of the piece, or a part of one, is taken, unless a server sends again what it
+    /// was not asked for. What comes after it, where the connection goes on.
+    fn take_next<'a, L: Link>(
+        &mut self,
+        alloc: Global,
+        link: &mut L,
+        told: &mut Telling,
+        screens: &mut Screens,
+        piece: &'a [u8],
+        now: u64,
+    ) -> Option<&'a [u8]>
+        ensures goes_on { IfSome result (λ next. (self.new.reach ≡ self.old.reach)
+            × (self.new.rest.items ≡ self.old.rest.items)
+            × (self.old.reach ≡ Read → StillFollows self.old self.new (L.exchanges link.old)
+            (L.exchanges link.new) piece.entry.now next.now screens.old screens.new)) }
+        ensures stops { result ≡ None → (self.new.reach ≡ Away) × (self.old.reach ≡ Read
+            → (left : List ℕ) → StillFollows self.old self.new (L.exchanges link.old)
+            (L.exchanges link.new) piece.entry.now left screens.old screens.new) }
+    {
+        if self.is_replay(piece) {
+            self.ignored(link, told, now);
+            return None;
+        }
+        self.take_line(alloc, link, told, screens, piece, now)
     }
 
     /// The first line of the piece, or a part of one, is taken. What comes after it, where the
@@ -233,6 +259,7 @@ impl Source {
         self.body_since = Some(now);
         if !self.is_fresh {
             self.upstream.held();
+            self.settling.go_on();
         }
         self.figures.find(self.coming.is_some(), now);
         if !self.returning.has_turned() {

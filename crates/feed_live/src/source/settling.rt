@@ -11,6 +11,7 @@ ghost use Rattle.feed_live.specs.Relaying.{followed};
 use crate::figures::Following;
 use crate::screens::Screens;
 use crate::source::rate::Rate;
+use crate::source::reading::split_line;
 use crate::source::{Reach, Source};
 use crate::told::Telling;
 use feed_device::{Link, Told, Why};
@@ -23,6 +24,9 @@ const LONGEST: u64 = 600_000;
 
 /// How often it is told that it has not settled yet, in milliseconds.
 const REPORT: u64 = 30_000;
+
+/// How long a first line may be to be noted, in bytes.
+const LONGEST_LINE: usize = 4_096;
 
 /// A read of no more bytes may be a line feed in a chunk, which only keeps the connection alive.
 const ALIVE: usize = 8;
@@ -87,6 +91,11 @@ impl Settling {
         if count > ALIVE {
             self.rate.add(count as u64, now);
         }
+    }
+
+    /// A server goes on from the token that is shown.
+    pub(crate) fn go_on(&mut self) {
+        self.was_alone = false;
     }
 
     /// A line came whole.
@@ -430,12 +439,45 @@ impl Source {
         }
     }
 
-    /// Whether what came afresh is to be shown at its own token alone. A server that is asked for
-    /// everything each time sends all of it again then, so that this is done once in a row.
+    /// Whether what came afresh is to be shown at its own token alone. Once in a row: a server that
+    /// does not go on from that token sends all of it again then.
     fn is_alone(&self) -> bool {
         let is_over = self.answers.shown.mirror().since().is_some();
-        let may_be = !self.settling.is_always || (is_over && !self.settling.was_alone);
-        may_be && !self.goes_on()
+        let may_be = is_over || !self.settling.is_always;
+        may_be && !self.settling.was_alone && !self.goes_on()
+    }
+
+    /// Whether a piece begins with the first line of a body that was to begin after our token, and
+    /// that line is also the first one of all that a server sent before: then it ignores the token.
+    /// Of a body that comes afresh the first line is noted.
+    pub(crate) fn is_replay(&mut self, piece: &[u8]) -> bool
+        ensures { SameSource self.old self.new }
+    {
+        if !self.is_at_start || piece.first() != Some(&b'{') {
+            return false;
+        }
+        self.is_at_start = false;
+        let (line, _) = split_line(piece);
+        if self.coming.is_none() {
+            return self.replayed.as_slice() == line;
+        }
+        self.replayed.clear();
+        if line.len() > LONGEST_LINE || self.replayed.extend_from_slice(line).is_err() {
+            self.replayed.clear();
+        }
+        false
+    }
+
+    /// The server ignores the token that it was asked with: it is asked for everything, and that is
+    /// to settle. So is each server from here on.
+    pub(crate) fn ignored<L: Link>(&mut self, link: &mut L, told: &mut Telling, now: u64)
+        ensures left { IsLeft self.old self.new (L.exchanges link.old) (L.exchanges link.new) }
+    {
+        told.tell(Told::Ignores {
+            server: self.upstream.place(),
+        });
+        self.settling.is_always = true;
+        self.ask_again(link, now);
     }
 
     /// Whether screens may go on from what is shown with what came afresh.

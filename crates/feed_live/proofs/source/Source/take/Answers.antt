@@ -8,7 +8,7 @@ returns-in-None g c =
     record {
       follows = λ reads none limits log servers contest sockets follows.
           let now = c.loop.invariant reads none in
-          (c.in-None.ensures.stops refl).1 now.0 c.take_line.new.self.rest.items limits log servers contest sockets (now.2 limits log servers contest sockets follows);
+          (c.in-None.ensures.stops refl).1 now.0 c.take_next.new.self.rest.items limits log servers contest sockets (now.2 limits log servers contest sockets follows);
     }
 
 pub loop-preserved : goal.loop-preserved
