@@ -156,8 +156,13 @@ fn differ(side: &Side, other: &Side) -> bool
     }
 }
 
-/// Where tables differ.
-fn difference_of(alloc: Global, primary: &Tables, screen: &Tables) -> Result<Difference, AllocError>
+/// Where tables differ: the first place in byte order, and what stands there on both sides. It is
+/// `Unknown` where they are the same. Takes time in proportion to both.
+pub fn difference_of(
+    alloc: Global,
+    primary: &Tables,
+    screen: &Tables,
+) -> Result<Difference, AllocError>
     ensures { IfOk result (λ told. Tells primary.now.contents screen.now.contents told) }
 {
     let Some(place) = first_place(alloc, primary, screen)? else {

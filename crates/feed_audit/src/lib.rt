@@ -9,6 +9,6 @@ mod verdict;
 mod walk;
 
 pub use auditing::audit;
-pub use difference::{Difference, Side};
+pub use difference::{Difference, Side, difference_of};
 pub use laws::state_laws;
 pub use verdict::{AuditFault, Stray, Verdict};

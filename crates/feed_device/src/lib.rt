@@ -6,4 +6,4 @@ mod device;
 mod told;
 
 pub use device::{Before, Devices, Link, Ready, Sockets, Stop, Store};
-pub use told::{How, Told, Why};
+pub use told::{Excerpt, How, Told, Why};

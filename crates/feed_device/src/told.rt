@@ -2,8 +2,8 @@
 
 use feed_follow::FollowFault;
 use feed_node::FeedFault;
-use std::fmt;
 use std::net::SocketAddr;
+use std::{fmt, str};
 
 /// Why a server is left.
 #[derive(Clone, Copy, Debug, PartialEq, Eq)]
@@ -65,6 +65,39 @@ impl fmt::Display for How {
     }
 }
 
+/// How many bytes of a text are told.
+const MOST_TOLD: usize = 48;
+
+/// The first bytes of a text: at most 48, and whole characters.
+#[derive(Clone, Copy, Debug)]
+pub struct Excerpt {
+    bytes: [u8; MOST_TOLD],
+    length: usize,
+}
+
+impl Excerpt {
+    pub fn of(text: &str) -> Excerpt {
+        let mut length: usize = 0;
+        for c in text.chars() {
+            let end = length.saturating_add(c.len_utf8());
+            if end > MOST_TOLD {
+                break;
+            }
+            length = end;
+        }
+        let mut bytes = [0; MOST_TOLD];
+        for (place, byte) in bytes.iter_mut().zip(text.as_bytes()) {
+            *place = *byte;
+        }
+        Excerpt { bytes, length }
+    }
+
+    pub fn text(&self) -> &str {
+        let told = self.bytes.get(..self.length).unwrap_or(&[]);
+        str::from_utf8(told).unwrap_or("?")
+    }
+}
+
 /// What happened. Times are in milliseconds, and servers are told by their numbers.
 #[derive(Clone, Copy, Debug)]
 pub enum Told {
@@ -92,9 +125,12 @@ pub enum Told {
     Ignores {
         server: usize,
     },
-    /// A server that was asked for everything has another state at the token that is shown.
+    /// A server that was asked for everything has another state at the token that is shown: first at
+    /// this type, and at this id in its collection. They are empty where it was not found out.
     Differs {
         server: usize,
+        kind: Excerpt,
+        id: Excerpt,
     },
     /// What a server sent when it was asked for everything has settled, so long after its first
     /// byte: it is shown now.

@@ -250,26 +250,49 @@ impl Source {
             (L.exchanges link.old) (L.exchanges link.new) self.old.rest.items
             self.new.rest.items screens screens }
     {
+        self.leave_due(link, told, idle, now);
+        self.hear_quiet(now);
+        if self.reach == Reach::Away && self.upstream.is_due(now) {
+            self.connect(alloc, link, told, now);
+        }
+    }
+
+    /// Leaves a server that is late or silent, or has nothing new for long.
+    fn leave_due<L: Link>(&mut self, link: &mut L, told: &mut Telling, idle: u64, now: u64)
+        ensures follows { (screens : Screens) → StillFollows self.old self.new
+            (L.exchanges link.old) (L.exchanges link.new) self.old.rest.items
+            self.new.rest.items screens screens }
+    {
+        match self.leaves(idle, now) {
+            Some(why) => self.lost(link, told, why, now),
+            None => {
+                if self.is_to_turn(now) {
+                    self.turn(link, told, now);
+                }
+            }
+        }
+    }
+
+    /// Why a server is to be left now, if it is.
+    fn leaves(&self, idle: u64, now: u64) -> Option<Why> {
         if self.upstream.is_silent(idle, now) {
-            self.lost(link, told, Why::Silent, now);
+            return Some(Why::Silent);
         }
-        if let Some(at) = self.late_at() {
-            if at <= now {
-                self.lost(link, told, self.why_late(), now);
-            }
+        if self.late_at()? <= now {
+            Some(self.why_late())
+        } else {
+            None
         }
-        if let Some(at) = self.returns_at() {
-            if at <= now {
-                self.turn(link, told, now);
-            }
-        }
+    }
+
+    /// A server that answers counts as heard after a while, though it publishes nothing.
+    fn hear_quiet(&mut self, now: u64)
+        ensures { SameSource self.old self.new }
+    {
         if let Some(at) = self.heard_at() {
             if at <= now {
                 self.is_heard = true;
             }
-        }
-        if self.reach == Reach::Away && self.upstream.is_due(now) {
-            self.connect(alloc, link, told, now);
         }
     }
 
@@ -334,19 +357,25 @@ impl Source {
         ensures left { IsLeft self.old self.new (L.exchanges link.old) (L.exchanges link.new) }
     {
         let server = self.upstream.place();
-        let is_told = !self.returning.has_turned() || self.body_since.is_some();
-        if self.body_since.is_some() {
-            self.returning.lose();
-        }
+        let is_told = self.lose();
         self.hear_end(why);
         self.tell_unsettled(told);
         self.leave(link, now);
         self.figures.lose(now);
         self.upstream.lost(self.answers.shown.change(), now);
         let pause = self.upstream.due(0).saturating_sub(now);
-        if is_told {
-            told.tell(Told::Lost { server, why, pause });
+        told.tell_if(is_told, Told::Lost { server, why, pause });
+    }
+
+    /// A server is lost. Whether that is to be told: not where it only had its turn, and did not
+    /// answer.
+    fn lose(&mut self) -> bool
+        ensures { SameSource self.old self.new }
+    {
+        if self.body_since.is_some() {
+            self.returning.lose();
         }
+        !self.returning.has_turned()
     }
 
     /// A server that ended its answer has sent all that comes after our token.

@@ -28,6 +28,13 @@ impl Telling {
         }
     }
 
+    /// Tells of it where that is wanted.
+    pub(crate) fn tell_if(&mut self, is_told: bool, told: Told) {
+        if is_told {
+            self.tell(told);
+        }
+    }
+
     pub(crate) fn told(&self) -> &[Told] {
         &self.told
     }

@@ -8,9 +8,9 @@ use std::fmt;
 #[derive(Clone, Copy, Debug, PartialEq, Eq, Serialize)]
 #[serde(rename_all = "snake_case")]
 pub enum Level {
-    /// It follows.
+    /// It follows, and has something to show.
     Good,
-    /// It shows nothing new at the moment, and heard upstream not long ago.
+    /// It shows nothing, or nothing new at the moment, and heard upstream not long ago.
     Doubtful,
     /// Nothing was heard of upstream for longer than it may be silent.
     Bad,
@@ -38,11 +38,9 @@ impl Status<'_> {
         }
     }
 
-    /// Whether screens may be sent to this relay: it hears upstream. Where nothing was published yet,
-    /// what comes has to settle first.
+    /// Whether screens may be sent to this relay: it hears upstream, and has something to show.
     pub fn is_healthy(&self) -> bool {
-        let settles = self.upstream.state == UpstreamState::Settling;
-        self.is_heard() && (self.token.is_some() || !settles)
+        self.is_heard() && self.token.is_some()
     }
 
     /// How well it follows.
@@ -54,7 +52,7 @@ impl Status<'_> {
         };
         if !self.is_heard() {
             Level::Bad
-        } else if follows {
+        } else if follows && self.token.is_some() {
             Level::Good
         } else {
             Level::Doubtful

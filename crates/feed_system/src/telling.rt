@@ -60,9 +60,12 @@ pub(crate) fn text_of(
             let name = name_of(alloc, servers, server)?;
             format!(in alloc; "upstream {name}: ignores since_token; from here on as with --fresh")
         }
-        Told::Differs { server } => {
+        Told::Differs { server, kind, id } => {
             let name = name_of(alloc, servers, server)?;
-            format!(in alloc; "upstream {name}: has another state at our token")
+            let (kind, id) = (kind.text(), id.text());
+            format!(in alloc;
+                "upstream {name}: has another state at our token, first at {kind} {id}"
+            )
         }
         Told::Settled { server, time } => {
             let name = name_of(alloc, servers, server)?;

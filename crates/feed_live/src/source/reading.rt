@@ -239,11 +239,10 @@ impl Source {
     fn refused<L: Link>(&mut self, link: &mut L, told: &mut Telling, now: u64)
         ensures left { IsLeft self.old self.new (L.exchanges link.old) (L.exchanges link.new) }
     {
-        if !self.returning.has_turned() {
-            told.tell(Told::Refused {
-                server: self.upstream.place(),
-            });
-        }
+        let refused = Told::Refused {
+            server: self.upstream.place(),
+        };
+        told.tell_if(!self.returning.has_turned(), refused);
         self.leave(link, now);
         self.figures.change(Following::Away, now);
         self.upstream.refused(self.answers.shown.change(), now);
@@ -262,12 +261,11 @@ impl Source {
             self.settling.go_on();
         }
         self.figures.find(self.coming.is_some(), now);
-        if !self.returning.has_turned() {
-            told.tell(Told::Found {
-                server: self.upstream.place(),
-                away: now.saturating_sub(self.away_since),
-            });
-        }
+        let found = Told::Found {
+            server: self.upstream.place(),
+            away: now.saturating_sub(self.away_since),
+        };
+        told.tell_if(!self.returning.has_turned(), found);
     }
 
     /// Says what was published, where it is to be shown now. Where a connection published afresh, no
@@ -277,7 +275,7 @@ impl Source {
         ensures serves { StillServes self.old.answers.shown.mirror.node screens.old screens.new }
     {
         if self.coming.is_some() {
-            self.compare(told);
+            self.compare(alloc, told);
             return;
         }
         if self.is_fresh && self.answers.shown.mirror().since().is_some() {

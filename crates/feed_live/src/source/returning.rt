@@ -80,17 +80,26 @@ impl Source {
         Some(since.max(self.returning.published).saturating_add(time))
     }
 
+    pub(crate) fn is_to_turn(&self, now: u64) -> bool {
+        match self.returns_at() {
+            Some(at) => at <= now,
+            None => false,
+        }
+    }
+
     /// The server is left, and the next one is asked.
     pub(crate) fn turn<L: Link>(&mut self, link: &mut L, told: &mut Telling, now: u64)
         ensures left { IsLeft self.old self.new (L.exchanges link.old) (L.exchanges link.new) }
     {
         let server = self.upstream.place();
-        if self.returning.turn() {
-            told.tell(Told::Quiet {
+        let is_told = self.returning.turn();
+        told.tell_if(
+            is_told,
+            Told::Quiet {
                 server,
                 time: RETURN_TIME,
-            });
-        }
+            },
+        );
         self.leave(link, now);
         self.figures.change(Following::Away, now);
         let next = server.saturating_add(1);

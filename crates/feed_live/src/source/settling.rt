@@ -14,7 +14,8 @@ use crate::source::rate::Rate;
 use crate::source::reading::split_line;
 use crate::source::{Reach, Source};
 use crate::told::Telling;
-use feed_device::{Link, Told, Why};
+use feed_audit::{Difference, difference_of};
+use feed_device::{Excerpt, Link, Told, Why};
 use feed_node::{Mirror, Node};
 use std::alloc::{AllocError, Global};
 
@@ -163,6 +164,25 @@ fn have_one_state(one: &Node, other: &Node) -> bool {
     }
 }
 
+/// The first type, and id, at which the tables of two nodes differ; nothing where there is no memory
+/// to find out.
+fn differ_at(alloc: Global, one: &Node, other: &Node) -> (Excerpt, Excerpt) {
+    let nowhere = (Excerpt::of(""), Excerpt::of(""));
+    let (Some(tables), Some(others)) = (one.published(), other.published()) else {
+        return nowhere;
+    };
+    match difference_of(alloc, tables, others) {
+        Ok(Difference::At { kind, id, .. }) => {
+            let id = match &id {
+                Some(id) => Excerpt::of(id.text()),
+                None => Excerpt::of(""),
+            };
+            (Excerpt::of(kind.text()), id)
+        }
+        _ => nowhere,
+    }
+}
+
 /// A mirror that shows the same, and holds its token alone.
 fn alone(alloc: Global, mirror: &Mirror) -> Result<Mirror, AllocError>
     ensures { IfOk result (λ alone.
@@ -193,7 +213,7 @@ impl Source {
     }
 
     /// Compares what comes afresh with what is shown, once, where both are at one token.
-    pub(crate) fn compare(&mut self, told: &mut Telling)
+    pub(crate) fn compare(&mut self, alloc: Global, told: &mut Telling)
         ensures { SameSource self.old self.new }
     {
         let Some(coming) = &self.coming else {
@@ -206,8 +226,11 @@ impl Source {
         self.settling.is_compared = true;
         self.settling.is_same = have_one_state(coming.node(), shown);
         if !self.settling.is_same {
+            let (kind, id) = differ_at(alloc, coming.node(), shown);
             told.tell(Told::Differs {
                 server: self.upstream.place(),
+                kind,
+                id,
             });
         }
     }

@@ -1,5 +1,6 @@
 use Rattle.std.proofs.Common.{◌∙◌, refl}
 use Rattle.feed_live.proofs.RelayLemmas.{same_shows, with_left, with_same}
+use Rattle.feed_live.proofs.SourceLemmas.{some_so}
 use Rattle.feed_live.proofs.source.Source.take_next.Goals as goal
 
 pub returns-then-is_replay : goal.returns-then-is_replay
@@ -16,4 +17,20 @@ returns-then-is_replay g c =
     }
 
 pub returns : goal.returns
-returns g c = ?
+returns g c =
+    record {
+      goes_on = some_so c.take_line.result (λ next here. (
+        here.0 ∙ c.is_replay.ensures.reach,
+        here.1 ∙ c.is_replay.ensures.rest,
+        λ reads limits log servers contest sockets follows.
+            here.2 (c.is_replay.ensures.reach ∙ reads) limits log servers contest sockets
+            (c.is_replay.ensures.servers ∙ follows.0, with_same limits log servers c.is_replay.ensures _ c.args.piece.now c.args.piece.now refl follows.1),
+      )) c.take_line.ensures.goes_on;
+      stops = λ none.
+          let here = c.take_line.ensures.stops none in (
+            here.0,
+            λ reads left limits log servers contest sockets follows.
+                here.1 (c.is_replay.ensures.reach ∙ reads) left limits log servers contest sockets
+                (c.is_replay.ensures.servers ∙ follows.0, with_same limits log servers c.is_replay.ensures _ c.args.piece.now c.args.piece.now refl follows.1),
+          );
+    }
