@@ -15,8 +15,8 @@ pub struct LiveLimits {
     /// twice that is left.
     pub idle: u64,
     pub framing: Framing,
-    /// For how many milliseconds nothing more has come of a feed that was asked for from the start
-    /// before it is shown; zero where each of its states is shown as it comes.
+    /// A feed that was asked for from the start is shown once no more than 1/64 of it came in so many
+    /// milliseconds. Zero: each of its states is shown as it comes.
     pub settle: u64,
     /// Whether each connection asks for everything.
     pub is_fresh: bool,

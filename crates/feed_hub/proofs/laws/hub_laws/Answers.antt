@@ -1,7 +1,7 @@
 use Rattle.feed_hub.proofs.LawLemmas.{screens_connect, screens_show, screens_reach, screens_follow}
 use Rattle.feed_hub.proofs.OpeningLemmas.{due_is_response, served_grows}
 use Rattle.feed_hub.proofs.FileLemmas.{files_restore, files_reach}
-use Rattle.feed_hub.proofs.TwoFiles.{Given, files_follow, files_follow_on}
+use Rattle.feed_hub.proofs.TwoFiles.{files_follow, files_follow_on}
 use Rattle.feed_hub.proofs.FollowLemmas.{screens_are_safe, screens_arrive}
 use Rattle.feed_hub.proofs.laws.hub_laws.Goals as goal
 

@@ -1,4 +1,4 @@
-use Rattle.std.proofs.Common.{rules, ◌≡◌, ◌<◌, ◌^◌, ◌∙◌, sym, subst, ap, refl, length, Some}
+use Rattle.std.proofs.Common.{rules, ◌<◌, ◌^◌, ◌∙◌, sym, subst, ap, refl, length, Some}
 use Rattle.feed_note.specs.Texts.{published_text}
 use Rattle.feed_answer.specs.Answered.{parts_of, AnswersTo}
 use Rattle.feed_answer.specs.Served.{opening_text}

@@ -1,4 +1,4 @@
-use Rattle.std.proofs.Common.{◌∙◌, ◌++◌, sym, subst, ap, take, Some}
+use Rattle.std.proofs.Common.{◌∙◌, ◌++◌, sym, subst, ap, take}
 use Rattle.feed_http.specs.HeadReading.{IsReadAsNeeded, IsEnough}
 use Rattle.feed_hub.specs.Hub.{Takes, IsAnswered}
 use Rattle.feed_hub.proofs.hub.connections.hear_more.Goals as goal

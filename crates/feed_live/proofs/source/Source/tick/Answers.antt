@@ -1,4 +1,4 @@
-use Rattle.std.proofs.Common.{◌∙◌, refl}
+use Rattle.std.proofs.Common.{◌∙◌}
 use Rattle.feed_live.proofs.RelayLemmas.{with_same}
 use Rattle.feed_live.proofs.source.Source.tick.Goals as goal
 
