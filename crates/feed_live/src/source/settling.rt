@@ -39,6 +39,8 @@ pub(crate) struct Settling {
     pause: u64,
     /// Whether each connection asks for everything.
     is_always: bool,
+    /// Whether that is since servers have tokens of their own.
+    is_strange: bool,
     /// When the first byte of the connection came, or it was begun.
     began: u64,
     is_begun: bool,
@@ -60,6 +62,7 @@ impl Settling {
         Settling {
             pause,
             is_always,
+            is_strange: is_always,
             began: 0,
             is_begun: false,
             rate: Rate::new(pause),
@@ -78,6 +81,7 @@ impl Settling {
             began: now,
             told: now,
             was_alone: self.was_alone,
+            is_strange: self.is_strange,
             ..Settling::new(self.pause, self.is_always)
         };
     }
@@ -225,7 +229,9 @@ impl Source {
         }
         self.settling.is_compared = true;
         self.settling.is_same = have_one_state(coming.node(), shown);
-        if !self.settling.is_same {
+        if self.settling.is_same {
+            self.is_heard = true;
+        } else {
             let (kind, id) = differ_at(alloc, coming.node(), shown);
             told.tell(Told::Differs {
                 server: self.upstream.place(),
@@ -239,6 +245,9 @@ impl Source {
     pub(crate) fn settles_at(&self) -> Option<u64> {
         // It has published.
         self.coming.as_ref()?.since()?;
+        if self.is_at_shown() {
+            return None;
+        }
         let late = self.settling.late_at();
         if self.has_more || !self.rest.is_empty() {
             return Some(late);
@@ -249,14 +258,17 @@ impl Source {
     /// When it is told the next time how much has come.
     pub(crate) fn tells_at(&self) -> Option<u64> {
         self.coming.as_ref()?;
+        if self.is_at_shown() {
+            return None;
+        }
         Some(self.settling.told.saturating_add(REPORT))
     }
 
     /// How many lines and bytes came of what has not settled yet.
     pub(crate) fn come(&self) -> (u64, u64) {
         match self.coming {
-            Some(_) => (self.settling.lines, self.settling.bytes),
-            None => (0, 0),
+            Some(_) if !self.is_at_shown() => (self.settling.lines, self.settling.bytes),
+            _ => (0, 0),
         }
     }
 
@@ -311,6 +323,7 @@ impl Source {
         }
         if !self.is_due_to_settle(now) {
             self.tell_coming(told, now);
+            self.note_at_shown(now);
             return;
         }
         let unread = self.rest.len();
@@ -318,6 +331,28 @@ impl Source {
             Some(Leaves::Again) => self.ask_again(link, now),
             Some(Leaves::Memory) => self.lost(link, told, Why::Memory, now),
             None => {}
+        }
+    }
+
+    /// Whether a server with tokens of its own came to the state and the token that are shown, and
+    /// has nothing newer. It holds a token before that one, which screens may have for another
+    /// state. With the next commit it holds that no more, and takes the place of what is shown.
+    fn is_at_shown(&self) -> bool {
+        match &self.coming {
+            Some(coming) => {
+                let shown = self.answers.shown.node();
+                self.settling.is_strange && self.goes_on() && are_at_one(coming.node(), shown)
+            }
+            None => false,
+        }
+    }
+
+    /// Such a server is followed: nothing is to settle.
+    fn note_at_shown(&mut self, now: u64)
+        ensures { SameSource self.old self.new }
+    {
+        if self.is_at_shown() {
+            self.figures.change(Following::Answered, now);
         }
     }
 

@@ -112,6 +112,22 @@ pub(super) fn of_system<T: Drop>(outcome: io::Result<T>) -> Result<T, Fault> {
     }
 }
 
+/// The limits of what the relay shows. Where servers have tokens of their own, older tokens may stand
+/// for states of another one: then one commit is kept, with the token before it.
+fn kept_limits(options: &LiveOptions<'_>) -> Limits {
+    let limits = options.limits;
+    if !options.fresh {
+        return limits;
+    }
+    let Ok(kept) = Limits::new(1, limits.staged()) else {
+        return limits;
+    };
+    match limits.memory() {
+        Some(bytes) => kept.with_memory(bytes).unwrap_or(kept),
+        None => kept,
+    }
+}
+
 /// What the state files have; nothing where there are none, or the feed is the input, which begins
 /// anew.
 fn restored(
@@ -177,8 +193,9 @@ fn start_of(
     places: Vec<Place>,
     identity: Identity,
 ) -> Result<Start, Fault> {
-    let blank = needs_memory(Mirror::new(rt.alloc(), options.limits))?;
-    let restored = restored(rt, options, options.limits, names)?;
+    let limits = kept_limits(options);
+    let blank = needs_memory(Mirror::new(rt.alloc(), limits))?;
+    let restored = restored(rt, options, limits, names)?;
     Ok(Start {
         restored,
         blank,
