@@ -2,13 +2,21 @@
 #![tactic(auto)]
 
 mod auditing;
+mod counting;
 mod difference;
 mod laws;
 mod since;
+mod stating;
+mod told;
+mod told_json;
 mod verdict;
 mod walk;
 
 pub use auditing::audit;
+pub use counting::count_states;
 pub use difference::{Difference, Side};
 pub use laws::state_laws;
+pub use stating::{RecordFault, state_at};
+pub use told::{print_agreement, print_stray};
+pub use told_json::{print_agreement_json, print_stray_json};
 pub use verdict::{AuditFault, Stray, Verdict};
