@@ -2,7 +2,6 @@
 use Rattle.std.proofs.Common.{◌≡◌, ◌≢◌, refl, sym, ap, ◌∙◌, subst, ℕ, true≢false, List, [], ◌∷◌, ◌++◌, Option, None, Some, Result, Ok, Err}
 use Rattle.std.specs.Prelude.{IfSome, IsSome, IfOk}
 use Rattle.feed_settings.specs.Limits.{Limits}
-use Rattle.feed_tables.specs.Tables.{no_tables}
 use Rattle.feed_note.specs.Meaning.{OnlyOne}
 use Rattle.feed_note.specs.Publishing.{Published}
 use Rattle.feed_note.specs.declared.line.Line.{Line}
@@ -10,7 +9,7 @@ use Rattle.feed_node.specs.Mirroring.{MirrorState, first_opening}
 use Rattle.feed_node.specs.Reading.{AllGood}
 use Rattle.feed_node.specs.States.{NodeState}
 use Rattle.feed_audit.specs.Differences.{Tells, Explains}
-use Rattle.feed_audit.specs.States.{IsStateOf, ShowsState}
+use Rattle.feed_audit.specs.States.{IsStateOf}
 use Rattle.feed_audit.specs.Walks.{Walked, GoesOn, GoesToEnd, AllAre}
 use Rattle.feed_audit.specs.declared.difference.Difference.{Difference}
 use Rattle.feed_audit.specs.declared.difference.Difference.TheVariants.{NoToken, At, Unknown}
@@ -71,21 +70,3 @@ lacks_on limits primary left behind count new_count old new node state l g is ot
 pub if_ok_on : {X Y : Type 0} {P Q : X → Type 0} (r : Result X Y) → ((x : X) → P x → Q x) → IfOk r P → IfOk r Q
 if_ok_on (Ok x) f h = f x h
 if_ok_on (Err y) f h = tt
-
--- ---- the state under a token
-
--- some state under a token, of which only that is looked at
-abbrev pub at_token : List ℕ → Published
-at_token token = record { tables = no_tables; token = token }
-
-pub shows_state : (limits : Limits) (record_text left behind token : List ℕ) (count new_count : ℕ) (old new : MirrorState) (node : NodeState)
-    (l : Lacks limits record_text left count old (at_token token)) → GoesOn limits record_text behind l.0 new_count new → IsSome new.node.published → node ≡ new.node
-    → ((shown : Published) → node.published ≡ Some shown → shown.token ≡ token) → ShowsState limits record_text token new
-shows_state limits record_text left behind token count new_count old new node l g some is same =
-    let its = some_is new.node.published some in
-    record {
-      state = its.0;
-      is = state_of limits record_text behind (l.0 ++ (g.before ++ g.note ∷ [])) new_count new its.0 g.walked its.1;
-      named = same its.0 (ap (λ (n : NodeState). n.published) is ∙ its.1);
-      shown = its.1;
-    }
