@@ -2,7 +2,7 @@
 
 _tunygarop() {
     local word=${COMP_WORDS[COMP_CWORD]} before=${COMP_WORDS[COMP_CWORD - 1]} command=${COMP_WORDS[1]}
-    local commands="tables check play serve pull relay live"
+    local commands="tables check audit play serve pull relay live"
     local names option given
 
     COMPREPLY=()
@@ -23,7 +23,7 @@ _tunygarop() {
             mapfile -t COMPREPLY < <(compgen -A hostname -- "$word")
             return
             ;;
-        --state | --user-file)
+        --state | --user-file | --primary)
             compopt -o filenames 2> /dev/null
             mapfile -t COMPREPLY < <(compgen -f -- "$word")
             return
@@ -47,6 +47,7 @@ _tunygarop() {
     case $command in
         tables) names="history staged memory verbose" ;;
         check) names="" ;;
+        audit) names="primary json verbose history staged memory" ;;
         play) names="" ;;
         serve) names="port contest count turn chunked back verbose history staged memory" ;;
         pull) names="host port from contest base host-header user-file turns silence resume verbose history staged memory" ;;

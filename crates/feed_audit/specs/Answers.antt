@@ -50,6 +50,18 @@ FailsToAudit limits primary screen (fault.Primary line why) = FaultsIn limits pr
 FailsToAudit limits primary screen (fault.Screen line why) = FaultsIn limits screen line why
 FailsToAudit limits primary screen fault.Memory = Unit {0}
 
+-- nothing is wrong with the text, and it publishes so many times
+pub record HasStates (limits : Limits) (text : List ℕ) (states : ℕ) : Type 0 where
+  pub notes : List Line
+  pub read : Reads limits first_opening text notes
+  pub counted : states ≡ min (publications limits.history first_opening notes) 18446744073709551615
+
+-- the fault is that of the primary's first bad line
+abbrev pub FailsToCount : Limits → List ℕ → AuditFault → Type 0
+FailsToCount limits primary (fault.Primary line why) = FaultsIn limits primary line why
+FailsToCount limits primary (fault.Screen line why) = ⊥
+FailsToCount limits primary fault.Memory = Unit {0}
+
 -- a mirror has read some of the lines of a text
 abbrev pub IsReading : Limits → List ℕ → List ℕ → ℕ → MirrorState → Type 0
 IsReading limits text behind lines mirror = (notes : List Line) × Walked limits text behind notes lines mirror

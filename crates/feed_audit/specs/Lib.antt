@@ -1,4 +1,5 @@
 pub mod Answers
 pub mod Differences
 pub mod States
+pub mod Told
 pub mod Walks

@@ -16,7 +16,7 @@ use feed_tables::Name;
 use std::alloc::Global;
 
 // The fault of the primary's record behind so many lines.
-fn of_primary(fault: FeedFault, lines: usize) -> AuditFault
+pub(crate) fn of_primary(fault: FeedFault, lines: usize) -> AuditFault
     ensures memory { fault ≡ FeedFault.Memory → result ≡ told.Memory }
     ensures other { fault ≢ FeedFault.Memory
         → result ≡ told.Primary (min (lines + 1) usize.MAX) fault }

@@ -93,6 +93,14 @@ fn place_of(change: &Change) -> Result<Place, AllocError> {
     })
 }
 
+/// The changes of a snapshot that put something in. The `Clear` of empty tables puts nothing in.
+fn puts(changes: &[Change]) -> &[Change] {
+    match changes.first() {
+        Some(Change::Clear(_)) => &[],
+        _ => changes,
+    }
+}
+
 /// The first place, in byte order, at which tables differ.
 fn first_place(
     alloc: Global,
@@ -101,9 +109,10 @@ fn first_place(
 ) -> Result<Option<Place>, AllocError> {
     let ours = primary.snapshot(alloc)?;
     let theirs = screen.snapshot(alloc)?;
+    let others = puts(theirs.as_slice());
     let mut i: usize = 0;
-    'places: for change in ours.as_slice() {
-        let Some(other) = theirs.as_slice().get(i) else {
+    'places: for change in puts(ours.as_slice()) {
+        let Some(other) = others.get(i) else {
             return Ok(Some(place_of(change)?));
         };
         match order(change, other) {
@@ -117,7 +126,7 @@ fn first_place(
         }
         i += 1;
     }
-    match theirs.as_slice().get(i) {
+    match others.get(i) {
         Some(other) => Ok(Some(place_of(other)?)),
         None => Ok(None),
     }

@@ -2,13 +2,19 @@
 #![tactic(auto)]
 
 mod auditing;
+mod counting;
 mod difference;
 mod laws;
 mod since;
+mod told;
+mod told_json;
 mod verdict;
 mod walk;
 
 pub use auditing::audit;
+pub use counting::count_states;
 pub use difference::{Difference, Side, difference_of};
 pub use laws::state_laws;
+pub use told::{print_agreement, print_stray};
+pub use told_json::{print_agreement_json, print_stray_json};
 pub use verdict::{AuditFault, Stray, Verdict};

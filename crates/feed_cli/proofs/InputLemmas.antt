@@ -6,7 +6,7 @@ use Rattle.feed_note.specs.Counts.{StopsAt}
 use Rattle.feed_note.specs.declared.counts.SurveyFault.{SurveyFault}
 use Rattle.feed_note.specs.declared.stop.LineStop.{LineStop}
 use Rattle.feed_note.specs.declared.stop.LineStop.TheVariants as stop
-use Rattle.feed_cli.specs.Check.{IsWhole, InputStops, InputFails, CountFails}
+use Rattle.feed_cli.specs.Check.{IsWhole, InputStops, InputFails, FailsWithin, CountFails}
 use Rattle.feed_cli.specs.Fault.{fault_at, fault_of_survey}
 use Rattle.feed_cli.specs.Play.{PlayFails}
 use Rattle.feed_cli.specs.Pull.{FailsToStart}
@@ -15,10 +15,10 @@ use Rattle.feed_cli.specs.Streams.{Streams}
 use Rattle.feed_cli.specs.declared.fault.Fault.{Fault}
 use Rattle.feed_cli.specs.declared.fault.Fault.TheVariants as fault
 
-pub fails_so : (why : Fault) (old new : Option (List ℕ))
-    → (why ≡ fault.Read) ⊎ (why ≡ fault.Memory) → InputFails why old new
-fails_so why old new (inl e) = subst (λ w. InputFails w old new) (sym e) tt
-fails_so why old new (inr e) = subst (λ w. InputFails w old new) (sym e) tt
+pub fails_so : (most : ℕ) (why : Fault) (old new : Option (List ℕ))
+    → (why ≡ fault.Read) ⊎ (why ≡ fault.Memory) → FailsWithin most why old new
+fails_so most why old new (inl e) = subst (λ w. FailsWithin most w old new) (sym e) tt
+fails_so most why old new (inr e) = subst (λ w. FailsWithin most w old new) (sym e) tt
 
 module _ (old new : Option (List ℕ)) where
   pub count_fails : (why : Fault) → InputFails why old new → CountFails why old new

@@ -1,3 +1,4 @@
+mod AuditLemmas
 mod CheckLemmas
 mod CommandLemmas
 mod InputLemmas

@@ -24,11 +24,15 @@ counts_text counts =
     ++ codes " tokens " ++ decimal counts.tokens
     ++ codes " rest " ++ decimal counts.rest ++ line_feed ∷ []
 
--- the whole input was read, and is within the limit
-pub record IsWhole (old new : Option (List ℕ)) (bytes : List ℕ) : Type 0 where
+-- the whole input was read, and has at most so many bytes
+pub record IsWholeWithin (most : ℕ) (old new : Option (List ℕ)) (bytes : List ℕ) : Type 0 where
   pub read : Consumes old new bytes
   pub end : IsAtEnd new
-  pub short : length bytes ≤ input_bytes
+  pub short : length bytes ≤ most
+
+-- the whole input was read, and is within the limit
+abbrev pub IsWhole : Option (List ℕ) → Option (List ℕ) → List ℕ → Type 0
+IsWhole old new bytes = IsWholeWithin input_bytes old new bytes
 
 -- the whole input was read, and comes to this
 pub record InputCounted (old new : Option (List ℕ)) (counts : Counts) : Type 0 where
@@ -42,18 +46,22 @@ pub record InputStops (old new : Option (List ℕ)) (why : SurveyFault) : Type 0
   pub whole : IsWhole old new bytes
   pub stops : StopsAt bytes why.line why.stop
 
--- the input has more bytes than the limit
-pub record InputTooLong (old new : Option (List ℕ)) : Type 0 where
+-- the input has more bytes than that
+pub record IsOver (most : ℕ) (old new : Option (List ℕ)) : Type 0 where
   pub bytes : List ℕ
   pub read : Consumes old new bytes
-  pub long : input_bytes < length bytes
+  pub long : most < length bytes
 
 -- what was read where the input is not read whole
+abbrev pub FailsWithin : ℕ → Fault → Option (List ℕ) → Option (List ℕ) → Type 0
+FailsWithin most fault.Memory old new = Unit {0}
+FailsWithin most fault.Read old new = Unit {0}
+FailsWithin most fault.TooLong old new = IsOver most old new
+FailsWithin most why old new = ⊥
+
+-- the same of the limit
 abbrev pub InputFails : Fault → Option (List ℕ) → Option (List ℕ) → Type 0
-InputFails fault.Memory old new = Unit {0}
-InputFails fault.Read old new = Unit {0}
-InputFails fault.TooLong old new = InputTooLong old new
-InputFails why old new = ⊥
+InputFails why old new = FailsWithin input_bytes why old new
 
 -- what was read where the input can't be counted
 abbrev pub CountFails : Fault → Option (List ℕ) → Option (List ℕ) → Type 0

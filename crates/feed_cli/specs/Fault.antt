@@ -1,5 +1,7 @@
 -- Why a command fails, for the fault of what it calls, and the statuses that the program ends with.
 use Rattle.std.specs.Prelude.{ℕ, Bool, true, false, Option, Result, Ok, Err, if◌then◌else◌}
+use Rattle.feed_audit.specs.declared.verdict.AuditFault.{AuditFault}
+use Rattle.feed_audit.specs.declared.verdict.AuditFault.TheVariants as audit
 use Rattle.feed_settings.specs.declared.place.PlaceFault.{PlaceFault}
 use Rattle.feed_settings.specs.declared.place.PlaceFault.TheVariants as place
 use Rattle.feed_http.specs.declared.fault.EngineFault.{EngineFault}
@@ -32,6 +34,10 @@ fault_at other why = fault.Survey why
 
 abbrev pub fault_of_survey : SurveyFault → Fault
 fault_of_survey why = fault_at why.stop why
+
+abbrev pub fault_of_audit : AuditFault → Fault
+fault_of_audit audit.Memory = fault.Memory
+fault_of_audit why = fault.Audit why
 
 abbrev pub fault_of_place : PlaceFault → Fault
 fault_of_place place.Memory = fault.Memory
@@ -75,8 +81,8 @@ abbrev pub goes_on : Result Served NetworkFault → Bool
 goes_on (Ok served) = true
 goes_on (Err why) = is_one_connections (fault_of_network why)
 
--- 5 for want of memory, 4 for a device's fault, 2 for a faulty input or response, 3 where nothing is
--- published, 1 for servers that can't be named so
+-- 5 for want of memory, 4 for a device's fault, 2 for a faulty input or response and for records that
+-- differ, 3 where nothing is published, 1 for servers that can't be named so
 abbrev pub status_of : Fault → ℕ
 status_of fault.Memory = 5
 status_of fault.Read = 4
@@ -86,6 +92,8 @@ status_of fault.TooLong = 2
 status_of (fault.Feed why) = 2
 status_of (fault.Survey why) = 2
 status_of (fault.Play why) = if is_memory why.cause then 5 else 2
+status_of (fault.Audit why) = 2
+status_of fault.Differs = 2
 status_of fault.Unpublished = 3
 status_of (fault.Place why) = 1
 status_of (fault.Address why) = 1

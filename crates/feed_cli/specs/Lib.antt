@@ -1,3 +1,4 @@
+pub mod Audit
 pub mod Check
 pub mod Commands
 pub mod Fault

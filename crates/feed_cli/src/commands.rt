@@ -4,6 +4,7 @@ ghost use Rattle.feed_cli.specs.Commands.{Succeeds, Fails, IsDeviceFault, EndsBy
 ghost use Rattle.feed_cli.specs.Streams.{streams_of};
 ghost use Rattle.feed_http.specs.Exchange.{wrote_by};
 
+pub mod audit;
 mod check;
 mod play;
 pub mod pull;

@@ -1,6 +1,7 @@
 //! Why a command fails: the texts that tell it, and the statuses that it ends with.
 ghost use Rattle.std.specs.Prelude.{◌≡◌};
 
+use feed_audit::AuditFault;
 use feed_http::{EngineFault, PlaceFault};
 use feed_node::{CommitFault, FeedFault};
 use feed_note::{LineStop, SurveyFault};
@@ -50,6 +51,12 @@ pub enum Fault {
     /// The input, a script, was not played to its end.
     #[error("{0}")]
     Play(PlayFault),
+    /// A line of one of two records can't be read.
+    #[error("{0}")]
+    Audit(AuditFault),
+    /// A state of the screen's record is none of the primary's.
+    #[error("the records differ")]
+    Differs,
     /// The input, or what was followed, has ended, and nothing was published.
     #[error("nothing published")]
     Unpublished,
@@ -79,6 +86,7 @@ impl Fault {
             Fault::Read | Fault::Write | Fault::Turns => 4,
             Fault::Play(fault) if fault.is_want_of_memory() => 5,
             Fault::TooLong | Fault::Feed(_) | Fault::Survey(_) | Fault::Play(_) => 2,
+            Fault::Audit(_) | Fault::Differs => 2,
             Fault::Unpublished => 3,
             Fault::Place(_) | Fault::Address(_) => REFUSED,
             Fault::Commit(_) => 2,
@@ -133,6 +141,19 @@ impl From<SurveyFault> for Fault {
         match fault.stop {
             LineStop::Memory => Fault::Memory,
             _ => Fault::Survey(fault),
+        }
+    }
+}
+
+impl From<AuditFault> for Fault {
+    ghost use Rattle.feed_cli.specs.Fault.{fault_of_audit};
+
+    ghost from_gives = { λ why fault. fault ≡ fault_of_audit why };
+
+    fn from(fault: AuditFault) -> Fault {
+        match fault {
+            AuditFault::Memory => Fault::Memory,
+            _ => Fault::Audit(fault),
         }
     }
 }

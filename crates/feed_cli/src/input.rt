@@ -2,7 +2,7 @@
 ghost use Rattle.std.specs.Prelude.{◌≡◌, ◌⊎◌, ◌≤◌, ◌+◌, vec_len, IfOk, IfErr, OnOk, IsErrOf};
 ghost use Rattle.std.specs.Io.KnownBytes.{IsAtEnd};
 ghost use Rattle.feed_http.specs.Device.{HasFailed, Moved};
-ghost use Rattle.feed_cli.specs.Check.{IsWhole, InputFails};
+ghost use Rattle.feed_cli.specs.Check.{IsWhole, IsWholeWithin, InputFails, FailsWithin};
 
 use crate::fault::Fault;
 use feed_http::device::FeedRead;
@@ -45,8 +45,26 @@ pub(crate) fn read_input<R: FeedRead>(alloc: Global, input: &mut R) -> Result<Ve
     ensures quiet { ¬ (IsErrOf result Fault.Read)
         → R.failures input.new ≡ R.failures input.old }
 {
+    read_within(alloc, INPUT_BYTES, input)
+}
+
+/// Reads an input to its end, at most so many bytes.
+pub(crate) fn read_within<R: FeedRead>(
+    alloc: Global,
+    most: usize,
+    input: &mut R,
+) -> Result<Vec<u8>, Fault>
+    ensures ok { IfOk result (λ bytes.
+        IsWholeWithin most (R.remaining input.old) (R.remaining input.new) bytes.items) }
+    ensures err { IfErr result (λ why.
+        FailsWithin most why (R.remaining input.old) (R.remaining input.new)) }
+    ensures read { IsErrOf result Fault.Read
+        → HasFailed (R.failures input.old) (R.failures input.new) }
+    ensures quiet { ¬ (IsErrOf result Fault.Read)
+        → R.failures input.new ≡ R.failures input.old }
+{
     let mut bytes = Vec::new(alloc);
-    'pieces: while bytes.len() <= INPUT_BYTES {
+    'pieces: while bytes.len() <= most {
         if read_piece(input, &mut bytes)? == 0 {
             return Ok(bytes);
         }

@@ -4,6 +4,7 @@
 #![tactic(auto)]
 
 mod ahead;
+mod audit;
 mod connection;
 mod ending;
 mod errors;
@@ -15,6 +16,7 @@ mod serve;
 mod sockets;
 
 pub use ahead::input_ahead;
+pub use audit::audit_records;
 pub use ending::{Failure, ended};
 pub use hosts::Hosts;
 pub use identity::identity_of;

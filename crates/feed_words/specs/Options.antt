@@ -62,6 +62,12 @@ memory = number_in (codes "memory") most_memory
 abbrev pub verbose : Rule
 verbose = flag (codes "verbose")
 
+abbrev pub primary : Rule
+primary = needed (text_option (codes "primary"))
+
+abbrev pub json : Rule
+json = flag (codes "json")
+
 abbrev pub port : Rule
 port = needed (number_in (codes "port") most_port)
 

@@ -7,12 +7,13 @@ use Rattle.clap.specs.Words.{App, Row, Text, new_app, subcommand_of, with_rule, 
 use Rattle.feed_settings.specs.Limits.{most_commits}
 use Rattle.feed_words.specs.Addresses.{most_port}
 use Rattle.feed_words.specs.Live.{live, AsksLive}
-use Rattle.feed_words.specs.Options.{most_rounds, most_silence, verbose, port, listen, contest, count, turn, chunked, back, host, from, base, host_header, user_file, turns, silence, resume, with_limits}
+use Rattle.feed_words.specs.Options.{most_rounds, most_silence, verbose, primary, json, port, listen, contest, count, turn, chunked, back, host, from, base, host_header, user_file, turns, silence, resume, with_limits}
 use Rattle.feed_words.specs.Options.{text_at, IsNumber, IsNumberUpTo, IsNumberIfGiven, IsGiven, IsFramed, AsksLimits}
 use Rattle.feed_words.specs.declared.request.Local.TheVariants as local
 use Rattle.feed_words.specs.declared.request.Request.{Request}
 use Rattle.feed_words.specs.declared.request.Request.TheVariants as request
 use Rattle.feed_words.specs.declared.request.TablesOptions.{TablesOptions}
+use Rattle.feed_words.specs.declared.request.AuditOptions.{AuditOptions}
 use Rattle.feed_words.specs.declared.request.ServeOptions.{ServeOptions}
 use Rattle.feed_words.specs.declared.request.PullOptions.{PullOptions}
 use Rattle.feed_words.specs.declared.request.RelayOptions.{RelayOptions}
@@ -50,6 +51,9 @@ tables = with_rule (with_limits (new_app (codes "tables"))) verbose
 abbrev pub check : App
 check = new_app (codes "check")
 
+abbrev pub audit : App
+audit = with_limits (with_rule (with_rule (with_rule (new_app (codes "audit")) primary) json) verbose)
+
 abbrev pub play : App
 play = new_app (codes "play")
 
@@ -72,7 +76,8 @@ program =
 -- the program, with the commands that open no connection
 abbrev pub local_program : App
 local_program =
-    with_subcommand (with_subcommand (with_subcommand program tables.top) check.top) play.top
+    with_subcommand (with_subcommand (with_subcommand (with_subcommand program tables.top) check.top) audit.top)
+    play.top
 
 -- the program, with those and the commands for trying
 abbrev pub program_for_trying : App
@@ -88,6 +93,13 @@ command_line = with_subcommand program_for_trying live.top
 pub record AsksTables (rows : List Row) (options : TablesOptions) : Type 0 where
   pub limits_are : AsksLimits rows options.limits
   pub verbose_is : IsGiven (codes "verbose") rows options.verbose
+
+-- the values of the options of `audit`
+pub record AsksAudit (rows : List Row) (options : AuditOptions) : Type 0 where
+  pub primary_is : text_at (codes "primary") rows ≡ Some options.primary.now
+  pub json_is : IsGiven (codes "json") rows options.json
+  pub verbose_is : IsGiven (codes "verbose") rows options.verbose
+  pub limits_are : AsksLimits rows options.limits
 
 -- the values of the options of `serve`
 pub record AsksServe (rows : List Row) (options : ServeOptions) : Type 0 where
@@ -128,6 +140,7 @@ AsksBy name rows (request.Local (local.Tables options)) =
     (name ≡ codes "tables") × AsksTables rows options
 AsksBy name rows (request.Local local.Check) = name ≡ codes "check"
 AsksBy name rows (request.Local local.Play) = name ≡ codes "play"
+AsksBy name rows (request.Audit options) = (name ≡ codes "audit") × AsksAudit rows options
 AsksBy name rows (request.Serve options) = (name ≡ codes "serve") × AsksServe rows options
 AsksBy name rows (request.Pull options) = (name ≡ codes "pull") × AsksPull rows options
 AsksBy name rows (request.Relay options) = (name ≡ codes "relay") × AsksRelay rows options

@@ -11,6 +11,19 @@ pub struct TablesOptions {
     pub verbose: bool,
 }
 
+/// What `audit` compares the record of a screen with, and how it prints what it found.
+#[derive(Clone, Copy)]
+pub struct AuditOptions<'a> {
+    /// The name of the file with the primary's record. Any text will do.
+    pub primary: &'a str,
+    /// Whether what was found is printed as JSON.
+    pub json: bool,
+    /// Whether objects that differ are printed whole, however long they are.
+    pub verbose: bool,
+    /// The limits that both records are read with.
+    pub limits: Limits,
+}
+
 /// What `serve` serves, where, and to how many.
 #[derive(Clone, Copy)]
 pub struct ServeOptions<'a> {
@@ -174,8 +187,10 @@ impl Local {
 /// What a command line asks for.
 #[derive(Clone, Copy)]
 pub enum Request<'a> {
-    /// A command that opens no connection.
+    /// A command that reads standard input alone.
     Local(Local),
+    /// Whether each state of the screen's record on standard input is one of the primary's.
+    Audit(AuditOptions<'a>),
     /// The feed on standard input, served by a primary.
     Serve(ServeOptions<'a>),
     /// The snapshot of what a server's feed publishes to a mirror.

@@ -5,7 +5,7 @@ mod live;
 
 use feed_cli::stream::Stream;
 use feed_cli::{Fault, Local, NoCommand, Request, answer_words, parse_words, run, tell};
-use feed_network::{ended, input_ahead, pull_feed, relay_feed, serve_feed};
+use feed_network::{audit_records, ended, input_ahead, pull_feed, relay_feed, serve_feed};
 use live::live_feed;
 use std::io::ErrorKind;
 use std::process::ExitCode;
@@ -44,6 +44,7 @@ fn answer(rt: &HostRuntime, reply: &NoCommand) -> u8 {
 fn run_request(rt: &HostRuntime, request: &Request<'_>) -> u8 {
     match request {
         Request::Local(request) => run_local(rt, *request),
+        Request::Audit(options) => ended(rt, "audit", audit_records(rt, options)),
         Request::Serve(options) => ended(rt, "serve", serve_feed(rt, options)),
         Request::Pull(options) => ended(rt, "pull", pull_feed(rt, options)),
         Request::Relay(options) => ended(rt, "relay", relay_feed(rt, options)),

@@ -6,11 +6,13 @@ ghost use Rattle.feed_words.specs.Addresses.{most_port};
 ghost use Rattle.feed_words.specs.Options.{most_rounds, most_silence};
 ghost use Rattle.feed_words.specs.Options.{number_at, text_at, IsNumber, IsNumberUpTo, IsNumberIfGiven};
 ghost use Rattle.feed_words.specs.Options.{IsGiven, IsFramed, AsksLimits};
-ghost use Rattle.feed_words.specs.Words.{AsksTables, AsksServe, AsksPull, AsksRelay, AsksBy, AsksAt};
+ghost use Rattle.feed_words.specs.Words.{AsksTables, AsksAudit, AsksServe, AsksPull, AsksRelay, AsksBy, AsksAt};
 
 use super::asked_live::live_options;
 use super::options::{MOST_PORT, MOST_ROUNDS, MOST_SILENCE};
-use crate::request::{Local, PullOptions, RelayOptions, Request, ServeOptions, TablesOptions};
+use crate::request::{
+    AuditOptions, Local, PullOptions, RelayOptions, Request, ServeOptions, TablesOptions,
+};
 use clap::ArgMatches;
 use feed_settings::{Framing, Limits, MOST_COMMITS, MOST_MEMORY};
 
@@ -121,6 +123,20 @@ fn tables_options(matches: &ArgMatches<'_>) -> Option<TablesOptions>
     })
 }
 
+/// What the options of `audit` ask for.
+fn audit_options<'a>(matches: &ArgMatches<'a>) -> Option<AuditOptions<'a>>
+    ensures { IfSome result (λ options. AsksAudit (rows_of (found_of matches.now)) options) }
+{
+    let primary = text(matches, "primary")?;
+    let limits = limits(matches)?;
+    Some(AuditOptions {
+        primary,
+        json: is_given(matches, "json"),
+        verbose: is_given(matches, "verbose"),
+        limits,
+    })
+}
+
 /// What the options of `serve` ask for.
 fn serve_options<'a>(matches: &ArgMatches<'a>) -> Option<ServeOptions<'a>>
     ensures { IfSome result (λ options. AsksServe (rows_of (found_of matches.now)) options) }
@@ -221,6 +237,10 @@ fn request_named<'a>(name: &str, matches: &ArgMatches<'a>) -> Option<Request<'a>
         "tables" => Some(Request::Local(Local::Tables(tables_options(matches)?))),
         "check" => Some(Request::Local(Local::Check)),
         "play" => Some(Request::Local(Local::Play)),
+        "audit" => match audit_options(matches) {
+            Some(options) => Some(Request::Audit(options)),
+            None => None,
+        },
         "serve" => match serve_options(matches) {
             Some(options) => Some(Request::Serve(options)),
             None => None,

@@ -64,6 +64,19 @@ fn tables<'a>(alloc: Global) -> Result<Command<'a>, AllocError>
     add_option(limited, options::verbose(alloc, help))
 }
 
+/// `audit`.
+fn audit<'a>(alloc: Global) -> Result<Command<'a>, AllocError>
+    ensures { IfOk result (λ c. app_of c ≡ words.audit) }
+{
+    let about =
+        "Tells whether each state of the screen's record on standard input is one of the primary's";
+    let help = "Print objects that differ whole, however long they are";
+    let audit = add_option(Ok(command(alloc, "audit", about)), options::primary(alloc));
+    let audit = add_option(audit, options::json(alloc));
+    let audit = add_option(audit, options::verbose(alloc, help));
+    with_limits(alloc, audit)
+}
+
 /// A command with the options that `serve` needs.
 fn with_served<'a>(
     alloc: Global,
@@ -213,6 +226,7 @@ fn local_program<'a>(alloc: Global) -> Result<Command<'a>, AllocError>
         "Plays the script of events on standard input in a world of nodes, and prints what is replied";
     let program = with_command(Ok(program(alloc)), tables(alloc));
     let program = with_command(program, Ok(command(alloc, "check", check)));
+    let program = with_command(program, audit(alloc));
     with_command(program, Ok(command(alloc, "play", play)))
 }
 

@@ -101,6 +101,24 @@ pub(crate) fn verbose<'a>(alloc: Global, help: &'a str) -> Arg<'a>
     flag(alloc, "verbose").help(help)
 }
 
+/// `--primary FILE`.
+pub(crate) fn primary<'a>(alloc: Global) -> Arg<'a>
+    ensures rule { rule_of result ≡ words.primary }
+    ensures local { result.global ≡ false }
+{
+    text(alloc, "primary", "FILE")
+        .help("The file with the primary's record: its feed, as one connection carried it")
+        .required(true)
+}
+
+/// `--json`.
+pub(crate) fn json<'a>(alloc: Global) -> Arg<'a>
+    ensures rule { rule_of result ≡ words.json }
+    ensures local { result.global ≡ false }
+{
+    flag(alloc, "json").help("Print one line of JSON")
+}
+
 /// `--port P`.
 pub(crate) fn port<'a>(alloc: Global, help: &'a str) -> Arg<'a>
     ensures rule { rule_of result ≡ words.port }

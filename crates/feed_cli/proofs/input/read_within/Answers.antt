@@ -4,7 +4,7 @@ use Rattle.std.proofs.KnownBytes.{Consumes-nil}
 use Rattle.std.proofs.lemmas.Result.{err_from_is_err_and}
 use Rattle.feed_http.proofs.DeviceLemmas.{Moved-trans}
 use Rattle.feed_cli.proofs.InputLemmas.{fails_so}
-use Rattle.feed_cli.proofs.input.read_input.Goals as goal
+use Rattle.feed_cli.proofs.input.read_within.Goals as goal
 
 pub pieces-init : goal.pieces-init
 pieces-init g c = record { given = ([], c.new-bytes.ensures.items, Consumes-nil _); quiet = refl }
@@ -18,7 +18,7 @@ pieces-preserved g c = record {
 pub returns-in_err-read_piece-clause-err : goal.returns-in_err-read_piece-clause-err
 returns-in_err-read_piece-clause-err g c =
     let p = err_from_is_err_and c.from_residual.result c.from_residual.ensures.1 in
-    rw (p.1, p.2) (fails_so _ _ _ c.in_err-read_piece.ensures.faults)
+    rw (p.1, p.2) (fails_so _ _ _ _ c.in_err-read_piece.ensures.faults)
 
 pub returns-then-branch-eq0-clause-ok : goal.returns-then-branch-eq0-clause-ok
 returns-then-branch-eq0-clause-ok g c =

@@ -1,8 +1,7 @@
 -- What was read so far is there, and none of the reads found the end.
 use Rattle.std.proofs.Common.{◌≡◌, ◌+◌, ◌-◌, [], vec_len}
 use Rattle.feed_http.specs.Device.{Moved}
-use Rattle.feed_cli.specs.Check.{input_bytes}
-use Rattle.feed_cli.proofs.input.read_input.Given as goal
+use Rattle.feed_cli.proofs.input.read_within.Given as goal
 
 abbrev pub invariant-pieces : goal.invariant-pieces
 invariant-pieces g l =
@@ -13,4 +12,4 @@ invariant-pieces g l =
     }
 
 abbrev pub decreases-pieces : goal.decreases-pieces
-decreases-pieces g l = input_bytes + 1 - vec_len l.bytes
+decreases-pieces g l = l.most + 1 - vec_len l.bytes
