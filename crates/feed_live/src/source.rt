@@ -104,6 +104,7 @@ impl Source {
     {
         // A relay without a state has nothing old to show, nor has one whose feed is the input.
         let is_heard = mirror.node().token().is_none() || places.is_empty();
+        let is_strange = limits.is_fresh && places.len() > 1;
         Source {
             upstream: Upstream::new(places.len().max(1), now),
             places,
@@ -113,7 +114,7 @@ impl Source {
                 blank: Answering::new(blank, limits.framing),
             },
             coming: None,
-            settling: Settling::new(limits.settle, limits.is_fresh),
+            settling: Settling::new(limits.settle, limits.is_fresh, is_strange),
             ended: None,
             replayed: Vec::new(alloc),
             is_at_start: true,

@@ -39,7 +39,7 @@ pub(crate) struct Settling {
     pause: u64,
     /// Whether each connection asks for everything.
     is_always: bool,
-    /// Whether that is since servers have tokens of their own.
+    /// Whether that is so of several servers: they have tokens of their own.
     is_strange: bool,
     /// When the first byte of the connection came, or it was begun.
     began: u64,
@@ -58,11 +58,11 @@ pub(crate) struct Settling {
 }
 
 impl Settling {
-    pub(crate) fn new(pause: u64, is_always: bool) -> Settling {
+    pub(crate) fn new(pause: u64, is_always: bool, is_strange: bool) -> Settling {
         Settling {
             pause,
             is_always,
-            is_strange: is_always,
+            is_strange,
             began: 0,
             is_begun: false,
             rate: Rate::new(pause),
@@ -81,8 +81,7 @@ impl Settling {
             began: now,
             told: now,
             was_alone: self.was_alone,
-            is_strange: self.is_strange,
-            ..Settling::new(self.pause, self.is_always)
+            ..Settling::new(self.pause, self.is_always, self.is_strange)
         };
     }
 

@@ -112,11 +112,15 @@ pub(super) fn of_system<T: Drop>(outcome: io::Result<T>) -> Result<T, Fault> {
     }
 }
 
-/// The limits of what the relay shows. Where servers have tokens of their own, older tokens may stand
-/// for states of another one: then one commit is kept, with the token before it.
+/// The limits of what the relay shows. Where several servers have tokens of their own, older tokens may
+/// stand for states of another one: then one commit is kept, with the token before it.
 fn kept_limits(options: &LiveOptions<'_>) -> Limits {
     let limits = options.limits;
-    if !options.fresh {
+    let are_strange = match &options.upstream {
+        Some(upstream) => options.fresh && upstream.from.is_some(),
+        None => false,
+    };
+    if !are_strange {
         return limits;
     }
     let Ok(kept) = Limits::new(1, limits.staged()) else {
