@@ -88,9 +88,9 @@ pub fn print_verdict<W: FeedWrite>(
     screen: &[u8],
     out: &mut W,
 ) -> Result<(), Fault>
-    ensures ok { OnOk result (PrintsAgreement options primary.now screen.now
+    ensures ok { OnOk result (PrintsAgreement options.entry primary.now screen.now
         (W.contents out.old) (W.contents out.new)) }
-    ensures err { IfErr result (λ why. AuditFails options primary.now screen.now why
+    ensures err { IfErr result (λ why. AuditFails options.entry primary.now screen.now why
         (W.contents out.old) (W.contents out.new)) }
     ensures write { IsErrOf result Fault.Write
         → HasFailed (W.failures out.old) (W.failures out.new) }
