@@ -57,7 +57,7 @@ pub fn audit_records(rt: &HostRuntime, options: &AuditOptions<'_>) -> Result<(),
     let screen = read_screen(rt)?;
     print_verdict(
         rt.alloc(),
-        *options,
+        options,
         primary.as_slice(),
         screen.as_slice(),
         &mut Stream::new(rt.stdout()),

@@ -1,6 +1,6 @@
 -- Networks of addresses, as a list of `address/bits` separated by commas (RFC 4632, section 3.1;
 -- RFC 4291, section 2.3).
-use Rattle.std.specs.Prelude.{◌≡◌, ◌≢◌, ◌⊎◌, ℕ, ◌+◌, ◌*◌, ◌-◌, ◌/◌, ◌%◌, ◌^◌, ◌<◌, ◌≤◌, Bool, true, false, ◌==◌, List, [], ◌∷◌, ◌++◌, length, take, bytes_eq, if◌then◌else◌}
+use Rattle.std.specs.Prelude.{◌≡◌, ◌≢◌, ◌⊎◌, ℕ, ◌+◌, ◌-◌, ◌/◌, ◌%◌, ◌^◌, ◌<◌, ◌≤◌, Bool, false, ◌==◌, List, [], ◌∷◌, ◌++◌, length, take, bytes_eq, if◌then◌else◌}
 use Rattle.std.specs.List.{HoldsAt}
 use Rattle.std.specs.Int.{w32, from_be_bytes}
 use Rattle.std.specs.Net.Addr.{ipv4_bits, ipv6_bits, ipv6_segments, low_octets}

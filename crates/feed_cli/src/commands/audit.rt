@@ -83,14 +83,14 @@ fn print_text<W: FeedWrite>(text: &[u8], out: &mut W) -> Result<(), Fault>
 /// and where a line of a record can't be read, nothing is printed.
 pub fn print_verdict<W: FeedWrite>(
     alloc: Global,
-    options: AuditOptions<'_>,
+    options: &AuditOptions<'_>,
     primary: &[u8],
     screen: &[u8],
     out: &mut W,
 ) -> Result<(), Fault>
-    ensures ok { OnOk result (PrintsAgreement options.entry primary.now screen.now
+    ensures ok { OnOk result (PrintsAgreement options.now primary.now screen.now
         (W.contents out.old) (W.contents out.new)) }
-    ensures err { IfErr result (λ why. AuditFails options.entry primary.now screen.now why
+    ensures err { IfErr result (λ why. AuditFails options.now primary.now screen.now why
         (W.contents out.old) (W.contents out.new)) }
     ensures write { IsErrOf result Fault.Write
         → HasFailed (W.failures out.old) (W.failures out.new) }

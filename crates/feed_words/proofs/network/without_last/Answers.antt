@@ -1,4 +1,4 @@
-use Rattle.std.proofs.Common.{◌≡◌, ◌∙◌}
+use Rattle.std.proofs.Common.{◌∙◌}
 use Rattle.feed_words.proofs.NetworkLemmas.{last_bits}
 use Rattle.feed_words.proofs.network.without_last.Goals as goal
 
