@@ -5,6 +5,7 @@ ghost use Rattle.feed_node.specs.Mirroring.{MirrorState};
 ghost use Rattle.feed_follow.specs.Following.{Fails};
 ghost use Rattle.feed_follow.specs.Standing.{Standing};
 ghost use Rattle.feed_hub.specs.Upstream.{IsFollowing, IsPushed};
+ghost use Rattle.feed_live.specs.Upstream.{wants_memory};
 
 use crate::figures::Following;
 use crate::screens::Screens;
@@ -12,6 +13,7 @@ use crate::source::{Reach, Source};
 use crate::told::Telling;
 use feed_device::{Link, Stop, Told, Why};
 use feed_follow::{FollowFault, Progress};
+use feed_node::FeedFault;
 use memchr::memchr;
 use std::alloc::{AllocError, Global};
 use std::mem;
@@ -200,11 +202,11 @@ impl Source {
                 self.refused(link, told, now);
                 None
             }
-            Err(FollowFault::Memory) => {
-                self.lost(link, told, Why::Memory, now);
-                None
-            }
             Err(fault) => {
+                if is_want_of_memory(fault) {
+                    self.lost(link, told, Why::Memory, now);
+                    return None;
+                }
                 self.say(alloc, told, screens, now);
                 self.settle_ended(alloc, link, told, screens, next.len(), now);
                 self.lost(link, told, Why::Fault(fault), now);
@@ -297,6 +299,17 @@ impl Source {
         ensures serves { StillServes self.old.answers.shown.mirror.node screens.old screens.new }
     {
         screens.relay(alloc, self.answers.shown.node(), now);
+    }
+}
+
+/// Whether memory ran out, and nothing is wrong with what came.
+fn is_want_of_memory(fault: FollowFault) -> bool
+    ensures { result ≡ wants_memory fault }
+{
+    match fault {
+        FollowFault::Memory => true,
+        FollowFault::Feed(fault) => fault == FeedFault::Memory,
+        _ => false,
     }
 }
 

@@ -1,4 +1,5 @@
 use Rattle.feed_live.proofs.TellingLemmas.{meaning_tells, told_is_honest, telling_is_honest, feed_is_honest}
+use Rattle.feed_live.proofs.ReplayLemmas.{replay_is_honest}
 use Rattle.feed_live.proofs.TokenedLemmas.{tokened_is_honest}
 use Rattle.feed_live.proofs.laws.foreign_laws.Goals as goal
 
@@ -18,3 +19,6 @@ returns-clause-tokened c =
 
 pub returns-clause-feeds : goal.returns-clause-feeds
 returns-clause-feeds c = feed_is_honest c.carry_laws.ensures c.telling_laws.ensures
+
+pub returns-clause-replays : goal.returns-clause-replays
+returns-clause-replays c = replay_is_honest c.follow_laws.ensures c.carry_laws.ensures c.reading_laws.ensures.one
