@@ -10,3 +10,4 @@ pub mod TellingLemmas
 pub mod TokenedLemmas
 pub mod ReplayLemmas
 pub mod TokenedExample
+pub mod ReplayExample

@@ -1,7 +1,6 @@
 -- A replay that came whole ends at a state of the log, whatever it went through.
-use Rattle.std.proofs.Common.{◌≡◌, ◌⊎◌, inl, inr, refl, sym, ap, ◌∙◌, subst, ℕ, suc, arith, false, true≢false, List, [], ◌∷◌, ◌++◌, append-nil, length, length-append, is_some}
+use Rattle.std.proofs.Common.{◌≡◌, ◌⊎◌, inl, inr, refl, sym, ap, ◌∙◌, subst, ℕ, arith, false, true≢false, List, [], ◌∷◌, ◌++◌, append-nil, length, length-append, is_some}
 use Rattle.feed_settings.specs.Limits.{Limits}
-use Rattle.feed_note.specs.declared.line.Line.{Line}
 use Rattle.feed_node.specs.declared.fault.FeedFault.{FeedFault}
 use Rattle.feed_node.specs.declared.fault.FeedFault.TheVariants.{NotOpen, LongLine, Line as BadLine, StageFull, Memory}
 use Rattle.feed_node.specs.Mirroring.{MirrorState, present_opening}
@@ -15,7 +14,6 @@ use Rattle.feed_follow.specs.Heads.{BeginsWithResponse}
 use Rattle.feed_follow.specs.Laws.{StandsOnce}
 use Rattle.feed_follow.specs.Standing.{Standing, in_head, token_refused, in_body, done, failed, Stands, StandsBehind}
 use Rattle.feed_world.specs.Log.{Log}
-use Rattle.feed_device.specs.Links.{once_at}
 use Rattle.feed_live.proofs.StateLemmas.{of_log}
 use Rattle.feed_live.specs.Telling.{Replays, ReplayIsHonest}
 use Rattle.feed_live.specs.Upstream.{AsksInLog, IsOfLog, wants_memory, EndsInLog, IsHonestAs}
