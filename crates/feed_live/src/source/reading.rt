@@ -11,7 +11,7 @@ use crate::figures::Following;
 use crate::screens::Screens;
 use crate::source::{Reach, Source};
 use crate::told::Telling;
-use feed_device::{Link, Stop, Told, Why};
+use feed_device::{Excerpt, Link, Stop, Told, Why};
 use feed_follow::{FollowFault, Progress};
 use feed_node::FeedFault;
 use memchr::memchr;
@@ -258,6 +258,7 @@ impl Source {
             return;
         }
         self.body_since = Some(now);
+        self.has_told_twice = false;
         if !self.is_fresh {
             self.upstream.held();
             self.settling.go_on();
@@ -276,6 +277,7 @@ impl Source {
         ensures same { SameSource self.old self.new }
         ensures serves { StillServes self.old.answers.shown.mirror.node screens.old screens.new }
     {
+        self.tell_twice(told);
         if self.coming.is_some() {
             self.compare(alloc, told);
             return;
@@ -291,6 +293,30 @@ impl Source {
             self.upstream.published();
             self.returning.publish(now);
         }
+    }
+
+    /// Tells of the first time on a connection that it gives one token to two states.
+    pub(crate) fn tell_twice(&mut self, told: &mut Telling)
+        ensures { SameSource self.old self.new }
+    {
+        if self.has_told_twice {
+            return;
+        }
+        let mirror = match &self.coming {
+            Some(coming) => coming,
+            None => self.answers.shown.mirror(),
+        };
+        let Some(token) = mirror.given_twice() else {
+            return;
+        };
+        let server = if self.places.is_empty() {
+            None
+        } else {
+            Some(self.upstream.place())
+        };
+        let token = Excerpt::of(token.text());
+        told.tell(Told::GivenTwice { server, token });
+        self.has_told_twice = true;
     }
 
     /// Says what had to wait.
