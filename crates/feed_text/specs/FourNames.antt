@@ -42,23 +42,38 @@ IsPlainFor key.Other value = ⊤
 -- the same values, but for that of the key
 abbrev pub with_value : Key → items.Item → Bool → NamedMembers → NamedMembers
 with_value key.Kind value plain m = record {
-  kind = Some value; id = m.id; content = m.content; token = m.token;
+  kind = Some value;
+  id = m.id;
+  content = m.content;
+  token = m.token;
   are_plain = m.are_plain && plain;
 }
 with_value key.Id value plain m = record {
-  kind = m.kind; id = Some value; content = m.content; token = m.token;
+  kind = m.kind;
+  id = Some value;
+  content = m.content;
+  token = m.token;
   are_plain = m.are_plain && plain;
 }
 with_value key.Content value plain m = record {
-  kind = m.kind; id = m.id; content = Some value; token = m.token;
+  kind = m.kind;
+  id = m.id;
+  content = Some value;
+  token = m.token;
   are_plain = m.are_plain && plain;
 }
 with_value key.Token value plain m = record {
-  kind = m.kind; id = m.id; content = m.content; token = Some value;
+  kind = m.kind;
+  id = m.id;
+  content = m.content;
+  token = Some value;
   are_plain = m.are_plain && plain;
 }
 with_value key.Other value plain m = record {
-  kind = m.kind; id = m.id; content = m.content; token = m.token;
+  kind = m.kind;
+  id = m.id;
+  content = m.content;
+  token = m.token;
   are_plain = m.are_plain && plain;
 }
 

@@ -4,7 +4,6 @@
 //! orders, with others among them. One pass over the line keeps the value of the last of each name
 //! as a slice, and takes no memory.
 
-
 ghost use Rattle.std.specs.Prelude.{◌≡◌, ℕ, [], IfSome, IsTrue, Some, option_map};
 ghost use Rattle.feed_text.specs.Members.{item_view, ArePlain, AreLastValues, AreSpeltValues, IsPlainString};
 ghost use Rattle.feed_text.specs.FourNames.{IsKeyAt, IsNamed, IsPlainFor, with_value, PlainIfSaid, TakesMember, TakesAll, LineTakes};
