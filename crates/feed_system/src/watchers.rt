@@ -43,6 +43,8 @@ struct Watcher {
     sent: usize,
     until: u64,
     is_ready: bool,
+    // How many came before it.
+    number: u64,
 }
 
 /// How soon a connection gives way to one that waits.
@@ -153,6 +155,8 @@ pub(crate) struct Watchers {
     guard: Guard,
     is_waited_for: bool,
     watchers: Slab<Watcher>,
+    // How many connections came.
+    came: u64,
 }
 
 impl Watchers {
@@ -168,6 +172,7 @@ impl Watchers {
             guard,
             is_waited_for: false,
             watchers: Slab::new(alloc),
+            came: 0,
         }
     }
 
@@ -218,9 +223,9 @@ impl Watchers {
         let mut oldest: Option<(u64, usize)> = None;
         for at in 0..MOST_WATCHERS {
             if let Some(watcher) = self.watchers.get(at) {
-                let is_older = oldest.is_none_or(|(until, _)| watcher.until < until);
+                let is_older = oldest.is_none_or(|(number, _)| watcher.number < number);
                 if watcher.claim() == claim && is_older {
-                    oldest = Some((watcher.until, at));
+                    oldest = Some((watcher.number, at));
                 }
             }
         }
@@ -316,7 +321,9 @@ impl Watchers {
             sent: 0,
             until: now.saturating_add(TIME),
             is_ready: true,
+            number: self.came,
         };
+        self.came = self.came.saturating_add(1);
         self.registry
             .register(&mut watcher.stream, token, interests)
             .ok()?;
