@@ -16,8 +16,8 @@ use crate::source::returning::Returning;
 use crate::source::settling::{Settling, begin_shown, followed_of};
 use crate::told::Telling;
 use feed_answer::{Identity, Place, request_text_as};
-use feed_device::{Link, Stop, Told, Why};
-use feed_hub::{Answering, Upstream};
+use feed_device::{Excerpt, Link, Stop, Told, Why};
+use feed_hub::{Answering, FIRST_PAUSE, Upstream};
 use feed_node::{Mirror, Node};
 use feed_tables::Name;
 use std::alloc::{AllocError, Global};
@@ -58,6 +58,8 @@ pub(crate) struct Source {
     /// The first line of the body that came afresh last; and whether no line of this one came yet.
     replayed: Vec<u8>,
     is_at_start: bool,
+    /// Where the head of the response says that the feed is.
+    location: Option<Excerpt>,
     reach: Reach,
     request: Vec<u8>,
     /// When the connection was begun.
@@ -103,8 +105,7 @@ impl Source {
         ensures rest { result.rest.items ≡ [] }
     {
         // A relay without a state has nothing old to show, nor has one whose feed is the input.
-        let is_heard = mirror.node().token().is_none() || places.is_empty();
-        let is_strange = limits.is_fresh && places.len() > 1;
+        let has_nothing = mirror.node().token().is_none() || places.is_empty();
         Source {
             upstream: Upstream::new(places.len().max(1), now),
             places,
@@ -114,16 +115,17 @@ impl Source {
                 blank: Answering::new(blank, limits.framing),
             },
             coming: None,
-            settling: Settling::new(limits.settle, limits.is_fresh, is_strange),
+            settling: Settling::new(limits.settle, limits.is_fresh, limits.are_strange),
             ended: None,
             replayed: Vec::new(alloc),
             is_at_start: true,
+            location: None,
             reach: Reach::Away,
             request: Vec::new(alloc),
             opened: now,
             body_since: None,
-            returning: Returning::new(now),
-            is_heard,
+            returning: Returning::new(limits.return_after, now),
+            is_heard: has_nothing || limits.serves_old,
             away_since: now,
             is_fresh: false,
             epoch: 0,
@@ -318,8 +320,8 @@ impl Source {
                 return;
             }
         };
-        if link.connect(self.upstream.place()).is_err() {
-            self.lost(link, told, Why::Refuses, now);
+        if let Err(why) = link.connect(self.upstream.place()) {
+            self.lost(link, told, why, now);
             return;
         }
         self.request = request;
@@ -334,6 +336,7 @@ impl Source {
         self.figures.ask(self.upstream.place(), now);
         self.opened = now;
         self.is_at_start = true;
+        self.location = None;
         self.reach = Reach::Connects(now);
     }
 
@@ -365,6 +368,9 @@ impl Source {
         self.figures.lose(now);
         self.upstream.lost(self.answers.shown.change(), now);
         let pause = self.upstream.due(0).saturating_sub(now);
+        if pause >= FIRST_PAUSE {
+            link.forget_addresses();
+        }
         told.tell_if(is_told, Told::Lost { server, why, pause });
     }
 

@@ -3,6 +3,7 @@
 #![tactic(auto)]
 
 mod guard;
+mod hosts;
 mod link;
 mod opening;
 mod sockets;
@@ -12,8 +13,9 @@ mod system;
 mod telling;
 mod watchers;
 
+pub use hosts::{Host, without_brackets};
 pub use link::Servers;
-pub use opening::{OpenFault, open, without_brackets};
+pub use opening::{OpenFault, open};
 pub use sockets::Port;
 pub use store::{Files, Names, read_file};
 pub use system::System;

@@ -8,15 +8,16 @@ use crate::told::Telling;
 use feed_device::{Link, Told};
 use std::mem;
 
-/// After so many milliseconds in which nothing was published, another server is asked.
-const RETURN_TIME: u64 = 30_000;
-
-/// How long each of those has then that are asked in turn, in milliseconds.
+/// How long each of those has that are asked in turn, in milliseconds, or as long as the one before
+/// them where that is less.
 const TURN_TIME: u64 = 10_000;
 
 /// When something was published last, and how often a server was left since then that had nothing.
 #[derive(Clone, Copy)]
 pub(crate) struct Returning {
+    /// After so many milliseconds in which nothing was published another server is asked; never
+    /// where it is zero.
+    after: u64,
     published: u64,
     turns: usize,
     /// Whether it was told that one was left so.
@@ -24,8 +25,9 @@ pub(crate) struct Returning {
 }
 
 impl Returning {
-    pub(crate) fn new(now: u64) -> Returning {
+    pub(crate) fn new(after: u64, now: u64) -> Returning {
         Returning {
+            after,
             published: now,
             turns: 0,
             was_told: false,
@@ -72,10 +74,13 @@ impl Source {
         if self.places.len() < 2 || self.has_more || !self.rest.is_empty() {
             return None;
         }
+        if self.returning.after == 0 {
+            return None;
+        }
         let time = if self.returning.has_turned() && !had_turns {
-            TURN_TIME
+            TURN_TIME.min(self.returning.after)
         } else {
-            RETURN_TIME
+            self.returning.after
         };
         Some(since.max(self.returning.published).saturating_add(time))
     }
@@ -97,7 +102,7 @@ impl Source {
             is_told,
             Told::Quiet {
                 server,
-                time: RETURN_TIME,
+                time: self.returning.after,
             },
         );
         self.leave(link, now);
