@@ -398,6 +398,7 @@ impl Source {
         ensures exchanges { L.exchanges link.new ≡ L.exchanges link.old }
         ensures servers { servers_of self.new ≡ servers_of self.old }
         ensures answers { self.new.answers ≡ self.old.answers }
+        ensures upstream { self.new.upstream ≡ self.old.upstream }
         ensures away { self.new.reach ≡ Away }
     {
         link.close();

@@ -2,6 +2,8 @@
 //! relay that follows this one. So the others are asked in turn with our token: whoever has something
 //! new is followed then. That costs screens nothing. Where nobody has, it ends at the first one.
 
+ghost use Rattle.std.specs.Prelude.{◌≡◌};
+
 use crate::figures::Following;
 use crate::source::{Reach, Source};
 use crate::told::Telling;
@@ -61,6 +63,7 @@ impl Returning {
 
 impl Source {
     ghost use Rattle.feed_live.specs.Relaying.{IsLeft};
+    ghost use Rattle.feed_hub.specs.Upstream.{next_place};
 
     /// When a server is left that has nothing new, where there are others. Once each had its turn
     /// since something was published, the first one stays.
@@ -92,9 +95,16 @@ impl Source {
         }
     }
 
-    /// The server is left, and the next one is asked.
+    /// The server is left, and the next one is asked at once. It did not fail: the pauses stay as they
+    /// are, and so does what is counted of failures.
     pub(crate) fn turn<L: Link>(&mut self, link: &mut L, told: &mut Telling, now: u64)
         ensures left { IsLeft self.old self.new (L.exchanges link.old) (L.exchanges link.new) }
+        ensures next { self.new.upstream.place
+            ≡ next_place self.old.upstream.place self.old.upstream.places }
+        ensures at_once { self.new.upstream.since ≡ now }
+        ensures pause { self.new.upstream.pause ≡ self.old.upstream.pause }
+        ensures counts { (self.new.upstream.failed ≡ self.old.upstream.failed)
+            × (self.new.upstream.refused ≡ self.old.upstream.refused) }
     {
         let server = self.upstream.place();
         let is_told = self.returning.turn();
@@ -107,8 +117,7 @@ impl Source {
         );
         self.leave(link, now);
         self.figures.change(Following::Away, now);
-        let next = server.saturating_add(1);
         self.upstream
-            .turn_to(next, self.answers.shown.change(), now);
+            .turn_to(server + 1, self.answers.shown.change(), now);
     }
 }
