@@ -320,8 +320,9 @@ impl Source {
                 return;
             }
         };
-        if let Err(why) = link.connect(self.upstream.place()) {
-            self.lost(link, told, why, now);
+        let begun = link.connect(self.upstream.place());
+        if begun.is_err() {
+            self.lost(link, told, why_not(begun), now);
             return;
         }
         self.request = request;
@@ -368,9 +369,7 @@ impl Source {
         self.figures.lose(now);
         self.upstream.lost(self.answers.shown.change(), now);
         let pause = self.upstream.due(0).saturating_sub(now);
-        if pause >= FIRST_PAUSE {
-            link.forget_addresses();
-        }
+        forget_after(link, pause);
         told.tell_if(is_told, Told::Lost { server, why, pause });
     }
 
@@ -485,6 +484,24 @@ impl Source {
                 false
             }
         }
+    }
+}
+
+/// Why no connection was begun, where none was.
+fn why_not(begun: Result<(), Why>) -> Why {
+    match begun {
+        Ok(()) => Why::Refuses,
+        Err(why) => why,
+    }
+}
+
+/// Each server failed where the next one is asked after so long a pause: the addresses of names are
+/// asked for again then.
+fn forget_after<L: Link>(link: &mut L, pause: u64)
+    ensures { L.exchanges link.new ≡ L.exchanges link.old }
+{
+    if pause >= FIRST_PAUSE {
+        link.forget_addresses();
     }
 }
 

@@ -2,7 +2,7 @@
 //! relay that follows this one. So the others are asked in turn with our token: whoever has something
 //! new is followed then. That costs screens nothing. Where nobody has, it ends at the first one.
 
-ghost use Rattle.std.specs.Prelude.{◌≡◌};
+ghost use Rattle.std.specs.Prelude.{◌≡◌, ◌+◌, ◌%◌, min};
 
 use crate::figures::Following;
 use crate::source::{Reach, Source};
@@ -63,7 +63,6 @@ impl Returning {
 
 impl Source {
     ghost use Rattle.feed_live.specs.Relaying.{IsLeft};
-    ghost use Rattle.feed_hub.specs.Upstream.{next_place};
 
     /// When a server is left that has nothing new, where there are others. Once each had its turn
     /// since something was published, the first one stays.
@@ -100,7 +99,7 @@ impl Source {
     pub(crate) fn turn<L: Link>(&mut self, link: &mut L, told: &mut Telling, now: u64)
         ensures left { IsLeft self.old self.new (L.exchanges link.old) (L.exchanges link.new) }
         ensures next { self.new.upstream.place
-            ≡ next_place self.old.upstream.place self.old.upstream.places }
+            ≡ min (self.old.upstream.place + 1) u64.MAX % self.old.upstream.places }
         ensures at_once { self.new.upstream.since ≡ now }
         ensures pause { self.new.upstream.pause ≡ self.old.upstream.pause }
         ensures counts { (self.new.upstream.failed ≡ self.old.upstream.failed)
@@ -118,6 +117,6 @@ impl Source {
         self.leave(link, now);
         self.figures.change(Following::Away, now);
         self.upstream
-            .turn_to(server + 1, self.answers.shown.change(), now);
+            .turn_to(server.saturating_add(1), self.answers.shown.change(), now);
     }
 }
