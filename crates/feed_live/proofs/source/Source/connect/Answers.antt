@@ -14,7 +14,7 @@ pub returns-then-is_err : goal.returns-then-is_err
 returns-then-is_err g c =
     let failed = fails_so c.connect-begun.result _ _ c.place.result (sym c.is_err.ensures.value ∙ c.if-is_err.true) c.connect-begun.ensures.begins in
     record {
-      follows = left_still (subst (λ e. IsLeft c.args.self.now c.lost.new.self e (g.L.Link.exchanges c.lost.new.link)) failed c.lost.ensures.left);
+      follows = left_still (subst (λ e. IsLeft c.args.self.now c.lost-then-is_err.new.self e (g.L.Link.exchanges c.lost-then-is_err.new.link)) failed c.lost-then-is_err.ensures.left);
     }
 
 pub returns : goal.returns
