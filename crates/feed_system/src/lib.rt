@@ -5,6 +5,7 @@
 mod guard;
 mod link;
 mod opening;
+mod process;
 mod sockets;
 mod standard;
 mod store;
@@ -14,6 +15,7 @@ mod watchers;
 
 pub use link::Servers;
 pub use opening::{OpenFault, open, without_brackets};
+pub use process::{process, since_1970};
 pub use sockets::Port;
 pub use store::{Files, Names, read_file};
 pub use system::System;

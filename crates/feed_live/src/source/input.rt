@@ -136,8 +136,9 @@ impl Source {
         ensures rest { self.new.rest.items ≡ self.old.rest.items }
     {
         self.answers.shown.change().feed(alloc, line)?;
+        self.figures.stage(line, now);
         if screens.relay(alloc, self.answers.shown.node(), now) {
-            self.figures.publish();
+            self.figures.publish(now);
         }
         Ok(())
     }
