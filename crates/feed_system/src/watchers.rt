@@ -265,17 +265,17 @@ impl Watchers {
                 let _ = self.watchers.try_remove(at);
             }
         }
-        self.accept(alloc, status, now);
+        self.accept(alloc, relay, now);
     }
 
     /// Takes who waits, as many as a turn may. Where nobody gives way, they wait until a place is
     /// free.
-    fn accept(&mut self, alloc: Global, status: &Status<'_>, now: u64) {
+    fn accept<W: Watch>(&mut self, alloc: Global, relay: &W, now: u64) {
         for _ in 0..ACCEPTS {
             if !self.is_waited_for || !self.has_room() {
                 return;
             }
-            if self.accept_one(alloc, status, now).is_none() {
+            if self.accept_one(alloc, relay, now).is_none() {
                 self.is_waited_for = false;
             }
         }
@@ -283,13 +283,13 @@ impl Watchers {
 
     /// Takes one, and closes it where it may not connect; none where nobody waits, or it can't be
     /// taken.
-    fn accept_one(&mut self, alloc: Global, status: &Status<'_>, now: u64) -> Option<()> {
+    fn accept_one<W: Watch>(&mut self, alloc: Global, relay: &W, now: u64) -> Option<()> {
         let (stream, peer) = self.listener.as_ref()?.accept().ok()?;
         if !self.guard.lets_in(Origin::of(peer.ip()), 0) {
             return Some(());
         }
         self.make_room();
-        self.seat(alloc, stream, status, now)
+        self.seat(alloc, stream, relay, now)
     }
 
     /// Closes who gives way, where no place is free.
@@ -304,11 +304,11 @@ impl Watchers {
 
     /// Gives a connection a place, and reads what it has sent: who sent a request doesn't give way
     /// as one that sent nothing.
-    fn seat(
+    fn seat<W: Watch>(
         &mut self,
         alloc: Global,
         stream: TcpStream,
-        status: &Status<'_>,
+        relay: &W,
         now: u64,
     ) -> Option<()> {
         let at = self.watchers.vacant_key();
@@ -327,7 +327,7 @@ impl Watchers {
         self.registry
             .register(&mut watcher.stream, token, interests)
             .ok()?;
-        if watcher.go_on(alloc, status) {
+        if watcher.go_on(alloc, relay) {
             self.watchers.insert(watcher).ok()?;
         }
         Some(())
