@@ -155,7 +155,7 @@ pub struct FeedFigures {
     pub waiting: u64,
     pub waiting_since: u64,
     /// Whether it was told of this connection that they wait for long.
-    is_warned: bool,
+    pub(crate) is_warned: bool,
 }
 
 impl FeedFigures {
