@@ -114,7 +114,7 @@ fn text_of_coming(alloc: Global, told: &Told, servers: &Servers<'_>) -> Result<S
             changes,
             time,
         } => {
-            let name = name_of(alloc, servers, server)?;
+            let name = servers.name(alloc, server)?;
             let seconds = time / 1_000;
             format!(in alloc;
                 "upstream {name}: no token so far; {changes} changes wait for one for {seconds} s"
