@@ -132,6 +132,12 @@ pub enum Told {
         kind: Excerpt,
         id: Excerpt,
     },
+    /// A feed gives one token to two states: what came with it again is dropped. The input is no
+    /// server.
+    GivenTwice {
+        server: Option<usize>,
+        token: Excerpt,
+    },
     /// What a server sent when it was asked for everything has settled, so long after its first
     /// byte: it is shown now.
     Settled {

@@ -8,4 +8,6 @@ pub mod HonestLemmas
 pub mod InputLemmas
 pub mod TellingLemmas
 pub mod TokenedLemmas
+pub mod ReplayLemmas
 pub mod TokenedExample
+pub mod ReplayExample

@@ -31,8 +31,8 @@ use Rattle.feed_live.specs.declared.source.Source.{Source}
 use Rattle.feed_live.specs.Relaying.{servers_of, IsShownSo, Follows, MayFollow, MayShow, FollowsLog, IsToShow, Shows, SameSource, IsKeeping, IsLeft, KeepsShown, PushesOnly, IsNowShown, ShowsAlone, followed, followed_by}
 use Rattle.feed_live.specs.Serving.{Serving}
 use Rattle.feed_live.specs.States.{states_of}
-use Rattle.feed_live.specs.Upstream.{AsksInLog, Servers, IsRequestOf, IsOfLog, StaysInLog, EndsInLog, IsHonestAs, IsHonest, AreKnownHonest}
-use Rattle.feed_live.proofs.StateLemmas.{among_states, of_log}
+use Rattle.feed_live.specs.Upstream.{AsksInLog, Servers, IsRequestOf, IsOfLog, wants_memory, StaysInLog, EndsInLog, IsHonestAs, IsHonest, AreKnownHonest}
+use Rattle.feed_live.proofs.StateLemmas.{among_states, of_log, has_read, has_read_all}
 
 -- what holds where it is no error
 pub where_ok : {A E P : Type 0} (result : Result A E) → is_err result ≡ false → OnOk result P → P
@@ -508,7 +508,7 @@ module _ (limits : Limits) (log : Log) (servers : Servers) where
   failed_at request line next exchanges (Some follower) before after fault fail honest follows shown =
       let failed = fail follows.start follows.bytes follows.standing follows.follows in
       let st = stays_in_log request (line ++ next) exchanges follower before shown honest follows in
-      st.stays.fails follows.bytes line next after fault (append_assoc follows.bytes line next) (longer st.least follows.bytes line st.within)
+      st.stays.fails follows.bytes line next after fault (append_assoc follows.bytes line next) (has_read st.least follows.bytes line fault st.within)
       (subst (λ had. Fails follows.start had follows.bytes line after fault) failed.1 failed.2)
 
   -- ---- whole states: what is shown and what is followed, as long as all was honest
@@ -702,13 +702,13 @@ module _ (limits : Limits) (log : Log) (servers : Servers) where
       ends here end = end.shows here.bytes unread here.standing follower mirror (sym here.received) refl here.follows
 
   -- so may what failed: what the good lines before that published
-  pub failed_may_show : (is_shown : Bool) (reach : Reach) (request line next : List ℕ) (exchanges : Exchanges) (old : Option FollowerState) (before after : MirrorState) (fault : FollowFault) → reach ≡ Reads
+  pub failed_may_show : (is_shown : Bool) (reach : Reach) (request line next : List ℕ) (exchanges : Exchanges) (old : Option FollowerState) (before after : MirrorState) (fault : FollowFault) → wants_memory fault ≡ false → reach ≡ Reads
       → after.limits ≡ before.limits
       → ((start : MirrorState) (bytes : List ℕ) (standing : Standing) → IsFollowing start bytes standing old before
       → (had_token : Bool) × (had_token ≡ is_some start.since) × Fails start had_token bytes line after fault)
       → (AreKnownHonest limits log servers exchanges → MayFollow limits log servers is_shown reach request (line ++ next) exchanges old before)
       → MayShow limits log servers (length next) exchanges after
-  failed_may_show is_shown reach request line next exchanges None before after fault reads same fail follows =
+  failed_may_show is_shown reach request line next exchanges None before after fault bytes_fail reads same fail follows =
       record {
         once = λ honest. absurd (no_away (sym reads ∙ follows (shown_so_honest once_at (length next) exchanges _ refl honest)));
         all = λ honest. absurd (no_away (sym reads ∙ follows (shown_so_honest all_from (length next) exchanges _ refl honest)));
@@ -716,7 +716,7 @@ module _ (limits : Limits) (log : Log) (servers : Servers) where
     where
       no_away : Reads ≡ Away → ⊥
       no_away e = cc
-  failed_may_show is_shown reach request line next exchanges (Some follower) before after fault reads same fail follows =
+  failed_may_show is_shown reach request line next exchanges (Some follower) before after fault bytes_fail reads same fail follows =
       record {
         once = λ honest.
             let here = read (follows (shown_so_honest once_at (length next) exchanges _ refl honest)) in (
@@ -745,10 +745,10 @@ module _ (limits : Limits) (log : Log) (servers : Servers) where
       failed here = let f = fail here.start here.bytes here.standing here.follows in subst (λ had. Fails here.start had here.bytes line after fault) f.1 f.2
 
       shows : (here : Follows limits log servers is_shown Reads request (line ++ next) exchanges follower before) (least : ℕ) → least ≤ length (here.bytes ++ line) → StaysInLog limits log here.start least here.latest.received → IsInLog limits log after.node
-      shows here least within stays = stays.fails here.bytes line next after fault (sym (came here)) within (failed here)
+      shows here least within stays = stays.fails here.bytes line next after fault (sym (came here)) (has_read_all least here.bytes line fault bytes_fail within) (failed here)
 
       ends : (here : Follows limits log servers is_shown Reads request (line ++ next) exchanges follower before) → EndsInLog log here.start (length (here.bytes ++ line)) here.latest.received → IsOfLog log after.node.published
-      ends here end = end.fails here.bytes line next after fault (sym (came here)) refl (failed here)
+      ends here end = end.fails here.bytes line next after fault (sym (came here)) refl bytes_fail (failed here)
 
   now_shown : (is_shown : Bool) (shown : Shown) (bytes unread received : List ℕ) → received ≡ bytes ++ unread → IsShownSo is_shown shown (length bytes)
       → IsShownSo true (shown_first shown (all_from (length received - length unread))) (length bytes)

@@ -1,16 +1,17 @@
 -- The states of a log are all that nodes at its places show, and nothing else.
-use Rattle.std.proofs.Common.{◌≡◌, ◌≢◌, refl, sym, subst, ℕ, zero, suc, ◌+◌, ◌-◌, ◌≤◌, ◌⊎◌, inl, inr, arith, List, [], ◌∷◌, length, Some, None}
-use Rattle.std.specs.Prelude.{Contains}
+use Rattle.std.proofs.Common.{◌≡◌, ◌≢◌, refl, sym, subst, ℕ, zero, suc, ◌+◌, ◌-◌, ◌≤◌, ◌⊎◌, inl, inr, arith, List, [], ◌∷◌, ◌++◌, length, length-append, Some, None}
+use Rattle.std.specs.Prelude.{Bool, true, false, if◌then◌else◌, Contains}
 use Rattle.std.proofs.lemmas.List.Elements.{Contains-append_left, Contains-append_right, Contains-append_cases, Contains-push, Contains-push_cases}
 use Rattle.feed_settings.specs.Limits.{Limits}
 use Rattle.feed_node.specs.States.{NodeState, nothing_published}
+use Rattle.feed_follow.specs.declared.fault.FollowFault.{FollowFault}
 use Rattle.feed_world.specs.Log.{Log}
 use Rattle.feed_world.specs.Position.{Position, node_at}
 use Rattle.feed_hub.specs.Laws.{IsInLog, AreInLog}
 use Rattle.feed_node.specs.Mirroring.{MirrorState}
 use Rattle.feed_device.specs.Links.{Shown, nothing_shown, once_at, all_from}
 use Rattle.feed_live.specs.States.{states_at, states_to, states_of}
-use Rattle.feed_live.specs.Upstream.{IsOfLog, StaysInLog, IsHonestAs}
+use Rattle.feed_live.specs.Upstream.{IsOfLog, wants_memory, surely_read, StaysInLog, IsHonestAs}
 use Rattle.feed_live.proofs.ServingLemmas.{number_tells}
 
 -- ---- lists
@@ -127,16 +128,28 @@ pub of_log : (limits : Limits) (log : Log) (node : NodeState) → IsInLog limits
 of_log limits log node (None, is_place, is) = subst (λ n. IsOfLog log n.published) (sym is) tt
 of_log limits log node (Some p, is_place, is) = subst (λ n. IsOfLog log n.published) (sym is) (p.at, is_place.in_log, refl)
 
+-- what has come is read, whatever fails behind it
+pub has_read : (least : ℕ) (before piece : List ℕ) (fault : FollowFault) → least ≤ length before → least ≤ length (surely_read before piece fault)
+has_read least before piece fault le = by (wants_memory fault)
+  where
+    by : (wants : Bool) → least ≤ length (if wants then before else before ++ piece)
+    by true = le
+    by false = let e = length-append before piece in omega (arith, e, le)
+
+-- so is the piece, where memory doesn't run out
+pub has_read_all : (least : ℕ) (before piece : List ℕ) (fault : FollowFault) → wants_memory fault ≡ false → least ≤ length (before ++ piece) → least ≤ length (surely_read before piece fault)
+has_read_all least before piece fault there le = subst (λ wants. least ≤ length (if wants then before else before ++ piece)) (sym there) le
+
 -- a response that keeps a mirror in the log is honest, however much of it is shown
 pub honest_however : {limits : Limits} {log : Log} {begun : MirrorState} {received : List ℕ} (shown : Shown) → StaysInLog limits log begun 0 received → IsHonestAs limits log begun shown received
 honest_however nothing_shown stays = tt
 honest_however {limits} {log} (once_at count) stays =
     record {
       shows = λ before behind standing follower mirror is long at. of_log limits log mirror.node (stays.shows before behind standing follower mirror is (omega arith) at);
-      fails = λ before piece behind mirror fault is long failed. of_log limits log mirror.node (stays.fails before piece behind mirror fault is (omega arith) failed);
+      fails = λ before piece behind mirror fault is long of_bytes failed. of_log limits log mirror.node (stays.fails before piece behind mirror fault is (has_read 0 before piece fault (omega arith)) failed);
     }
 honest_however (all_from least) stays =
     record {
       shows = λ before behind standing follower mirror is long at. stays.shows before behind standing follower mirror is (omega arith) at;
-      fails = λ before piece behind mirror fault is long failed. stays.fails before piece behind mirror fault is (omega arith) failed;
+      fails = λ before piece behind mirror fault is long failed. stays.fails before piece behind mirror fault is (has_read 0 before piece fault (omega arith)) failed;
     }

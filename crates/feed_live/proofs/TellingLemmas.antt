@@ -33,7 +33,7 @@ onto_more b true ls ms more e = (more, ap (λ l. [] ∷ l) e)
 onto_more b false [] ms more e = (onto_first b ms, refl)
 onto_more b false (l ∷ ls) ms more e = (more, ap (onto_first b) e)
 
-lines_begin : (x y : List ℕ) → (more : List (List ℕ)) × (lines x ++ more ≡ lines (x ++ y))
+pub lines_begin : (x y : List ℕ) → (more : List (List ℕ)) × (lines x ++ more ≡ lines (x ++ y))
 unfolding lines
 lines_begin [] y = (lines y, refl)
 lines_begin (b ∷ x) y = let later = lines_begin x y in onto_more b (is_line_feed b) (lines x) (lines (x ++ y)) later.0 later.1

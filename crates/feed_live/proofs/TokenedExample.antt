@@ -2,30 +2,15 @@
 use Rattle.std.proofs.Common.{◌≡◌, ◌≢◌, refl, sym, ap, subst, ℕ, zero, suc, ◌≤◌, Bool, true, false, true≢false, ◌&&◌, nat_lt, ltb-true, arith, List, [], ◌∷◌, length}
 use Rattle.std.specs.Prelude.{codes, AllPairs, IsAscii}
 use Rattle.std.proofs.lemmas.Str.{IsUtf8-from_ascii}
-use Rattle.feed_settings.specs.Limits.{Limits}
 use Rattle.feed_text.specs.Strings.{written_string}
-use Rattle.feed_text.specs.Objects.{IsObjectText}
-use Rattle.feed_tables.specs.declared.change.Change.{Change}
-use Rattle.feed_tables.specs.declared.change.Change.TheVariants.{Set}
 use Rattle.feed_tables.specs.Changes.{IsChange}
 use Rattle.feed_tables.specs.Names.{IsName}
 use Rattle.feed_node.specs.Mirroring.{new_mirror}
-use Rattle.feed_live.specs.Upstream.{IsHonestInput}
+use Rattle.feed_live.specs.Examples.{text, one, other, TheirFeedIsHonest}
 use Rattle.feed_live.specs.Telling.{tokened_text, tokened_log, TokenedIsHonest}
+use Rattle.feed_live.specs.Upstream.{IsHonestInput}
 
-abbrev object : List ℕ
-object = codes "{\"id\":\"1\"}"
-
-abbrev one : Change × List ℕ
-one = (Set (codes "teams") (codes "1") object, codes "cds7")
-
-abbrev other : Change × List ℕ
-other = (Set (codes "teams") (codes "1") object, codes "cds1495")
-
-abbrev text : List ℕ
-text = codes "{\"type\":\"teams\",\"id\":\"1\",\"data\":{\"id\":\"1\"},\"token\":\"cds7\"}\n{\"type\":\"teams\",\"id\":\"1\",\"data\":{\"id\":\"1\"},\"token\":\"cds1495\"}\n"
-
-text_is : tokened_text (one ∷ other ∷ []) ≡ text
+pub text_is : tokened_text (one ∷ other ∷ []) ≡ text
 unfolding written_string
 text_is = refl
 
@@ -48,7 +33,7 @@ is_ascii (b ∷ bs) e (suc i) = is_ascii bs (by (nat_lt b 128) (below bs) e) i
     by true y f = f
     by false y f = absurd (true≢false (sym f))
 
-a_name : (bs : List ℕ) → below bs ≡ true → length bs ≤ 255 → IsName bs
+pub a_name : (bs : List ℕ) → below bs ≡ true → length bs ≤ 255 → IsName bs
 a_name bs e short = (IsUtf8-from_ascii bs (is_ascii bs e), short)
 
 apart : codes "cds7" ≢ codes "cds1495"
@@ -62,9 +47,8 @@ distinct (suc i) zero d less within = absurd (omega (arith, less))
 distinct (suc i) (suc zero) d less within = absurd (omega (arith, less))
 distinct (suc i) (suc (suc j)) d less within = absurd (omega (arith, within))
 
--- the text is an honest input, where the object is one
-pub their_text_is_honest : TokenedIsHonest → IsObjectText object → (limits : Limits) → IsHonestInput limits (tokened_log one (other ∷ [])) (new_mirror limits) text
-their_text_is_honest law is_object limits =
+pub their_feed_is_honest : TokenedIsHonest → TheirFeedIsHonest
+their_feed_is_honest law limits is_object =
     let change : IsChange one.0 = (a_name (codes "teams") refl (omega arith), a_name (codes "1") refl (omega arith), is_object) in
     subst (IsHonestInput limits (tokened_log one (other ∷ [])) (new_mirror limits)) text_is
     (law limits one (other ∷ []) (new_mirror limits)

@@ -1,5 +1,5 @@
 -- What servers of other make send, in words and with tokens of their own, and when that is honest.
-use Rattle.std.specs.Prelude.{◌≡◌, ℕ, ◌≤◌, Bool, false, List, [], ◌∷◌, ◌++◌, map, flat_map, get_or, Option, Some, is_none, is_some, AllPairs, ◌≢◌}
+use Rattle.std.specs.Prelude.{◌≡◌, ℕ, ◌≤◌, Bool, false, List, [], ◌∷◌, ◌++◌, length, map, flat_map, get_or, Option, Some, is_none, is_some, AllPairs, ◌≢◌}
 use Rattle.std.specs.List.{AllByRecursion}
 use Rattle.feed_settings.specs.Limits.{Limits}
 use Rattle.feed_tables.specs.declared.change.Change.{Change}
@@ -10,13 +10,14 @@ use Rattle.feed_note.specs.Lines.{lines}
 use Rattle.feed_note.specs.Meaning.{Means}
 use Rattle.feed_note.specs.Written.{written}
 use Rattle.feed_node.specs.Mirroring.{MirrorState, present_opening, first_opening}
+use Rattle.feed_node.specs.Reading.{Reads, reads}
 use Rattle.feed_follow.specs.Carrying.{CarryText, IsFeedOf}
 use Rattle.feed_world.specs.Log.{Log, IsNamed}
 use Rattle.feed_world.specs.Position.{Position, IsPlace}
 use Rattle.feed_world.specs.Reading.{opening_at}
 use Rattle.feed_world.specs.Telling.{Tells}
-use Rattle.feed_device.specs.Links.{Exchange}
-use Rattle.feed_live.specs.Upstream.{AsksInLog, Servers, IsRequestOf, IsHonest, IsHonestInput}
+use Rattle.feed_device.specs.Links.{Exchange, once_at}
+use Rattle.feed_live.specs.Upstream.{AsksInLog, Servers, IsRequestOf, IsOfLog, IsHonest, IsHonestInput}
 
 -- the lines mean this, one after another
 abbrev pub AreMeant : List (List ℕ) → List Line → Type 0
@@ -87,6 +88,27 @@ FeedIsHonest =
     → ((begun : MirrorState) (request more : List ℕ) (asks : AsksInLog limits log begun)
     → IsRequestOf servers exchange.server begun request → exchange.asked ≡ request ++ more
     → IsToldFeed limits log exchange begun asks) → IsHonest limits log servers exchange
+
+-- ---- a server that replays
+
+-- Nothing is wrong with any prefix of the text on a connection that begins so, and all of it leaves
+-- a state of the log published, whatever states it goes through.
+pub record Replays (log : Log) (begun : MirrorState) (text : List ℕ) : Type 0 where
+  pub read : (prefix behind : List ℕ) → prefix ++ behind ≡ text
+      → (notes : List Line) × Reads begun.limits (present_opening begun) prefix notes
+  pub ends : (notes : List Line) → Reads begun.limits (present_opening begun) text notes
+      → IsOfLog log (reads begun.limits.history (present_opening begun) notes).published
+
+-- So a response is honest that carries such a text, where it is shown once, and all of it had come.
+-- The log of a server that replays begins where that ends: its first state is what the replay makes.
+abbrev pub ReplayIsHonest : Type 0
+ReplayIsHonest =
+    (limits : Limits) (log : Log) (servers : Servers) (exchange : Exchange) (text : List ℕ)
+    → exchange.shown ≡ once_at (length exchange.received)
+    → ((begun : MirrorState) (request more : List ℕ) → AsksInLog limits log begun
+    → IsRequestOf servers exchange.server begun request → exchange.asked ≡ request ++ more
+    → IsFeedOf (is_some begun.since) exchange.received text × Replays log begun text)
+    → IsHonest limits log servers exchange
 
 -- ---- a feed that has a token on each line
 

@@ -1,13 +1,15 @@
 -- What is supposed of the servers that a relay follows, of what they sent it alone; and of its
 -- input, where that is the feed.
-use Rattle.std.specs.Prelude.{◌≡◌, ℕ, ◌≤◌, List, [], ◌∷◌, ◌++◌, length, Option, Some, None, is_none, is_some, slice_get}
+use Rattle.std.specs.Prelude.{◌≡◌, ℕ, ◌≤◌, Bool, true, false, if◌then◌else◌, List, [], ◌∷◌, ◌++◌, length, Option, Some, None, is_none, is_some, slice_get}
 use Rattle.feed_settings.specs.Limits.{Limits}
 use Rattle.feed_settings.specs.Place.{Place}
 use Rattle.feed_note.specs.declared.line.Line.{Line}
 use Rattle.feed_note.specs.Publishing.{Published}
 use Rattle.feed_node.specs.declared.fault.FeedFault.{FeedFault}
 use Rattle.feed_node.specs.Mirroring.{MirrorState, StandsAt, Faulted, present_opening}
+use Rattle.feed_node.specs.declared.fault.FeedFault.TheVariants.{Memory as FeedMemory}
 use Rattle.feed_follow.specs.declared.fault.FollowFault.{FollowFault}
+use Rattle.feed_follow.specs.declared.fault.FollowFault.TheVariants.{Feed, Memory}
 use Rattle.feed_follow.specs.Follower.{FollowerState, FollowsAt}
 use Rattle.feed_follow.specs.Following.{Fails}
 use Rattle.feed_follow.specs.Standing.{Standing}
@@ -44,6 +46,17 @@ IsOfLog log (Some published) =
     (k : ℕ) × (k ≤ length log.commits)
     × (published ≡ record { tables = state_after log k; token = log.token k })
 
+-- memory ran out, and nothing is wrong with the bytes
+abbrev pub wants_memory : FollowFault → Bool
+wants_memory Memory = true
+wants_memory (Feed FeedMemory) = true
+wants_memory fault = false
+
+-- What was read for certain where a piece failed behind these bytes: the piece, too, but where memory
+-- ran out.
+abbrev pub surely_read : List ℕ → List ℕ → FollowFault → List ℕ
+surely_read before piece fault = if wants_memory fault then before else before ++ piece
+
 -- Whatever prefix of these bytes comes to the mirror, of at least so many, in any pieces: it shows
 -- nothing or a state of the log at its token, also once it stopped.
 pub record StaysInLog (limits : Limits) (log : Log) (begun : MirrorState) (least : ℕ)
@@ -52,12 +65,12 @@ pub record StaysInLog (limits : Limits) (log : Log) (begun : MirrorState) (least
       (mirror : MirrorState) → before ++ behind ≡ bytes → least ≤ length before
       → FollowsAt begun before standing follower mirror → IsInLog limits log mirror.node
   pub fails : (before piece behind : List ℕ) (mirror : MirrorState) (fault : FollowFault)
-      → (before ++ piece) ++ behind ≡ bytes → least ≤ length (before ++ piece)
+      → (before ++ piece) ++ behind ≡ bytes → least ≤ length (surely_read before piece fault)
       → Fails begun (is_some begun.since) before piece mirror fault
       → IsInLog limits log mirror.node
 
--- What the first so many of these bytes published, in any pieces, is a state of the log: whatever
--- was published before.
+-- What the first so many of these bytes published, in any pieces, is a state of the log, whatever
+-- was published before: where they were read whole, and not where memory ran out.
 pub record EndsInLog (log : Log) (begun : MirrorState) (count : ℕ) (bytes : List ℕ)
     : Type 0 where
   pub shows : (before behind : List ℕ) (standing : Standing) (follower : FollowerState)
@@ -65,7 +78,7 @@ pub record EndsInLog (log : Log) (begun : MirrorState) (count : ℕ) (bytes : Li
       → FollowsAt begun before standing follower mirror → IsOfLog log mirror.node.published
   pub fails : (before piece behind : List ℕ) (mirror : MirrorState) (fault : FollowFault)
       → (before ++ piece) ++ behind ≡ bytes → length (before ++ piece) ≡ count
-      → Fails begun (is_some begun.since) before piece mirror fault
+      → wants_memory fault ≡ false → Fails begun (is_some begun.since) before piece mirror fault
       → IsOfLog log mirror.node.published
 
 -- what is supposed of the bytes that came, by what of them is shown

@@ -2,9 +2,10 @@
 
 ghost use Rattle.feed_live.specs.Laws.{SocketsAreFaithful, HandedIsFollowed, RelaysShowTheLog, FollowedIsHonest};
 ghost use Rattle.feed_live.specs.Laws.{InputShowsTheLog, ShownIsHonest, SentIsHonest, FilesAreHonest, FilesGoOnHonestly};
-ghost use Rattle.feed_live.specs.Telling.{MeaningTells, ToldIsHonest, TellingIsHonest, FeedIsHonest, TokenedIsHonest};
+ghost use Rattle.feed_live.specs.Examples.{TheirFeedIsHonest, TheirReplayEnds};
+ghost use Rattle.feed_live.specs.Telling.{MeaningTells, ToldIsHonest, TellingIsHonest, FeedIsHonest, ReplayIsHonest, TokenedIsHonest};
 
-use feed_follow::carry_laws;
+use feed_follow::{carry_laws, follow_laws};
 use feed_hub::hub_laws;
 use feed_node::reading_laws;
 use feed_note::{line_laws, written_lines_law};
@@ -31,15 +32,21 @@ pub fn live_laws()
 
 /// What a server of other make sends is honest where its lines, whatever else stands in them, tell a
 /// log whose states have any tokens, each its own. So is a feed of written lines, each with a token
-/// that no other has.
+/// that no other has; and a replay that came whole, as far as it is shown, whose end is a state of
+/// the log. Two lines are an example of each.
 pub fn foreign_laws()
     ensures meaning { MeaningTells }
     ensures input { ToldIsHonest }
     ensures honest { TellingIsHonest }
     ensures feeds { FeedIsHonest }
+    ensures replays { ReplayIsHonest }
     ensures tokened { TokenedIsHonest }
+    ensures feed_example { TheirFeedIsHonest }
+    ensures replay_example { TheirReplayEnds }
 {
     carry_laws();
+    follow_laws();
+    reading_laws();
     line_laws();
     written_lines_law();
     telling_laws();

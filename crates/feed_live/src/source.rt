@@ -64,6 +64,8 @@ pub(crate) struct Source {
     opened: u64,
     /// Since when a response has a good head; and whether that was told.
     body_since: Option<u64>,
+    /// It was told that this connection gives one token to two states.
+    has_told_twice: bool,
     returning: Returning,
     is_heard: bool,
     /// Since when no server answers.
@@ -122,6 +124,7 @@ impl Source {
             request: Vec::new(alloc),
             opened: now,
             body_since: None,
+            has_told_twice: false,
             returning: Returning::new(now),
             is_heard,
             away_since: now,

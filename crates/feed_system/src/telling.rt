@@ -67,6 +67,16 @@ pub(crate) fn text_of(
                 "upstream {name}: has another state at our token, first at {kind} {id}"
             )
         }
+        Told::GivenTwice { server, token } => {
+            let name = match server {
+                Some(server) => name_of(alloc, servers, server)?,
+                None => String::from_str(alloc, "input")?,
+            };
+            let token = token.text();
+            format!(in alloc;
+                "{name}: gave the token {token} to two states; what came with it again is left away"
+            )
+        }
         Told::Settled { server, time } => {
             let name = name_of(alloc, servers, server)?;
             format!(in alloc; "upstream {name}: all of it came, in {time} ms")

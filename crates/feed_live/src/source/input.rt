@@ -41,7 +41,10 @@ impl Source {
     {
         self.hear(piece, now);
         match self.feed_all(alloc, screens, piece, now) {
-            Ok(()) => true,
+            Ok(()) => {
+                self.tell_twice(told);
+                true
+            }
             Err(fault) => {
                 told.tell(Told::BadInput(fault));
                 self.end_input(now);

@@ -5,13 +5,15 @@ ghost use Rattle.feed_node.specs.Mirroring.{MirrorState};
 ghost use Rattle.feed_follow.specs.Following.{Fails};
 ghost use Rattle.feed_follow.specs.Standing.{Standing};
 ghost use Rattle.feed_hub.specs.Upstream.{IsFollowing, IsPushed};
+ghost use Rattle.feed_live.specs.Upstream.{wants_memory};
 
 use crate::figures::Following;
 use crate::screens::Screens;
 use crate::source::{Reach, Source};
 use crate::told::Telling;
-use feed_device::{Link, Stop, Told, Why};
+use feed_device::{Excerpt, Link, Stop, Told, Why};
 use feed_follow::{FollowFault, Progress};
+use feed_node::FeedFault;
 use memchr::memchr;
 use std::alloc::{AllocError, Global};
 use std::mem;
@@ -200,11 +202,11 @@ impl Source {
                 self.refused(link, told, now);
                 None
             }
-            Err(FollowFault::Memory) => {
-                self.lost(link, told, Why::Memory, now);
-                None
-            }
             Err(fault) => {
+                if is_want_of_memory(fault) {
+                    self.lost(link, told, Why::Memory, now);
+                    return None;
+                }
                 self.say(alloc, told, screens, now);
                 self.settle_ended(alloc, link, told, screens, next.len(), now);
                 self.lost(link, told, Why::Fault(fault), now);
@@ -256,6 +258,7 @@ impl Source {
             return;
         }
         self.body_since = Some(now);
+        self.has_told_twice = false;
         if !self.is_fresh {
             self.upstream.held();
             self.settling.go_on();
@@ -274,6 +277,7 @@ impl Source {
         ensures same { SameSource self.old self.new }
         ensures serves { StillServes self.old.answers.shown.mirror.node screens.old screens.new }
     {
+        self.tell_twice(told);
         if self.coming.is_some() {
             self.compare(alloc, told);
             return;
@@ -291,12 +295,47 @@ impl Source {
         }
     }
 
+    /// Tells of the first time on a connection that it gives one token to two states.
+    pub(crate) fn tell_twice(&mut self, told: &mut Telling)
+        ensures { SameSource self.old self.new }
+    {
+        if self.has_told_twice {
+            return;
+        }
+        let mirror = match &self.coming {
+            Some(coming) => coming,
+            None => self.answers.shown.mirror(),
+        };
+        let Some(token) = mirror.given_twice() else {
+            return;
+        };
+        let server = if self.places.is_empty() {
+            None
+        } else {
+            Some(self.upstream.place())
+        };
+        let token = Excerpt::of(token.text());
+        told.tell(Told::GivenTwice { server, token });
+        self.has_told_twice = true;
+    }
+
     /// Says what had to wait.
     pub(crate) fn say_more(&mut self, alloc: Global, screens: &mut Screens, now: u64)
         ensures same { SameSource self.old self.new }
         ensures serves { StillServes self.old.answers.shown.mirror.node screens.old screens.new }
     {
         screens.relay(alloc, self.answers.shown.node(), now);
+    }
+}
+
+/// Whether memory ran out, and nothing is wrong with what came.
+fn is_want_of_memory(fault: FollowFault) -> bool
+    ensures { result ≡ wants_memory fault }
+{
+    match fault {
+        FollowFault::Memory => true,
+        FollowFault::Feed(fault) => fault == FeedFault::Memory,
+        _ => false,
     }
 }
 

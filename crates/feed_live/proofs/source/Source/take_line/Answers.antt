@@ -75,23 +75,23 @@ returns-in-Ok-TokenRefused g c =
       );
     }
 
-pub returns-in-Err-Memory : goal.returns-in-Err-Memory
-returns-in-Err-Memory g c =
+pub returns-then-is_want_of_memory : goal.returns-then-is_want_of_memory
+returns-then-is_want_of_memory g c =
     record {
       goes_on = tt;
       stops = λ none. (
-        c.lost-in-Err-Memory.ensures.left.reach,
+        c.lost-then-is_want_of_memory.ensures.left.reach,
         λ reads left limits log servers contest sockets follows. (
-          c.lost-in-Err-Memory.ensures.left.servers ∙ c.push.ensures.only.servers ∙ follows.0,
-          with_left limits log servers c.lost-in-Err-Memory.ensures.left left
-              (with_failed limits log servers _ c.split_line.result.0.now c.split_line.result.1.now _ reads c.push.ensures.only c.in-Err-Memory.ensures.err
+          c.lost-then-is_want_of_memory.ensures.left.servers ∙ c.push.ensures.only.servers ∙ follows.0,
+          with_left limits log servers c.lost-then-is_want_of_memory.ensures.left left
+              (with_failed limits log servers _ c.split_line.result.0.now c.split_line.result.1.now _ reads c.push.ensures.only c.in-Err.ensures.err
               (with_unread limits log servers (is_none c.args.self.now.coming) _ _ _ _ _ c.split_line.ensures follows.1)),
         ),
       );
     }
 
-pub returns-in-Err : goal.returns-in-Err
-returns-in-Err g c =
+pub returns-else-is_want_of_memory : goal.returns-else-is_want_of_memory
+returns-else-is_want_of_memory g c =
     record {
       goes_on = tt;
       stops = λ none. (
@@ -100,7 +100,7 @@ returns-in-Err g c =
             let next = c.split_line.result.1.now in
             let here = with_unread limits log servers (is_none c.args.self.now.coming) _ _ _ _ _ c.split_line.ensures follows.1 in
             let may = failed_may_show limits log servers (is_none c.args.self.now.coming) c.args.self.now.reach c.args.self.now.request.items c.split_line.result.0.now next _ c.args.self.now.upstream.follower
-            (followed_by c.args.self.now) (followed_by c.push.new.self) c.in-Err.fault reads c.push.ensures.only.limits c.in-Err.ensures.err (λ honest. (here honest).1) in
+            (followed_by c.args.self.now) (followed_by c.push.new.self) c.in-Err.fault (sym c.is_want_of_memory.ensures ∙ c.if-is_want_of_memory.false) reads c.push.ensures.only.limits c.in-Err.ensures.err (λ honest. (here honest).1) in
             let ended = c.settle_ended.ensures.shows limits log servers contest sockets (
               c.say-in-Err.ensures.same.servers ∙ c.push.ensures.only.servers ∙ follows.0,
               λ honest.
