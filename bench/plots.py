@@ -39,7 +39,7 @@ def bar(x, y, width, height, color):
 
 def styles(rows):
     """A bar a style, and a line where the fold is."""
-    left, top, step = 270, 34, 30
+    left, top, step = 300, 34, 30
     scale = (WIDTH - left - 60) / max(1.1, *(it[1] for it in rows))
     bottom = top + step * len(rows)
     parts = [text(left + scale, top - 12, "the fold", "middle", weight=600)]
@@ -49,7 +49,7 @@ def styles(rows):
         parts.append(text(left - 10, y + 19, name, "end"))
         parts.append(bar(left, y + 4, scale * share, step - 8, color))
         # A number doesn't stand on the line of the fold.
-        place = left + scale * (1 if 0.87 < share < 1 else share) + 6
+        place = left + scale * (1 if 0.9 <= share < 1 else share) + 6
         parts.append(text(place, y + 19, f"{share:.2f}"))
     parts.append(line(left + scale, top, left + scale, bottom, GREY, "5 4"))
     return svg(bottom + 12, "Time of tables by the style of a feed, as a part of the time of the fold", parts)
