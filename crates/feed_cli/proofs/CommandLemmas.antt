@@ -19,6 +19,7 @@ device_by (Err fault.Turns) s reads writes none = tt
 device_by (Err fault.TooLong) s reads writes none = tt
 device_by (Err (fault.Feed why)) s reads writes none = tt
 device_by (Err (fault.Survey why)) s reads writes none = tt
+device_by (Err (fault.Batches why)) s reads writes none = tt
 device_by (Err (fault.Play why)) s reads writes none = tt
 device_by (Err (fault.Audit why)) s reads writes none = tt
 device_by (Err fault.Differs) s reads writes none = tt

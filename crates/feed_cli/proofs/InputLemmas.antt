@@ -7,7 +7,7 @@ use Rattle.feed_note.specs.declared.counts.SurveyFault.{SurveyFault}
 use Rattle.feed_note.specs.declared.stop.LineStop.{LineStop}
 use Rattle.feed_note.specs.declared.stop.LineStop.TheVariants as stop
 use Rattle.feed_cli.specs.Check.{IsWhole, InputStops, InputFails, FailsWithin, CountFails}
-use Rattle.feed_cli.specs.Fault.{fault_at, fault_of_survey}
+use Rattle.feed_cli.specs.Fault.{fault_at, fault_behind, fault_of_survey, fault_of_batches}
 use Rattle.feed_cli.specs.Play.{PlayFails}
 use Rattle.feed_cli.specs.Pull.{FailsToStart}
 use Rattle.feed_cli.specs.Serve.{StartFails}
@@ -27,7 +27,7 @@ module _ (old new : Option (List ℕ)) where
 
   pub start_fails : (turn : Option ℕ) (limits : Limits) (why : Fault) → InputFails why old new
       → StartFails turn limits why old new
-  start_fails turn limits (fault.Survey why) none = absurd none
+  start_fails turn limits (fault.Batches why) none = absurd none
   start_fails turn limits (fault.Commit why) none = absurd none
   start_fails turn limits why fails = fails
 
@@ -54,10 +54,10 @@ module _ (old new : Option (List ℕ)) where
 
   pub start_stops : (turn : Option ℕ) (limits : Limits) (bytes : List ℕ) (why : SurveyFault)
       → IsWhole old new bytes → (why.stop ≢ stop.Memory → StopsAt bytes why.line why.stop)
-      → StartFails turn limits (fault_of_survey why) old new
+      → StartFails turn limits (fault_of_batches why) old new
   start_stops turn limits bytes why whole stops = by why.stop refl
     where
-      by : (s : LineStop) → why.stop ≡ s → StartFails turn limits (fault_at s why) old new
+      by : (s : LineStop) → why.stop ≡ s → StartFails turn limits (fault_behind s why) old new
       by stop.Memory e = tt
       by stop.LongLine e = stops_so bytes why whole stops (λ m. absurd (cc))
       by (stop.Line f) e = stops_so bytes why whole stops (λ m. absurd (cc))

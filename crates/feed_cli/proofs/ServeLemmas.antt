@@ -204,6 +204,7 @@ ends_later fault.Turns start mid now before after = absurd after
 ends_later fault.TooLong start mid now before after = absurd after
 ends_later (fault.Feed why) start mid now before after = absurd after
 ends_later (fault.Survey why) start mid now before after = absurd after
+ends_later (fault.Batches why) start mid now before after = absurd after
 ends_later (fault.Play why) start mid now before after = absurd after
 ends_later (fault.Audit why) start mid now before after = absurd after
 ends_later fault.Differs start mid now before after = absurd after

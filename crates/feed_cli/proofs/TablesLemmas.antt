@@ -178,6 +178,7 @@ err_by limits s (Err fault.Memory) d = absurd d.whole.fed
 err_by limits s (Err fault.Write) d = absurd d.whole.fed
 err_by limits s (Err fault.TooLong) d = absurd d.whole.fed
 err_by limits s (Err (fault.Survey why)) d = absurd d.whole.fed
+err_by limits s (Err (fault.Batches why)) d = absurd d.whole.fed
 err_by limits s (Err (fault.Play why)) d = absurd d.whole.fed
 err_by limits s (Err (fault.Audit why)) d = absurd d.whole.fed
 err_by limits s (Err fault.Differs) d = absurd d.whole.fed

@@ -1,5 +1,6 @@
 -- What the commands do, by what a command line asks for.
-use Rattle.std.specs.Prelude.{◌≡◌, ◌⊎◌, ℕ, List, string_bytes}
+use Rattle.std.specs.Prelude.{◌≡◌, ◌≢◌, ◌⊎◌, ◌≤◌, ℕ, Bool, true, false, List, string_bytes}
+use Rattle.clap.specs.Words.{Text}
 use Rattle.std.specs.Io.KnownBytes.{Appends, Keeps}
 use Rattle.feed_http.specs.Device.{AppendsPrefix, HasFailed as HasDeviceFailed}
 use Rattle.feed_cli.specs.Check.{CountsPrinted, CheckFails}
@@ -12,6 +13,9 @@ use Rattle.feed_cli.specs.declared.fault.Fault.{Fault}
 use Rattle.feed_cli.specs.declared.fault.Fault.TheVariants as fault
 use Rattle.feed_words.specs.declared.request.Local.{Local}
 use Rattle.feed_words.specs.declared.request.Local.TheVariants as local
+use Rattle.feed_words.specs.Words.{Asks, AsksNothing}
+use Rattle.feed_words.specs.declared.request.Request.{Request}
+use Rattle.feed_words.specs.declared.request.Request.TheVariants as request
 use Rattle.feed_words.specs.declared.request.NoCommand.{NoCommand}
 use Rattle.feed_words.specs.declared.request.NoCommand.TheVariants as reply
 
@@ -63,3 +67,59 @@ TellsRefusal (reply.Refused text) wrote = IsWritten (string_bytes text) wrote
 TellsRefusal reply.Memory wrote =
     TellsLines wrote.old wrote.new ⊎ HasDeviceFailed wrote.failed_old wrote.failed_new
 TellsRefusal (reply.Shown text) wrote = Unit {0}
+
+-- ---- by the words
+
+-- the command opens no connection, and reads standard input alone
+abbrev pub is_local : Request → Bool
+is_local (request.Local asked) = true
+is_local other = false
+
+-- the standard streams
+pub record Standard (R W E : Type 0) : Type 0 where
+  pub input : R
+  pub out : W
+  pub err : E
+
+abbrev pub standard : {R W E : Type 0} → R → W → E → Standard R W E
+standard input out err = record { input = input; out = out; err = err }
+
+-- what was printed
+abbrev pub printed_by : Streams → Wrote
+printed_by s = record {
+  old = s.out_old;
+  new = s.out_new;
+  failed_old = s.failed_writes_old;
+  failed_new = s.failed_writes_new;
+}
+
+module _ {R W E : Type 0} (words : List Text) (status : ℕ) (s : Streams) (told : Wrote)
+    (old new : Standard R W E) where
+  -- the words ask for such a command, it was run, and this is its status
+  pub record RunsLocal : Type 0 where
+    pub asked : Local
+    pub asks : Asks words (request.Local asked)
+    pub done : status ≡ 0 → Succeeds asked s × (new.err ≡ old.err)
+    pub failed : status ≢ 0 → EndsBy asked status s told
+    pub unrefused : status ≢ 1
+    pub greatest : status ≤ 5
+
+  -- the words ask for another command: nothing is read or written
+  pub record LeavesOther : Type 0 where
+    pub asked : Request
+    pub asks : Asks words asked
+    pub other : is_local asked ≡ false
+    pub refused : status ≡ 1
+    pub untouched : new ≡ old
+
+  -- the words ask for no command, and are replied to
+  pub record RepliesTo : Type 0 where
+    pub reply : NoCommand
+    pub asks : AsksNothing words reply
+    pub unread : new.input ≡ old.input
+    pub replied : Replies reply status (printed_by s)
+    pub tells : TellsRefusal reply told
+
+  -- what the words of a command line come to
+  abbrev pub RunsBy : Type 0
+  RunsBy = RunsLocal ⊎ (LeavesOther ⊎ RepliesTo)

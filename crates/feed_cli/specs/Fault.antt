@@ -35,6 +35,14 @@ fault_at other why = fault.Survey why
 abbrev pub fault_of_survey : SurveyFault → Fault
 fault_of_survey why = fault_at why.stop why
 
+-- the same of an input whose batches are to be served
+abbrev pub fault_behind : LineStop → SurveyFault → Fault
+fault_behind stop.Memory why = fault.Memory
+fault_behind other why = fault.Batches why
+
+abbrev pub fault_of_batches : SurveyFault → Fault
+fault_of_batches why = fault_behind why.stop why
+
 abbrev pub fault_of_audit : AuditFault → Fault
 fault_of_audit audit.Memory = fault.Memory
 fault_of_audit why = fault.Audit why
@@ -91,6 +99,7 @@ status_of fault.Turns = 4
 status_of fault.TooLong = 2
 status_of (fault.Feed why) = 2
 status_of (fault.Survey why) = 2
+status_of (fault.Batches why) = 2
 status_of (fault.Play why) = if is_memory why.cause then 5 else 2
 status_of (fault.Audit why) = 2
 status_of fault.Differs = 2

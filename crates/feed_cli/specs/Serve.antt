@@ -145,6 +145,6 @@ pub record RefusedAtStart (turn : Option ℕ) (limits : Limits) (old new : Optio
 
 -- why there is no primary to serve
 abbrev pub StartFails : Option ℕ → Limits → Fault → Option (List ℕ) → Option (List ℕ) → Type 0
-StartFails turn limits (fault.Survey why) old new = InputStops old new why
+StartFails turn limits (fault.Batches why) old new = InputStops old new why
 StartFails turn limits (fault.Commit why) old new = RefusedAtStart turn limits old new why
 StartFails turn limits why old new = InputFails why old new

@@ -1,6 +1,8 @@
 //! The commands, as a command line asks for them.
-ghost use Rattle.std.specs.Prelude.{◌≡◌, ◌≢◌, ◌≤◌, IfErr, OnOk};
+ghost use Rattle.std.specs.Prelude.{◌≡◌, ◌≢◌, ◌≤◌, None, false, map, IfErr, IfSome, OnOk};
 ghost use Rattle.feed_cli.specs.Commands.{Succeeds, Fails, IsDeviceFault, EndsBy, Replies, TellsRefusal};
+ghost use Rattle.feed_cli.specs.Commands.{is_local, standard, RunsBy};
+ghost use Rattle.feed_words.specs.declared.request.Request.TheVariants as asked;
 ghost use Rattle.feed_cli.specs.Streams.{streams_of};
 ghost use Rattle.feed_http.specs.Exchange.{wrote_by};
 
@@ -16,7 +18,7 @@ use crate::fault::{Fault, REFUSED};
 use crate::telling::tell;
 use check::print_counts;
 use feed_http::device::{Failed, FeedRead, FeedWrite, write_all};
-use feed_words::{Local, NoCommand, PROGRAM};
+use feed_words::{Local, NoCommand, PROGRAM, Request, parse_words};
 use play::print_played;
 use std::alloc::Global;
 use tables::print_tables;
@@ -24,7 +26,7 @@ use tables::print_tables;
 /// Prints what is replied to words that ask for no command: help and the version to `out`, why they
 /// are refused to `err`. The status is 0 where all of that text was printed, 1 for words that are
 /// refused, 4 where `out` failed, and 5 where memory had run out.
-pub fn answer_words<W: FeedWrite, E: FeedWrite>(reply: &NoCommand, out: &mut W, err: &mut E) -> u8
+fn answer_words<W: FeedWrite, E: FeedWrite>(reply: &NoCommand, out: &mut W, err: &mut E) -> u8
     ensures out { let wrote = wrote_by W.contents W.failures out.old out.new in
         Replies reply.now result wrote }
     ensures err { let wrote = wrote_by E.contents E.failures err.old err.new in
@@ -69,10 +71,8 @@ pub fn perform<R: FeedRead, W: FeedWrite>(
     }
 }
 
-/// Runs a command that opens no connection, tells its fault, and answers the status that the
-/// program ends with: 0, or the first of these that applies: 5 when out of memory, 4 for a device
-/// that failed or an input that did not end, 2 for a faulty input, 3 where nothing was published.
-pub fn run<R: FeedRead, W: FeedWrite, E: FeedWrite>(
+/// Does that, tells its fault, and answers the status for it.
+fn run_local<R: FeedRead, W: FeedWrite, E: FeedWrite>(
     alloc: Global,
     request: Local,
     input: &mut R,
@@ -92,5 +92,44 @@ pub fn run<R: FeedRead, W: FeedWrite, E: FeedWrite>(
     match perform(alloc, request, input, out) {
         Ok(()) => 0,
         Err(fault) => tell(request.name(), fault, err),
+    }
+}
+
+/// The command that opens no connection, where one is asked for.
+fn local_of(request: Request<'_>) -> Option<Local>
+    ensures some { IfSome result (λ local. request ≡ asked.Local local) }
+    ensures none { result ≡ None → is_local request ≡ false }
+{
+    match request {
+        Request::Local(local) => Some(local),
+        _ => None,
+    }
+}
+
+/// Runs the command that these words ask for, the first of which is the program's name, and answers
+/// the status that the program ends with. Of a command that opens no connection that is 0, or the
+/// first of these that applies: 5 when out of memory, 4 for a device that failed or an input that
+/// did not end, 2 for a faulty input, 3 where nothing was published. Where the words ask for another
+/// command, nothing is read or written, and the status is 1. Where they ask for none, it is that of
+/// what is replied to them.
+pub fn run<'a, R: FeedRead, W: FeedWrite, E: FeedWrite>(
+    alloc: Global,
+    words: &'a [&'a str],
+    input: &mut R,
+    out: &mut W,
+    err: &mut E,
+) -> u8
+    ensures { let streams = streams_of R.remaining R.failures W.contents W.failures
+        input.old input.new out.old out.new in
+        let told = wrote_by E.contents E.failures err.old err.new in
+        RunsBy (map (λ word. word.now) words.entry.now) result streams told
+        (standard input.old out.old err.old) (standard input.new out.new err.new) }
+{
+    match parse_words(alloc, words) {
+        Ok(request) => match local_of(request) {
+            Some(local) => run_local(alloc, local, input, out, err),
+            None => REFUSED,
+        },
+        Err(reply) => answer_words(&reply, out, err),
     }
 }

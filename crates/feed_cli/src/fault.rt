@@ -48,6 +48,9 @@ pub enum Fault {
     /// A line of the input can't be read.
     #[error("line {}: {}", .0.line, .0.stop)]
     Survey(SurveyFault),
+    /// A line of the input, whose batches are to be served, can't be read.
+    #[error("{}", .0.stop)]
+    Batches(SurveyFault),
     /// The input, a script, was not played to its end.
     #[error("{0}")]
     Play(PlayFault),
@@ -76,6 +79,7 @@ pub enum Fault {
 
 impl Fault {
     ghost use Rattle.feed_cli.specs.Fault.{status_of, is_one_connections, fault_of_feed};
+    ghost use Rattle.feed_cli.specs.Fault.{fault_of_batches};
 
     /// The status that a program with this fault ends with.
     pub fn status(self) -> u8
@@ -85,8 +89,8 @@ impl Fault {
             Fault::Memory => 5,
             Fault::Read | Fault::Write | Fault::Turns => 4,
             Fault::Play(fault) if fault.is_want_of_memory() => 5,
-            Fault::TooLong | Fault::Feed(_) | Fault::Survey(_) | Fault::Play(_) => 2,
-            Fault::Audit(_) | Fault::Differs => 2,
+            Fault::TooLong | Fault::Feed(_) | Fault::Survey(_) | Fault::Batches(_) => 2,
+            Fault::Play(_) | Fault::Audit(_) | Fault::Differs => 2,
             Fault::Unpublished => 3,
             Fault::Place(_) | Fault::Address(_) => REFUSED,
             Fault::Commit(_) => 2,
@@ -117,6 +121,16 @@ impl Fault {
         match fault {
             FeedFault::Memory => Fault::Memory,
             fault => Fault::Feed(FeedStop { fault, line }),
+        }
+    }
+
+    /// The fault of a command whose input's batches can't be read.
+    pub fn of_batches(fault: SurveyFault) -> Fault
+        ensures { result ≡ fault_of_batches fault }
+    {
+        match fault.stop {
+            LineStop::Memory => Fault::Memory,
+            _ => Fault::Batches(fault),
         }
     }
 }

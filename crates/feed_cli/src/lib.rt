@@ -14,7 +14,7 @@ pub use commands::audit::{print_verdict, read_record};
 pub use commands::pull::{print_pulled, pull_outcome, servers_of, start_mirror};
 pub use commands::relay::print_relayed;
 pub use commands::serve::{Source, serve_all, start_source};
-pub use commands::{answer_words, perform, run};
+pub use commands::{perform, run};
 pub use fault::{Fault, FeedStop, REFUSED};
 pub use feed_http::{device, memory, stream};
 pub use feed_play::{PlayCause, PlayFault, play};

@@ -10,6 +10,7 @@ use crate::fault::{Fault, FeedStop};
 use arrayvec::ArrayString;
 use feed_http::Served;
 use feed_http::device::{Failed, FeedWrite, write_all};
+use feed_note::SurveyFault;
 use feed_relay::{Attempt, AttemptEnd, NetworkFault, Server};
 use std::fmt::Write;
 
@@ -23,25 +24,33 @@ const WORDS: usize = ROOM - 1;
 /// A host and a port.
 type Address<'h> = (&'h str, u16);
 
-/// What is told of a fault: its text, with the address that it is about where there is one, and on
-/// a second line where in the feed it is, where that was asked for.
+/// Appends what more is known of a fault, as a second line: the address that it is about, or where
+/// in the input it is.
+fn add_more(
+    words: &mut ArrayString<WORDS>,
+    name: &str,
+    fault: Fault,
+    address: Option<Address<'_>>,
+) {
+    let _ = match (fault, address) {
+        (_, Some((host, port))) => write!(words, "\n{name}: {host}:{port}"),
+        (Fault::Feed(FeedStop { line: Some(line), .. }), None) => {
+            write!(words, "\n{name}: line {line}")
+        }
+        (Fault::Batches(SurveyFault { line, .. }), None) => {
+            write!(words, "\n{name}: line {line} of standard input")
+        }
+        _ => Ok(()),
+    };
+}
+
+/// What is told of a fault: a line with its text alone, and a second one where more is known.
 fn text_of(name: &str, fault: Fault, address: Option<Address<'_>>) -> ArrayString<ROOM>
     ensures { IsEnded result.bytes }
 {
     let mut words: ArrayString<WORDS> = ArrayString::new();
-    let _ = match address {
-        Some((host, port)) => write!(words, "{name}: {fault}: {host}:{port}"),
-        None => write!(words, "{name}: {fault}"),
-    };
-    if let Fault::Feed(
-        FeedStop {
-            line: Some(line),
-            ..
-        },
-    ) = fault
-    {
-        let _ = write!(words, "\n{name}: line {line}");
-    }
+    let _ = write!(words, "{name}: {fault}");
+    add_more(&mut words, name, fault, address);
     let mut text = ArrayString::new();
     text.push_str(words.as_str());
     text.push_str("\n");
@@ -70,7 +79,7 @@ pub fn tell<E: FeedWrite>(name: &str, fault: Fault, err: &mut E) -> u8
     tell_about(name, fault, None, err)
 }
 
-/// The same of a fault that is about an address, a host and a port, which is told with it.
+/// The same of a fault that is about an address, a host and a port, which a second line tells.
 pub fn tell_about<E: FeedWrite>(
     name: &str,
     fault: Fault,
@@ -113,8 +122,8 @@ impl Teller {
         }
     }
 
-    /// Tells a fault, with the address that it is about where there is one. Where it can't be told,
-    /// the command goes on all the same.
+    /// Tells a fault, and on a second line the address that it is about where there is one. Where it
+    /// can't be told, the command goes on all the same.
     fn tell<E: FeedWrite>(&mut self, fault: Fault, address: Option<Address<'_>>, err: &mut E)
         ensures told { HasTold (E.failures err.old) (E.failures err.new)
             self.old.has_failed self.new.has_failed }

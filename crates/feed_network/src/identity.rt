@@ -3,7 +3,7 @@
 
 use crate::ending::Failure;
 use feed_answer::{Identity, IdentityFault, PlaceFault};
-use feed_cli::Fault;
+use feed_cli::{Fault, PullOptions, servers_of};
 use libc::geteuid;
 use std::fs::{File, Metadata};
 use std::io;
@@ -88,4 +88,15 @@ pub fn identity_of(
         return Err(Failure::refused(BAD_FILE));
     };
     Identity::new(alloc, host_header, Some(line)).map_err(failure_of)
+}
+
+/// As whom the servers of these options are asked. What is wrong with the servers is found first:
+/// they are made once for nobody in particular, since each borrows the identity.
+pub(crate) fn identity_for(
+    rt: &HostRuntime,
+    options: &PullOptions<'_>,
+) -> Result<Identity, Failure> {
+    let nobody = Identity::anonymous();
+    servers_of(rt.alloc(), options, &nobody)?;
+    identity_of(rt, options.host_header, options.user_file)
 }

@@ -3,7 +3,7 @@
 use crate::ending::Failure;
 use crate::errors::{Errors, Reporter};
 use crate::hosts::Hosts;
-use crate::identity::identity_of;
+use crate::identity::identity_for;
 use crate::sockets::Dialer;
 use feed_cli::stream::Stream;
 use feed_cli::{PullOptions, print_pulled, servers_of, start_mirror};
@@ -28,7 +28,7 @@ fn pull_from(rt: &HostRuntime, options: &PullOptions<'_>, hosts: &Hosts) -> Resu
 
 /// The same, of servers whose names are as a request has them.
 fn pull_named(rt: &HostRuntime, options: &PullOptions<'_>) -> Result<(), Failure> {
-    let identity = identity_of(rt, options.host_header, options.user_file)?;
+    let identity = identity_for(rt, options)?;
     let servers = servers_of(rt.alloc(), options, &identity)?;
     let mut mirror = match start_mirror(rt.alloc(), options, &mut Stream::new(rt.stdin())) {
         Ok(mirror) => mirror,

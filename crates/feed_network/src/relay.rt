@@ -3,7 +3,7 @@
 use crate::ending::Failure;
 use crate::errors::{Errors, Reporter};
 use crate::hosts::Hosts;
-use crate::identity::identity_of;
+use crate::identity::identity_for;
 use crate::sockets::{Dialer, Port};
 use feed_cli::stream::Stream;
 use feed_cli::{PullOptions, RelayOptions, print_relayed, servers_of, start_mirror};
@@ -29,7 +29,7 @@ fn relay_from(rt: &HostRuntime, options: &RelayOptions<'_>, hosts: &Hosts) -> Re
 /// The same, of servers whose names are as a request has them.
 fn relay_named(rt: &HostRuntime, options: &RelayOptions<'_>) -> Result<(), Failure> {
     let pull = &options.pull;
-    let identity = identity_of(rt, pull.host_header, pull.user_file)?;
+    let identity = identity_for(rt, pull)?;
     let servers = servers_of(rt.alloc(), pull, &identity)?;
     let mut mirror = match start_mirror(rt.alloc(), &options.pull, &mut Stream::new(rt.stdin())) {
         Ok(mirror) => mirror,

@@ -68,10 +68,7 @@ pub(crate) fn text_of(
             )
         }
         Told::GivenTwice { server, token } => {
-            let name = match server {
-                Some(server) => name_of(alloc, servers, server)?,
-                None => String::from_str(alloc, "input")?,
-            };
+            let name = feed_of(alloc, servers, server)?;
             let token = token.text();
             format!(in alloc;
                 "{name}: gave the token {token} to two states; what came with it again is left away"
@@ -163,5 +160,20 @@ pub(crate) fn name_of(
     match address {
         Some(address) => format!(in alloc; "{address}"),
         None => String::from_str(alloc, "?"),
+    }
+}
+
+/// A server, or the input where it is none.
+fn feed_of(
+    alloc: Global,
+    servers: &Servers<'_>,
+    server: Option<usize>,
+) -> Result<String, AllocError> {
+    match server {
+        Some(server) => {
+            let name = name_of(alloc, servers, server)?;
+            format!(in alloc; "upstream {name}")
+        }
+        None => String::from_str(alloc, "input"),
     }
 }

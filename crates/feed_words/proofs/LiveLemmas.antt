@@ -1,5 +1,7 @@
 -- Lemmas on options that have a rule on another one.
-use Rattle.std.proofs.Common.{◌≡◌, refl, ap, ◌∙◌, ℕ, Bool, true, false, List, [], ◌∷◌, ◌++◌}
+use Rattle.std.proofs.Common.{◌≡◌, refl, ap, ◌∙◌, ℕ, Bool, true, false, List, [], ◌∷◌, ◌++◌, length, arith}
+use Rattle.std.proofs.lemmas.Bool.Decides.{nat_tests}
+use Rattle.std.proofs.lemmas.List.{nil_from_length}
 use Rattle.std.specs.Borrow.{Bor}
 use Rattle.std.specs.Prelude.{◌&&◌, not}
 use Rattle.clap.proofs.SimpleLemmas.{not_empty}
@@ -36,3 +38,20 @@ pub excludes : (old new : Arg) (x : Bor (List ℕ)) → AddsConflicts old new (x
 excludes old new x (same, more) =
     ap rule_of same ∙ ap (λ free. record (rule_of old) { is_free = free })
     (fails_then _ _ (fails_first _ _ (is_more new.conflicts.items old.conflicts.items x more)))
+
+-- an option that has no rule on another one needs none
+third : (a b c d : Bool) → (a && (b && (c && d))) ≡ true → c ≡ true
+third true true true d e = refl
+third true true false d e = absurd (cc)
+third true false c d e = absurd (cc)
+third false b c d e = absurd (cc)
+
+empty_is_nil : {X : Type 0} (xs : List X) → is_empty xs ≡ true → xs ≡ []
+empty_is_nil [] e = refl
+empty_is_nil (x ∷ xs) e =
+    let none : length (x ∷ xs) ≡ 0 = grind (arith, nat_tests) in
+    nil_from_length (x ∷ xs) none
+
+pub needs_none : (a : Arg) → (rule_of a).is_free ≡ true → a.needs.items ≡ []
+needs_none a free =
+    empty_is_nil a.needs.items (third (not a.exclusive) (is_empty a.conflicts.items) (is_empty a.needs.items) _ free)

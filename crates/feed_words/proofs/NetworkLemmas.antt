@@ -1,5 +1,5 @@
 -- Lemmas on networks.
-use Rattle.std.proofs.Common.{◌≡◌, refl, sym, ap, ◌∙◌, subst, ◌+◌, ◌/◌, ◌%◌, ◌^◌, ◌<◌, ◌≤◌, ◌++◌, ◌∷◌, [], inl, inr, List, ℕ, true, false, length, arith, take, map}
+use Rattle.std.proofs.Common.{◌≡◌, refl, sym, ap, ◌∙◌, subst, ◌+◌, ◌/◌, ◌%◌, ◌^◌, ◌<◌, ◌≤◌, ◌++◌, ◌∷◌, [], inl, inr, List, ℕ, true, false, Option, None, Some, IfSome, length, arith, take, map}
 use Rattle.std.specs.Borrow.{Bor}
 use Rattle.std.specs.Int.{w32, from_be_bytes}
 use Rattle.std.specs.Net.Addr.{MatchIp, IsCanonicalOf, ipv4_bits, ipv6_bits, ipv6_segments, low_octets}
@@ -13,10 +13,14 @@ use Rattle.std.proofs.lemmas.Slice.Eq.{bytes_eq-Decides}
 use Rattle.std.proofs.Math.Nat.{div-eq_of_lt, mod-eq_of_lt}
 use Rattle.std.proofs.Math.Pow.{pow_mono}
 use Rattle.feed_words.specs.Addresses.{parts}
+use Rattle.std.specs.List.{AllWithin, HoldsAt}
+use Rattle.std.specs.Option.{MatchOption}
+use Rattle.std.proofs.lemmas.List.{length-map}
 use Rattle.feed_words.specs.Networks.{origin_of, is_mapped, HasNoSlash, IsNetwork, AreNetworks}
+use Rattle.feed_words.specs.Networks.{IsNoNetwork, IsGoodNetwork, IsFirstNoNetwork, AreGoodNetworks}
 use Rattle.feed_words.specs.declared.network.Network.{Network}
 use Rattle.feed_words.specs.declared.network.Origin.TheVariants.{V4, V6}
-use Rattle.feed_words.proofs.AddressLemmas.{Lacks, not_in, mapped_next}
+use Rattle.feed_words.proofs.AddressLemmas.{Lacks, not_in, mapped_at, mapped_next}
 
 -- a text that lacks the byte has no slash
 pub no_slash : (text : List ℕ) → Lacks 47 text → HasNoSlash text
@@ -61,6 +65,33 @@ next_network all i d networks now network inside are is more =
     ++ (slice_index_or all i d).now ∷ []) l) (sym more)
     (are_more (take i (map (λ part. part.now) all)) (slice_index_or all i d).now networks network are
     is))
+
+-- the first part that a search finds is the first that is no network
+pub first_network : (all : List (List ℕ)) (r : Option ℕ)
+    → MatchOption r (AreGoodNetworks all)
+    (λ i. (i < length all) × HoldsAt IsNoNetwork all i × AllWithin IsGoodNetwork all 0 i)
+    → IfSome r (IsFirstNoNetwork all) × (r ≡ None → AreGoodNetworks all)
+first_network all None h = (tt, λ e. h)
+first_network all (Some i) h =
+    (record { inside = h.0; bad = h.1; earlier = h.2 }, λ e. absurd (cc))
+
+-- of parts that are networks, the one at this place; and what there is once it was taken
+pub good_network : (all : List (Bor (List ℕ))) (i : ℕ) (d : Bor (List ℕ)) → i < length all
+    → AreGoodNetworks (map (λ part. part.now) all)
+    → IsGoodNetwork (slice_index_or all i d).now
+good_network all i d inside good =
+    subst IsGoodNetwork
+    (mapped_at (λ part. part.now) all i d (slice_index_or all i d) inside refl [])
+    (good i [] (omega arith) (omega (arith, inside, length-map all (λ part. part.now))))
+
+pub more_networks : (all : List (Bor (List ℕ))) (i : ℕ) (d : Bor (List ℕ))
+    (networks now : List Network) → i < length all
+    → AreNetworks (take i (map (λ part. part.now) all)) networks
+    → (network : Network) × IsNetwork (slice_index_or all i d).now network
+    × (now ≡ networks ++ network ∷ [])
+    → AreNetworks (take (i + 1) (map (λ part. part.now) all)) now
+more_networks all i d networks now inside are more =
+    next_network all i d networks now more.0 inside are more.1 more.2
 
 -- ---- numbers
 

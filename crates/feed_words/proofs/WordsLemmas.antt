@@ -1,5 +1,5 @@
 -- Lemmas on what the words of a command line ask for.
-use Rattle.std.proofs.Common.{◌≡◌, sym, ap, ap₂, ◌∙◌, refl, ℕ, Bool, List, Option, Some, None, Result, Ok, Err, option_map, true, false, IfSome}
+use Rattle.std.proofs.Common.{◌≡◌, sym, subst, inl, inr, ap, ap₂, ◌∙◌, refl, ℕ, Bool, List, Option, Some, None, Result, Ok, Err, option_map, true, false, IfSome}
 use Rattle.std.specs.Borrow.{Bor}
 use Rattle.std.specs.Prelude.{unwrap_or, ◌&&◌, not}
 use Rattle.std.specs.Str.Parse.{ParsesUnsigned, digits_value, without_leading_plus}
@@ -7,9 +7,13 @@ use Rattle.clap.specs.Matches.{ReadsOne, TriesOne, first_value}
 use Rattle.clap.specs.Walk.{first_of, rows_of}
 use Rattle.clap.specs.declared.parser.matches.Found.{Found}
 use Rattle.clap.proofs.WalkLemmas.{first_value-rows}
-use Rattle.clap.specs.Words.{Row, Text, is_simple}
+use Rattle.clap.specs.Words.{Row, Text, is_simple, takes}
+use Rattle.clap.specs.declared.error.kind.ErrorKind.{ErrorKind}
+use Rattle.clap.specs.declared.error.kind.ErrorKind.TheVariants as kind
 use Rattle.clap.proofs.OnLiterals.{clap_on_literals}
-use Rattle.feed_words.specs.Words.{command_line}
+use Rattle.feed_words.specs.Words.{command_line, AsksNothing, RefusesBy, RepliesBy}
+use Rattle.feed_words.specs.declared.request.NoCommand.{NoCommand}
+use Rattle.feed_words.specs.declared.request.NoCommand.TheVariants as reply
 
 -- clap's definitions say what is found on this command line
 pub line_is_simple : is_simple command_line ≡ true
@@ -61,3 +65,23 @@ no_globals false a b rest e = refl
 no_globals true false b rest e = absurd (cc)
 no_globals true true true rest e = absurd (cc)
 no_globals true true false rest e = absurd (cc)
+
+-- where the command line takes the words, only memory can have run out
+pub refused_by : (words : List Text) (k : ErrorKind) → (takes command_line words ≡ true → k ≡ kind.OutOfMemory) → RefusesBy words k
+refused_by words k only = by (takes command_line words) refl
+  where
+    not_taken : (w : ErrorKind) → takes command_line words ≡ false → RefusesBy words w
+    not_taken kind.OutOfMemory e = tt
+    not_taken kind.ValueValidation e = tt
+    not_taken w e = e
+
+    by : (b : Bool) → takes command_line words ≡ b → RefusesBy words k
+    by true e = subst (RefusesBy words) (sym (only e)) tt
+    by false e = not_taken k e
+
+-- what is replied with help or the version, was not taken
+pub asks_nothing : (words : List Text) (k : ErrorKind) (r : NoCommand) → RefusesBy words k → RepliesBy k r → AsksNothing words r
+asks_nothing words k reply.Memory by r = tt
+asks_nothing words k (reply.Refused text) by r = tt
+asks_nothing words k (reply.Shown text) by (inl e) = subst (RefusesBy words) e by
+asks_nothing words k (reply.Shown text) by (inr e) = subst (RefusesBy words) e by

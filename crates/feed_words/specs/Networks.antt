@@ -1,7 +1,7 @@
 -- Networks of addresses, as a list of `address/bits` separated by commas (RFC 4632, section 3.1;
 -- RFC 4291, section 2.3).
 use Rattle.std.specs.Prelude.{◌≡◌, ◌≢◌, ◌⊎◌, ℕ, ◌+◌, ◌-◌, ◌/◌, ◌%◌, ◌^◌, ◌<◌, ◌≤◌, Bool, false, ◌==◌, List, [], ◌∷◌, ◌++◌, length, take, bytes_eq, if◌then◌else◌}
-use Rattle.std.specs.List.{HoldsAt}
+use Rattle.std.specs.List.{AllWithin, HoldsAt}
 use Rattle.std.specs.Int.{w32, from_be_bytes}
 use Rattle.std.specs.Net.Addr.{ipv4_bits, ipv6_bits, ipv6_segments, low_octets}
 use Rattle.std.specs.Net.Grammar.{IsIpText}
@@ -124,9 +124,23 @@ AreNetworks (part ∷ rest) (network ∷ networks) =
 AreNetworks [] (network ∷ networks) = ⊥
 AreNetworks (part ∷ rest) [] = ⊥
 
--- why parts are no list of networks: the one of this number is none, or there are too many; of memory
--- that ran out nothing is said
+-- the text is a network
+abbrev pub IsGoodNetwork : List ℕ → Type 0
+IsGoodNetwork text = (network : Network) × IsNetwork text network
+
+-- the part of this number is the first that is no network
+pub record IsFirstNoNetwork (parts : List (List ℕ)) (number : ℕ) : Type 0 where
+  pub inside : number < length parts
+  pub bad : HoldsAt IsNoNetwork parts number
+  pub earlier : AllWithin IsGoodNetwork parts 0 number
+
+-- each part is a network
+abbrev pub AreGoodNetworks : List (List ℕ) → Type 0
+AreGoodNetworks parts = AllWithin IsGoodNetwork parts 0 (length parts)
+
+-- why parts are no list of networks: the first of the reasons; or memory ran out, and nothing else is
+-- wrong
 abbrev pub RefusesNetworks : List (List ℕ) → AddressFault → Type 0
-RefusesNetworks parts (BadAddress number) = HoldsAt IsNoNetwork parts number
-RefusesNetworks parts TooMany = most_networks < length parts
-RefusesNetworks parts Memory = Unit {0}
+RefusesNetworks parts (BadAddress number) = IsFirstNoNetwork parts number
+RefusesNetworks parts TooMany = AreGoodNetworks parts × (most_networks < length parts)
+RefusesNetworks parts Memory = AreGoodNetworks parts × (length parts ≤ most_networks)

@@ -1,15 +1,19 @@
 -- What the words of a command line ask for. Which of them name a command, and which are the values
 -- of its options, is as the crate clap reads them (`subcommand_of`), for the command line defined
 -- here.
-use Rattle.std.specs.Prelude.{◌≡◌, List, Option, Some, codes, option_map, true}
+use Rattle.std.specs.Prelude.{◌≡◌, ◌≢◌, ◌⊎◌, List, Option, Some, codes, option_map, true, false}
 use Rattle.clap.specs.Simple.{on_top}
-use Rattle.clap.specs.Words.{App, Row, Text, new_app, subcommand_of, with_rule, with_subcommand}
+use Rattle.clap.specs.Words.{App, Row, Text, new_app, subcommand_of, takes, with_rule, with_subcommand}
 use Rattle.feed_settings.specs.Limits.{most_commits}
 use Rattle.feed_words.specs.Addresses.{most_port}
 use Rattle.feed_words.specs.Live.{live, AsksLive}
 use Rattle.feed_words.specs.Options.{most_rounds, most_silence, verbose, primary, json, port, listen, contest, count, turn, chunked, back, host, from, base, host_header, user_file, turns, silence, resume, with_limits}
 use Rattle.feed_words.specs.Options.{text_at, IsNumber, IsNumberUpTo, IsNumberIfGiven, IsGiven, IsFramed, AsksLimits}
 use Rattle.feed_words.specs.declared.request.Local.TheVariants as local
+use Rattle.clap.specs.declared.error.kind.ErrorKind.{ErrorKind}
+use Rattle.clap.specs.declared.error.kind.ErrorKind.TheVariants as kind
+use Rattle.feed_words.specs.declared.request.NoCommand.{NoCommand}
+use Rattle.feed_words.specs.declared.request.NoCommand.TheVariants as reply
 use Rattle.feed_words.specs.declared.request.Request.{Request}
 use Rattle.feed_words.specs.declared.request.Request.TheVariants as request
 use Rattle.feed_words.specs.declared.request.TablesOptions.{TablesOptions}
@@ -156,3 +160,23 @@ pub record AsksAt (entered : Option (Text × List Row)) (asked : Request) : Type
 -- the words ask for this
 abbrev pub Asks : List Text → Request → Type 0
 Asks words asked = AsksAt (subcommand_of command_line words) asked
+
+-- Why words are refused, as the crate clap states it (`takes`): memory ran out, or the command line
+-- does not take them. Of no words of `live` does it say that they are taken, since options of it have
+-- rules on others; and nothing is said of a value that is refused after that.
+abbrev pub RefusesBy : List Text → ErrorKind → Type 0
+RefusesBy words kind.OutOfMemory = Unit {0}
+RefusesBy words kind.ValueValidation = Unit {0}
+RefusesBy words other = takes command_line words ≡ false
+
+-- what is replied to a refusal of this kind
+abbrev pub RepliesBy : ErrorKind → NoCommand → Type 0
+RepliesBy why reply.Memory = Unit {0}
+RepliesBy why (reply.Shown text) = (why ≡ kind.DisplayHelp) ⊎ (why ≡ kind.DisplayVersion)
+RepliesBy why (reply.Refused text) = why ≢ kind.OutOfMemory
+
+-- the words ask for nothing: where they are replied to with help or the version, the command line does
+-- not take them
+abbrev pub AsksNothing : List Text → NoCommand → Type 0
+AsksNothing words (reply.Shown text) = takes command_line words ≡ false
+AsksNothing words other = Unit {0}

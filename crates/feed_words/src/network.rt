@@ -1,14 +1,16 @@
 //! Networks of addresses: who may connect.
-ghost use Rattle.std.specs.Prelude.{◌≡◌, ◌==◌, ◌⊎◌, ◌≤◌, ◌/◌, ◌%◌, ◌^◌, None, length, map, IfOk, IfErr, IfSome};
+ghost use Rattle.std.specs.Prelude.{◌≡◌, ◌==◌, ◌⊎◌, ◌≤◌, ◌/◌, ◌%◌, ◌^◌, ◌++◌, ◌∷◌, [], true, false, None, length, map, IfOk, IfErr, IfSome, OnOk};
 ghost use Rattle.std.specs.List.{list_any};
 ghost use Rattle.std.specs.Net.Grammar.{IsIpText};
 ghost use Rattle.feed_words.specs.Addresses.{parts};
 ghost use Rattle.feed_words.specs.Networks.{origin_of, origin_bits as bits_of_origin, number_of as number_of_origin, written_bits as written_bits_of, is_within, most_networks};
 ghost use Rattle.feed_words.specs.Networks.{IsNoIp, IsBits, SaysNoBits, IsNetworkOf, HasNoNetwork, IsSlashed, HasNoSlash, IsBadlySlashed, IsNetwork, IsNoNetwork};
 ghost use Rattle.feed_words.specs.Networks.{AreNetworks, RefusesNetworks};
+ghost use Rattle.feed_words.specs.Networks.{IsGoodNetwork, IsFirstNoNetwork, AreGoodNetworks};
+ghost use Rattle.feed_words.specs.declared.network.Network.{Network as Range};
 
 use crate::address::{AddressFault, count_parts, parts_of};
-use std::alloc::Global;
+use std::alloc::{AllocError, Global};
 use std::net::IpAddr;
 
 /// The most networks of a list.
@@ -186,35 +188,64 @@ fn network_of(text: &str) -> Option<Network>
     }
 }
 
-/// The networks that the parts are.
-fn owned(alloc: Global, all: &[&str]) -> Result<Vec<Network>, AddressFault>
-    ensures ok { IfOk result (λ networks.
+/// Whether a part is a network.
+fn is_network(part: &str) -> bool
+    ensures good { result ≡ true → IsGoodNetwork part.now }
+    ensures bad { result ≡ false → IsNoNetwork part.now }
+{
+    match network_of(part) {
+        Some(_) => true,
+        None => false,
+    }
+}
+
+/// The number of the first part that is no network.
+fn first_bad(text: &str) -> Option<usize>
+    ensures bad { IfSome result (λ number. IsFirstNoNetwork (parts text.now) number) }
+    ensures good { result ≡ None → AreGoodNetworks (parts text.now) }
+{
+    text.split(',').position(|part| !is_network(part))
+}
+
+/// Appends the network that a part is.
+fn push_network(part: &str, networks: &mut Vec<Network>) -> Result<(), AllocError>
+    requires { IsGoodNetwork part.now }
+    ensures { OnOk result ((network : Range) × IsNetwork part.now network
+        × (networks.new.items ≡ networks.old.items ++ network ∷ [])) }
+{
+    let Some(network) = network_of(part) else {
+        return Err(AllocError);
+    };
+    networks.push(network)?;
+    Ok(())
+}
+
+/// The networks of which each part is one.
+fn owned(alloc: Global, all: &[&str]) -> Result<Vec<Network>, AllocError>
+    requires { AreGoodNetworks (map (λ part. part.now) all.now) }
+    ensures { IfOk result (λ networks.
         AreNetworks (map (λ part. part.now) all.now) networks.items) }
-    ensures err { IfErr result (λ fault.
-        RefusesNetworks (map (λ part. part.now) all.now) fault) }
 {
     let mut networks = Vec::new(alloc);
-    'parts: for number in 0..all.len() {
-        let Some(network) = network_of(all[number]) else {
-            return Err(AddressFault::BadAddress(number as u64));
-        };
-        if networks.push(network).is_err() {
-            return Err(AddressFault::Memory);
-        }
+    'parts: for part in all {
+        push_network(part, &mut networks)?;
     }
     Ok(networks)
 }
 
 /// The networks that a text lists, each an address, or an address, a slash, and how many of its bits
-/// count; the bits after them are 0.
+/// count; the bits after them are 0. There are at most 64.
 pub fn networks(alloc: Global, text: &str) -> Result<Vec<Network>, AddressFault>
     ensures ok { IfOk result (λ networks. AreNetworks (parts text.now) networks.items) }
     ensures few { IfOk result (λ networks. length networks.items ≤ most_networks) }
     ensures err { IfErr result (λ fault. RefusesNetworks (parts text.now) fault) }
 {
+    if let Some(number) = first_bad(text) {
+        return Err(AddressFault::BadAddress(number as u64));
+    }
     if count_parts(text) > MOST_NETWORKS {
         return Err(AddressFault::TooMany);
     }
     let all = parts_of(alloc, text)?;
-    owned(alloc, &all)
+    Ok(owned(alloc, &all)?)
 }

@@ -1,6 +1,7 @@
 //! The words of a command line, and what they ask for.
-ghost use Rattle.std.specs.Prelude.{◌≡◌, map, IfOk};
-ghost use Rattle.feed_words.specs.Words.{Asks};
+ghost use Rattle.std.specs.Prelude.{◌≡◌, List, map, IfOk, IfErr};
+ghost use Rattle.clap.specs.Words.{Text, kind_of};
+ghost use Rattle.feed_words.specs.Words.{Asks, AsksNothing, RefusesBy, RepliesBy};
 
 mod asked;
 mod asked_live;
@@ -21,7 +22,9 @@ pub const PROGRAM: &str = "tunygarop";
 pub const VERSION: &str = "0.2.0";
 
 /// What clap replies to words that ask for no command.
-fn reply(alloc: Global, error: &clap::Error) -> NoCommand {
+fn reply(alloc: Global, error: &clap::Error) -> NoCommand
+    ensures { RepliesBy (kind_of error.now) result }
+{
     if error.kind() == ErrorKind::OutOfMemory {
         return NoCommand::Memory;
     }
@@ -37,7 +40,9 @@ fn reply(alloc: Global, error: &clap::Error) -> NoCommand {
 
 /// What the words ask for, or what clap replies to them.
 fn parse<'a>(alloc: Global, words: &'a [&'a str]) -> Result<Request<'a>, clap::Error>
-    ensures { IfOk result (λ request. Asks (map (λ word. word.now) words.entry.now) request) }
+    ensures ok { IfOk result (λ request. Asks (map (λ word. word.now) words.entry.now) request) }
+    ensures err { IfErr result (λ error.
+        RefusesBy (map (λ word. word.now) words.entry.now) (kind_of error)) }
 {
     let mut program = command_line(alloc)?;
     let matches = program.try_get_matches_from_mut(words)?;
@@ -51,7 +56,9 @@ fn parse<'a>(alloc: Global, words: &'a [&'a str]) -> Result<Request<'a>, clap::E
 }
 
 /// A refusal with the usual calls below it.
-fn with_usual_calls(reply: NoCommand) -> NoCommand {
+fn with_usual_calls(reply: NoCommand) -> NoCommand
+    ensures { (words : List Text) → AsksNothing words reply → AsksNothing words result }
+{
     let NoCommand::Refused(mut text) = reply else {
         return reply;
     };
@@ -65,7 +72,9 @@ fn with_usual_calls(reply: NoCommand) -> NoCommand {
 
 /// What the words ask for; the first of them is the program's name.
 pub fn parse_words<'a>(alloc: Global, words: &'a [&'a str]) -> Result<Request<'a>, NoCommand>
-    ensures { IfOk result (λ request. Asks (map (λ word. word.now) words.entry.now) request) }
+    ensures ok { IfOk result (λ request. Asks (map (λ word. word.now) words.entry.now) request) }
+    ensures err { IfErr result (λ reply.
+        AsksNothing (map (λ word. word.now) words.entry.now) reply) }
 {
     match parse(alloc, words) {
         Ok(request) => Ok(request),

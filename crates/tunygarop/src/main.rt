@@ -4,7 +4,7 @@
 mod live;
 
 use feed_cli::stream::Stream;
-use feed_cli::{Fault, Local, NoCommand, Request, answer_words, parse_words, run, tell};
+use feed_cli::{Fault, PROGRAM, Request, parse_words, run, tell};
 use feed_network::{audit_records, ended, input_ahead, pull_feed, relay_feed, serve_feed};
 use live::live_feed;
 use std::io::ErrorKind;
@@ -17,46 +17,31 @@ const REFUSED: u8 = 1;
 /// The status for want of memory.
 const WANT_OF_MEMORY: u8 = 5;
 
-/// Runs a command that opens no connection.
-fn run_local(rt: &HostRuntime, request: Local) -> u8 {
+/// Runs the command of this name that these words ask for, over the standard streams.
+fn run_words<'a>(rt: &HostRuntime, name: &str, words: &'a [&'a str]) -> u8 {
     let Ok(input) = input_ahead(rt) else {
-        return tell(request.name(), Fault::Memory, &mut Stream::new(rt.stderr()));
+        return tell(name, Fault::Memory, &mut Stream::new(rt.stderr()));
     };
     run(
         rt.alloc(),
-        request,
+        words,
         &mut Stream::new(input),
         &mut Stream::new(rt.stdout()),
         &mut Stream::new(rt.stderr()),
     )
 }
 
-/// Tells what is replied to words that ask for no command.
-fn answer(rt: &HostRuntime, reply: &NoCommand) -> u8 {
-    answer_words(
-        reply,
-        &mut Stream::new(rt.stdout()),
-        &mut Stream::new(rt.stderr()),
-    )
-}
-
-/// Runs the command that is asked for.
-fn run_request(rt: &HostRuntime, request: &Request<'_>) -> u8 {
-    match request {
-        Request::Local(request) => run_local(rt, *request),
-        Request::Audit(options) => ended(rt, "audit", audit_records(rt, options)),
-        Request::Serve(options) => ended(rt, "serve", serve_feed(rt, options)),
-        Request::Pull(options) => ended(rt, "pull", pull_feed(rt, options)),
-        Request::Relay(options) => ended(rt, "relay", relay_feed(rt, options)),
-        Request::Live(options) => ended(rt, "live", live_feed(rt, options)),
-    }
-}
-
-/// Runs the command that these words ask for.
+/// Runs the command that these words ask for. Those that open files or connections are run here;
+/// what all other words come to is proved of `run`, which reads them once more.
 fn status_of<'a>(rt: &HostRuntime, words: &'a [&'a str]) -> u8 {
     match parse_words(rt.alloc(), words) {
-        Ok(request) => run_request(rt, &request),
-        Err(reply) => answer(rt, &reply),
+        Ok(Request::Audit(options)) => ended(rt, "audit", audit_records(rt, &options)),
+        Ok(Request::Serve(options)) => ended(rt, "serve", serve_feed(rt, &options)),
+        Ok(Request::Pull(options)) => ended(rt, "pull", pull_feed(rt, &options)),
+        Ok(Request::Relay(options)) => ended(rt, "relay", relay_feed(rt, &options)),
+        Ok(Request::Live(options)) => ended(rt, "live", live_feed(rt, &options)),
+        Ok(Request::Local(request)) => run_words(rt, request.name(), words),
+        Err(_) => run_words(rt, PROGRAM, words),
     }
 }
 

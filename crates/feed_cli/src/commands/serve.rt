@@ -47,7 +47,7 @@ pub fn start_source<R: FeedRead>(
         → R.failures input.new ≡ R.failures input.old }
 {
     let feed = read_input(alloc, input)?;
-    let mut waiting = feed_batches(alloc, feed.as_slice())?;
+    let mut waiting = feed_batches(alloc, feed.as_slice()).map_err(Fault::of_batches)?;
     let mut primary = Primary::new(alloc, options.limits)?;
     if options.turn.is_none() {
         commit_all(alloc, &mut primary, &mut waiting)?;

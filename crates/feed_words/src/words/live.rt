@@ -1,5 +1,5 @@
 //! The command `live`, as the command line declares it.
-ghost use Rattle.std.specs.Prelude.{◌≡◌, true, false, IfOk};
+ghost use Rattle.std.specs.Prelude.{◌≡◌, [], true, false, IfOk};
 ghost use Rattle.clap.specs.Words.{App, Rule, app_of, rule_of, with_rule};
 ghost use Rattle.feed_words.specs.Live as live;
 
@@ -61,9 +61,10 @@ fn base<'a>(alloc: Global) -> Result<Arg<'a>, AllocError>
     options::base(alloc).requires_arg("host")
 }
 
-/// `--listen Q`, unless there is `--state`.
+/// `--listen Q`, unless there is `--state`; it needs no other option.
 fn listen<'a>(alloc: Global) -> Result<Arg<'a>, AllocError>
     ensures rule { IfOk result (λ option. rule_of option ≡ live.listen) }
+    ensures alone { IfOk result (λ option. option.needs.items ≡ []) }
     ensures local { IfOk result (λ option. option.global ≡ false) }
 {
     number(alloc, "listen", "Q", MOST_PORT)

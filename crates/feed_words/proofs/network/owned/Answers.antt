@@ -1,8 +1,11 @@
-use Rattle.std.proofs.Common.{rules}
-use Rattle.feed_words.proofs.NetworkLemmas.{next_network}
+use Rattle.feed_words.proofs.NetworkLemmas.{good_network, more_networks}
 use Rattle.feed_words.proofs.network.owned.Goals as goal
+
+pub push_network-requires : goal.push_network-requires
+push_network-requires c =
+    good_network c.args.all.now c.parts.part-index _ c.parts-test.true c.requires
 
 pub parts-preserved : goal.parts-preserved
 parts-preserved c =
-    next_network c.args.all.now c.parts.number _ c.parts.networks.items c.push.new.self.items
-    c.in-Some.network c.parts-test.true c.parts.invariant c.in-Some.ensures.some (search rules)
+    more_networks c.args.all.now c.parts.part-index _ _ _ c.parts-test.true c.parts.invariant
+    c.in_ok-push_network.ensures

@@ -5,4 +5,4 @@ use Rattle.feed_words.proofs.network.owned.Given as goal
 
 abbrev pub invariant-parts : goal.invariant-parts
 invariant-parts l =
-    AreNetworks (take l.number (map (λ part. part.now) l.all)) l.networks.items
+    AreNetworks (take l.part-index (map (λ part. part.now) l.all)) l.networks.items

@@ -1,11 +1,19 @@
 use Rattle.std.proofs.Common.{ap, subst, ◌≡◌, ◌∙◌, map}
-use Rattle.clap.specs.Words.{is_simple, subcommand_of, subcommand_rows_of}
+use Rattle.std.proofs.lemmas.Result.{err_from_is_err_and}
+use Rattle.clap.specs.Words.{is_simple, kind_of, subcommand_of, subcommand_rows_of, takes}
 use Rattle.feed_words.specs.Words.{AsksAt, command_line}
-use Rattle.feed_words.proofs.WordsLemmas.{line_is_simple}
+use Rattle.feed_words.proofs.WordsLemmas.{line_is_simple, refused_by}
 use Rattle.feed_words.proofs.words.parse.Goals as goal
 
-pub returns-in-Some : goal.returns-in-Some
-returns-in-Some c =
+pub returns-in_err-matches-clause-err : goal.returns-in_err-matches-clause-err
+returns-in_err-matches-clause-err c =
+    let words = map (λ word. word.now) c.args.words.now in
+    let p = err_from_is_err_and c.from_residual-in_err-matches.result c.from_residual-in_err-matches.ensures.1 in
+    rw (p.1, p.2) (refused_by words (kind_of c.in_err-matches.field-0.0)
+    (λ taken. c.in_err-matches.ensures.passes (ap (λ a. takes a words) c.in_ok-program.ensures ∙ taken)))
+
+pub returns-in-Some-clause-ok : goal.returns-in-Some-clause-ok
+returns-in-Some-clause-ok c =
     let words = map (λ word. word.now) c.args.words.now in
     let found = c.in_ok-matches.ensures.ok.2 (ap is_simple c.in_ok-program.ensures ∙ line_is_simple) in
     let entered : subcommand_rows_of c.in_ok-matches.matches ≡ subcommand_of command_line words = found.1 ∙ ap (λ a. subcommand_of a words) c.in_ok-program.ensures in
