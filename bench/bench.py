@@ -1,12 +1,16 @@
 #!/usr/bin/env python3
-"""bench/bench.py [NOTIFICATIONS]: times `tunygarop tables` on a generated feed beside baselines, in one run.
+"""bench/bench.py [NOTIFICATIONS [TURNS]]: times `tunygarop tables` on generated feeds beside baselines, in one run.
 
 Needs the built program (tools/run builds it) and, from Debian's packages, cargo, librust-serde-json-dev and jq; it says
-which of them is missing. Each is run three times in turn (jq once), from a file to a file, and the best time counts, with
-the resident memory of that run. The snapshot of the program has to be that of the Rust baseline."""
+which of them is missing. The first table is of one feed. Each is run three times in turn (jq once), from a file to a file,
+and the best time counts, with the resident memory of that run. The second is of the same feed in each style in which
+servers write (feed.py has them): the processor seconds of `tables` and of the Rust baseline, which are run in turns, 21
+unless TURNS says otherwise, their medians, and the median of their ratios. The snapshot of the program has to be that of
+the Rust baseline each time. `PROGRAM=PATH` in the environment is another program than the built one."""
 import os
 import resource
 import shutil
+import statistics
 import subprocess
 import sys
 import tempfile
@@ -14,13 +18,14 @@ import time
 from pathlib import Path
 
 HERE = Path(__file__).resolve().parent
-PROGRAM = HERE.parent / "crates/tunygarop/out/tunygarop"
+PROGRAM = Path(os.environ.get("PROGRAM", HERE.parent / "crates/tunygarop/out/tunygarop"))
 REGISTRY = Path("/usr/share/cargo/registry")
 CONFIG = f"""[source.crates-io]
 replace-with = "debian"
 [source.debian]
 directory = "{REGISTRY}"
 """
+STYLES = ("plain", "tokens", "token-first", "time-last", "domjudge")
 TABLES, FOLD, JQ, WC = "`tunygarop tables`", "Rust, `serde_json`", "`jq`", "`wc -l`"
 
 
@@ -35,11 +40,11 @@ def missing():
             yield f"{name} (apt-get install {name})"
 
 
-def generated(count, scratch):
-    """The generated feed."""
-    feed = scratch / f"feed-{count}.ndjson"
+def generated(count, scratch, style):
+    """The generated feed in a style."""
+    feed = scratch / f"feed-{count}-{style}.ndjson"
     with open(feed, "wb") as sink:
-        subprocess.run([sys.executable, HERE / "feed.py", str(count)], stdout=sink, check=True)
+        subprocess.run([sys.executable, HERE / "feed.py", str(count), "1", style], stdout=sink, check=True)
     return feed
 
 
@@ -56,7 +61,7 @@ def baseline(scratch):
 
 
 def timed(words, feed, out):
-    """Seconds, and the greatest resident size in MB."""
+    """Seconds, the greatest resident size in MB, and the seconds of a processor."""
     with open(feed, "rb") as source, open(out, "wb") as sink:
         start = time.perf_counter()
         process = subprocess.Popen(words, stdin=source, stdout=sink)
@@ -64,7 +69,7 @@ def timed(words, feed, out):
         seconds = time.perf_counter() - start
     if os.waitstatus_to_exitcode(status) != 0:
         sys.exit(f"bench.py: {words[0]} failed")
-    return seconds, usage.ru_maxrss / 1024
+    return seconds, usage.ru_maxrss / 1024, usage.ru_utime + usage.ru_stime
 
 
 def resident(megabytes):
@@ -73,21 +78,14 @@ def resident(megabytes):
     return f"{megabytes:.0f}" if megabytes > own else f"under {own:.0f}"
 
 
-def main():
-    lacks = list(missing())
-    if lacks:
-        sys.exit("bench.py: missing: " + ", ".join(lacks))
-    count = int(sys.argv[1]) if len(sys.argv) > 1 else 200_000
-    scratch = Path(tempfile.gettempdir()) / "tunygarop-bench"
-    scratch.mkdir(exist_ok=True)
-    feed = generated(count, scratch)
-    rows = {
-        TABLES: [PROGRAM, "tables"],
-        FOLD: [baseline(scratch)],
-        JQ: ["jq", "-c", "-n", "-f", HERE / "fold.jq"],
-        WC: ["wc", "-l"],
-    }
-    outs = {name: scratch / f"out-{number}" for number, name in enumerate(rows)}
+def have_same(one, other):
+    """Ends where two snapshots differ."""
+    if one.read_bytes() != other.read_bytes():
+        sys.exit("bench.py: the snapshots differ")
+
+
+def one_feed(feed, rows, outs):
+    """Prints the table of one feed."""
     best = {}
     for turn in range(3):
         for name, words in rows.items():
@@ -96,13 +94,44 @@ def main():
             run = timed(words, feed, outs[name])
             best[name] = min(best.get(name, run), run)
     megabytes = feed.stat().st_size / 1e6
-    print(f"{count:,} notifications, {megabytes:.0f} MB; load {os.getloadavg()[0]:.1f} on {os.cpu_count()} processors\n")
     print("| | seconds | MB/s | MB resident |")
     print("|---|---|---|---|")
-    for name, (seconds, size) in best.items():
+    for name, (seconds, size, _) in best.items():
         print(f"| {name} | {seconds:.2f} | {megabytes / seconds:,.0f} | {resident(size)} |")
-    if outs[TABLES].read_bytes() != outs[FOLD].read_bytes():
-        sys.exit("bench.py: the snapshots differ")
+    have_same(outs[TABLES], outs[FOLD])
+
+
+def each_style(count, turns, scratch, rows, outs):
+    """Prints the table of the styles."""
+    print("\n| Style | MB | `tables` | Rust | ratio |")
+    print("|---|---|---|---|---|")
+    for style in STYLES:
+        feed = generated(count, scratch, style)
+        pairs = [[timed(rows[name], feed, outs[name])[2] for name in (TABLES, FOLD)] for _ in range(turns)]
+        have_same(outs[TABLES], outs[FOLD])
+        ours, plain = (statistics.median(column) for column in zip(*pairs))
+        ratio = statistics.median(a / b for a, b in pairs)
+        print(f"| {style} | {feed.stat().st_size / 1e6:.0f} | {ours:.3f} | {plain:.3f} | {ratio:.2f} |", flush=True)
+
+
+def main():
+    lacks = list(missing())
+    if lacks:
+        sys.exit("bench.py: missing: " + ", ".join(lacks))
+    words = dict(enumerate(sys.argv[1:]))
+    count, turns = int(words.get(0, 200_000)), int(words.get(1, 21))
+    scratch = Path(tempfile.gettempdir()) / "tunygarop-bench"
+    scratch.mkdir(exist_ok=True)
+    rows = {
+        TABLES: [PROGRAM, "tables"],
+        FOLD: [baseline(scratch)],
+        JQ: ["jq", "-c", "-n", "-f", HERE / "fold.jq"],
+        WC: ["wc", "-l"],
+    }
+    outs = {name: scratch / f"out-{number}" for number, name in enumerate(rows)}
+    print(f"{count:,} notifications; load {os.getloadavg()[0]:.1f} on {os.cpu_count()} processors\n")
+    one_feed(generated(count, scratch, "plain"), rows, outs)
+    each_style(count, turns, scratch, rows, outs)
 
 
 main()

@@ -1,14 +1,42 @@
 #!/usr/bin/env python3
-"""feed.py NOTIFICATIONS [SEED]: a large contest feed on standard output.
+"""feed.py NOTIFICATIONS [SEED [STYLE]]: a large contest feed on standard output.
 
 The set-up comes as whole collections; then submissions, judgements, runs, clarifications, comments and states, as a
 contest of 150 teams has them. One line in eight ends a commit, one in forty is a keep-alive, and judgements are written
-again and again."""
+again and again.
+
+Servers write the same in different styles. STYLE is one of these, `plain` if left out:
+
+- plain: the members type, id, data and, at the end of a commit, token;
+- tokens: the same, with a token on each line;
+- token-first: a token on each line, before the others;
+- time-last: a token on each line, and behind it a member `time`;
+- domjudge: token, id, type, data and time on each line, with `\\/` for a slash and `\\u` for other letters, as DOMjudge
+  is believed to write."""
 import random
 import sys
 
 TEAMS, PROBLEMS = 150, 12
 START = "2026-11-22T10:00:00.000+01:00"
+STYLES = ("plain", "tokens", "token-first", "time-last", "domjudge")
+TIME = ',"time":"2026-11-22T12:00:00.000+01:00"'
+
+
+def escaped(text):
+    """The text with `\\/` for each slash, which stands in strings alone, and `\\u` for each letter that is not ASCII."""
+    return "".join(c if c < "\x80" else f"\\u{ord(c):04x}" for c in text.replace("/", "\\/"))
+
+
+def spelled(style, kind, i, data, token):
+    """A line: the type, and the id and the token, if any, as JSON strings."""
+    marked = f',"token":{token}' if token else ""
+    if style in ("plain", "tokens"):
+        return f'{{"type":"{kind}","id":{i},"data":{data}{marked}}}'
+    if style == "token-first":
+        return f'{{"token":{token},"type":"{kind}","id":{i},"data":{data}}}'
+    if style == "time-last":
+        return f'{{"type":"{kind}","id":{i},"data":{data}{marked}{TIME}}}'
+    return f'{{"token":{token},"id":{i},"type":"{kind}","data":{escaped(data)}{TIME}}}'
 
 
 def collections():
@@ -33,7 +61,8 @@ def collections():
 
 
 class Feed:
-    def __init__(self, notifications, seed):
+    def __init__(self, notifications, seed, style):
+        self.style = style
         self.most, self.made, self.token = notifications, 0, 0
         self.random = random.Random(seed)
         self.submissions = self.runs = 0
@@ -41,11 +70,11 @@ class Feed:
 
     def put(self, kind, i, data, commits=False):
         token = ""
-        if commits or self.random.random() < 0.12:
+        if commits or self.random.random() < 0.12 or self.style != "plain":
             self.token += 1
-            token = f',"token":"{self.token}"'
+            token = f'"{self.token}"'
         quoted = "null" if i is None else f'"{i}"'
-        self.line(f'{{"type":"{kind}","id":{quoted},"data":{data}{token}}}')
+        self.line(spelled(self.style, kind, quoted, data, token))
 
     def line(self, text):
         self.made += 1
@@ -119,5 +148,13 @@ class Feed:
         self.flush()
 
 
+def main():
+    words = dict(enumerate(sys.argv[1:]))
+    style = words.get(2, "plain")
+    if style not in STYLES:
+        sys.exit("feed.py: no such style")
+    Feed(int(words[0]), int(words.get(1, 1)), style).write()
+
+
 if __name__ == "__main__":
-    Feed(int(sys.argv[1]), int(sys.argv[2]) if len(sys.argv) > 2 else 1).write()
+    main()

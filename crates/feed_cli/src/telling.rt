@@ -6,11 +6,10 @@ ghost use Rattle.feed_cli.specs.Fault.{goes_on};
 ghost use Rattle.feed_cli.specs.Telling.{IsEnded, TellsLines, IsToldStatus, HasTold, FailsAs};
 
 use crate::commands::pull::attempt_outcome;
-use crate::fault::{Fault, FeedStop};
+use crate::fault::Fault;
 use arrayvec::ArrayString;
 use feed_http::Served;
 use feed_http::device::{Failed, FeedWrite, write_all};
-use feed_note::SurveyFault;
 use feed_relay::{Attempt, AttemptEnd, NetworkFault, Server};
 use std::fmt::Write;
 
@@ -34,11 +33,12 @@ fn add_more(
 ) {
     let _ = match (fault, address) {
         (_, Some((host, port))) => write!(words, "\n{name}: {host}:{port}"),
-        (Fault::Feed(FeedStop { line: Some(line), .. }), None) => {
-            write!(words, "\n{name}: line {line}")
-        }
-        (Fault::Batches(SurveyFault { line, .. }), None) => {
-            write!(words, "\n{name}: line {line} of standard input")
+        (Fault::Feed(stop), None) => match stop.line {
+            Some(line) => write!(words, "\n{name}: line {line}"),
+            None => Ok(()),
+        },
+        (Fault::Batches(stop), None) => {
+            write!(words, "\n{name}: line {} of standard input", stop.line)
         }
         _ => Ok(()),
     };

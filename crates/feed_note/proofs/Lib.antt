@@ -23,8 +23,6 @@ pub mod Batching
 pub mod OneMeaning
 pub mod Openings
 pub mod Piecewise
-pub mod Usual
-pub mod PlainFields
-pub mod UsualFields
+pub mod NamedLine
 pub mod Decided
 pub mod Meant

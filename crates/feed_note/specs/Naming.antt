@@ -1,10 +1,10 @@
 -- What the reader of a line keeps of its strings.
-use Rattle.std.specs.Prelude.{ℕ, Bool, true, false, List, Option, None, Some, length, nat_lt, if◌then◌else◌, IfSome}
+use Rattle.std.specs.Prelude.{ℕ, Bool, true, false, List, Option, None, Some, length, nat_lt, if◌then◌else◌}
 use Rattle.feed_text.specs.Limits.{name_bytes}
-use Rattle.feed_text.specs.Members.{Spelling, IsSpelling, item_view}
+use Rattle.feed_text.specs.Members.{Spelling}
+pub use Rattle.feed_text.specs.Members.{IsSpeltValue}
 use Rattle.feed_text.specs.Strings.{decoded}
 use Rattle.feed_text.specs.declared.Kind.TheVariants.{Object, Array, Str, Num, True, False, Null}
-use Rattle.feed_text.specs.declared.value.Item as items
 use Rattle.feed_note.specs.Meaning.{is_null}
 use Rattle.feed_note.specs.declared.naming.Naming.{Naming}
 use Rattle.feed_note.specs.declared.naming.Naming.TheVariants.{Is, Long, Unreadable}
@@ -28,10 +28,6 @@ naming_of (Some w) = if nat_lt name_bytes (length w) then Long else Is w
 abbrev pub spelled_or_null : Option Spelling → Option Naming
 spelled_or_null None = None
 spelled_or_null (Some x) = if is_null x.1 then None else Some (naming_of (spelled_text x))
-
--- the slice is one value of its kind, where there is one
-abbrev pub IsSpeltValue : Option items.Item → Type 0
-IsSpeltValue found = IfSome found (λ item. IsSpelling (item_view item))
 
 -- whether a member names nothing though it is there
 abbrev pub is_unreadable : Naming → Bool

@@ -1,15 +1,15 @@
 //! The members of a notification that count, and what they name.
 
-ghost use Rattle.std.specs.Prelude.{◌≡◌, ◌||◌, IfOk, IfSome, MatchResult, option_map, IsUtf8, IsTrue, Bool, codes};
-ghost use Rattle.feed_text.specs.Members.{item_view, member_views, few_views, usual_views, AreMemberSpellings};
+ghost use Rattle.std.specs.Prelude.{◌≡◌, ◌||◌, IfOk, IfSome, MatchResult, option_map, Bool};
+ghost use Rattle.feed_text.specs.Members.{item_view, AreSpeltValues};
 ghost use Rattle.feed_note.specs.Meaning.{Notification};
 ghost use Rattle.feed_note.specs.Naming.{IsSpeltValue};
-ghost use Rattle.feed_note.specs.Reading.{last_value_spelt, where_named, fields_of, HasFields, AreSpelt, Spell, AreNamesOf, IsFirstFault};
+ghost use Rattle.feed_note.specs.Reading.{last_value_spelt, named_fields, HasFields, AreSpelt, Spell, AreNamesOf, IsFirstFault};
 ghost use Rattle.feed_note.specs.Naming.{is_unreadable as unreadable_test, is_unreadable_or_null};
 
 use crate::line::LineFault;
 use crate::naming::{Naming, read_member_naming, read_naming};
-use feed_text::{FewMembers, Item, Member, Members, UsualMembers, plain_text, text_laws};
+use feed_text::{Item, Members, NamedMembers};
 use std::alloc::{AllocError, Global};
 
 /// The values of the members that count: the last one of each name, where there is one.
@@ -45,86 +45,25 @@ fn last_value<'a>(
     }
 }
 
-/// The values of the members that count.
-pub fn read_fields<'a>(alloc: Global, members: &Members<'a>) -> Result<Fields<'a>, AllocError>
-    ensures values { IfOk result (λ fields. HasFields members.now fields) }
-    ensures spelt { IfOk result (λ fields. AreSpelt fields) }
-{
-    match plain_fields(members.list()) {
-        Some(fields) => Ok(fields),
-        None => find_fields(alloc, members),
-    }
-}
-
-/// The values of the members that count, of three or four, where no key has a backslash.
-pub fn few_fields<'a>(few: &FewMembers<'a>) -> Option<Fields<'a>>
-    requires { AreMemberSpellings (few_views few.now) }
-    ensures values { IfSome result (λ fields. HasFields (few_views few.now) fields) }
-    ensures spelt { IfSome result (λ fields. AreSpelt fields) }
-{
-    match few.fourth {
-        None => plain_fields(&[few.first, few.second, few.third]),
-        Some(last) => plain_fields(&[few.first, few.second, few.third, last]),
-    }
-}
-
-/// The values of the members that count, wherever they stand, where no key has a backslash.
-fn plain_fields<'a>(members: &[Member<'a>]) -> Option<Fields<'a>>
-    requires { AreMemberSpellings (member_views members.now) }
-    ensures values { IfSome result (λ fields. HasFields (member_views members.now) fields) }
-    ensures spelt { IfSome result (λ fields. AreSpelt fields) }
-{
-    let mut fields = Fields {
-        kind: None,
-        id: None,
-        content: None,
-        token: None,
-    };
-    for member in members {
-        let name = plain_text(member.key)?;
-        fields.put(name, member.item());
-    }
-    Some(fields)
-}
-
 impl<'a> Fields<'a> {
-    /// The values of the members of a line that is written as lines mostly are.
+    /// Those that were found in one pass.
     #[inline(always)]
-    #[tactic(auto, unfolding(feed_text::specs::Strings::written_string))]
-    pub fn of(members: &UsualMembers<'a>) -> Fields<'a>
-        requires { AreMemberSpellings (usual_views members.now) }
-        ensures fields { result ≡ fields_of members.now }
-        ensures values { HasFields (usual_views members.now) result }
+    pub fn of(found: &NamedMembers<'a>) -> Fields<'a>
+        requires { AreSpeltValues found.now }
+        ensures fields { result ≡ named_fields found.now }
         ensures spelt { AreSpelt result }
     {
-        text_laws();
         Fields {
-            kind: Some(members.kind),
-            id: Some(members.id),
-            content: Some(members.content),
-            token: members.token,
-        }
-    }
-
-    /// Has the value of a member of this name, where it counts.
-    fn put(&mut self, name: &str, value: Item<'a>)
-        ensures kind { self.new.kind ≡ where_named name.now (codes "type") value.entry self.old.kind }
-        ensures id { self.new.id ≡ where_named name.now (codes "id") value.entry self.old.id }
-        ensures content { self.new.content ≡ where_named name.now (codes "data") value.entry self.old.content }
-        ensures token { self.new.token ≡ where_named name.now (codes "token") value.entry self.old.token }
-    {
-        match name {
-            "type" => self.kind = Some(value),
-            "id" => self.id = Some(value),
-            "data" => self.content = Some(value),
-            "token" => self.token = Some(value),
-            _ => {}
+            kind: found.kind,
+            id: found.id,
+            content: found.content,
+            token: found.token,
         }
     }
 }
 
-/// The values of the members that count, wherever they stand.
-fn find_fields<'a>(alloc: Global, members: &Members<'a>) -> Result<Fields<'a>, AllocError>
+/// The values of the members that count.
+pub fn read_fields<'a>(alloc: Global, members: &Members<'a>) -> Result<Fields<'a>, AllocError>
     ensures values { IfOk result (λ fields. HasFields members.now fields) }
     ensures spelt { IfOk result (λ fields. AreSpelt fields) }
 {

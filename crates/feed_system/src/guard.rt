@@ -1,6 +1,22 @@
 //! Who may connect.
 
+ghost use Rattle.std.specs.Prelude.{◌≡◌};
+ghost use Rattle.feed_system.specs.Counted.{counted_as};
+
 use feed_words::{Network, Origin, is_in_any};
+
+/// How many bits of an address of IPv6 are those of its interface.
+const INTERFACE_BITS: u32 = 64;
+
+/// As whom somebody counts who has several connections.
+pub(crate) fn counted(origin: Origin) -> Origin
+    ensures { result ≡ counted_as origin }
+{
+    match origin {
+        Origin::V4(number) => Origin::V4(number),
+        Origin::V6(number) => Origin::V6(number.unbounded_shr(INTERFACE_BITS)),
+    }
+}
 
 /// The networks that may connect, and how many connections of one address there may be.
 #[derive(Drop)]

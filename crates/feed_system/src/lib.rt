@@ -2,6 +2,7 @@
 //! streams, those who watch it, and the clock. It knows nothing of what the relay does with them.
 #![tactic(auto)]
 
+mod descriptors;
 mod guard;
 mod link;
 mod opening;
@@ -12,6 +13,7 @@ mod system;
 mod telling;
 mod watchers;
 
+pub use descriptors::{Placeholders, hold_standard};
 pub use link::Servers;
 pub use opening::{OpenFault, open, without_brackets};
 pub use sockets::Port;

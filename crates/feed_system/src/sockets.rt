@@ -2,7 +2,7 @@
 
 ghost use Rattle.std.specs.Prelude.{◌≡◌, ◌≤◌, length, IfOk};
 
-use crate::guard::Guard;
+use crate::guard::{Guard, counted};
 use feed_device::{Sockets, Stop};
 use feed_words::Origin;
 use mio::net::{TcpListener, TcpStream};
@@ -15,11 +15,11 @@ use std::net::{Shutdown, SocketAddr};
 /// The token of the first screen's socket; those before it are other devices'.
 pub(crate) const FIRST_SCREEN: usize = 16;
 
-/// The socket of one screen, and whose it is.
+/// The socket of one screen, and as whose it counts.
 #[derive(Drop)]
 struct Peer {
     stream: TcpStream,
-    origin: Origin,
+    owner: Origin,
     // It sends no more: mostly it went away.
     has_ended: bool,
     // It made room for another one, and is sent nothing more.
@@ -119,12 +119,12 @@ impl Port {
     }
 
     /// How many connections somebody has.
-    fn count_of(&self, origin: Origin) -> u64 {
+    fn count_of(&self, owner: Origin) -> u64 {
         let mut count = 0u64;
         for peer in &self.peers {
             if peer
                 .as_ref()
-                .is_some_and(|peer| peer.origin == origin && !peer.is_gone)
+                .is_some_and(|peer| peer.owner == owner && !peer.is_gone)
             {
                 count = count.saturating_add(1);
             }
@@ -134,12 +134,12 @@ impl Port {
 
     /// Takes leave of a connection of somebody, if there is one that has ended what it sends. That
     /// it went away would only be found when it is written to for the second time.
-    fn make_room(&mut self, origin: Origin) {
+    fn make_room(&mut self, owner: Origin) {
         for place in &mut self.peers {
             let Some(peer) = place else {
                 continue;
             };
-            if peer.origin == origin && peer.has_ended && !peer.is_gone {
+            if peer.owner == owner && peer.has_ended && !peer.is_gone {
                 peer.is_gone = true;
                 let _ = peer.stream.shutdown(Shutdown::Both);
                 return;
@@ -149,15 +149,16 @@ impl Port {
 
     /// Whether who connects stays.
     fn lets_in(&mut self, origin: Origin) -> bool {
-        if !self.guard.has_room(self.count_of(origin)) {
-            self.make_room(origin);
+        let owner = counted(origin);
+        if !self.guard.has_room(self.count_of(owner)) {
+            self.make_room(owner);
         }
-        let count = self.count_of(origin);
+        let count = self.count_of(owner);
         self.guard.lets_in(origin, count)
     }
 
     /// Keeps a socket at its number, and has events of it told.
-    fn keep(&mut self, at: usize, origin: Origin, mut stream: TcpStream) -> io::Result<()> {
+    fn keep(&mut self, at: usize, owner: Origin, mut stream: TcpStream) -> io::Result<()> {
         let _ = stream.set_nodelay(true);
         let interests = Interest::READABLE | Interest::WRITABLE;
         let token = Token(FIRST_SCREEN.saturating_add(at));
@@ -168,7 +169,7 @@ impl Port {
         if let Some(place) = self.peers.get_mut(at) {
             *place = Some(Peer {
                 stream,
-                origin,
+                owner,
                 has_ended: false,
                 is_gone: false,
             });
@@ -188,7 +189,8 @@ impl Sockets for Port {
         if !self.lets_in(origin) {
             return Err(Stop::Gone);
         }
-        self.keep(at, origin, stream).map_err(|_| Stop::Failed)?;
+        self.keep(at, counted(origin), stream)
+            .map_err(|_| Stop::Failed)?;
         Ok(peer)
     }
 

@@ -1,5 +1,6 @@
 //! The status port: those who watch the relay ask it over HTTP, each with one connection. They are
-//! answered with what the relay is at that moment, and change nothing of it.
+//! answered with what the relay is at that moment, and change nothing of it. Where all places are
+//! taken, who is not being answered gives way to who waits.
 
 use crate::guard::Guard;
 use crate::sockets::{read_once, write_once};
@@ -30,6 +31,9 @@ const PIECE: usize = 2_048;
 /// How many reads and writes one turn makes for each connection.
 const STEPS: usize = 8;
 
+/// How many connections one turn takes.
+const ACCEPTS: usize = 64;
+
 /// One connection: what came of its request, and what is left of its answer.
 #[derive(Drop)]
 struct Watcher {
@@ -39,6 +43,21 @@ struct Watcher {
     sent: usize,
     until: u64,
     is_ready: bool,
+    // How many came before it.
+    number: u64,
+}
+
+/// How soon a connection gives way to one that waits.
+#[derive(Clone, Copy, PartialEq, Eq)]
+enum Claim {
+    /// It sent nothing: before all others.
+    Silent,
+    /// It was sent all of its answer, and is only to be closed.
+    Answered,
+    /// Its request has not come whole.
+    Asks,
+    /// It is being answered: not at all.
+    Reads,
 }
 
 /// What comes after a step.
@@ -92,6 +111,18 @@ impl Watcher {
         }
     }
 
+    fn claim(&self) -> Claim {
+        if self.head.is_empty() {
+            Claim::Silent
+        } else if self.answer.is_empty() {
+            Claim::Asks
+        } else if self.sent >= self.answer.len() {
+            Claim::Answered
+        } else {
+            Claim::Reads
+        }
+    }
+
     fn step(&mut self, alloc: Global, status: &Status<'_>) -> Step {
         if self.sent < self.answer.len() {
             self.write()
@@ -124,6 +155,8 @@ pub(crate) struct Watchers {
     guard: Guard,
     is_waited_for: bool,
     watchers: Slab<Watcher>,
+    // How many connections came.
+    came: u64,
 }
 
 impl Watchers {
@@ -139,6 +172,7 @@ impl Watchers {
             guard,
             is_waited_for: false,
             watchers: Slab::new(alloc),
+            came: 0,
         }
     }
 
@@ -159,8 +193,12 @@ impl Watchers {
         }
     }
 
-    /// When the next connection has been kept for long enough.
+    /// When there is something to do for them: at once, or when the next connection has been kept for
+    /// long enough.
     pub(crate) fn due(&self) -> u64 {
+        if self.is_any_ready() || (self.is_waited_for && self.has_room()) {
+            return 0;
+        }
         let mut due = u64::MAX;
         for at in 0..MOST_WATCHERS {
             if let Some(watcher) = self.watchers.get(at) {
@@ -172,7 +210,33 @@ impl Watchers {
 
     /// Whether there is something to do for them.
     pub(crate) fn has_work(&self, now: u64) -> bool {
-        self.is_waited_for || self.due() <= now || self.is_any_ready()
+        self.due() <= now
+    }
+
+    /// Whether a place is free, or somebody may give way.
+    fn has_room(&self) -> bool {
+        self.watchers.len() < MOST_WATCHERS || self.weakest().is_some()
+    }
+
+    /// The place of the oldest connection with a claim.
+    fn oldest(&self, claim: Claim) -> Option<usize> {
+        let mut oldest: Option<(u64, usize)> = None;
+        for at in 0..MOST_WATCHERS {
+            if let Some(watcher) = self.watchers.get(at) {
+                let is_older = oldest.is_none_or(|(number, _)| watcher.number < number);
+                if watcher.claim() == claim && is_older {
+                    oldest = Some((watcher.number, at));
+                }
+            }
+        }
+        Some(oldest?.1)
+    }
+
+    /// The place of the connection that gives way first.
+    fn weakest(&self) -> Option<usize> {
+        self.oldest(Claim::Silent)
+            .or_else(|| self.oldest(Claim::Answered))
+            .or_else(|| self.oldest(Claim::Asks))
     }
 
     fn is_any_ready(&self) -> bool {
@@ -201,16 +265,17 @@ impl Watchers {
                 let _ = self.watchers.try_remove(at);
             }
         }
-        self.accept(alloc, now);
+        self.accept(alloc, status, now);
     }
 
-    /// Takes who waits, where there is room. Who finds none waits until a place is free.
-    fn accept(&mut self, alloc: Global, now: u64) {
-        for _ in 0..MOST_WATCHERS {
-            if !self.is_waited_for || self.watchers.len() >= MOST_WATCHERS {
+    /// Takes who waits, as many as a turn may. Where nobody gives way, they wait until a place is
+    /// free.
+    fn accept(&mut self, alloc: Global, status: &Status<'_>, now: u64) {
+        for _ in 0..ACCEPTS {
+            if !self.is_waited_for || !self.has_room() {
                 return;
             }
-            if self.accept_one(alloc, now).is_none() {
+            if self.accept_one(alloc, status, now).is_none() {
                 self.is_waited_for = false;
             }
         }
@@ -218,25 +283,53 @@ impl Watchers {
 
     /// Takes one, and closes it where it may not connect; none where nobody waits, or it can't be
     /// taken.
-    fn accept_one(&mut self, alloc: Global, now: u64) -> Option<()> {
-        let (mut stream, peer) = self.listener.as_ref()?.accept().ok()?;
+    fn accept_one(&mut self, alloc: Global, status: &Status<'_>, now: u64) -> Option<()> {
+        let (stream, peer) = self.listener.as_ref()?.accept().ok()?;
         if !self.guard.lets_in(Origin::of(peer.ip()), 0) {
             return Some(());
         }
+        self.make_room();
+        self.seat(alloc, stream, status, now)
+    }
+
+    /// Closes who gives way, where no place is free.
+    fn make_room(&mut self) {
+        if self.watchers.len() < MOST_WATCHERS {
+            return;
+        }
+        if let Some(at) = self.weakest() {
+            let _ = self.watchers.try_remove(at);
+        }
+    }
+
+    /// Gives a connection a place, and reads what it has sent: who sent a request doesn't give way
+    /// as one that sent nothing.
+    fn seat(
+        &mut self,
+        alloc: Global,
+        stream: TcpStream,
+        status: &Status<'_>,
+        now: u64,
+    ) -> Option<()> {
         let at = self.watchers.vacant_key();
         let token = Token(FIRST_WATCHER.saturating_add(at));
         let interests = Interest::READABLE | Interest::WRITABLE;
-        self.registry.register(&mut stream, token, interests).ok()?;
-        self.watchers
-            .insert(Watcher {
-                stream,
-                head: Vec::new(alloc),
-                answer: Vec::new(alloc),
-                sent: 0,
-                until: now.saturating_add(TIME),
-                is_ready: false,
-            })
+        let mut watcher = Watcher {
+            stream,
+            head: Vec::new(alloc),
+            answer: Vec::new(alloc),
+            sent: 0,
+            until: now.saturating_add(TIME),
+            is_ready: true,
+            number: self.came,
+        };
+        self.came = self.came.saturating_add(1);
+        self.registry
+            .register(&mut watcher.stream, token, interests)
             .ok()?;
+        if watcher.go_on(alloc, status) {
+            self.watchers.insert(watcher).ok()?;
+        }
         Some(())
     }
 }

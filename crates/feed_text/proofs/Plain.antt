@@ -62,7 +62,7 @@ quotes_content s content h =
     ap plain_content h.text ∙ rw (while_rest is_unescaped content (quotation_mark ∷ []) passes refl, while_prefix is_unescaped content (quotation_mark ∷ []) passes refl) refl
 
 -- such a string is the written string of its content
-quotes_says : (s content : List ℕ) → Quotes s content → Says s content
+pub quotes_says : (s content : List ℕ) → Quotes s content → Says s content
 unfolding written_string
 quotes_says s content h =
     let written : written_string content ≡ s = ap (λ (t : List ℕ). 34 ∷ (t ++ 34 ∷ [])) (written_bytes content h.unescaped_bytes) ∙ sym h.text in

@@ -6,6 +6,7 @@ mod live;
 use feed_cli::stream::Stream;
 use feed_cli::{Fault, PROGRAM, Request, parse_words, run, tell};
 use feed_network::{audit_records, ended, input_ahead, pull_feed, relay_feed, serve_feed};
+use feed_system::hold_standard;
 use live::live_feed;
 use std::io::ErrorKind;
 use std::process::ExitCode;
@@ -13,6 +14,9 @@ use std::{env, io};
 
 /// The status for a refused command line.
 const REFUSED: u8 = 1;
+
+/// The status where a device failed.
+const DEVICE_FAILED: u8 = 4;
 
 /// The status for want of memory.
 const WANT_OF_MEMORY: u8 = 5;
@@ -54,6 +58,9 @@ fn status(rt: &HostRuntime) -> io::Result<u8> {
 }
 
 fn main(rt: HostRuntime) -> ExitCode {
+    let Ok(_placeholders) = hold_standard(&rt) else {
+        return ExitCode::from(DEVICE_FAILED);
+    };
     match status(&rt) {
         Ok(status) => ExitCode::from(status),
         Err(error) if error.kind() == ErrorKind::OutOfMemory => ExitCode::from(WANT_OF_MEMORY),

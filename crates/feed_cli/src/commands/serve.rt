@@ -1,5 +1,6 @@
 //! A feed, served by a primary.
-ghost use Rattle.std.specs.Prelude.{◌≡◌, ◌≤◌, IfOk, IfErr, OnOk, Result, IsErrOf};
+ghost use Rattle.std.specs.Prelude.{◌≡◌, ◌≢◌, ◌≤◌, List, map, IfOk, IfErr, OnOk, Result, IsErrOf};
+ghost use Rattle.feed_cli.specs.Fault.{fault_of_batches};
 ghost use Rattle.feed_cli.specs.Serve.{Starts, StartFails, Takes, EndsTaking, turn_of, serve_service};
 ghost use Rattle.feed_cli.specs.Serve.{serving, ServesOn, EndsServing, ServesAll, ServingFails};
 ghost use Rattle.feed_cli.specs.Telling.{HasTold};
@@ -7,6 +8,11 @@ ghost use Rattle.feed_http.specs.Device.{HasFailed};
 ghost use Rattle.feed_http.specs.Exchange.{devices_of};
 ghost use Rattle.feed_http.specs.Live.{intake_of};
 ghost use Rattle.feed_http.specs.declared.fault.Served.{Served as Done};
+ghost use Rattle.feed_note.specs.Batches.{batch_changes};
+ghost use Rattle.feed_note.specs.Counts.{AreRead, StopsAt};
+ghost use Rattle.feed_note.specs.declared.counts.SurveyFault.{SurveyFault as Stopped};
+ghost use Rattle.feed_note.specs.declared.line.Line.{Line as Note};
+ghost use Rattle.feed_note.specs.declared.stop.LineStop.TheVariants as stop;
 ghost use Rattle.feed_relay.specs.Dialing.{links_of};
 ghost use Rattle.feed_relay.specs.declared.fault.NetworkFault.{NetworkFault as Failing};
 
@@ -29,6 +35,19 @@ pub struct Source {
     waiting: VecDeque<Vec<Change>>,
 }
 
+/// The batches of a feed. The fault is that of the first line that can't be read.
+fn read_batches(alloc: Global, feed: &[u8]) -> Result<VecDeque<Vec<Change>>, Fault>
+    ensures ok { IfOk result (λ all. (notes : List Note) × AreRead feed.now notes
+        × (map (λ batch. batch.items) all.items ≡ batch_changes notes)) }
+    ensures err { IfErr result (λ why. (fault : Stopped) × (why ≡ fault_of_batches fault)
+        × (fault.stop ≢ stop.Memory → StopsAt feed.now fault.line fault.stop)) }
+{
+    match feed_batches(alloc, feed) {
+        Ok(all) => Ok(all),
+        Err(fault) => Err(Fault::of_batches(fault)),
+    }
+}
+
 /// A primary for the batches of the input, at most 67,108,864 bytes: all of them are committed,
 /// unless they are to be committed in turns.
 pub fn start_source<R: FeedRead>(
@@ -47,7 +66,7 @@ pub fn start_source<R: FeedRead>(
         → R.failures input.new ≡ R.failures input.old }
 {
     let feed = read_input(alloc, input)?;
-    let mut waiting = feed_batches(alloc, feed.as_slice()).map_err(Fault::of_batches)?;
+    let mut waiting = read_batches(alloc, feed.as_slice())?;
     let mut primary = Primary::new(alloc, options.limits)?;
     if options.turn.is_none() {
         commit_all(alloc, &mut primary, &mut waiting)?;

@@ -12,7 +12,8 @@ returns-in_err-feed-clause-err g c =
 pub returns-in_err-waiting-clause-err : goal.returns-in_err-waiting-clause-err
 returns-in_err-waiting-clause-err g c =
     let p = err_from_is_err_and c.from_residual-in_err-waiting.result c.from_residual-in_err-waiting.ensures.1 in
-    rw (p.1, p.2) (start_stops _ _ c.args.options.now.turn c.args.options.now.limits c.as_slice.result.now c.in_err-waiting.field-0.0 (search rules) c.in_err-waiting.ensures.err)
+    let (fault, is, stops) = c.in_err-waiting.ensures.err in
+    rw (p.1, p.2, is) (start_stops _ _ c.args.options.now.turn c.args.options.now.limits c.as_slice.result.now fault (search rules) stops)
 
 pub returns-in_err-commit_all-clause-err : goal.returns-in_err-commit_all-clause-err
 returns-in_err-commit_all-clause-err g c =
