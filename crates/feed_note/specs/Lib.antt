@@ -12,3 +12,4 @@ pub mod Counts
 pub mod Steps
 pub mod Batches
 pub mod Pieces
+pub mod Spare

@@ -85,8 +85,8 @@ slice_string text inside end rest opened run closed =
 -- ---- keys
 
 -- a key that stands there to the letter
-pub key_begins : (kind : Key) (name text value : List ℕ) → IsNamed kind name → IsTrue (list_all is_unescaped name) → text ≡ name ++ quotation_mark ∷ colon ∷ value → IsKeyAt text kind value
-key_begins kind name text value named unescaped whole = record { name = name; behind = colon ∷ value; named = named; unescaped = unescaped; whole = whole; value_is = refl }
+pub key_begins : (which : Key) (name text value : List ℕ) → IsNamed which name → IsTrue (list_all is_unescaped name) → text ≡ name ++ quotation_mark ∷ colon ∷ value → IsKeyAt text which value
+key_begins which name text value named unescaped whole = record { name = name; behind = colon ∷ value; named = named; unescaped = unescaped; whole = whole; value_is = refl }
 
 -- a key up to the next quotation mark
 pub key_found : (kind : Key) (text end behind value : List ℕ) → end ≡ rest_while is_unescaped text → end ≡ quotation_mark ∷ behind → IsNamed kind (take (length text - length end) text) → Some value ≡ behind_first colon (rest_while is_white_space behind) → IsKeyAt text kind value
@@ -103,9 +103,9 @@ key_found kind text end behind value run closed named value_is =
     }
 
 -- the member of a key and a value
-pub key_read : (levels : ℕ) (text : List ℕ) (kind : Key) (value : List ℕ) (x : Spelling) (end : List ℕ) (k : IsKeyAt text kind value) → Some (x, end) ≡ item_and_rest (item_at (value_at levels) value)
+pub key_read : (levels : ℕ) (text : List ℕ) (which : Key) (value : List ℕ) (x : Spelling) (end : List ℕ) (k : IsKeyAt text which value) → Some (x, end) ≡ item_and_rest (item_at (value_at levels) value)
     → (whole : List ℕ) → rest_while is_white_space whole ≡ quotation_mark ∷ text → Some ((in_quotes k.name, x), end) ≡ pair_and_rest (pair_at (value_at levels) whole)
-key_read levels text kind value x end k item whole white =
+key_read levels text which value x end k item whole white =
     let run : rest_while is_unescaped text ≡ quotation_mark ∷ k.behind = ap (rest_while is_unescaped) k.whole ∙ while_rest is_unescaped k.name (quotation_mark ∷ k.behind) (all_bytes is_unescaped k.name k.unescaped) refl in
     let string : rest_of (string_at (rest_while is_white_space whole)) ≡ Some k.behind = ap (λ (t : List ℕ). rest_of (string_at t)) white ∙ string_read text k.behind run in
     let h = cond_some (first (rest_while is_white_space k.behind) == colon) (drop 1 (rest_while is_white_space k.behind)) value (sym k.value_is) in
