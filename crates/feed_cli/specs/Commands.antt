@@ -1,6 +1,5 @@
 -- What the commands do, by what a command line asks for.
 use Rattle.std.specs.Prelude.{◌≡◌, ◌≢◌, ◌⊎◌, ◌≤◌, ℕ, Bool, true, false, List, string_bytes}
-use Rattle.clap.specs.Words.{Text}
 use Rattle.std.specs.Io.KnownBytes.{Appends, Keeps}
 use Rattle.feed_http.specs.Device.{AppendsPrefix, HasFailed as HasDeviceFailed}
 use Rattle.feed_cli.specs.Check.{CountsPrinted, CheckFails}
@@ -93,7 +92,7 @@ printed_by s = record {
   failed_new = s.failed_writes_new;
 }
 
-module _ {R W E : Type 0} (words : List Text) (status : ℕ) (s : Streams) (told : Wrote)
+module _ {R W E : Type 0} (words : List (List ℕ)) (status : ℕ) (s : Streams) (told : Wrote)
     (old new : Standard R W E) where
   -- the words ask for such a command, it was run, and this is its status
   pub record RunsLocal : Type 0 where

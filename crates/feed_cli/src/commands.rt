@@ -96,12 +96,12 @@ fn run_local<R: FeedRead, W: FeedWrite, E: FeedWrite>(
 }
 
 /// The command that opens no connection, where one is asked for.
-fn local_of(request: Request<'_>) -> Option<Local>
-    ensures some { IfSome result (λ local. request ≡ asked.Local local) }
-    ensures none { result ≡ None → is_local request ≡ false }
+fn local_of(request: &Request<'_>) -> Option<Local>
+    ensures some { IfSome result (λ local. request.now ≡ asked.Local local) }
+    ensures none { result ≡ None → is_local request.now ≡ false }
 {
     match request {
-        Request::Local(local) => Some(local),
+        Request::Local(local) => Some(*local),
         _ => None,
     }
 }
@@ -126,7 +126,7 @@ pub fn run<'a, R: FeedRead, W: FeedWrite, E: FeedWrite>(
         (standard input.old out.old err.old) (standard input.new out.new err.new) }
 {
     match parse_words(alloc, words) {
-        Ok(request) => match local_of(request) {
+        Ok(request) => match local_of(&request) {
             Some(local) => run_local(alloc, local, input, out, err),
             None => REFUSED,
         },

@@ -5,6 +5,7 @@ ghost use Rattle.std.specs.Io.KnownBytes.{Keeps, WriteAppends};
 ghost use Rattle.feed_device.specs.Links.{Exchange, Begins, Asks, Receives, shown_so, once_at, all_from};
 ghost use Rattle.feed_device.specs.Sockets.{Socket, Closed, Opened, IsSocket, IsWrite, SameSockets, OtherSockets};
 
+use crate::told::Why;
 use std::alloc::AllocError;
 use std::net::SocketAddr;
 
@@ -60,14 +61,20 @@ pub trait Sockets {
         ensures others { OtherSockets (socket self.old) (socket self.new) at };
 }
 
-/// The connection to one server of several.
+/// The connection to one server of several. A server is what may answer at one address: a name that
+/// has several counts as several.
 pub trait Link {
     // What went over each connection so far, the latest first, where that is known.
     ghost exchanges: { Self → Option (List Exchange) } = { λ _. None };
 
-    /// Begins to connect to the server of this number. One that was open is closed.
-    fn connect(&mut self, server: usize) -> Result<(), Stop>
+    /// Begins to connect to the server of this number. One that was open is closed. Why nothing was
+    /// begun is told.
+    fn connect(&mut self, server: usize) -> Result<(), Why>
         ensures begins { Begins (exchanges self.old) (exchanges self.new) result server };
+
+    /// Each server failed: the addresses of names are asked for again before the next connection.
+    fn forget_addresses(&mut self)
+        ensures unchanged { exchanges self.new ≡ exchanges self.old };
 
     /// Whether the connection that was begun is open. It is asked again after each event until it
     /// is, or fails.

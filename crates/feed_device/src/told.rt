@@ -8,6 +8,8 @@ use std::{fmt, str};
 /// Why a server is left.
 #[derive(Clone, Copy, Debug, PartialEq, Eq)]
 pub enum Why {
+    /// Its name has no address, or that can't be asked for.
+    Unknown,
     /// It can't be connected to.
     Refuses,
     /// It did not take the connection within ten seconds.
@@ -29,6 +31,7 @@ pub enum Why {
 impl fmt::Display for Why {
     fn fmt<W: fmt::Write>(&self, f: &mut fmt::Formatter<W>) -> fmt::Result {
         match self {
+            Why::Unknown => f.write_str("its name has no address"),
             Why::Refuses => f.write_str("can't connect"),
             Why::Late => f.write_str("no connection after 10 s"),
             Why::NoAnswer => f.write_str("no answer after 20 s"),
@@ -66,9 +69,9 @@ impl fmt::Display for How {
 }
 
 /// How many bytes of a text are told.
-const MOST_TOLD: usize = 48;
+const MOST_TOLD: usize = 120;
 
-/// The first bytes of a text: at most 48, and whole characters.
+/// The first bytes of a text: at most 120, and whole characters.
 #[derive(Clone, Copy, Debug)]
 pub struct Excerpt {
     bytes: [u8; MOST_TOLD],
@@ -92,9 +95,31 @@ impl Excerpt {
         Excerpt { bytes, length }
     }
 
+    /// The first bytes of a line that somebody else wrote. A byte that is no printable character of
+    /// ASCII is told as `?`.
+    pub fn of_line(line: &[u8]) -> Excerpt {
+        let mut bytes = [0; MOST_TOLD];
+        for (place, byte) in bytes.iter_mut().zip(line) {
+            *place = printable(*byte);
+        }
+        Excerpt {
+            bytes,
+            length: line.len().min(MOST_TOLD),
+        }
+    }
+
     pub fn text(&self) -> &str {
         let told = self.bytes.get(..self.length).unwrap_or(&[]);
         str::from_utf8(told).unwrap_or("?")
+    }
+}
+
+/// A byte as it is told.
+fn printable(byte: u8) -> u8 {
+    if byte == b' ' || byte.is_ascii_graphic() {
+        byte
+    } else {
+        b'?'
     }
 }
 
@@ -116,6 +141,16 @@ pub enum Told {
     Quiet {
         server: usize,
         time: u64,
+    },
+    /// A server says that the feed is somewhere else.
+    Moved {
+        server: usize,
+        location: Excerpt,
+    },
+    /// What a server sent can't be followed from this line on.
+    Faulty {
+        server: usize,
+        line: Excerpt,
     },
     /// A server doesn't hold the token that it was asked with.
     Refused {
@@ -157,8 +192,12 @@ pub enum Told {
         server: usize,
         bytes: u64,
     },
-    /// The input can't be followed: nothing more of it is read.
-    BadInput(FeedFault),
+    /// The input can't be followed from the line of this number on, counted from 1: nothing more of it
+    /// is read.
+    BadInput {
+        fault: FeedFault,
+        line: u64,
+    },
     /// The input has ended.
     EndOfInput,
     /// So many screens are there, and so many came, ended and were cut in the last minute.

@@ -5,8 +5,8 @@ ghost use Rattle.std.specs.Prelude.{◌≡◌, IfSome};
 use bytes::Bytes;
 use std::alloc::Global;
 
-/// How long a text is at least that is looked for among those that are kept. With a thousand screens
-/// shorter ones take less than 64 MiB.
+/// How many bytes a text has at least that is looked for among those that are kept. With a thousand
+/// screens shorter ones take less than 64 MiB.
 const LONG: usize = 65_536;
 
 /// The long texts that some screen has yet to take.

@@ -1,6 +1,6 @@
 -- How the steps of a source stay at places of the log.
 use Rattle.std.proofs.Common.{◌≡◌, sym, ◌∙◌, subst, ℕ, List, Option}
-use Rattle.std.specs.Prelude.{Bool, false, None, Some, IfSome, Result, Ok, Err, option_map}
+use Rattle.std.specs.Prelude.{Bool, false, true, None, Some, IfSome, Result, Ok, Err, option_map}
 use Rattle.std.specs.Result.{is_err}
 use Rattle.feed_settings.specs.Limits.{Limits}
 use Rattle.feed_node.specs.Mirroring.{MirrorState}
@@ -38,6 +38,11 @@ with_open limits log servers is_shown reach request unread before after since fo
 pub begins_so : {A E : Type 0} (result : Result A E) (old new : Exchanges) (server : ℕ) → is_err result ≡ false → Begins old new result server → new ≡ option_map (one_more server) old
 begins_so (Ok a) old new server none begins = begins
 begins_so (Err e) old new server none begins = absurd (cc)
+
+-- none was begun
+pub fails_so : {A E : Type 0} (result : Result A E) (old new : Exchanges) (server : ℕ) → is_err result ≡ true → Begins old new result server → new ≡ old
+fails_so (Ok a) old new server is begins = absurd (cc)
+fails_so (Err e) old new server is begins = begins
 
 -- what holds of a value, if there is one, gives this
 pub some_so : {A : Type 0} {P Q : A → Type 0} (found : Option A) → ((value : A) → P value → Q value) → IfSome found P → IfSome found Q

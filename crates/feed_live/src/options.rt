@@ -20,6 +20,15 @@ pub struct LiveLimits {
     pub settle: u64,
     /// Whether each connection asks for everything.
     pub is_fresh: bool,
+    /// Whether that is so of several servers, which have tokens of their own.
+    pub are_strange: bool,
+    /// After how many milliseconds without a publication the other servers are asked in turn. Zero:
+    /// only where the one that is followed fails.
+    pub return_after: u64,
+    /// How many milliseconds a request waits for a server to be heard.
+    pub hold: u64,
+    /// Whether what was restored is served before a server was heard.
+    pub serves_old: bool,
     /// Whether each screen is told of.
     pub is_verbose: bool,
     /// Whether there is a file that the state is kept in.
@@ -31,7 +40,8 @@ pub struct LiveLimits {
 /// What a relay starts from.
 #[derive(Drop)]
 pub struct Start {
-    /// The servers that are asked; none where the feed is the input.
+    /// The servers that are asked; none where the feed is the input. One that has a name of several
+    /// addresses is there as often as it has addresses.
     pub places: Vec<Place>,
     /// As whom they are asked.
     pub identity: Identity,

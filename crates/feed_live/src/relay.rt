@@ -264,8 +264,8 @@ impl Screens {
         }
     }
 
-    /// Sends a line feed to a screen that has nothing pending, where one is at this place: one that is
-    /// gone altogether refuses it, and so leaves as soon as it has.
+    /// Sends a line feed to a screen that has nothing pending, where one is at this place: one that
+    /// is gone altogether refuses it, and so leaves as soon as it has.
     pub(crate) fn probe_at(&mut self, alloc: Global, at: usize, now: u64)
         ensures serving { (nodes : List NodeState) (contest : List ℕ) (sockets : AllSockets)
             → StillServing nodes contest self.old self.new sockets sockets }

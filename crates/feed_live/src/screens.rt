@@ -22,9 +22,6 @@ use std::alloc::{AllocError, Global};
 use std::mem;
 use std::net::SocketAddr;
 
-/// How long a request waits for a server to be heard, in milliseconds.
-pub(crate) const HOLD_TIME: u64 = 10_000;
-
 /// How many bytes one read takes.
 pub(crate) const PIECE: usize = 4096;
 
@@ -72,17 +69,18 @@ pub(crate) struct Answers {
 /// What is asked for, and whether that can be answered.
 #[derive(Clone, Copy)]
 pub(crate) struct Shown<'a> {
-    /// Requests wait until a server was heard.
+    /// Requests wait until a server was heard, and for so many milliseconds at most.
     pub(crate) is_held: bool,
+    pub(crate) hold: u64,
     pub(crate) contest: &'a str,
 }
 
 impl Shown<'_> {
     /// Whether a request is answered that came at a time.
     fn is_answering(&self, since: u64, now: u64) -> bool
-        ensures { result ≡ is_over self.now.is_held (min (since + HOLD_TIME) u64.MAX) now }
+        ensures { result ≡ is_over self.now.is_held (min (since + self.now.hold) u64.MAX) now }
     {
-        !self.is_held || since.saturating_add(HOLD_TIME) <= now
+        !self.is_held || since.saturating_add(self.hold) <= now
     }
 }
 
@@ -278,7 +276,7 @@ impl Screens {
 
     /// Whether there may be something to read at a place that is to be read now.
     fn may_read(&self, shown: &Shown<'_>, at: usize, now: u64) -> bool
-        ensures { Waits (get self.now.conns at) shown.now.is_held self.now.owed now
+        ensures { Waits (get self.now.conns at) shown.now.is_held shown.now.hold self.now.owed now
             → result ≡ false }
     {
         let Some(conn) = self.conns.get(at) else {
@@ -292,7 +290,8 @@ impl Screens {
 
     /// Whether a request that came at a time can be answered now.
     fn may_answer(&self, shown: &Shown<'_>, since: u64, now: u64) -> bool
-        ensures { IsTrue result ↔ IsAnswering shown.now.is_held self.now.owed since now }
+        ensures { IsTrue result ↔ IsAnswering shown.now.is_held shown.now.hold self.now.owed
+            since now }
     {
         self.owed < MOST_OWED && shown.is_answering(since, now)
     }
@@ -364,8 +363,8 @@ impl Screens {
             answers.old.blank.mirror.node)
             → StillServing nodes shown.now.contest.now self.old self.new
             (S.socket sockets.old) (S.socket sockets.new) }
-        ensures waits { Waits (get self.old.conns at) shown.now.is_held self.old.owed now
-            → (self.new ≡ self.old) × (sockets.new ≡ sockets.old) × (answers.new ≡ answers.old) }
+        ensures waits { Waits (get self.old.conns at) shown.now.is_held shown.now.hold
+            self.old.owed now → (self.new ≡ self.old) × (sockets.new ≡ sockets.old) × (answers.new ≡ answers.old) }
         ensures mirrors { SameMirrors answers.old answers.new }
     {
         if !self.may_read(shown, at, now) {

@@ -16,8 +16,8 @@ use crate::source::returning::Returning;
 use crate::source::settling::{Settling, begin_shown, followed_of};
 use crate::told::Telling;
 use feed_answer::{Identity, Place, request_text_as};
-use feed_device::{Link, Stop, Told, Why};
-use feed_hub::{Answering, Upstream};
+use feed_device::{Excerpt, Link, Stop, Told, Why};
+use feed_hub::{Answering, FIRST_PAUSE, Upstream};
 use feed_node::{Mirror, Node};
 use feed_tables::Name;
 use std::alloc::{AllocError, Global};
@@ -58,6 +58,8 @@ pub(crate) struct Source {
     /// The first line of the body that came afresh last; and whether no line of this one came yet.
     replayed: Vec<u8>,
     is_at_start: bool,
+    /// Where the head of the response says that the feed is.
+    location: Option<Excerpt>,
     reach: Reach,
     request: Vec<u8>,
     /// When the connection was begun.
@@ -105,8 +107,7 @@ impl Source {
         ensures rest { result.rest.items ≡ [] }
     {
         // A relay without a state has nothing old to show, nor has one whose feed is the input.
-        let is_heard = mirror.node().token().is_none() || places.is_empty();
-        let is_strange = limits.is_fresh && places.len() > 1;
+        let has_nothing = mirror.node().token().is_none() || places.is_empty();
         Source {
             upstream: Upstream::new(places.len().max(1), now),
             places,
@@ -116,17 +117,18 @@ impl Source {
                 blank: Answering::new(blank, limits.framing),
             },
             coming: None,
-            settling: Settling::new(limits.settle, limits.is_fresh, is_strange),
+            settling: Settling::new(limits.settle, limits.is_fresh, limits.are_strange),
             ended: None,
             replayed: Vec::new(alloc),
             is_at_start: true,
+            location: None,
             reach: Reach::Away,
             request: Vec::new(alloc),
             opened: now,
             body_since: None,
             has_told_twice: false,
-            returning: Returning::new(now),
-            is_heard,
+            returning: Returning::new(limits.return_after, now),
+            is_heard: has_nothing || limits.serves_old,
             away_since: now,
             is_fresh: false,
             epoch: 0,
@@ -321,8 +323,9 @@ impl Source {
                 return;
             }
         };
-        if link.connect(self.upstream.place()).is_err() {
-            self.lost(link, told, Why::Refuses, now);
+        let begun = link.connect(self.upstream.place());
+        if begun.is_err() {
+            self.lost(link, told, why_not(begun), now);
             return;
         }
         self.request = request;
@@ -337,6 +340,7 @@ impl Source {
         self.figures.ask(self.upstream.place(), now);
         self.opened = now;
         self.is_at_start = true;
+        self.location = None;
         self.reach = Reach::Connects(now);
     }
 
@@ -368,6 +372,7 @@ impl Source {
         self.figures.lose(now);
         self.upstream.lost(self.answers.shown.change(), now);
         let pause = self.upstream.due(0).saturating_sub(now);
+        forget_after(link, pause);
         told.tell_if(is_told, Told::Lost { server, why, pause });
     }
 
@@ -395,6 +400,7 @@ impl Source {
         ensures exchanges { L.exchanges link.new ≡ L.exchanges link.old }
         ensures servers { servers_of self.new ≡ servers_of self.old }
         ensures answers { self.new.answers ≡ self.old.answers }
+        ensures upstream { self.new.upstream ≡ self.old.upstream }
         ensures away { self.new.reach ≡ Away }
     {
         link.close();
@@ -481,6 +487,24 @@ impl Source {
                 false
             }
         }
+    }
+}
+
+/// Why no connection was begun, where none was.
+fn why_not(begun: Result<(), Why>) -> Why {
+    match begun {
+        Ok(()) => Why::Refuses,
+        Err(why) => why,
+    }
+}
+
+/// Each server failed where the next one is asked after so long a pause: the addresses of names are
+/// asked for again then.
+fn forget_after<L: Link>(link: &mut L, pause: u64)
+    ensures { L.exchanges link.new ≡ L.exchanges link.old }
+{
+    if pause >= FIRST_PAUSE {
+        link.forget_addresses();
     }
 }
 

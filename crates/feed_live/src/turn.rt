@@ -11,7 +11,7 @@ ghost use Rattle.feed_live.specs.Upstream.{Servers};
 
 use crate::options::{LiveLimits, Start};
 use crate::saved::{Restored, Saved};
-use crate::screens::{HOLD_TIME, Screens, Shown};
+use crate::screens::{Screens, Shown};
 use crate::source::Source;
 use crate::told::Telling;
 use feed_answer::Place;
@@ -353,7 +353,7 @@ impl Live {
         ensures serves { (sockets : AllSockets) → OnlyServes self.old self.new sockets sockets }
     {
         self.screens.has_more = true;
-        if now >= HOLD_TIME && !self.is_hold_told {
+        if now >= self.limits.hold && !self.is_hold_told {
             self.is_hold_told = true;
             self.telling.tell(Told::NotHeard);
         }
@@ -389,6 +389,7 @@ impl Live {
         }
         let shown = Shown {
             is_held: !self.source.is_heard(),
+            hold: self.limits.hold,
             contest: self.contest.as_str(),
         };
         let answers = &mut self.source.answers;
@@ -403,6 +404,7 @@ impl Live {
     {
         let shown = Shown {
             is_held: !self.source.is_heard(),
+            hold: self.limits.hold,
             contest: self.contest.as_str(),
         };
         let answers = &mut self.source.answers;

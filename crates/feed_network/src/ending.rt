@@ -15,6 +15,8 @@ enum Why {
     Fault(Fault, Option<&'static str>),
     /// For a fault at this host and port.
     At(Fault, String, u16),
+    /// For a fault, with what it is about.
+    About(Fault, String),
     /// Its options can't be taken: this text says which.
     Refused(&'static str),
 }
@@ -46,6 +48,16 @@ impl Failure {
         match host {
             Ok(host) => Failure {
                 why: Why::At(fault, host, port),
+            },
+            Err(_) => Failure::from(fault),
+        }
+    }
+
+    /// A fault, with what it is about; where there is no memory to say that, the fault alone.
+    pub fn about(fault: Fault, what: Result<String, AllocError>) -> Failure {
+        match what {
+            Ok(what) => Failure {
+                why: Why::About(fault, what),
             },
             Err(_) => Failure::from(fault),
         }
@@ -95,6 +107,19 @@ fn tell_fault(rt: &HostRuntime, name: &'static str, fault: Fault, more: Option<&
     status
 }
 
+/// Tells of a fault with what it is about, and answers the status.
+fn tell_more(rt: &HostRuntime, name: &'static str, fault: Fault, what: &str) -> u8 {
+    let is_told = match format!(in rt.alloc(); "{fault}: {what}") {
+        Ok(text) => Reporter::new(rt, name, false).line(text.as_str()),
+        Err(_) => false,
+    };
+    if is_told {
+        fault.status()
+    } else {
+        Fault::Write.status()
+    }
+}
+
 /// Tells why the command of this name failed, where it did, and answers the status.
 pub fn ended(rt: &HostRuntime, name: &'static str, outcome: Result<(), Failure>) -> u8 {
     let Err(failure) = outcome else {
@@ -106,6 +131,7 @@ pub fn ended(rt: &HostRuntime, name: &'static str, outcome: Result<(), Failure>)
             let address = Some((host.as_str(), port));
             tell_about(name, fault, address, &mut Errors::new(rt))
         }
+        Why::About(fault, what) => tell_more(rt, name, fault, what.as_str()),
         Why::Refused(text) => {
             if Reporter::new(rt, name, false).line(text) {
                 REFUSED

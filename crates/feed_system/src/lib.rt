@@ -4,6 +4,7 @@
 
 mod descriptors;
 mod guard;
+mod hosts;
 mod link;
 mod opening;
 mod sockets;
@@ -14,8 +15,9 @@ mod telling;
 mod watchers;
 
 pub use descriptors::{Placeholders, hold_standard};
+pub use hosts::{Host, without_brackets};
 pub use link::Servers;
-pub use opening::{OpenFault, open, without_brackets};
+pub use opening::{OpenFault, open};
 pub use sockets::Port;
 pub use store::{Files, Names, read_file};
 pub use system::System;

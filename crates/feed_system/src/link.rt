@@ -1,21 +1,48 @@
 //! The connection to one of the servers.
 
+use crate::hosts::Host;
 use crate::sockets::{read_once, write_once};
-use feed_device::{Link, Stop};
+use feed_device::{Link, Stop, Why};
 use mio::net::TcpStream;
 use mio::{Interest, Registry, Token};
+use std::alloc::{AllocError, Global};
 use std::net::SocketAddr;
 
 /// The token of the connection.
 pub(crate) const LINK: Token = Token(1);
 
-/// The servers' addresses, and the connection to one of them.
+/// Where a server is: which of the hosts it is of, and which one of that host's.
+#[derive(Clone, Copy)]
+struct Server {
+    host: usize,
+    number: usize,
+    /// The address at which it was asked last.
+    address: Option<SocketAddr>,
+}
+
+/// The servers, and the connection to one of them.
 #[derive(Drop)]
 pub struct Servers<'r> {
     rt: &'r HostRuntime,
     registry: Registry,
-    addresses: Vec<SocketAddr>,
+    hosts: Vec<Host>,
+    servers: Vec<Server>,
     stream: Option<TcpStream>,
+}
+
+/// The servers of some hosts, in order.
+fn servers_of(alloc: Global, hosts: &[Host]) -> Result<Vec<Server>, AllocError> {
+    let mut servers = Vec::new(alloc);
+    for (host, its) in hosts.iter().enumerate() {
+        for number in 0..its.servers() {
+            servers.push(Server {
+                host,
+                number,
+                address: None,
+            })?;
+        }
+    }
+    Ok(servers)
 }
 
 impl<'r> Servers<'r> {
@@ -23,29 +50,40 @@ impl<'r> Servers<'r> {
     pub(crate) fn new(
         rt: &'r HostRuntime,
         registry: Registry,
-        addresses: Vec<SocketAddr>,
-    ) -> Servers<'r> {
-        Servers {
+        hosts: Vec<Host>,
+    ) -> Result<Servers<'r>, AllocError> {
+        Ok(Servers {
             rt,
             registry,
-            addresses,
+            servers: servers_of(rt.alloc(), &hosts)?,
+            hosts,
             stream: None,
+        })
+    }
+
+    /// What the server of a number is called, with the address at which it was asked last.
+    pub(crate) fn name(&self, alloc: Global, server: usize) -> Result<String, AllocError> {
+        let Some(server) = self.servers.get(server) else {
+            return String::from_str(alloc, "?");
+        };
+        match self.hosts.get(server.host) {
+            Some(host) => host.text(alloc, server.address),
+            None => String::from_str(alloc, "?"),
         }
     }
 
-    pub(crate) fn address(&self, server: usize) -> Option<SocketAddr> {
-        self.addresses.get(server).copied()
+    /// The address of the server of a number, which is asked now.
+    fn address(&mut self, number: usize) -> Option<SocketAddr> {
+        let server = self.servers.get_mut(number)?;
+        let host = self.hosts.get_mut(server.host)?;
+        server.address = host.address(self.rt, server.number);
+        server.address
     }
-}
 
-impl Link for Servers<'_> {
-    fn connect(&mut self, server: usize) -> Result<(), Stop> {
-        self.stream = None;
-        let Some(address) = self.address(server) else {
-            return Err(Stop::Failed);
-        };
+    /// Begins to connect to an address.
+    fn connect_to(&mut self, address: SocketAddr) -> Result<(), Why> {
         let Ok(mut stream) = TcpStream::connect(self.rt, address) else {
-            return Err(Stop::Failed);
+            return Err(Why::Refuses);
         };
         let interests = Interest::READABLE | Interest::WRITABLE;
         if self
@@ -53,10 +91,26 @@ impl Link for Servers<'_> {
             .register(&mut stream, LINK, interests)
             .is_err()
         {
-            return Err(Stop::Failed);
+            return Err(Why::Refuses);
         }
         self.stream = Some(stream);
         Ok(())
+    }
+}
+
+impl Link for Servers<'_> {
+    fn connect(&mut self, server: usize) -> Result<(), Why> {
+        self.stream = None;
+        match self.address(server) {
+            Some(address) => self.connect_to(address),
+            None => Err(Why::Unknown),
+        }
+    }
+
+    fn forget_addresses(&mut self) {
+        for host in &mut self.hosts {
+            host.forget();
+        }
     }
 
     fn is_open(&mut self) -> Result<bool, Stop> {

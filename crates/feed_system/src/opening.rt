@@ -1,6 +1,7 @@
 //! Ports are listened at, before a relay's first turn.
 
 use crate::guard::Guard;
+use crate::hosts::{Host, without_brackets};
 use crate::link::Servers;
 use crate::sockets::Port;
 use crate::standard::{ErrorStream, InputStream};
@@ -33,21 +34,17 @@ pub enum OpenFault {
     Memory,
     /// A call of the system failed.
     System,
-    /// An address, or a list of those who may connect, is none.
-    Address(AddressFault),
-    /// A port can't be listened at.
-    Bind,
+    /// The value of this option is no address.
+    Address(&'static str),
+    /// That of this one is no list of networks.
+    List(&'static str, AddressFault),
+    /// This address can't be listened at.
+    Bind(SocketAddr),
 }
 
 impl From<AllocError> for OpenFault {
     fn from(_error: AllocError) -> OpenFault {
         OpenFault::Memory
-    }
-}
-
-impl From<AddressFault> for OpenFault {
-    fn from(fault: AddressFault) -> OpenFault {
-        OpenFault::Address(fault)
     }
 }
 
@@ -60,52 +57,67 @@ impl From<io::Error> for OpenFault {
     }
 }
 
-/// An address without the brackets around it, where it has both.
-pub fn without_brackets(host: &str) -> &str {
-    match host.strip_prefix('[') {
-        Some(rest) => rest.strip_suffix(']').unwrap_or(host),
-        None => host,
+/// An address of this machine that an option says, with a port.
+fn local_address(option: &'static str, address: &str, port: u16) -> Result<SocketAddr, OpenFault> {
+    match without_brackets(address).parse::<IpAddr>() {
+        Ok(address) => Ok(SocketAddr::new(address, port)),
+        Err(_) => Err(OpenFault::Address(option)),
     }
 }
 
-/// An address of this machine, with a port.
-fn local_address(address: &str, port: u16) -> Result<SocketAddr, OpenFault> {
-    let address = without_brackets(address)
-        .parse::<IpAddr>()
-        .map_err(|_| AddressFault::BadAddress(0))?;
-    Ok(SocketAddr::new(address, port))
-}
-
-/// Listens at a port of an address, where there is one.
+/// Listens at an address, where there is one.
 fn listener_of(
     rt: &HostRuntime,
     poll: &Poll,
-    address: &str,
-    port: Option<u16>,
+    address: Option<SocketAddr>,
     token: Token,
 ) -> Result<Option<TcpListener>, OpenFault> {
-    let Some(port) = port else {
+    let Some(address) = address else {
         return Ok(None);
     };
-    let address = local_address(address, port)?;
-    let mut listener = TcpListener::bind(rt, address).map_err(|_| OpenFault::Bind)?;
+    let Ok(mut listener) = TcpListener::bind(rt, address) else {
+        return Err(OpenFault::Bind(address));
+    };
     poll.registry()
         .register(&mut listener, token, Interest::READABLE)?;
     Ok(Some(listener))
 }
 
 /// The networks that may connect, where they are listed.
-fn allowed(alloc: Global, options: &LiveOptions<'_>) -> Result<Option<Vec<Network>>, AddressFault> {
-    match options.allow {
-        Some(list) => Ok(Some(networks(alloc, list)?)),
+fn allowed(alloc: Global, options: &LiveOptions<'_>) -> Result<Option<Vec<Network>>, OpenFault> {
+    let Some(list) = options.allow else {
+        return Ok(None);
+    };
+    match networks(alloc, list) {
+        Ok(networks) => Ok(Some(networks)),
+        Err(fault) => Err(OpenFault::List("--allow", fault)),
+    }
+}
+
+/// Where screens come to.
+fn screens_address(options: &LiveOptions<'_>) -> Result<Option<SocketAddr>, OpenFault> {
+    match options.listen {
+        Some(port) => Ok(Some(local_address("--address", options.address, port)?)),
         None => Ok(None),
     }
+}
+
+/// Where those come to who watch the relay.
+fn status_address(options: &LiveOptions<'_>) -> Result<Option<SocketAddr>, OpenFault> {
+    let Some(port) = options.status else {
+        return Ok(None);
+    };
+    let (option, address) = match options.status_address {
+        Some(address) => ("--status-address", address),
+        None => ("--address", options.address),
+    };
+    Ok(Some(local_address(option, address, port)?))
 }
 
 /// The port that screens come to, and who may.
 fn port(rt: &HostRuntime, poll: &Poll, options: &LiveOptions<'_>) -> Result<Port, OpenFault> {
     let guard = Guard::new(allowed(rt.alloc(), options)?, options.per_address);
-    let listener = listener_of(rt, poll, options.address, options.listen, LISTENER)?;
+    let listener = listener_of(rt, poll, screens_address(options)?, LISTENER)?;
     let registry = poll.registry().try_clone()?;
     Ok(Port::new(rt.alloc(), registry, listener, guard))
 }
@@ -117,8 +129,7 @@ fn watchers(
     options: &LiveOptions<'_>,
 ) -> Result<Watchers, OpenFault> {
     let guard = Guard::new(allowed(rt.alloc(), options)?, None);
-    let address = options.status_address.unwrap_or(options.address);
-    let listener = listener_of(rt, poll, address, options.status, WATCHERS)?;
+    let listener = listener_of(rt, poll, status_address(options)?, WATCHERS)?;
     let registry = poll.registry().try_clone()?;
     Ok(Watchers::new(rt.alloc(), registry, listener, guard))
 }
@@ -160,19 +171,19 @@ fn open_ends(rt: &HostRuntime, options: &LiveOptions<'_>) -> Result<Ends, OpenFa
 }
 
 /// Makes all that a relay runs on, and listens. Its time begins at the start. The servers that it
-/// may connect to are at these addresses, and its state is kept under these names.
+/// may connect to are those of these hosts, and its state is kept under these names.
 pub fn open<'r>(
     rt: &'r HostRuntime,
     options: &LiveOptions<'_>,
     names: Option<Names>,
-    addresses: Vec<SocketAddr>,
+    hosts: Vec<Host>,
     start: Instant,
 ) -> Result<System<'r>, OpenFault> {
     let files = Files::new(rt, names);
     let buffers = make_buffers(rt.alloc())?;
     let ends = open_ends(rt, options)?;
     let registry = ends.poll.registry().try_clone()?;
-    let servers = Servers::new(rt, registry, addresses);
+    let servers = Servers::new(rt, registry, hosts)?;
     Ok(joined(rt, ends, servers, files, buffers, start))
 }
 

@@ -5,7 +5,7 @@ use crate::opening::LISTENER;
 use crate::sockets::{FIRST_SCREEN, Port};
 use crate::standard::{ERRORS, ErrorStream, INPUT, InputStream};
 use crate::store::Files;
-use crate::telling::{is_told, name_of, stamp, text_of};
+use crate::telling::{is_told, stamp, text_of};
 use crate::watchers::{FIRST_WATCHER, WATCHERS, Watchers};
 use feed_device::{Devices, Ready, Told};
 use feed_status::Status;
@@ -122,9 +122,9 @@ impl System<'_> {
         self.input.read(self.rt, registry, &mut self.piece)
     }
 
-    /// The address of the server of a number.
+    /// What the server of a number is called.
     pub fn server_name(&self, server: usize) -> Result<String, AllocError> {
-        name_of(self.rt.alloc(), &self.devices.link, server)
+        self.devices.link.name(self.rt.alloc(), server)
     }
 
     /// How many connections were refused by their address.

@@ -5,7 +5,6 @@ use feed_device::Told;
 use feed_words::Verbosity;
 use jiff::Timestamp;
 use std::alloc::{AllocError, Global};
-use std::net::SocketAddr;
 use std::time::{SystemTime, UNIX_EPOCH};
 
 /// The time, to the second.
@@ -40,28 +39,38 @@ pub(crate) fn text_of(
 ) -> Result<String, AllocError> {
     match *told {
         Told::Found { server, away } => {
-            let name = name_of(alloc, servers, server)?;
+            let name = servers.name(alloc, server)?;
             format!(in alloc; "upstream {name}: answers, after {away} ms")
         }
         Told::Lost { server, why, pause } => {
-            let name = name_of(alloc, servers, server)?;
+            let name = servers.name(alloc, server)?;
             format!(in alloc; "upstream {name}: {why}; next in {pause} ms")
         }
         Told::Quiet { server, time } => {
-            let name = name_of(alloc, servers, server)?;
+            let name = servers.name(alloc, server)?;
             let seconds = time / 1_000;
             format!(in alloc; "upstream {name}: nothing new for {seconds} s; another one is asked")
         }
+        Told::Moved { server, location } => {
+            let name = servers.name(alloc, server)?;
+            let location = location.text();
+            format!(in alloc; "upstream {name}: the feed is at {location}: name that server")
+        }
+        Told::Faulty { server, line } => {
+            let name = servers.name(alloc, server)?;
+            let line = line.text();
+            format!(in alloc; "upstream {name}: can't follow from this line on: {line}")
+        }
         Told::Refused { server } => {
-            let name = name_of(alloc, servers, server)?;
+            let name = servers.name(alloc, server)?;
             format!(in alloc; "upstream {name}: doesn't hold our token")
         }
         Told::Ignores { server } => {
-            let name = name_of(alloc, servers, server)?;
+            let name = servers.name(alloc, server)?;
             format!(in alloc; "upstream {name}: ignores since_token; from here on as with --fresh")
         }
         Told::Differs { server, kind, id } => {
-            let name = name_of(alloc, servers, server)?;
+            let name = servers.name(alloc, server)?;
             let (kind, id) = (kind.text(), id.text());
             format!(in alloc;
                 "upstream {name}: has another state at our token, first at {kind} {id}"
@@ -75,7 +84,7 @@ pub(crate) fn text_of(
             )
         }
         Told::Settled { server, time } => {
-            let name = name_of(alloc, servers, server)?;
+            let name = servers.name(alloc, server)?;
             format!(in alloc; "upstream {name}: all of it came, in {time} ms")
         }
         _ => text_of_coming(alloc, told, servers),
@@ -91,7 +100,7 @@ fn text_of_coming(alloc: Global, told: &Told, servers: &Servers<'_>) -> Result<S
             time,
             has_token,
         } => {
-            let name = name_of(alloc, servers, server)?;
+            let name = servers.name(alloc, server)?;
             let seconds = time / 1_000;
             let state = if has_token {
                 "it has not settled yet"
@@ -101,7 +110,7 @@ fn text_of_coming(alloc: Global, told: &Told, servers: &Servers<'_>) -> Result<S
             format!(in alloc; "upstream {name}: {bytes} bytes came in {seconds} s, {state}")
         }
         Told::Unsettled { server, bytes } => {
-            let name = name_of(alloc, servers, server)?;
+            let name = servers.name(alloc, server)?;
             format!(in alloc;
                 "upstream {name}: {bytes} bytes came, and had not settled: none is shown (see --settle)"
             )
@@ -112,7 +121,9 @@ fn text_of_coming(alloc: Global, told: &Told, servers: &Servers<'_>) -> Result<S
 
 fn text_of_rest(alloc: Global, told: &Told) -> Result<String, AllocError> {
     match *told {
-        Told::BadInput(fault) => { format!(in alloc; "input: {fault}; nothing more of it is read") }
+        Told::BadInput { fault, line } => {
+            format!(in alloc; "input: line {line}: {fault}; nothing more of it is read")
+        }
         Told::EndOfInput => String::from_str(alloc, "end of the input"),
         Told::Screens {
             now,
@@ -151,18 +162,6 @@ fn text_of_screen(alloc: Global, told: &Told) -> Result<String, AllocError> {
     }
 }
 
-pub(crate) fn name_of(
-    alloc: Global,
-    servers: &Servers<'_>,
-    server: usize,
-) -> Result<String, AllocError> {
-    let address: Option<SocketAddr> = servers.address(server);
-    match address {
-        Some(address) => format!(in alloc; "{address}"),
-        None => String::from_str(alloc, "?"),
-    }
-}
-
 /// A server, or the input where it is none.
 fn feed_of(
     alloc: Global,
@@ -171,7 +170,7 @@ fn feed_of(
 ) -> Result<String, AllocError> {
     match server {
         Some(server) => {
-            let name = name_of(alloc, servers, server)?;
+            let name = servers.name(alloc, server)?;
             format!(in alloc; "upstream {name}")
         }
         None => String::from_str(alloc, "input"),

@@ -193,8 +193,8 @@ impl Watchers {
         }
     }
 
-    /// When there is something to do for them: at once, or when the next connection has been kept for
-    /// long enough.
+    /// When there is something to do for them: at once, or when the next connection has been kept
+    /// for long enough.
     pub(crate) fn due(&self) -> u64 {
         if self.is_any_ready() || (self.is_waited_for && self.has_room()) {
             return 0;

@@ -2,9 +2,10 @@
 use Rattle.std.specs.Prelude.{◌≡◌, ◌⊎◌, ℕ, Bool, true, false, List, Option, Some, None, codes, is_some}
 use Rattle.std.specs.Prelude.{option_map}
 use Rattle.clap.specs.Words.{App, Row, Rule, new_app, with_rule}
+use Rattle.feed_settings.specs.Limits.{most_commits}
 use Rattle.feed_words.specs.Addresses.{most_port}
 use Rattle.feed_words.specs.Options as options
-use Rattle.feed_words.specs.Options.{flag, number_in, text_option, with_default, with_limits, text_at}
+use Rattle.feed_words.specs.Options.{flag, number_in, number_between, text_option, with_default, text_at}
 use Rattle.feed_words.specs.Options.{IsNumber, IsNumberUpTo, IsNumberIfGiven, IsGiven, IsFramed, AsksLimits}
 use Rattle.feed_words.specs.declared.request.LiveOptions.{LiveOptions}
 use Rattle.feed_words.specs.declared.request.UpstreamOptions.{UpstreamOptions}
@@ -24,6 +25,14 @@ most_window = 1073741824
 -- the most milliseconds that a feed which was asked for from the start may be quiet before it is shown
 abbrev pub most_settle : ℕ
 most_settle = 60000
+
+-- the most seconds without a publication after which another server is asked, and that a request may
+-- wait for a server to be heard
+abbrev pub most_return : ℕ
+most_return = 3600
+
+abbrev pub most_hold : ℕ
+most_hold = 3600
 
 -- ---- the command
 
@@ -80,10 +89,22 @@ abbrev pub state : Rule
 state = text_option (codes "state")
 
 abbrev pub settle : Rule
-settle = with_default (codes "2000") (options.number_between (codes "settle") 0 most_settle)
+settle = with_default (codes "2000") (number_between (codes "settle") 0 most_settle)
 
 abbrev pub fresh : Rule
 fresh = flag (codes "fresh")
+
+abbrev pub return_after : Rule
+return_after = with_default (codes "30") (number_between (codes "return") 0 most_return)
+
+abbrev pub hold : Rule
+hold = with_default (codes "10") (number_between (codes "hold") 0 most_hold)
+
+abbrev pub serve_old : Rule
+serve_old = flag (codes "serve-old")
+
+abbrev pub history : Rule
+history = with_default (codes "65536") (number_in (codes "history") most_commits)
 
 abbrev pub until_eof : Rule
 until_eof = flag (codes "until-eof")
@@ -113,7 +134,8 @@ with_settling command = with_rule (with_rule command settle) fresh
 
 -- a command with the options that say what is followed, as whom, and until when
 abbrev pub with_upstream : App → App
-with_upstream command = with_rule (with_settling (with_identity (with_feed command))) until_eof
+with_upstream command =
+    with_rule (with_rule (with_settling (with_identity (with_feed command))) return_after) until_eof
 
 -- a command with the options that say to whom it is served
 abbrev pub with_listener : App → App
@@ -128,9 +150,18 @@ abbrev pub with_screens : App → App
 with_screens command = with_rule (with_rule (with_rule (with_guard (with_listener command)) idle)
     window) options.chunked
 
+-- a command with the limits of the node that is served
+abbrev pub with_limits : App → App
+with_limits command =
+    with_rule (with_rule (with_rule command history) options.staged) options.memory
+
+-- a command with the options that say what of the file is served, and when
+abbrev pub with_serving : App → App
+with_serving command = with_rule (with_rule command hold) serve_old
+
 -- a command with the options that say what is kept
 abbrev pub with_state : App → App
-with_state command = with_limits (with_rule command state)
+with_state command = with_limits (with_serving (with_rule command state))
 
 -- a command with the options that say where it is watched
 abbrev pub with_status : App → App
@@ -190,6 +221,9 @@ pub record AsksLive (rows : List Row) (options : LiveOptions) : Type 0 where
   pub is_some_use : (is_some options.listen ≡ true) ⊎ (is_some options.state ≡ true)
   pub settle_is : IsNumberUpTo (codes "settle") most_settle rows options.settle
   pub fresh_is : IsGiven (codes "fresh") rows options.fresh
+  pub return_is : IsNumberUpTo (codes "return") most_return rows options.return_after
+  pub hold_is : IsNumberUpTo (codes "hold") most_hold rows options.hold
+  pub serve_old_is : IsGiven (codes "serve-old") rows options.serve_old
   pub until_eof_is : IsGiven (codes "until-eof") rows options.until_eof
   pub verbose_is : IsGiven (codes "verbose") rows (is_verbose options.verbosity)
   pub quiet_is : IsGiven (codes "quiet") rows (is_quiet options.verbosity)

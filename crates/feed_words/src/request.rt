@@ -154,6 +154,14 @@ pub struct LiveOptions<'a> {
     pub settle: u64,
     /// Whether each connection asks for everything.
     pub fresh: bool,
+    /// After how many seconds without a commit the other servers are asked in turn, 0 to 3,600. Zero:
+    /// they are asked only where the one that is followed fails.
+    pub return_after: u64,
+    /// How many seconds a request waits for a server to be heard, after a start with a state, 0 to
+    /// 3,600.
+    pub hold: u64,
+    /// Whether the state of the file is served before a server was heard.
+    pub serve_old: bool,
     /// Whether the command ends where standard input does.
     pub until_eof: bool,
     /// How much is reported.

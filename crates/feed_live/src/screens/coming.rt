@@ -125,8 +125,8 @@ impl Screens {
         Ok(())
     }
 
-    /// Where there are as many screens as there may be, the one that sent its end first gives its seat
-    /// to who comes: mostly it went away. Its socket is closed by the next `sweep`.
+    /// Where there are as many screens as there may be, the one that sent its end first gives its
+    /// seat to who comes: mostly it went away. Its socket is closed by the next `sweep`.
     fn make_seat(&mut self)
         ensures serving { (nodes : List NodeState) (contest : List ℕ) (sockets : AllSockets)
             → StillServing nodes contest self.old self.new sockets sockets }
@@ -202,8 +202,8 @@ impl Screens {
         self.is_full = true;
     }
 
-    /// Closes a connection that was refused just now, where its request has come whole: nothing more
-    /// comes then, so that it loses nothing of its answer. Else it lingers.
+    /// Closes a connection that was refused just now, where its request has come whole: nothing
+    /// more comes then, so that it loses nothing of its answer. Else it lingers.
     fn dismiss<S: Sockets>(&mut self, sockets: &mut S, told: &mut Telling, at: usize, now: u64)
         ensures serving { (nodes : List NodeState) (contest : List ℕ)
             → StillServing nodes contest self.old self.new

@@ -14,8 +14,8 @@ use feed_hub::Key;
 use feed_node::Node;
 use std::alloc::{AllocError, Global};
 
-/// How many bytes of commits one turn makes for those who catch up, and one commit more: so each turn
-/// is short, however many come back at once.
+/// How many bytes of commits one turn makes for those who catch up, and one commit more: so each
+/// turn is short, however many come back at once.
 const MOST_MADE: usize = 16_777_216;
 
 impl Screens {

@@ -46,7 +46,8 @@ impl Source {
                 true
             }
             Err(fault) => {
-                told.tell(Told::BadInput(fault));
+                let line = self.settling.lines();
+                told.tell(Told::BadInput { fault, line });
                 self.end_input(now);
                 false
             }
@@ -138,6 +139,7 @@ impl Source {
         ensures servers { servers_of self.new ≡ servers_of self.old }
         ensures rest { self.new.rest.items ≡ self.old.rest.items }
     {
+        self.settling.begin_line(line);
         self.answers.shown.change().feed(alloc, line)?;
         if screens.relay(alloc, self.answers.shown.node(), now) {
             self.figures.publish();

@@ -23,6 +23,9 @@ const READS: usize = 16;
 
 const PIECE: usize = 16_384;
 
+/// How the field of a head begins that says where something is.
+const LOCATION: &[u8] = b"location:";
+
 impl Source {
     ghost use Rattle.feed_live.specs.Relaying.{StillFollows, StillServes, SameSource};
     ghost use Rattle.feed_live.specs.Relaying.{IsKeeping, IsLeft, PushesOnly, followed_by};
@@ -156,11 +159,41 @@ impl Source {
             → (left : List ℕ) → StillFollows self.old self.new (L.exchanges link.old)
             (L.exchanges link.new) piece.entry.now left screens.old screens.new) }
     {
-        if self.is_replay(piece) {
+        if self.is_noted_replay(piece) {
             self.ignored(link, told, now);
             return None;
         }
         self.take_line(alloc, link, told, screens, piece, now)
+    }
+
+    /// What a head says of where the feed is, is noted. Whether the piece begins a replay.
+    fn is_noted_replay(&mut self, piece: &[u8]) -> bool
+        ensures { SameSource self.old self.new }
+    {
+        if self.body_since.is_none() {
+            if let Some(location) = location_of(piece) {
+                self.location = Some(Excerpt::of_line(location));
+            }
+        }
+        self.is_replay(piece)
+    }
+
+    /// Tells more of a fault: where the feed is said to be, or the line that can't be followed.
+    fn tell_fault(&self, told: &mut Telling, fault: FollowFault, line: &[u8]) {
+        if self.returning.has_turned() {
+            return;
+        }
+        let server = self.upstream.place();
+        match (fault, self.location) {
+            (FollowFault::Status(300..=399), Some(location)) => {
+                told.tell(Told::Moved { server, location });
+            }
+            (FollowFault::Feed(_), _) => {
+                let line = Excerpt::of_line(line);
+                told.tell(Told::Faulty { server, line });
+            }
+            _ => {}
+        }
     }
 
     /// The first line of the piece, or a part of one, is taken. What comes after it, where the
@@ -207,6 +240,7 @@ impl Source {
                     self.lost(link, told, Why::Memory, now);
                     return None;
                 }
+                self.tell_fault(told, fault, line);
                 self.say(alloc, told, screens, now);
                 self.settle_ended(alloc, link, told, screens, next.len(), now);
                 self.lost(link, told, Why::Fault(fault), now);
@@ -337,6 +371,16 @@ fn is_want_of_memory(fault: FollowFault) -> bool
         FollowFault::Feed(fault) => fault == FeedFault::Memory,
         _ => false,
     }
+}
+
+/// Where a line of a head says that something is: the value of the field `Location`.
+fn location_of(line: &[u8]) -> Option<&[u8]> {
+    let (name, rest) = line.split_at_checked(LOCATION.len())?;
+    if !name.eq_ignore_ascii_case(LOCATION) {
+        return None;
+    }
+    let value = rest.split(|byte| *byte == b'\r' || *byte == b'\n').next()?;
+    Some(value.trim_ascii())
 }
 
 /// A piece up to and with its first line feed, or all of it; and what comes after that.

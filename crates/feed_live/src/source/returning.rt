@@ -2,21 +2,24 @@
 //! relay that follows this one. So the others are asked in turn with our token: whoever has something
 //! new is followed then. That costs screens nothing. Where nobody has, it ends at the first one.
 
+ghost use Rattle.std.specs.Prelude.{◌≡◌, ◌+◌, ◌%◌, min};
+
 use crate::figures::Following;
 use crate::source::{Reach, Source};
 use crate::told::Telling;
 use feed_device::{Link, Told};
 use std::mem;
 
-/// After so many milliseconds in which nothing was published, another server is asked.
-const RETURN_TIME: u64 = 30_000;
-
-/// How long each of those has then that are asked in turn, in milliseconds.
+/// How long each of those has that are asked in turn, in milliseconds, or as long as the one before
+/// them where that is less.
 const TURN_TIME: u64 = 10_000;
 
 /// When something was published last, and how often a server was left since then that had nothing.
 #[derive(Clone, Copy)]
 pub(crate) struct Returning {
+    /// After so many milliseconds in which nothing was published another server is asked; never
+    /// where it is zero.
+    after: u64,
     published: u64,
     turns: usize,
     /// Whether it was told that one was left so.
@@ -24,8 +27,9 @@ pub(crate) struct Returning {
 }
 
 impl Returning {
-    pub(crate) fn new(now: u64) -> Returning {
+    pub(crate) fn new(after: u64, now: u64) -> Returning {
         Returning {
+            after,
             published: now,
             turns: 0,
             was_told: false,
@@ -72,10 +76,13 @@ impl Source {
         if self.places.len() < 2 || self.has_more || !self.rest.is_empty() {
             return None;
         }
+        if self.returning.after == 0 {
+            return None;
+        }
         let time = if self.returning.has_turned() && !had_turns {
-            TURN_TIME
+            TURN_TIME.min(self.returning.after)
         } else {
-            RETURN_TIME
+            self.returning.after
         };
         Some(since.max(self.returning.published).saturating_add(time))
     }
@@ -87,9 +94,16 @@ impl Source {
         }
     }
 
-    /// The server is left, and the next one is asked.
+    /// The server is left, and the next one is asked at once. It did not fail: the pauses stay as they
+    /// are, and so does what is counted of failures.
     pub(crate) fn turn<L: Link>(&mut self, link: &mut L, told: &mut Telling, now: u64)
         ensures left { IsLeft self.old self.new (L.exchanges link.old) (L.exchanges link.new) }
+        ensures next { self.new.upstream.place
+            ≡ min (self.old.upstream.place + 1) u64.MAX % self.old.upstream.places }
+        ensures at_once { self.new.upstream.since ≡ now }
+        ensures pause { self.new.upstream.pause ≡ self.old.upstream.pause }
+        ensures counts { (self.new.upstream.failed ≡ self.old.upstream.failed)
+            × (self.new.upstream.refused ≡ self.old.upstream.refused) }
     {
         let server = self.upstream.place();
         let is_told = self.returning.turn();
@@ -97,13 +111,12 @@ impl Source {
             is_told,
             Told::Quiet {
                 server,
-                time: RETURN_TIME,
+                time: self.returning.after,
             },
         );
         self.leave(link, now);
         self.figures.change(Following::Away, now);
-        let next = server.saturating_add(1);
         self.upstream
-            .turn_to(next, self.answers.shown.change(), now);
+            .turn_to(server.saturating_add(1), self.answers.shown.change(), now);
     }
 }

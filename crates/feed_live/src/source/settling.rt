@@ -48,6 +48,8 @@ pub(crate) struct Settling {
     /// How many bytes and whole lines came on the connection.
     bytes: u64,
     lines: u64,
+    /// Whether the last line that was begun has not ended yet.
+    is_within: bool,
     /// When it was told last how much has come.
     told: u64,
     /// Whether it was at the token that is shown, and had the same state there.
@@ -68,6 +70,7 @@ impl Settling {
             rate: Rate::new(pause),
             bytes: 0,
             lines: 0,
+            is_within: false,
             told: 0,
             is_compared: false,
             is_same: false,
@@ -105,6 +108,19 @@ impl Settling {
     /// A line came whole.
     pub(crate) fn count_line(&mut self) {
         self.lines = self.lines.saturating_add(1);
+    }
+
+    /// A line of the input came, or a part of one.
+    pub(crate) fn begin_line(&mut self, part: &[u8]) {
+        if !self.is_within {
+            self.count_line();
+        }
+        self.is_within = !part.ends_with(b"\n");
+    }
+
+    /// How many lines came.
+    pub(crate) fn lines(&self) -> u64 {
+        self.lines
     }
 
     /// When all that came has settled, if nothing more comes.

@@ -11,7 +11,7 @@ use super::asked::{
     framing, identity, is_given, limits, number, number_if_given, number_up_to, port, text,
     text_if_given,
 };
-use super::live::{MOST_IDLE, MOST_SCREENS, MOST_SETTLE, MOST_WINDOW};
+use super::live::{MOST_HOLD, MOST_IDLE, MOST_RETURN, MOST_SCREENS, MOST_SETTLE, MOST_WINDOW};
 use super::options::MOST_PORT;
 use crate::request::{LiveOptions, UpstreamOptions, Verbosity};
 use clap::ArgMatches;
@@ -91,6 +91,8 @@ pub(super) fn live_options<'a>(matches: &ArgMatches<'a>) -> Option<LiveOptions<'
     let idle = number(matches, "idle", MOST_IDLE)?;
     let window = number(matches, "window", MOST_WINDOW)?;
     let settle = number_up_to(matches, "settle", MOST_SETTLE)?;
+    let return_after = number_up_to(matches, "return", MOST_RETURN)?;
+    let hold = number_up_to(matches, "hold", MOST_HOLD)?;
     let verbosity = verbosity(matches)?;
     let limits = limits(matches)?;
     Some(LiveOptions {
@@ -109,6 +111,9 @@ pub(super) fn live_options<'a>(matches: &ArgMatches<'a>) -> Option<LiveOptions<'
         state,
         settle,
         fresh: is_given(matches, "fresh"),
+        return_after,
+        hold,
+        serve_old: is_given(matches, "serve-old"),
         until_eof: is_given(matches, "until-eof"),
         verbosity,
         limits,

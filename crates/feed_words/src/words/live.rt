@@ -3,10 +3,11 @@ ghost use Rattle.std.specs.Prelude.{◌≡◌, [], true, false, IfOk};
 ghost use Rattle.clap.specs.Words.{App, Rule, app_of, rule_of, with_rule};
 ghost use Rattle.feed_words.specs.Live as live;
 
-use super::line::{add_option, command, with_limits};
+use super::line::{add_option, command};
 use super::options;
 use super::options::{MOST_PORT, flag, number, number_between, text};
 use clap::{Arg, Command};
+use feed_settings::MOST_COMMITS;
 use std::alloc::{AllocError, Global};
 
 /// The most screens that may be served at once.
@@ -21,6 +22,12 @@ pub(super) const MOST_WINDOW: u64 = 1_073_741_824;
 /// The most milliseconds that a feed which was asked for from the start may be quiet before it is
 /// shown.
 pub(super) const MOST_SETTLE: u64 = 60_000;
+
+/// The most seconds without a publication after which another server is asked.
+pub(super) const MOST_RETURN: u64 = 3_600;
+
+/// The most seconds that a request may wait for a server to be heard.
+pub(super) const MOST_HOLD: u64 = 3_600;
 
 /// `--host H`, with `--port`.
 fn host<'a>(alloc: Global) -> Result<Arg<'a>, AllocError>
@@ -182,6 +189,39 @@ fn state<'a>(alloc: Global) -> Arg<'a>
     text(alloc, "state", "FILE").help("The file that keeps what was published, for the next start")
 }
 
+/// `--hold SECONDS`.
+fn hold<'a>(alloc: Global) -> Arg<'a>
+    ensures rule { rule_of result ≡ live.hold }
+    ensures local { result.global ≡ false }
+{
+    number_between(alloc, "hold", "SECONDS", 0, MOST_HOLD)
+        .help(
+            "How many seconds a request waits for a server to be heard, after a start with a state, \
+              before it is answered 503, 0 to 3600",
+        )
+        .default_value("10")
+}
+
+/// `--serve-old`.
+fn serve_old<'a>(alloc: Global) -> Arg<'a>
+    ensures rule { rule_of result ≡ live.serve_old }
+    ensures local { result.global ≡ false }
+{
+    flag(alloc, "serve-old").help(
+        "Serve the state of the file at once, however old it is, and not only once a server was heard",
+    )
+}
+
+/// `--history N`.
+fn history<'a>(alloc: Global) -> Arg<'a>
+    ensures rule { rule_of result ≡ live.history }
+    ensures local { result.global ≡ false }
+{
+    number(alloc, "history", "N", MOST_COMMITS as u64)
+        .help("How many commits are kept, 1 to 65536")
+        .default_value("65536")
+}
+
 /// `--settle MS`.
 fn settle<'a>(alloc: Global) -> Arg<'a>
     ensures rule { rule_of result ≡ live.settle }
@@ -204,6 +244,19 @@ fn fresh<'a>(alloc: Global) -> Arg<'a>
         "Ask for everything on each connection, never with since_token: for servers that don't have \
           the same tokens",
     )
+}
+
+/// `--return SECONDS`.
+fn return_after<'a>(alloc: Global) -> Arg<'a>
+    ensures rule { rule_of result ≡ live.return_after }
+    ensures local { result.global ≡ false }
+{
+    number_between(alloc, "return", "SECONDS", 0, MOST_RETURN)
+        .help(
+            "After how many seconds without a commit the other servers are asked in turn, those before \
+              it first, 0 to 3600; 0 stays at a server for as long as it answers",
+        )
+        .default_value("30")
 }
 
 /// `--until-eof`.
@@ -316,6 +369,7 @@ fn with_upstream<'a>(
 {
     let followed = with_feed(alloc, under(command, "Upstream"));
     let followed = with_settling(alloc, with_identity(alloc, followed));
+    let followed = add_option(followed, return_after(alloc));
     add_option(followed, until_eof(alloc))
 }
 
@@ -360,6 +414,31 @@ fn with_screens<'a>(
     add_option(served, options::chunked(alloc))
 }
 
+/// A command with the limits of the node that is served.
+fn with_limits<'a>(
+    alloc: Global,
+    command: Result<Command<'a>, AllocError>,
+) -> Result<Command<'a>, AllocError>
+    ensures { (app : App) → IfOk command.entry (λ c. app_of c ≡ app)
+        → IfOk result (λ c. app_of c ≡ live.with_limits app) }
+{
+    let kept = add_option(command, history(alloc));
+    let staged = add_option(kept, options::staged(alloc));
+    add_option(staged, options::memory(alloc))
+}
+
+/// A command with the options that say what of the file is served, and when.
+fn with_serving<'a>(
+    alloc: Global,
+    command: Result<Command<'a>, AllocError>,
+) -> Result<Command<'a>, AllocError>
+    ensures { (app : App) → IfOk command.entry (λ c. app_of c ≡ app)
+        → IfOk result (λ c. app_of c ≡ live.with_serving app) }
+{
+    let held = add_option(command, hold(alloc));
+    add_option(held, serve_old(alloc))
+}
+
 /// A command with the options that say what is kept.
 fn with_state<'a>(
     alloc: Global,
@@ -369,7 +448,7 @@ fn with_state<'a>(
         → IfOk result (λ c. app_of c ≡ live.with_state app) }
 {
     let kept = under(command, "State");
-    let kept = add_option(kept, state(alloc));
+    let kept = with_serving(alloc, add_option(kept, state(alloc)));
     with_limits(alloc, kept)
 }
 

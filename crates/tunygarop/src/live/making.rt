@@ -4,16 +4,16 @@ use crate::live::Engine;
 use crate::live::watching::Watched;
 use feed_answer::{Identity, Place};
 use feed_cli::{
-    Fault, LiveOptions, NetworkFault, PullOptions, Server, UpstreamOptions, Verbosity, servers_of,
+    AddressFault, Fault, LiveOptions, NetworkFault, PullOptions, Server, UpstreamOptions,
+    Verbosity, servers_of,
 };
 use feed_live::{Live, LiveLimits, Restored, Start, restore};
 use feed_network::{Failure, Hosts, identity_of};
 use feed_node::{Limits, Mirror};
-use feed_system::{Names, OpenFault, System, open, read_file, without_brackets};
-use std::alloc::AllocError;
+use feed_system::{Host, Names, OpenFault, System, open, read_file};
+use std::alloc::{AllocError, Global};
 use std::io;
 use std::io::ErrorKind;
-use std::net::{SocketAddr, ToSocketAddrs};
 use std::time::Instant;
 
 /// What the options say of servers, as the other commands take it.
@@ -43,19 +43,32 @@ fn named<'a>(options: &PullOptions<'a>, hosts: &'a Hosts) -> PullOptions<'a> {
     }
 }
 
-/// The first address that a host's name has. The system may ask for it, and waits then.
-fn address_of(rt: &HostRuntime, host: &str, port: u16) -> Result<SocketAddr, Fault> {
-    match (without_brackets(host), port).to_socket_addrs(rt) {
-        Ok(mut all) => all.next().ok_or(Fault::from(NetworkFault::Connect)),
-        Err(_) => Err(Fault::from(NetworkFault::Connect)),
-    }
-}
-
-/// The servers: where each is, and what it is asked for.
+/// The servers: the hosts that they are of, and what each is asked for.
 #[derive(Drop)]
 struct Asked {
-    addresses: Vec<SocketAddr>,
+    hosts: Vec<Host>,
     places: Vec<Place>,
+}
+
+impl Asked {
+    /// One more host, of which each server is asked for the same.
+    fn push(
+        &mut self,
+        rt: &HostRuntime,
+        name: String,
+        port: u16,
+        place: &Place,
+    ) -> Result<(), Fault> {
+        let host = needs_memory(Host::new(rt, name, port))?;
+        for _ in 0..host.servers() {
+            let (name, base, contest) = (place.host(), place.base(), place.contest());
+            push(
+                &mut self.places,
+                Place::new(rt.alloc(), name, base, contest)?,
+            )?;
+        }
+        push(&mut self.hosts, host)
+    }
 }
 
 /// The servers that are asked: none where the feed is the input.
@@ -64,27 +77,25 @@ fn servers(
     options: &LiveOptions<'_>,
     identity: &Identity,
 ) -> Result<Asked, Fault> {
-    let mut addresses = Vec::new(rt.alloc());
-    let Some(upstream) = &options.upstream else {
-        return Ok(Asked {
-            addresses,
-            places: Vec::new(rt.alloc()),
-        });
+    let mut asked = Asked {
+        hosts: Vec::new(rt.alloc()),
+        places: Vec::new(rt.alloc()),
     };
-    let asked = pull_options(options, upstream);
-    let hosts = Hosts::new(rt.alloc(), &asked)?;
-    let mut places = Vec::new(rt.alloc());
-    for server in servers_of(rt.alloc(), &named(&asked, &hosts), identity)? {
+    let Some(upstream) = &options.upstream else {
+        return Ok(asked);
+    };
+    let pulled = pull_options(options, upstream);
+    let hosts = Hosts::new(rt.alloc(), &pulled)?;
+    for server in servers_of(rt.alloc(), &named(&pulled, &hosts), identity)? {
         let Server {
             host,
             port,
             place,
             ..
         } = server;
-        push(&mut addresses, address_of(rt, host.as_str(), port)?)?;
-        push(&mut places, place)?;
+        asked.push(rt, host, port, &place)?;
     }
-    Ok(Asked { addresses, places })
+    Ok(asked)
 }
 
 fn push<T: Drop>(list: &mut Vec<T>, item: T) -> Result<(), Fault> {
@@ -112,15 +123,19 @@ pub(super) fn of_system<T: Drop>(outcome: io::Result<T>) -> Result<T, Fault> {
     }
 }
 
+/// Whether several servers have tokens of their own. All addresses of a name are servers of one log.
+fn are_strange(options: &LiveOptions<'_>) -> bool {
+    match &options.upstream {
+        Some(upstream) => options.fresh && upstream.from.is_some(),
+        None => false,
+    }
+}
+
 /// The limits of what the relay shows. Where several servers have tokens of their own, older tokens may
 /// stand for states of another one: then one commit is kept, with the token before it.
 fn kept_limits(options: &LiveOptions<'_>) -> Limits {
     let limits = options.limits;
-    let are_strange = match &options.upstream {
-        Some(upstream) => options.fresh && upstream.from.is_some(),
-        None => false,
-    };
-    if !are_strange {
+    if !are_strange(options) {
         return limits;
     }
     let Ok(kept) = Limits::new(1, limits.staged()) else {
@@ -150,12 +165,47 @@ fn restored(
 }
 
 /// Why there is nothing to run on.
-fn fault_of(fault: OpenFault) -> Fault {
+fn failure_of(alloc: Global, fault: OpenFault) -> Failure {
     match fault {
-        OpenFault::Memory => Fault::Memory,
-        OpenFault::System => Fault::Read,
-        OpenFault::Address(fault) => Fault::from(fault),
-        OpenFault::Bind => Fault::from(NetworkFault::Bind),
+        OpenFault::Memory => Failure::from(Fault::Memory),
+        OpenFault::System => Failure::from(Fault::Read),
+        OpenFault::Address(option) => {
+            let fault = Fault::from(AddressFault::BadAddress(0));
+            Failure::about(fault, String::from_str(alloc, option))
+        }
+        OpenFault::List(option, fault) => of_list(alloc, option, fault),
+        OpenFault::Bind(address) => {
+            let fault = Fault::from(NetworkFault::Bind);
+            Failure::about(fault, format!(in alloc; "{address}"))
+        }
+    }
+}
+
+/// The value of an option is no list of addresses or networks.
+fn of_list(alloc: Global, option: &str, fault: AddressFault) -> Failure {
+    match fault {
+        AddressFault::Memory => Failure::from(Fault::Memory),
+        AddressFault::TooMany => {
+            Failure::about(
+                Fault::from(fault),
+                format!(in alloc; "{option} has too many"),
+            )
+        }
+        AddressFault::BadAddress(number) => {
+            let part = number.saturating_add(1);
+            Failure::about(
+                Fault::from(fault),
+                format!(in alloc; "{option}, part {part}"),
+            )
+        }
+    }
+}
+
+/// Why the servers can't be asked.
+fn of_servers(alloc: Global, fault: Fault) -> Failure {
+    match fault {
+        Fault::Address(fault) => of_list(alloc, "--from", fault),
+        _ => Failure::from(fault),
     }
 }
 
@@ -167,6 +217,10 @@ fn limits_of(options: &LiveOptions<'_>) -> LiveLimits {
         framing: options.framing,
         settle: options.settle,
         is_fresh: options.fresh,
+        are_strange: are_strange(options),
+        return_after: options.return_after.saturating_mul(1_000),
+        hold: options.hold.saturating_mul(1_000),
+        serves_old: options.serve_old,
         is_verbose: options.verbosity == Verbosity::Verbose,
         has_store: options.state.is_some(),
         ends_with_input: options.until_eof,
@@ -179,7 +233,7 @@ struct Plan {
     start: Start,
     contest: String,
     names: Option<Names>,
-    addresses: Vec<SocketAddr>,
+    hosts: Vec<Host>,
 }
 
 fn names_of(rt: &HostRuntime, options: &LiveOptions<'_>) -> Result<Option<Names>, Fault> {
@@ -221,13 +275,16 @@ fn make_plan(rt: &HostRuntime, options: &LiveOptions<'_>) -> Result<Plan, Failur
     let names = names_of(rt, options)?;
     let contest = needs_memory(String::from_str(rt.alloc(), options.contest))?;
     let identity = identity(rt, options)?;
-    let Asked { addresses, places } = servers(rt, options, &identity)?;
+    let Asked { hosts, places } = match servers(rt, options, &identity) {
+        Ok(asked) => asked,
+        Err(fault) => return Err(of_servers(rt.alloc(), fault)),
+    };
     let start = start_of(rt, options, names.as_ref(), places, identity)?;
     Ok(Plan {
         start,
         contest,
         names,
-        addresses,
+        hosts,
     })
 }
 
@@ -236,12 +293,12 @@ fn system_of<'r>(
     rt: &'r HostRuntime,
     options: &LiveOptions<'_>,
     names: Option<Names>,
-    addresses: Vec<SocketAddr>,
+    hosts: Vec<Host>,
     start: Instant,
-) -> Result<System<'r>, Fault> {
-    match open(rt, options, names, addresses, start) {
+) -> Result<System<'r>, Failure> {
+    match open(rt, options, names, hosts, start) {
         Ok(system) => Ok(system),
-        Err(fault) => Err(fault_of(fault)),
+        Err(fault) => Err(failure_of(rt.alloc(), fault)),
     }
 }
 
@@ -256,9 +313,9 @@ pub(super) fn prepare<'r>(
         start: from,
         contest,
         names,
-        addresses,
+        hosts,
     } = make_plan(rt, options)?;
-    let mut system = system_of(rt, options, names, addresses, start)?;
+    let mut system = system_of(rt, options, names, hosts, start)?;
     let store = &mut system.devices.store;
     let live = Live::new(rt.alloc(), contest, limits_of(options), from, store, 0);
     Ok(Engine {

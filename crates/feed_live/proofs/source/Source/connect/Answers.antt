@@ -4,11 +4,18 @@ use Rattle.feed_node.specs.States.{published_token}
 use Rattle.feed_follow.specs.Standing.{in_head}
 use Rattle.feed_hub.specs.Upstream.{IsFollowing}
 use Rattle.feed_live.specs.declared.source.Reach.TheVariants.{Connects}
-use Rattle.feed_live.specs.Relaying.{MayFollow, followed, servers_of}
+use Rattle.feed_live.specs.Relaying.{IsLeft, MayFollow, followed, servers_of}
 use Rattle.feed_live.specs.Upstream.{IsRequestOf}
 use Rattle.feed_live.proofs.RelayLemmas.{begun_follows, begun_honest, begins_in_log, one_more_honest}
-use Rattle.feed_live.proofs.SourceLemmas.{begins_so}
+use Rattle.feed_live.proofs.SourceLemmas.{begins_so, fails_so, left_still}
 use Rattle.feed_live.proofs.source.Source.connect.Goals as goal
+
+pub returns-then-is_err : goal.returns-then-is_err
+returns-then-is_err g c =
+    let failed = fails_so c.connect-begun.result _ _ c.place.result (sym c.is_err.ensures.value ∙ c.if-is_err.true) c.connect-begun.ensures.begins in
+    record {
+      follows = left_still (subst (λ e. IsLeft c.args.self.now c.lost-then-is_err.new.self e (g.L.Link.exchanges c.lost-then-is_err.new.link)) failed c.lost-then-is_err.ensures.left);
+    }
 
 pub returns : goal.returns
 returns g c =
@@ -19,7 +26,7 @@ returns g c =
       follows = λ screens limits log servers contest sockets follows. (
         follows.0,
         λ honest.
-            let begins = begins_so c.connect.result _ _ c.place.result (sym c.is_err.ensures.value ∙ c.if-is_err.false) c.connect.ensures.begins in
+            let begins = begins_so c.connect-begun.result _ _ c.place.result (sym c.is_err.ensures.value ∙ c.if-is_err.false) c.connect-begun.ensures.begins in
             let here = follows.1 (one_more_honest limits log servers _ _ _ begins (begun_honest limits log servers c.in-Ok.coming _ _ c.begin_shown.ensures honest)) in
             let at = begins_in_log limits log servers c.in-Ok.coming shown c.in-Ok.ensures here.0.limits_are here.0.shown_is in
             let asks = subst (λ k. IfSome k.since (λ token. published_token k.node ≡ Some token)) asking c.request.ensures.since in

@@ -9,7 +9,7 @@ returns g c =
     record {
       left = record {
         servers = c.leave.ensures.servers ∙ c.hear_end.ensures.servers ∙ c.lose-is_told.ensures.servers;
-        exchanges = c.leave.ensures.exchanges;
+        exchanges = c.forget_after.ensures ∙ c.leave.ensures.exchanges;
         reach = c.leave.ensures.away;
         follower = c.lost.ensures.paused.0;
         limits = ap (λ m. m.limits) shown;
