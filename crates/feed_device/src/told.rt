@@ -187,6 +187,12 @@ pub enum Told {
         time: u64,
         has_token: bool,
     },
+    /// So many changes came of a server and wait for a token, the first of them for so long.
+    NoToken {
+        server: usize,
+        changes: u64,
+        time: u64,
+    },
     /// A connection over which so much came ended before that had settled: nothing of it is shown.
     Unsettled {
         server: usize,

@@ -1,8 +1,16 @@
 //! What a relay counts, for those who watch it.
 
-use crate::conn::Stage;
+use crate::conn::{Conn, Stage};
 use crate::screens::Screens;
+use crate::told::Telling;
 use crate::turn::Live;
+use feed_device::{Told, Why};
+use feed_follow::FollowFault;
+use memchr::memmem;
+use std::alloc::{AllocError, Global};
+use std::cmp::Reverse;
+use std::fmt;
+use std::net::SocketAddr;
 
 /// How things stand with the server that is followed.
 #[derive(Clone, Copy, Debug, PartialEq, Eq)]
@@ -19,6 +27,103 @@ pub enum Following {
     Input,
     /// The input has ended, or can't be followed.
     Ended,
+}
+
+/// After so many milliseconds in which changes waited for a token, there may be none.
+pub const LONG_WAIT: u64 = 10_000;
+
+/// How many kinds of reasons are counted.
+const KINDS: usize = 10;
+
+/// Why an attempt to follow a server failed, as it is counted.
+#[derive(Clone, Copy, Debug, PartialEq, Eq)]
+pub enum Reason {
+    /// It can't be connected to.
+    Refuses,
+    /// It did not take the connection in time.
+    Late,
+    /// It did not answer in time.
+    NoAnswer,
+    /// The connection broke off.
+    Broke,
+    /// The response ended.
+    Ended,
+    /// Nothing came for too long.
+    Silent,
+    /// It answered with a status other than 200.
+    Status,
+    /// It doesn't hold the token that it was asked with.
+    Token,
+    /// What came can't be followed.
+    Feed,
+    /// Memory ran out.
+    Memory,
+}
+
+const REASONS: [Reason; KINDS] = [
+    Reason::Refuses,
+    Reason::Late,
+    Reason::NoAnswer,
+    Reason::Broke,
+    Reason::Ended,
+    Reason::Silent,
+    Reason::Status,
+    Reason::Token,
+    Reason::Feed,
+    Reason::Memory,
+];
+
+impl Reason {
+    /// The word that a metric has for it.
+    pub fn word(self) -> &'static str {
+        match self {
+            Reason::Refuses => "cannot_connect",
+            Reason::Late => "connect_timeout",
+            Reason::NoAnswer => "no_answer",
+            Reason::Broke => "connection_lost",
+            Reason::Ended => "end_of_feed",
+            Reason::Silent => "silent",
+            Reason::Status => "status",
+            Reason::Token => "token_refused",
+            Reason::Feed => "bad_feed",
+            Reason::Memory => "out_of_memory",
+        }
+    }
+}
+
+/// How an attempt to follow a server failed.
+#[derive(Clone, Copy, Debug)]
+pub enum Failure {
+    /// The server was left.
+    Left(Why),
+    /// The server doesn't hold the token that it was asked with.
+    TokenRefused,
+}
+
+impl Failure {
+    fn reason(&self) -> Reason {
+        match self {
+            Failure::TokenRefused => Reason::Token,
+            Failure::Left(Why::Late) => Reason::Late,
+            Failure::Left(Why::NoAnswer) => Reason::NoAnswer,
+            Failure::Left(Why::Broke) => Reason::Broke,
+            Failure::Left(Why::Ended) => Reason::Ended,
+            Failure::Left(Why::Silent) => Reason::Silent,
+            Failure::Left(Why::Memory) => Reason::Memory,
+            Failure::Left(Why::Fault(FollowFault::Status(_))) => Reason::Status,
+            Failure::Left(Why::Fault(_)) => Reason::Feed,
+            Failure::Left(_) => Reason::Refuses,
+        }
+    }
+}
+
+impl fmt::Display for Failure {
+    fn fmt<W: fmt::Write>(&self, f: &mut fmt::Formatter<W>) -> fmt::Result {
+        match self {
+            Failure::Left(why) => write!(f, "{why}"),
+            Failure::TokenRefused => f.write_str("doesn't hold our token"),
+        }
+    }
 }
 
 /// What was counted of the feed that is followed. Times are in milliseconds.
@@ -39,6 +144,18 @@ pub struct FeedFigures {
     /// zero where none is to settle.
     pub coming_lines: u64,
     pub coming_bytes: u64,
+    /// When the last commit was published, where one was since the start.
+    pub committed: Option<u64>,
+    /// How the last attempt failed, and when.
+    pub failed: Option<(Failure, u64)>,
+    /// How many attempts failed since the start, by their reasons.
+    pub failed_by: [(Reason, u64); KINDS],
+    /// How many lines with a change came since the last one with a token, and when the first of
+    /// them did.
+    pub waiting: u64,
+    pub waiting_since: u64,
+    /// Whether it was told of this connection that they wait for long.
+    is_warned: bool,
 }
 
 impl FeedFigures {
@@ -53,6 +170,12 @@ impl FeedFigures {
             bytes: 0,
             coming_lines: 0,
             coming_bytes: 0,
+            committed: None,
+            failed: None,
+            failed_by: REASONS.map(|reason| (reason, 0)),
+            waiting: 0,
+            waiting_since: now,
+            is_warned: false,
         }
     }
 
@@ -65,8 +188,23 @@ impl FeedFigures {
     }
 
     /// A commit was published.
-    pub(crate) fn publish(&mut self) {
+    pub(crate) fn publish(&mut self, now: u64) {
         self.commits = self.commits.saturating_add(1);
+        self.committed = Some(now);
+        self.waiting = 0;
+    }
+
+    /// A line of a body came, or a part of one. A change begins with a brace, and waits for a token
+    /// unless it has one. One that was sent before has one, too, and publishes nothing.
+    pub(crate) fn stage(&mut self, line: &[u8], now: u64) {
+        if has_token(line) {
+            self.waiting = 0;
+        } else if line.first() == Some(&b'{') {
+            if self.waiting == 0 {
+                self.waiting_since = now;
+            }
+            self.waiting = self.waiting.saturating_add(1);
+        }
     }
 
     pub(crate) fn change(&mut self, following: Following, now: u64) {
@@ -79,6 +217,8 @@ impl FeedFigures {
     /// A server is asked.
     pub(crate) fn ask(&mut self, server: usize, now: u64) {
         self.server = server;
+        self.waiting = 0;
+        self.is_warned = false;
         self.change(Following::Asked, now);
     }
 
@@ -95,10 +235,56 @@ impl FeedFigures {
     }
 
     /// The server is lost.
-    pub(crate) fn lose(&mut self, now: u64) {
+    pub(crate) fn lose(&mut self, why: Why, now: u64) {
         self.failures = self.failures.saturating_add(1);
+        self.fail(Failure::Left(why), now);
         self.change(Following::Away, now);
     }
+
+    /// The server does not hold the token that it was asked with.
+    pub(crate) fn refuse_token(&mut self, now: u64) {
+        self.fail(Failure::TokenRefused, now);
+    }
+
+    /// When it is told that changes wait for a token for long.
+    pub(crate) fn warns_at(&self) -> Option<u64> {
+        if self.waiting == 0 || self.is_warned {
+            return None;
+        }
+        Some(self.waiting_since.saturating_add(LONG_WAIT))
+    }
+
+    /// Tells that changes of a server wait for a token for long, once for each connection.
+    pub(crate) fn warn(&mut self, server: usize, told: &mut Telling, now: u64) {
+        let Some(at) = self.warns_at() else {
+            return;
+        };
+        if at > now {
+            return;
+        }
+        self.is_warned = true;
+        told.tell(Told::NoToken {
+            server,
+            changes: self.waiting,
+            time: now.saturating_sub(self.waiting_since),
+        });
+    }
+
+    fn fail(&mut self, failure: Failure, now: u64) {
+        self.failed = Some((failure, now));
+        let reason = failure.reason();
+        for failed in &mut self.failed_by {
+            if failed.0 == reason {
+                failed.1 = failed.1.saturating_add(1);
+            }
+        }
+        self.waiting = 0;
+    }
+}
+
+/// Whether a line seems to have a token. That of a part of a line may be in another one.
+fn has_token(line: &[u8]) -> bool {
+    memmem::find(line, b"\"token\"").is_some()
 }
 
 /// The statuses that a request can be refused with.
@@ -119,6 +305,9 @@ pub struct ScreenTotals {
     pub cut: u64,
     /// How many bytes they were handed.
     pub bytes: u64,
+    /// How often what was shown was published afresh, and how many bodies were ended for that.
+    pub resets: u64,
+    pub ended: u64,
 }
 
 impl ScreenTotals {
@@ -130,6 +319,8 @@ impl ScreenTotals {
             refused_by: STATUSES.map(|status| (status, 0)),
             cut: 0,
             bytes: 0,
+            resets: 0,
+            ended: 0,
         }
     }
 
@@ -158,6 +349,27 @@ impl ScreenTotals {
     pub(crate) fn hand(&mut self, bytes: usize) {
         self.bytes = self.bytes.saturating_add(bytes as u64);
     }
+
+    /// So many bodies were ended, since something is published afresh. Where nothing was before, that
+    /// is no news.
+    pub(crate) fn reset(&mut self, was_said: bool, bodies: u64) {
+        if was_said {
+            self.resets = self.resets.saturating_add(1);
+            self.ended = self.ended.saturating_add(bodies);
+        }
+    }
+}
+
+/// What was counted of the state file.
+#[derive(Clone, Copy, Debug)]
+pub struct FileFigures {
+    pub bytes: u64,
+    /// When it was written to last, in milliseconds.
+    pub written: u64,
+    /// Whether it could not be written the last time.
+    pub is_failing: bool,
+    /// How often that was so since the start.
+    pub failures: u64,
 }
 
 /// How many screens there are at the moment.
@@ -168,7 +380,25 @@ pub struct ScreenFigures {
     pub asking: usize,
     /// Those whose socket did not take all that there is for them.
     pub behind: usize,
+    /// Whether one more would be answered 503, since there are as many as there may be.
+    pub are_full: bool,
     pub totals: ScreenTotals,
+}
+
+/// One screen's connection, as it is at a moment. Times are in milliseconds.
+#[derive(Clone, Copy, Debug)]
+pub struct ScreenRow {
+    pub peer: SocketAddr,
+    /// When it was taken.
+    pub since: u64,
+    /// The status of its answer; none while its request comes.
+    pub status: Option<u16>,
+    /// Whether it is sent what is published.
+    pub follows: bool,
+    /// How many bytes there are for it that it has not taken.
+    pub lacks: u64,
+    /// How many bytes it took.
+    pub bytes: u64,
 }
 
 impl Screens {
@@ -178,6 +408,7 @@ impl Screens {
             open: self.conns.len(),
             asking: 0,
             behind: 0,
+            are_full: self.seated() >= self.limits.screens,
             totals: self.totals,
         };
         for at in 0..self.conns.capacity() {
@@ -193,6 +424,69 @@ impl Screens {
         }
         figures
     }
+
+    /// How many have a seat.
+    fn seated(&self) -> usize {
+        let mut seated: usize = 0;
+        for at in 0..self.conns.capacity() {
+            if self.conns.get(at).is_some_and(|conn| conn.key.is_some()) {
+                seated = seated.saturating_add(1);
+            }
+        }
+        seated
+    }
+
+    /// How many are sent what is published.
+    pub(crate) fn following(&self) -> u64 {
+        let mut following: u64 = 0;
+        for at in 0..self.conns.capacity() {
+            if self.conns.get(at).is_some_and(|conn| follows(conn)) {
+                following = following.saturating_add(1);
+            }
+        }
+        following
+    }
+
+    /// Whether something was published, and said.
+    pub(crate) fn has_said(&self) -> bool {
+        self.hub.broadcast().told().is_some()
+    }
+
+    fn row(&self, conn: &Conn) -> ScreenRow {
+        let lacks = match conn.key {
+            Some(key) => self.hub.prefix(key).len(),
+            None => 0,
+        };
+        ScreenRow {
+            peer: conn.peer,
+            since: conn.since,
+            status: match conn.status {
+                0 => None,
+                status => Some(status),
+            },
+            follows: follows(conn),
+            lacks: lacks as u64,
+            bytes: conn.bytes,
+        }
+    }
+
+    /// At most so many of them: first who lacks most, then who came first.
+    fn rows(&self, alloc: Global, most: usize) -> Result<Vec<ScreenRow>, AllocError> {
+        let mut rows = Vec::new(alloc);
+        for at in 0..self.conns.capacity() {
+            if let Some(conn) = self.conns.get(at) {
+                rows.push(self.row(conn))?;
+            }
+        }
+        rows.sort_unstable_by_key(|row| (Reverse(row.lacks), row.since));
+        rows.truncate(most);
+        Ok(rows)
+    }
+}
+
+/// Whether a screen is sent what is published.
+fn follows(conn: &Conn) -> bool {
+    conn.stage == Stage::Watches && conn.status == 200
 }
 
 impl Live {
@@ -206,9 +500,24 @@ impl Live {
         self.screens.figures()
     }
 
-    /// How many bytes the state file has, and when it was written to last; none where there is no
-    /// such file.
-    pub fn file_figures(&self) -> Option<(u64, u64)> {
+    /// How many screens there are.
+    pub fn screens_open(&self) -> usize {
+        self.screens.conns.len()
+    }
+
+    /// At most so many of the screens, the slowest first: who lacks most, then who came first. Takes
+    /// time in proportion to how many there are.
+    pub fn screen_rows(&self, alloc: Global, most: usize) -> Result<Vec<ScreenRow>, AllocError> {
+        self.screens.rows(alloc, most)
+    }
+
+    /// Whether a request that came long enough ago for everything is answered with it.
+    pub fn is_answering(&self) -> bool {
+        self.source.is_heard() && self.source.node().token().is_some()
+    }
+
+    /// What was counted of the state file; none where there is no such file.
+    pub fn file_figures(&self) -> Option<FileFigures> {
         self.saved.as_ref().map(|saved| saved.figures())
     }
 }

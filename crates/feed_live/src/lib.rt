@@ -24,7 +24,10 @@ mod told;
 mod turn;
 
 pub use feed_device::{Before, Devices, How, Link, Ready, Sockets, Stop, Store, Told, Why};
-pub use figures::{FeedFigures, Following, ScreenFigures, ScreenTotals};
+pub use figures::{
+    Failure, FeedFigures, FileFigures, Following, LONG_WAIT, Reason, ScreenFigures, ScreenRow,
+    ScreenTotals,
+};
 pub use laws::{foreign_laws, live_laws};
 pub use options::{LiveLimits, Start};
 pub use saved::{Restored, restore};

@@ -204,8 +204,10 @@ impl Screens {
         ensures serving { (nodes : List NodeState) (contest : List ℕ) (sockets : AllSockets)
             → StillServing nodes contest self.old self.new sockets sockets }
     {
+        let (was_said, bodies) = (self.has_said(), self.following());
         // Who there was no memory for is cut.
         let _ = self.hub.end_all(alloc, now);
+        self.totals.reset(was_said, bodies);
         self.spoke(now);
     }
 

@@ -191,6 +191,7 @@ impl Source {
             self.settles_at(),
             self.tells_at(),
             self.heard_at(),
+            self.figures.warns_at(),
         ];
         dues.iter().flatten().fold(due, |due, at| due.min(*at))
     }
@@ -257,7 +258,7 @@ impl Source {
             self.new.rest.items screens screens }
     {
         self.leave_due(link, told, idle, now);
-        self.hear_quiet(now);
+        self.hear_quiet(told, now);
         if self.reach == Reach::Away && self.upstream.is_due(now) {
             self.connect(alloc, link, told, now);
         }
@@ -291,10 +292,12 @@ impl Source {
         }
     }
 
-    /// A server that answers counts as heard after a while, though it publishes nothing.
-    fn hear_quiet(&mut self, now: u64)
+    /// A server that answers counts as heard after a while, though it publishes nothing. Where what
+    /// it sends has no tokens, that is told.
+    fn hear_quiet(&mut self, told: &mut Telling, now: u64)
         ensures { SameSource self.old self.new }
     {
+        self.figures.warn(self.upstream.place(), told, now);
         if let Some(at) = self.heard_at() {
             if at <= now {
                 self.is_heard = true;
@@ -369,7 +372,7 @@ impl Source {
         self.hear_end(why);
         self.tell_unsettled(told);
         self.leave(link, now);
-        self.figures.lose(now);
+        self.figures.lose(why, now);
         self.upstream.lost(self.answers.shown.change(), now);
         let pause = self.upstream.due(0).saturating_sub(now);
         forget_after(link, pause);

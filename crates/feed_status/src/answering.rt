@@ -3,8 +3,11 @@
 use crate::health::{Headline, Level};
 use crate::metrics::Metrics;
 use crate::page::page_of;
+use crate::plots::PlotsReport;
 use crate::rows::{Row, rows_of};
+use crate::screens::{MOST_SCREENS, report};
 use crate::status::Status;
+use crate::watch::Watch;
 use http::StatusCode;
 use httparse::Status as Parsed;
 use httparse::spans::{EMPTY_HEADER_SPAN, parse_request};
@@ -19,6 +22,8 @@ const MOST_FIELDS: usize = 64;
 enum Wanted {
     Page,
     Json,
+    Screens,
+    Plots,
     Metrics,
     Health,
 }
@@ -28,6 +33,8 @@ impl Wanted {
         match path {
             "/" => Some(Wanted::Page),
             "/status.json" => Some(Wanted::Json),
+            "/screens.json" => Some(Wanted::Screens),
+            "/plots.json" => Some(Wanted::Plots),
             "/metrics" => Some(Wanted::Metrics),
             "/health" => Some(Wanted::Health),
             _ => None,
@@ -38,7 +45,7 @@ impl Wanted {
     fn content_type(self) -> &'static str {
         match self {
             Wanted::Page => "text/html; charset=utf-8",
-            Wanted::Json => "application/json",
+            Wanted::Json | Wanted::Screens | Wanted::Plots => "application/json",
             Wanted::Metrics => "text/plain; version=0.0.4; charset=utf-8",
             Wanted::Health => "text/plain; charset=utf-8",
         }
@@ -99,16 +106,40 @@ fn json(alloc: Global, status: &Status<'_>) -> Result<Vec<u8>, AllocError> {
     serde_json::to_vec(alloc, &report).map_err(|_| AllocError)
 }
 
+/// The screens as JSON, the slowest first.
+fn screens<W: Watch>(alloc: Global, relay: &W, status: &Status<'_>) -> Result<Vec<u8>, AllocError> {
+    let rows = relay.screens(alloc, MOST_SCREENS)?;
+    let told = report(alloc, rows.as_slice(), status.screens.open, status.token)?;
+    serde_json::to_vec(alloc, &told).map_err(|_| AllocError)
+}
+
+/// The last ten minutes as JSON.
+fn plots<W: Watch>(alloc: Global, relay: &W) -> Result<Vec<u8>, AllocError> {
+    let told = PlotsReport::of(alloc, relay.plots())?;
+    serde_json::to_vec(alloc, &told).map_err(|_| AllocError)
+}
+
+/// The page, with the table of the screens.
+fn page<W: Watch>(alloc: Global, relay: &W, status: &Status<'_>) -> Result<Vec<u8>, AllocError> {
+    let screens = relay.screens(alloc, MOST_SCREENS)?;
+    page_of(alloc, status, screens.as_slice())
+}
+
 /// The status code and the body of an answer.
-fn body(
+fn body<W: Watch>(
     alloc: Global,
     wanted: Wanted,
-    status: &Status<'_>,
+    relay: &W,
 ) -> Result<(StatusCode, Vec<u8>), AllocError> {
+    let status = &relay.status();
     let body = match wanted {
-        Wanted::Page => page_of(alloc, status)?,
+        Wanted::Page => page(alloc, relay, status)?,
         Wanted::Json => json(alloc, status)?,
-        Wanted::Metrics => format!(in alloc; "{}", Metrics(status))?.into_bytes(),
+        Wanted::Screens => screens(alloc, relay, status)?,
+        Wanted::Plots => plots(alloc, relay)?,
+        Wanted::Metrics => {
+            format!(in alloc; "{}", Metrics(status, relay.process()))?.into_bytes()
+        }
         Wanted::Health => format!(in alloc; "{}\n", Headline(status))?.into_bytes(),
     };
     let code = match wanted {
@@ -141,12 +172,14 @@ fn head_of(
 }
 
 /// The whole answer to a request of which this is the head: `/` is the page, `/status.json` the
-/// status, `/metrics` the metrics for Prometheus, `/health` one line, with status 503 where
-/// upstream is silent for too long. For HEAD it has no body. The connection is closed after it.
-pub fn answer(alloc: Global, head: &[u8], status: &Status<'_>) -> Result<Vec<u8>, AllocError> {
+/// status, `/screens.json` the 200 slowest screens, `/plots.json` the last ten minutes, `/metrics`
+/// the metrics for Prometheus, `/health` one line, with status 503 where upstream is silent for too
+/// long, or a request for everything is not answered with it. For HEAD it has no body. The
+/// connection is closed after it.
+pub fn answer<W: Watch>(alloc: Global, head: &[u8], relay: &W) -> Result<Vec<u8>, AllocError> {
     match read_request(head) {
         Ok(Asked { wanted, has_body }) => {
-            let (code, body) = body(alloc, wanted, status)?;
+            let (code, body) = body(alloc, wanted, relay)?;
             let mut text = head_of(alloc, code, wanted.content_type(), body.len())?;
             if has_body {
                 text.extend_from_slice(body.as_slice())?;

@@ -1,6 +1,8 @@
 //! Whether a relay is well.
 
+use crate::rows::Time;
 use crate::status::{Status, Upstream, UpstreamState};
+use crate::warnings::Warnings;
 use serde::Serialize;
 use std::fmt;
 
@@ -10,7 +12,8 @@ use std::fmt;
 pub enum Level {
     /// It follows, and has something to show.
     Good,
-    /// It shows nothing, or nothing new at the moment, and heard upstream not long ago.
+    /// It shows nothing, or nothing new at the moment, and heard upstream not long ago; or something
+    /// else is wrong that somebody should look at.
     Doubtful,
     /// Nothing was heard of upstream for longer than it may be silent.
     Bad,
@@ -38,9 +41,16 @@ impl Status<'_> {
         }
     }
 
-    /// Whether screens may be sent to this relay: it hears upstream, and has something to show.
+    /// Whether screens may be sent to this relay: it hears upstream, and one that asks for
+    /// everything is answered with it.
     pub fn is_healthy(&self) -> bool {
-        self.is_heard() && self.token.is_some()
+        self.is_heard() && self.token.is_some() && self.answering && !self.screens.full
+    }
+
+    /// Whether something is wrong beside how upstream is followed.
+    fn has_trouble(&self) -> bool {
+        let fails_to_save = self.state_file.is_some_and(|file| file.fault.is_some());
+        fails_to_save || self.upstream.lacks_tokens || !self.answering || self.screens.full
     }
 
     /// How well it follows.
@@ -52,7 +62,7 @@ impl Status<'_> {
         };
         if !self.is_heard() {
             Level::Bad
-        } else if follows && self.token.is_some() {
+        } else if follows && self.token.is_some() && !self.has_trouble() {
             Level::Good
         } else {
             Level::Doubtful
@@ -72,6 +82,35 @@ impl fmt::Display for Coming<'_> {
         }
         let bytes = self.0.coming_bytes;
         write!(f, ", {bytes} bytes")
+    }
+}
+
+/// Why the last attempt failed, where one did since a server answered.
+#[derive(Clone, Copy)]
+struct Because<'a>(&'a Upstream<'a>);
+
+impl fmt::Display for Because<'_> {
+    fn fmt<W: fmt::Write>(&self, f: &mut fmt::Formatter<W>) -> fmt::Result {
+        match self.0.last_failure {
+            Some(failure) if self.0.failures > 0 => {
+                let text = failure.text;
+                write!(f, " ({text})")
+            }
+            _ => Ok(()),
+        }
+    }
+}
+
+/// When the last commit came.
+#[derive(Clone, Copy)]
+struct LastCommit(Option<u64>);
+
+impl fmt::Display for LastCommit {
+    fn fmt<W: fmt::Write>(&self, f: &mut fmt::Formatter<W>) -> fmt::Result {
+        match self.0 {
+            Some(age) => write!(f, ", last commit {} ago", Time(age)),
+            None => f.write_str(", no commit since the start"),
+        }
     }
 }
 
@@ -97,8 +136,14 @@ impl fmt::Display for Followed<'_> {
                     "settling {name} for {since} s: {coming} so far; nothing of it is shown yet"
                 )
             }
-            UpstreamState::Asking => write!(f, "asking {name}, nothing heard for {silent} s"),
-            UpstreamState::Pausing => write!(f, "{name} is lost, nothing heard for {silent} s"),
+            UpstreamState::Asking => {
+                write!(f, "asking {name}{}", Because(upstream))?;
+                write!(f, ", nothing heard for {silent} s")
+            }
+            UpstreamState::Pausing => {
+                write!(f, "{name} is lost{}", Because(upstream))?;
+                write!(f, ", nothing heard for {silent} s")
+            }
             UpstreamState::Ended => write!(f, "the end of {name}"),
         }
     }
@@ -112,9 +157,10 @@ impl fmt::Display for Headline<'_> {
     fn fmt<W: fmt::Write>(&self, f: &mut fmt::Formatter<W>) -> fmt::Result {
         let settles = self.0.upstream.state == UpstreamState::Settling;
         write!(f, "{}", Followed(self.0))?;
+        let age = LastCommit(self.0.commit_age_ms);
         match self.0.token {
-            Some(token) if settles => write!(f, ", still at token {token}")?,
-            Some(token) => write!(f, ", token {token}")?,
+            Some(token) if settles => write!(f, ", still at token {token}{age}")?,
+            Some(token) => write!(f, ", token {token}{age}")?,
             None if settles => {}
             None => f.write_str(", nothing published yet")?,
         }
@@ -124,8 +170,9 @@ impl fmt::Display for Headline<'_> {
             open => write!(f, ", {open} screens")?,
         }
         match screens.behind {
-            0 => f.write_str(", none behind"),
-            behind => write!(f, ", {behind} behind"),
+            0 => f.write_str(", none behind")?,
+            behind => write!(f, ", {behind} behind")?,
         }
+        write!(f, "{}", Warnings(self.0))
     }
 }

@@ -7,10 +7,20 @@ mod escape;
 mod health;
 mod metrics;
 mod page;
+mod plots;
 mod rows;
+mod screens;
 mod status;
+mod warnings;
+mod watch;
 
 pub use answering::answer;
 pub use escape::put_text;
 pub use health::Level;
-pub use status::{BOUNDS, Latency, Refused, Screens, StateFile, Status, Upstream, UpstreamState};
+pub use plots::{Latest, Plots, Point};
+pub use screens::Screen;
+pub use status::{
+    BOUNDS, Failed, LastFailure, Latency, Refused, Screens, StateFile, Status, Upstream,
+    UpstreamState,
+};
+pub use watch::{Process, Watch};

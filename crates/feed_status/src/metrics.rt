@@ -1,6 +1,7 @@
 //! The metrics, in the text format of Prometheus (version 0.0.4).
 
 use crate::status::{BOUNDS, Latency, Status, Upstream, UpstreamState};
+use crate::watch::Process;
 use std::fmt;
 use std::fmt::Write;
 
@@ -97,9 +98,9 @@ fn counter<'a, V>(name: &'a str, help: &'a str, value: V) -> Metric<'a, V> {
     }
 }
 
-/// All metrics of a relay.
+/// All metrics of a relay, and of its process where something is known of that.
 #[derive(Clone, Copy)]
-pub(crate) struct Metrics<'a>(pub(crate) &'a Status<'a>);
+pub(crate) struct Metrics<'a>(pub(crate) &'a Status<'a>, pub(crate) Option<Process>);
 
 impl fmt::Display for Metrics<'_> {
     fn fmt<W: fmt::Write>(&self, f: &mut fmt::Formatter<W>) -> fmt::Result {
@@ -107,8 +108,13 @@ impl fmt::Display for Metrics<'_> {
         write!(f, "{}{}", About(status), Feed(status))?;
         write!(f, "{}{}", UpstreamInfo(status), OfUpstream(status))?;
         write!(f, "{}", OfComing(&status.upstream))?;
+        write!(f, "{}", OfFailures(&status.upstream))?;
         write!(f, "{}{}", OfScreens(status), OfRefused(status))?;
-        write!(f, "{}{}", OfFile(status), Histogram(&status.latency))
+        write!(f, "{}{}", OfResets(status), OfFile(status))?;
+        if let Some(process) = self.1 {
+            write!(f, "{}", OfProcess(process))?;
+        }
+        write!(f, "{}", Histogram(&status.latency))
     }
 }
 
@@ -118,6 +124,9 @@ struct About<'a>(&'a Status<'a>);
 impl fmt::Display for About<'_> {
     fn fmt<W: fmt::Write>(&self, f: &mut fmt::Formatter<W>) -> fmt::Result {
         let (version, contest) = (Label(self.0.version), Label(self.0.contest));
+        f.write_str("# HELP tunygarop_build_info The version of the program.\n")?;
+        f.write_str("# TYPE tunygarop_build_info gauge\n")?;
+        write!(f, "tunygarop_build_info{{version=\"{version}\"}} 1\n")?;
         f.write_str("# HELP tunygarop_info The version and the contest.\n")?;
         f.write_str("# TYPE tunygarop_info gauge\n")?;
         write!(
@@ -149,6 +158,14 @@ impl fmt::Display for Feed<'_> {
             "{}",
             counter("upstream_bytes_total", "Bytes that came.", bytes)
         )?;
+        if let Some(age) = self.0.commit_age_ms {
+            let age = Seconds(age);
+            write!(
+                f,
+                "{}",
+                gauge("last_commit_age_seconds", "Time since a commit.", age)
+            )?;
+        }
         write!(
             f,
             "{}",
@@ -249,6 +266,93 @@ impl fmt::Display for OfComing<'_> {
 }
 
 #[derive(Clone, Copy)]
+struct OfFailures<'a>(&'a Upstream<'a>);
+
+impl fmt::Display for OfFailures<'_> {
+    fn fmt<W: fmt::Write>(&self, f: &mut fmt::Formatter<W>) -> fmt::Result {
+        let family = Family {
+            name: "upstream_failures_total",
+            kind: "counter",
+            help: "Attempts to follow that failed, by reason.",
+        };
+        write!(f, "{family}")?;
+        for failed in &self.0.failed_by {
+            let (reason, count) = (Label(failed.reason), failed.count);
+            write!(
+                f,
+                "tunygarop_upstream_failures_total{{reason=\"{reason}\"}} {count}\n"
+            )?;
+        }
+        let (waiting, time) = (self.0.waiting, Seconds(self.0.waiting_ms));
+        write!(
+            f,
+            "{}",
+            gauge(
+                "upstream_waiting_changes",
+                "Changes that wait for a token.",
+                waiting
+            )
+        )?;
+        write!(
+            f,
+            "{}",
+            gauge(
+                "upstream_waiting_seconds",
+                "How long the first of them waits.",
+                time
+            )
+        )
+    }
+}
+
+#[derive(Clone, Copy)]
+struct OfResets<'a>(&'a Status<'a>);
+
+impl fmt::Display for OfResets<'_> {
+    fn fmt<W: fmt::Write>(&self, f: &mut fmt::Formatter<W>) -> fmt::Result {
+        let screens = &self.0.screens;
+        write!(
+            f,
+            "{}",
+            counter("resets_total", "Publications afresh.", screens.resets)
+        )?;
+        write!(
+            f,
+            "{}",
+            counter(
+                "bodies_ended_total",
+                "Bodies that those ended.",
+                screens.ended
+            )
+        )
+    }
+}
+
+/// What the system counts of the process, by the names that Prometheus has for it.
+#[derive(Clone, Copy)]
+struct OfProcess(Process);
+
+impl fmt::Display for OfProcess {
+    fn fmt<W: fmt::Write>(&self, f: &mut fmt::Formatter<W>) -> fmt::Result {
+        let process = &self.0;
+        let (began, processor) = (Seconds(process.began_ms), Seconds(process.processor_ms));
+        let (memory, files) = (process.resident_bytes, process.open_files);
+        f.write_str("# HELP process_start_time_seconds When it began, after 1970.\n")?;
+        f.write_str("# TYPE process_start_time_seconds gauge\n")?;
+        write!(f, "process_start_time_seconds {began}\n")?;
+        f.write_str("# HELP process_cpu_seconds_total Time that it had a processor.\n")?;
+        f.write_str("# TYPE process_cpu_seconds_total counter\n")?;
+        write!(f, "process_cpu_seconds_total {processor}\n")?;
+        f.write_str("# HELP process_resident_memory_bytes Memory that it has.\n")?;
+        f.write_str("# TYPE process_resident_memory_bytes gauge\n")?;
+        write!(f, "process_resident_memory_bytes {memory}\n")?;
+        f.write_str("# HELP process_open_fds Files and sockets that it has open.\n")?;
+        f.write_str("# TYPE process_open_fds gauge\n")?;
+        write!(f, "process_open_fds {files}\n")
+    }
+}
+
+#[derive(Clone, Copy)]
 struct OfScreens<'a>(&'a Status<'a>);
 
 impl fmt::Display for OfScreens<'_> {
@@ -330,7 +434,22 @@ impl fmt::Display for OfFile<'_> {
         let Some(file) = &self.0.state_file else {
             return Ok(());
         };
-        let age = Seconds(file.age_ms);
+        let (age, failures) = (Seconds(file.age_ms), file.failures);
+        let failing = u64::from(file.fault.is_some());
+        write!(
+            f,
+            "{}",
+            gauge(
+                "state_file_failing",
+                "1 where it can't be written.",
+                failing
+            )
+        )?;
+        write!(
+            f,
+            "{}",
+            counter("state_file_failures_total", "Failed writes.", failures)
+        )?;
         write!(
             f,
             "{}",

@@ -3,64 +3,81 @@
 use crate::escape::put_text;
 use crate::health::Headline;
 use crate::rows::{Row, rows_of};
+use crate::screens::{HEADERS, Screen, put_screens};
 use crate::status::Status;
 use std::alloc::{AllocError, Global};
 
-/// The page up to the class of its headline.
+/// The page up to its title.
 const HEAD: &str = r#"<!doctype html>
 <html lang="en">
 <head>
 <meta charset="utf-8">
 <meta name="viewport" content="width=device-width, initial-scale=1">
 <noscript><meta http-equiv="refresh" content="5"></noscript>
-<title>tunygarop</title>
+<title>"#;
+
+/// The page from behind its title up to the class of its headline.
+const STYLE: &str = r#" - tunygarop</title>
 <style>
 :root { color-scheme: light dark; }
 body { font: 1.1rem/1.4 system-ui, sans-serif; margin: 0; }
-h1 { margin: 0; padding: 1.2rem; font-size: clamp(1.6rem, 4.5vw, 5rem); line-height: 1.15;
+h1 { margin: 0; padding: 1.2rem; font-size: clamp(1.5rem, 4vw, 4.5rem); line-height: 1.2;
   color: #fff; overflow-wrap: anywhere; }
+h2 { font-size: 1.2rem; margin: 0 0 0.4rem; }
 .good { background: #16692c; }
 .doubtful { background: #8a5300; }
 .bad { background: #a31616; }
-main { display: flex; flex-wrap: wrap; gap: 1rem 3rem; padding: 1.2rem; }
+main { display: grid; grid-template-columns: minmax(0, 1fr); gap: 1.2rem 3rem; padding: 1.2rem; }
+@media (min-width: 64rem) { main { grid-template-columns: minmax(0, 34rem) minmax(0, 1fr); } }
 table { border-collapse: collapse; }
-th { font-weight: normal; text-align: left; padding: 0.1rem 1.5rem 0.1rem 0; opacity: 0.75; }
-td { max-width: 22rem; font-variant-numeric: tabular-nums; overflow-wrap: anywhere; }
+th { font-weight: normal; text-align: left; opacity: 0.75; }
+th, td { padding: 0.1rem 1.2rem 0.1rem 0; vertical-align: top; overflow-wrap: anywhere; }
+td { font-variant-numeric: tabular-nums; }
+#rows th { white-space: nowrap; }
+#wide { overflow-x: auto; }
+#screens td:last-child, #screens th:last-child { text-align: right; padding-right: 0; }
 figure { margin: 0 0 1rem; }
-svg { width: min(90vw, 44rem); height: 7rem; background: #8881; }
+svg { width: 100%; height: 7rem; background: #8881; display: block; }
 polyline { fill: none; stroke: #2a78d6; stroke-width: 2; vector-effect: non-scaling-stroke; }
+.ages { display: flex; justify-content: space-between; opacity: 0.75; font-size: 0.9rem; }
+@media (max-width: 30rem) {
+  #rows th { white-space: normal; }
+  th, td { padding-right: 0.6rem; }
+  #screens { font-size: 0.9rem; }
+}
 </style>
 </head>
 <body>
 <h1 id="headline" class=""#;
 
-/// The page from the plots on.
-const END: &str = r##"</table>
-<div id="plots"></div>
+/// The page between its table and that of the screens.
+const PLOTS: &str = r##"</tbody></table></section>
+<div id="side">
+<section id="plots"></section>
+<section id="wide">
+<h2>Screens, the slowest first (at most 200)</h2>
+<table id="screens"><thead><tr>"##;
+
+/// The page from the end of the screens' table on.
+const END: &str = r##"</tbody></table>
+</section>
+</div>
 </main>
 <script>
 "use strict";
-// A sample each second, for ten minutes.
+// The relay keeps a point for each of the last 600 seconds: its commits, its screens, and the time
+// of its slowest commit, in microseconds.
 const most = 600;
-const samples = [];
+let second = -1;
+let points = [];
 const plots = [
-  ["Commits a second", (now, before) => Math.max(0, now.commits - before.commits)],
-  ["Screens", (now) => now.screens.open],
-  ["Slowest commit (at most, in ms)", slowest],
+  ["Commits a second", (point) => point[0]],
+  ["Screens", (point) => point[1]],
+  ["Slowest commit, in ms", (point) => point[2] / 1000],
 ];
-const bounds = [0.1, 0.25, 0.5, 1, 2.5, 5, 10, 25, 50, 100, 250, 1000, 10000];
 
-// The bound of the highest bucket that a commit fell into since the sample before.
-function slowest(now, before) {
-  let last = 0;
-  let under = 0;
-  bounds.forEach((bound, at) => {
-    const all = at < 12 ? now.latency.at_most[at] - before.latency.at_most[at]
-      : now.latency.commits - before.latency.commits;
-    if (all > under) last = bound;
-    under = Math.max(all, under);
-  });
-  return last;
+async function told(path) {
+  return (await fetch(path, { cache: "no-store" })).json();
 }
 
 function element(name, attributes) {
@@ -69,22 +86,59 @@ function element(name, attributes) {
   return made;
 }
 
+function ages() {
+  const line = document.createElement("div");
+  line.className = "ages";
+  for (const text of ["10 min ago", "5 min", "now"]) {
+    const age = document.createElement("span");
+    age.textContent = text;
+    line.append(age);
+  }
+  return line;
+}
+
 function draw() {
   const place = document.getElementById("plots");
   place.replaceChildren();
   for (const [title, value] of plots) {
-    const values = samples.slice(1).map((now, at) => value(now, samples[at]));
+    const values = points.map(value);
     const top = Math.max(1, ...values);
     const left = most - values.length;
-    const points = values.map((y, x) => `${left + x},${100 - 95 * y / top}`).join(" ");
+    const line = values.map((y, x) => `${left + x},${100 - 95 * y / top}`).join(" ");
     const figure = document.createElement("figure");
     const caption = document.createElement("figcaption");
     caption.textContent = `${title}: ${values.at(-1) ?? 0}, at most ${Math.max(0, ...values)}`;
     const plot = element("svg", { viewBox: `0 0 ${most} 100`, preserveAspectRatio: "none" });
-    plot.append(element("polyline", { points }));
-    figure.append(caption, plot);
+    plot.append(element("polyline", { points: line }));
+    figure.append(caption, plot, ages());
     place.append(figure);
   }
+}
+
+// One point more, or all of them where this page has missed some.
+async function follow(latest) {
+  if (latest.second === second + 1 && latest.point) {
+    points.push([latest.point.commits, latest.point.screens, latest.point.slowest_us]);
+    if (points.length > most) points.shift();
+    second = latest.second;
+  } else if (latest.second !== second) {
+    ({ second, points } = await told("plots.json"));
+  }
+  draw();
+}
+
+async function list() {
+  const all = await told("screens.json");
+  const rows = all.screens.map((screen) => {
+    const row = document.createElement("tr");
+    for (const text of screen.cells) {
+      const cell = document.createElement("td");
+      cell.textContent = text;
+      row.append(cell);
+    }
+    return row;
+  });
+  document.querySelector("#screens tbody").replaceChildren(...rows);
 }
 
 function lose() {
@@ -95,15 +149,14 @@ function lose() {
 
 async function look() {
   try {
-    const told = await (await fetch("status.json", { cache: "no-store" })).json();
+    const now = await told("status.json");
     const headline = document.getElementById("headline");
-    headline.className = told.level;
-    headline.textContent = told.headline;
-    const cells = document.querySelectorAll("td");
-    told.rows.forEach((row, at) => { cells[at].textContent = row.text; });
-    samples.push(told.status);
-    if (samples.length > most + 1) samples.shift();
-    draw();
+    headline.className = now.level;
+    headline.textContent = now.headline;
+    const cells = document.querySelectorAll("#rows td");
+    now.rows.forEach((row, at) => { cells[at].textContent = row.text; });
+    await follow(now.status.plot);
+    await list();
   } catch (error) {
     lose();
   }
@@ -129,21 +182,43 @@ fn put_row(row: &Row, out: &mut Vec<u8>) -> Result<(), AllocError> {
     put("</td></tr>\n", out)
 }
 
-/// The page: a headline and a table, which its script renews each second, and plots of the last ten
-/// minutes. Without scripts it is loaded again each five seconds.
-pub(crate) fn page_of(alloc: Global, status: &Status<'_>) -> Result<Vec<u8>, AllocError> {
+/// What stands above the screens.
+fn put_headers(out: &mut Vec<u8>) -> Result<(), AllocError> {
+    for header in &HEADERS {
+        put("<th>", out)?;
+        put_text(header, out)?;
+        put("</th>", out)?;
+    }
+    put("</tr></thead><tbody>\n", out)
+}
+
+/// The page up to its table.
+fn put_head(alloc: Global, status: &Status<'_>, out: &mut Vec<u8>) -> Result<(), AllocError> {
+    put(HEAD, out)?;
+    put_text(status.contest, out)?;
+    put(STYLE, out)?;
+    put(status.level().word(), out)?;
+    put("\">", out)?;
+    let headline = format!(in alloc; "{}", Headline(status))?;
+    put_text(headline.as_str(), out)?;
+    put("</h1>\n<main>\n<section><table id=\"rows\"><tbody>\n", out)
+}
+
+/// The page: a headline, a table, plots of the last ten minutes, and the screens. Its script renews
+/// all of it each second. Without scripts it is loaded again each five seconds, and has no plots.
+pub(crate) fn page_of(
+    alloc: Global,
+    status: &Status<'_>,
+    screens: &[Screen],
+) -> Result<Vec<u8>, AllocError> {
     let mut out = Vec::new(alloc);
-    put(HEAD, &mut out)?;
-    put(status.level().word(), &mut out)?;
-    put("\">", &mut out)?;
-    put_text(
-        format!(in alloc; "{}", Headline(status))?.as_str(),
-        &mut out,
-    )?;
-    put("</h1>\n<main>\n<table>\n", &mut out)?;
+    put_head(alloc, status, &mut out)?;
     for row in &rows_of(alloc, status)? {
         put_row(row, &mut out)?;
     }
+    put(PLOTS, &mut out)?;
+    put_headers(&mut out)?;
+    put_screens(alloc, screens, status.token, &mut out)?;
     put(END, &mut out)?;
     Ok(out)
 }

@@ -1,5 +1,6 @@
 //! What a relay is at one moment. Times are in milliseconds.
 
+use crate::plots::Latest;
 use serde::Serialize;
 
 /// How many buckets a latency has.
@@ -42,6 +43,26 @@ impl UpstreamState {
     }
 }
 
+/// How many reasons there are for which a server can be left.
+const REASONS: usize = 10;
+
+/// How many attempts to follow a server failed for a reason.
+#[derive(Clone, Copy, Debug, Serialize)]
+pub struct Failed<'a> {
+    /// One word.
+    pub reason: &'a str,
+    pub count: u64,
+}
+
+/// The last attempt to follow a server that failed.
+#[derive(Clone, Copy, Debug, Serialize)]
+pub struct LastFailure<'a> {
+    /// Why it did.
+    pub text: &'a str,
+    /// How long ago.
+    pub age_ms: u64,
+}
+
 /// The server that is followed.
 #[derive(Clone, Copy, Debug, Serialize)]
 pub struct Upstream<'a> {
@@ -54,10 +75,20 @@ pub struct Upstream<'a> {
     pub silent_ms: u64,
     /// How many attempts failed since the last one that was answered.
     pub failures: u64,
+    /// Of all servers since the start.
+    pub last_failure: Option<LastFailure<'a>>,
+    /// How many attempts failed since the start, reason by reason.
+    pub failed_by: [Failed<'a>; REASONS],
     /// How many lines came on its connection that are not shown yet; 0 unless it settles.
     pub coming_lines: u64,
     /// How many bytes came on its connection that are not shown yet; 0 unless it settles.
     pub coming_bytes: u64,
+    /// How many changes came since the last token on its connection.
+    pub waiting: u64,
+    /// For how long the first of them has waited for a token.
+    pub waiting_ms: u64,
+    /// Whether that is so long that there may be no tokens: an older format of the feed has none.
+    pub lacks_tokens: bool,
 }
 
 /// How many statuses a request can be refused with.
@@ -89,14 +120,24 @@ pub struct Screens {
     /// How many were cut, since they were too slow.
     pub cut: u64,
     pub bytes: u64,
+    /// Whether one more would be answered 503, since there are as many as there may be.
+    pub full: bool,
+    /// How often what was shown was published afresh.
+    pub resets: u64,
+    /// How many bodies were ended for that.
+    pub ended: u64,
 }
 
 /// The state file.
 #[derive(Clone, Copy, Debug, Serialize)]
-pub struct StateFile {
+pub struct StateFile<'a> {
     pub bytes: u64,
     /// How long ago it was written to.
     pub age_ms: u64,
+    /// Why it could not be written the last time, where it could not.
+    pub fault: Option<&'a str>,
+    /// How often it could not be written.
+    pub failures: u64,
 }
 
 /// How long it took from the read that had the end of a commit until it was written to each screen
@@ -139,10 +180,14 @@ pub struct Status<'a> {
     pub uptime_ms: u64,
     /// After how long without a byte a server is silent.
     pub silence_ms: u64,
+    /// Whether a request for everything is answered with it: not before a server was heard.
+    pub answering: bool,
     pub upstream: Upstream<'a>,
     pub token: Option<&'a str>,
     /// How many commits were published since the start.
     pub commits: u64,
+    /// How long ago the last one was.
+    pub commit_age_ms: Option<u64>,
     /// How many types are published. One with one object and no collection counts here alone.
     pub types: u64,
     /// How many objects their collections have.
@@ -153,6 +198,8 @@ pub struct Status<'a> {
     /// more.
     pub refused_by_address: u64,
     pub screens: Screens,
-    pub state_file: Option<StateFile>,
+    pub state_file: Option<StateFile<'a>>,
     pub latency: Latency,
+    /// The last second of the plots.
+    pub plot: Latest,
 }

@@ -8,7 +8,7 @@ use crate::store::Files;
 use crate::telling::{is_told, stamp, text_of};
 use crate::watchers::{FIRST_WATCHER, WATCHERS, Watchers};
 use feed_device::{Devices, Ready, Told};
-use feed_status::Status;
+use feed_status::Watch;
 use feed_words::Verbosity;
 use mio::event::Event;
 use mio::{Events, Poll, Token};
@@ -127,6 +127,15 @@ impl System<'_> {
         self.devices.link.name(self.rt.alloc(), server)
     }
 
+    /// Why the state file could not be written, where it could not.
+    pub fn file_fault(&self) -> Result<String, AllocError> {
+        let alloc = self.rt.alloc();
+        match self.devices.store.fault() {
+            Some(fault) => format!(in alloc; "{fault}"),
+            None => String::from_str(alloc, "it takes nothing"),
+        }
+    }
+
     /// How many connections were refused by their address.
     pub fn refused(&self) -> u64 {
         let screens = self.devices.sockets.refused();
@@ -139,8 +148,8 @@ impl System<'_> {
     }
 
     /// Answers those who watch the relay.
-    pub fn show(&mut self, status: &Status<'_>, now: u64) {
-        self.watchers.serve(self.rt.alloc(), status, now);
+    pub fn show<W: Watch>(&mut self, relay: &W, now: u64) {
+        self.watchers.serve(self.rt.alloc(), relay, now);
     }
 
     /// Keeps a line to be written to standard error, with the time.

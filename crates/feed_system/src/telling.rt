@@ -109,6 +109,17 @@ fn text_of_coming(alloc: Global, told: &Told, servers: &Servers<'_>) -> Result<S
             };
             format!(in alloc; "upstream {name}: {bytes} bytes came in {seconds} s, {state}")
         }
+        Told::NoToken {
+            server,
+            changes,
+            time,
+        } => {
+            let name = name_of(alloc, servers, server)?;
+            let seconds = time / 1_000;
+            format!(in alloc;
+                "upstream {name}: no token so far; {changes} changes wait for one for {seconds} s"
+            )
+        }
         Told::Unsettled { server, bytes } => {
             let name = servers.name(alloc, server)?;
             format!(in alloc;

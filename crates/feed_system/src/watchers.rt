@@ -6,7 +6,7 @@ use crate::guard::Guard;
 use crate::sockets::{read_once, write_once};
 use feed_answer::{HEAD_BYTES, HeadRead, look_at_request};
 use feed_device::Stop;
-use feed_status::{Status, answer};
+use feed_status::{Watch, answer};
 use feed_words::Origin;
 use mio::net::{TcpListener, TcpStream};
 use mio::{Interest, Registry, Token};
@@ -70,7 +70,7 @@ enum Step {
 
 impl Watcher {
     /// Reads more of the request, and makes the answer once the head is whole or can't become so.
-    fn read(&mut self, alloc: Global, status: &Status<'_>) -> Step {
+    fn read<W: Watch>(&mut self, alloc: Global, relay: &W) -> Step {
         let mut piece = [0u8; PIECE];
         let count = match read_once(&mut self.stream, &mut piece) {
             Ok(0) => return Step::Over,
@@ -78,18 +78,18 @@ impl Watcher {
             Err(Stop::Waits) => return Step::Waits,
             Err(_) => return Step::Over,
         };
-        match self.take(alloc, &piece[..count], status) {
+        match self.take(alloc, &piece[..count], relay) {
             Ok(()) => Step::Again,
             Err(_) => Step::Over,
         }
     }
 
-    fn take(&mut self, alloc: Global, piece: &[u8], status: &Status<'_>) -> Result<(), AllocError> {
+    fn take<W: Watch>(&mut self, alloc: Global, piece: &[u8], relay: &W) -> Result<(), AllocError> {
         if self.head.len() <= HEAD_BYTES {
             self.head.extend_from_slice(piece)?;
         }
         if self.answer.is_empty() && look_at_request(self.head.as_slice()) != HeadRead::More {
-            self.answer = answer(alloc, self.head.as_slice(), status)?;
+            self.answer = answer(alloc, self.head.as_slice(), relay)?;
         }
         Ok(())
     }
@@ -123,18 +123,18 @@ impl Watcher {
         }
     }
 
-    fn step(&mut self, alloc: Global, status: &Status<'_>) -> Step {
+    fn step<W: Watch>(&mut self, alloc: Global, relay: &W) -> Step {
         if self.sent < self.answer.len() {
             self.write()
         } else {
-            self.read(alloc, status)
+            self.read(alloc, relay)
         }
     }
 
     /// Goes on as far as it can now. Whether the connection stays.
-    fn go_on(&mut self, alloc: Global, status: &Status<'_>) -> bool {
+    fn go_on<W: Watch>(&mut self, alloc: Global, relay: &W) -> bool {
         for _ in 0..STEPS {
-            match self.step(alloc, status) {
+            match self.step(alloc, relay) {
                 Step::Again => {}
                 Step::Waits => {
                     self.is_ready = false;
@@ -253,29 +253,29 @@ impl Watchers {
     }
 
     /// Goes on with those that are ready, closes those that are late, and takes new ones.
-    pub(crate) fn serve(&mut self, alloc: Global, status: &Status<'_>, now: u64) {
+    pub(crate) fn serve<W: Watch>(&mut self, alloc: Global, relay: &W, now: u64) {
         for at in 0..MOST_WATCHERS {
             let stays = match self.watchers.get_mut(at) {
                 None => true,
                 Some(watcher) => {
-                    watcher.until > now && (!watcher.is_ready || watcher.go_on(alloc, status))
+                    watcher.until > now && (!watcher.is_ready || watcher.go_on(alloc, relay))
                 }
             };
             if !stays {
                 let _ = self.watchers.try_remove(at);
             }
         }
-        self.accept(alloc, status, now);
+        self.accept(alloc, relay, now);
     }
 
     /// Takes who waits, as many as a turn may. Where nobody gives way, they wait until a place is
     /// free.
-    fn accept(&mut self, alloc: Global, status: &Status<'_>, now: u64) {
+    fn accept<W: Watch>(&mut self, alloc: Global, relay: &W, now: u64) {
         for _ in 0..ACCEPTS {
             if !self.is_waited_for || !self.has_room() {
                 return;
             }
-            if self.accept_one(alloc, status, now).is_none() {
+            if self.accept_one(alloc, relay, now).is_none() {
                 self.is_waited_for = false;
             }
         }
@@ -283,13 +283,13 @@ impl Watchers {
 
     /// Takes one, and closes it where it may not connect; none where nobody waits, or it can't be
     /// taken.
-    fn accept_one(&mut self, alloc: Global, status: &Status<'_>, now: u64) -> Option<()> {
+    fn accept_one<W: Watch>(&mut self, alloc: Global, relay: &W, now: u64) -> Option<()> {
         let (stream, peer) = self.listener.as_ref()?.accept().ok()?;
         if !self.guard.lets_in(Origin::of(peer.ip()), 0) {
             return Some(());
         }
         self.make_room();
-        self.seat(alloc, stream, status, now)
+        self.seat(alloc, stream, relay, now)
     }
 
     /// Closes who gives way, where no place is free.
@@ -304,11 +304,11 @@ impl Watchers {
 
     /// Gives a connection a place, and reads what it has sent: who sent a request doesn't give way
     /// as one that sent nothing.
-    fn seat(
+    fn seat<W: Watch>(
         &mut self,
         alloc: Global,
         stream: TcpStream,
-        status: &Status<'_>,
+        relay: &W,
         now: u64,
     ) -> Option<()> {
         let at = self.watchers.vacant_key();
@@ -327,7 +327,7 @@ impl Watchers {
         self.registry
             .register(&mut watcher.stream, token, interests)
             .ok()?;
-        if watcher.go_on(alloc, status) {
+        if watcher.go_on(alloc, relay) {
             self.watchers.insert(watcher).ok()?;
         }
         Some(())

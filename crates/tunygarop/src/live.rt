@@ -10,7 +10,7 @@ use feed_system::System;
 use making::{needs_memory, of_system, prepare};
 use std::alloc::AllocError;
 use std::io;
-use watching::Watched;
+use watching::{View, Watched, Words};
 
 /// A relay, and all that it runs on.
 #[derive(Drop)]
@@ -56,6 +56,8 @@ impl Engine<'_> {
     /// One turn; it is measured where it published something.
     fn measured_turn(&mut self, takes_input: bool) -> io::Result<Turn> {
         let (began, before) = (self.system.microseconds()?, self.commits());
+        self.watched
+            .advance(began / 1_000_000, self.live.screens_open());
         let turn = self.turn(takes_input)?;
         let commits = self.commits().saturating_sub(before);
         if commits > 0 {
@@ -81,16 +83,40 @@ impl Engine<'_> {
         }
     }
 
+    /// Why the last attempt to follow a server failed; nothing where none did.
+    fn failure(&self) -> Result<String, AllocError> {
+        let alloc = self.rt.alloc();
+        match self.live.feed_figures().failed {
+            Some((failure, _)) => format!(in alloc; "{failure}"),
+            None => Ok(String::new(alloc)),
+        }
+    }
+
+    /// What is told of the relay in words.
+    fn words(&self) -> Result<Words, AllocError> {
+        Ok(Words {
+            name: self.followed()?,
+            failure: self.failure()?,
+            fault: self.system.file_fault()?,
+        })
+    }
+
     /// Answers those who watch the relay.
     fn watch(&mut self) -> io::Result<()> {
         let now = self.system.now()?;
         if !self.system.is_watched(now) {
             return Ok(());
         }
-        let name = self.followed()?;
-        let refused = self.system.refused();
-        let status = self.watched.status(&self.live, name.as_str(), refused, now);
-        self.system.show(&status, now);
+        let words = self.words()?;
+        let view = View {
+            rt: self.rt,
+            live: &self.live,
+            watched: &self.watched,
+            words: &words,
+            refused: self.system.refused(),
+            now,
+        };
+        self.system.show(&view, now);
         Ok(())
     }
 

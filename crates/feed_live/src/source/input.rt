@@ -141,8 +141,9 @@ impl Source {
     {
         self.settling.begin_line(line);
         self.answers.shown.change().feed(alloc, line)?;
+        self.figures.stage(line, now);
         if screens.relay(alloc, self.answers.shown.node(), now) {
-            self.figures.publish();
+            self.figures.publish(now);
         }
         Ok(())
     }

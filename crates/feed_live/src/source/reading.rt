@@ -221,6 +221,7 @@ impl Source {
             Ok(Progress::Body) => {
                 self.found(told, now);
                 self.settling.count_line();
+                self.figures.stage(line, now);
                 self.say(alloc, told, screens, now);
                 Some(next)
             }
@@ -280,6 +281,7 @@ impl Source {
         };
         told.tell_if(!self.returning.has_turned(), refused);
         self.leave(link, now);
+        self.figures.refuse_token(now);
         self.figures.change(Following::Away, now);
         self.upstream.refused(self.answers.shown.change(), now);
     }
@@ -323,7 +325,7 @@ impl Source {
         }
         if screens.relay(alloc, self.answers.shown.node(), now) {
             self.is_heard = true;
-            self.figures.publish();
+            self.figures.publish(now);
             self.upstream.published();
             self.returning.publish(now);
         }

@@ -308,7 +308,7 @@ pub(super) fn prepare<'r>(
     options: &LiveOptions<'_>,
 ) -> Result<Engine<'r>, Failure> {
     let start = of_system(Instant::now(rt))?;
-    let watched = needs_memory(Watched::new(rt.alloc(), options))?;
+    let watched = needs_memory(Watched::new(rt, options))?;
     let Plan {
         start: from,
         contest,
