@@ -13,7 +13,7 @@ use crate::source::{Reach, Source};
 use crate::told::Telling;
 use feed_device::{Excerpt, Link, Stop, Told, Why};
 use feed_follow::{FollowFault, Progress};
-use feed_node::FeedFault;
+use feed_node::{FeedFault, Mirror};
 use memchr::memchr;
 use std::alloc::{AllocError, Global};
 use std::mem;
@@ -338,11 +338,11 @@ impl Source {
         if self.has_told_twice {
             return;
         }
-        let mirror = match &self.coming {
-            Some(coming) => coming,
-            None => self.answers.shown.mirror(),
+        let twice = match &self.coming {
+            Some(coming) => given_twice(coming),
+            None => given_twice(self.answers.shown.mirror()),
         };
-        let Some(token) = mirror.given_twice() else {
+        let Some(token) = twice else {
             return;
         };
         let server = if self.places.is_empty() {
@@ -350,7 +350,6 @@ impl Source {
         } else {
             Some(self.upstream.place())
         };
-        let token = Excerpt::of(token.text());
         told.tell(Told::GivenTwice { server, token });
         self.has_told_twice = true;
     }
@@ -362,6 +361,12 @@ impl Source {
     {
         screens.relay(alloc, self.answers.shown.node(), now);
     }
+}
+
+/// The token that a connection gave to two states, as it is told.
+fn given_twice(mirror: &Mirror) -> Option<Excerpt> {
+    let token = mirror.given_twice()?;
+    Some(Excerpt::of(token.text()))
 }
 
 /// Whether memory ran out, and nothing is wrong with what came.
