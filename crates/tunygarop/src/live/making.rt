@@ -10,8 +10,9 @@ use feed_cli::{
 use feed_live::{Live, LiveLimits, Restored, Start, restore};
 use feed_network::{Failure, Hosts, identity_of};
 use feed_node::{Limits, Mirror};
-use feed_system::{Kept, OpenFault, StateFault, StateFile, System};
-use feed_system::{open, take_state, without_brackets};
+use feed_system::{
+    Kept, OpenFault, StateFault, StateFile, System, open, take_state, without_brackets,
+};
 use std::alloc::AllocError;
 use std::io;
 use std::io::ErrorKind;

@@ -13,8 +13,10 @@ fn reason(options: &LiveOptions<'_>, kept: &Kept) -> &'static str {
         "--new was given"
     } else if kept.length == 0 {
         "there is no FILE"
-    } else {
+    } else if kept.file.is_empty() {
         "FILE has no whole snapshot"
+    } else {
+        "FILE's snapshot is more than --staged or --memory let in"
     }
 }
 
