@@ -9,3 +9,4 @@ pub mod InputLemmas
 pub mod TellingLemmas
 pub mod TokenedLemmas
 pub mod TokenedExample
+mod KeptLemmas

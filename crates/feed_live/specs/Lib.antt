@@ -6,3 +6,4 @@ pub mod Upstream
 pub mod Relaying
 pub mod Taking
 pub mod Telling
+pub mod Saved
