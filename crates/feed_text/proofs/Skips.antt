@@ -31,7 +31,7 @@ item_rest levels text =
     let f = value_at levels (rest_while is_white_space text) in
     ap or_nothing (item_some_rest _ f) ∙ white_item f
 
-member_by : (levels : ℕ) (text : List ℕ) (f : Prefix (List ℕ)) → string_at (rest_while is_white_space text) ≡ f → (v : Bool) → eqb (first (rest_while is_white_space (or_nothing (rest_of f)))) colon ≡ v
+pub member_by : (levels : ℕ) (text : List ℕ) (f : Prefix (List ℕ)) → string_at (rest_while is_white_space text) ≡ f → (v : Bool) → eqb (first (rest_while is_white_space (or_nothing (rest_of f)))) colon ≡ v
     → or_nothing (rest_of (pair_at (value_at levels) text)) ≡ cond v (or_nothing (rest_of (item_at (value_at levels) (drop 1 (rest_while is_white_space (or_nothing (rest_of f))))))) []
 unfolding pair_at
 member_by levels text None e true here = absurd (omega (arith, eqb-true 0 colon here))

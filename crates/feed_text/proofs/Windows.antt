@@ -163,6 +163,61 @@ plain_members levels text value more a b =
     in
     b ∙ ap (behind_first comma) (sym same)
 
+-- ---- white space around them
+
+-- none is left behind it
+pub white_twice : (text : List ℕ) → rest_while is_white_space (rest_while is_white_space text) ≡ rest_while is_white_space text
+white_twice [] = refl
+white_twice (b ∷ text) = by (is_white_space b) refl (white_twice text)
+  where
+    by : (v : Bool) → is_white_space b ≡ v → rest_while is_white_space (rest_while is_white_space text) ≡ rest_while is_white_space text → rest_while is_white_space (cond v (rest_while is_white_space text) (b ∷ text)) ≡ cond v (rest_while is_white_space text) (b ∷ text)
+    by true e others = others
+    by false e others = ap (λ (v : Bool). cond v (rest_while is_white_space text) (b ∷ text)) e
+
+pub black_first : (b : ℕ) (text : List ℕ) → 32 < b → rest_while is_white_space (b ∷ text) ≡ (b ∷ text)
+black_first b text more = no_white (b ∷ text) b more refl
+
+pub one_space : (text rest : List ℕ) → Some rest ≡ behind_first 32 text → rest_while is_white_space rest ≡ rest → rest ≡ rest_while is_white_space text
+one_space text rest e black =
+    let b = behind_some 32 text rest e in
+    let whole : text ≡ 32 ∷ rest = with_first 32 text (omega arith) b.0 ∙ ap (λ (t : List ℕ). 32 ∷ t) b.1 in
+    sym (ap (rest_while is_white_space) whole ∙ black)
+
+-- an item and a member behind it
+pub item_behind_white : (levels : ℕ) (text : List ℕ) → or_nothing (rest_of (item_at (value_at levels) (rest_while is_white_space text))) ≡ or_nothing (rest_of (item_at (value_at levels) text))
+item_behind_white levels text =
+    item_rest levels (rest_while is_white_space text) ∙ ap (λ (t : List ℕ). rest_while is_white_space (or_nothing (rest_of (value_at levels t)))) (white_twice text) ∙ sym (item_rest levels text)
+
+pub member_behind_white : (levels : ℕ) (text : List ℕ) → or_nothing (rest_of (pair_at (value_at levels) (rest_while is_white_space text))) ≡ or_nothing (rest_of (pair_at (value_at levels) text))
+member_behind_white levels text =
+    let f = string_at (rest_while is_white_space text) in
+    let v = eqb (first (rest_while is_white_space (or_nothing (rest_of f)))) colon in
+    member_by levels (rest_while is_white_space text) f (ap string_at (white_twice text)) v refl ∙ sym (member_by levels text f refl v refl)
+
+key_of : (text start key : List ℕ) → start ≡ rest_while is_white_space text → Some key ≡ rest_of (string_at start) → key ≡ or_nothing (rest_of (string_at (rest_while is_white_space text)))
+key_of text start key white e = ap or_nothing e ∙ ap (λ (t : List ℕ). or_nothing (rest_of (string_at t))) white
+
+pub member_value : (levels : ℕ) (text start key value : List ℕ) → start ≡ rest_while is_white_space text → Some key ≡ rest_of (string_at start) → Some value ≡ behind_first colon (rest_while is_white_space key)
+    → or_nothing (rest_of (item_at (value_at levels) value)) ≡ or_nothing (rest_of (pair_at (value_at levels) text))
+member_value levels text start key value white e behind =
+    let same = key_of text start key white e in
+    let b = behind_some colon (rest_while is_white_space key) value behind in
+    let here = ap (λ (t : List ℕ). first (rest_while is_white_space t)) (sym same) ∙ b.0 in
+    let left = ap (λ (t : List ℕ). drop 1 (rest_while is_white_space t)) (sym same) ∙ b.1 in
+    sym (member_rest levels text here ∙ ap (λ (t : List ℕ). or_nothing (rest_of (item_at (value_at levels) t))) left)
+
+pub member_no_value : (levels : ℕ) (text start key : List ℕ) → start ≡ rest_while is_white_space text → Some key ≡ rest_of (string_at start) → None ≡ behind_first colon (rest_while is_white_space key)
+    → or_nothing (rest_of (pair_at (value_at levels) text)) ≡ []
+member_no_value levels text start key white e none =
+    let same = key_of text start key white e in
+    member_no_rest levels text (λ here.
+    let there : first (rest_while is_white_space key) ≡ colon = ap (λ (t : List ℕ). first (rest_while is_white_space t)) same ∙ here in
+    let some : behind_first colon (rest_while is_white_space key) ≡ Some (drop 1 (rest_while is_white_space key)) = rw (eq-eqb (first (rest_while is_white_space key)) colon there) refl in
+    absurd (none_some (drop 1 (rest_while is_white_space key)) (none ∙ some)))
+  where
+    none_some : (xs : List ℕ) → None ≡ Some xs → ⊥
+    none_some xs e = cc
+
 -- ---- the members up to the closing brace
 
 pub more_members : (levels : ℕ) (text rest more : List ℕ) → rest ≡ or_nothing (rest_of (pair_at (value_at levels) text)) → Some more ≡ behind_first comma rest

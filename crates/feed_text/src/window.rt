@@ -5,7 +5,7 @@
 //! shifted from string to string. Where it is used up, it is made anew. Where it does not tell where
 //! a string ends, or the string has an escape, the caller goes another way.
 
-ghost use Rattle.std.specs.Prelude.{◌≡◌, ◌≤◌, ◌<◌, ◌-◌, IfSome, Some, option_map, length, drop, map};
+ghost use Rattle.std.specs.Prelude.{◌≡◌, IsTrue, ◌≤◌, ◌<◌, ◌-◌, IfSome, Some, option_map, length, drop, map};
 ghost use Rattle.std.specs.Simd.Lanes.{mask_l};
 ghost use Rattle.feed_text.specs.Ascii.{quotation_mark, space};
 ghost use Rattle.feed_text.specs.Json.{is_white_space};
@@ -122,13 +122,41 @@ pub fn pass_mark(seen: Seen<'_>, byte: u8) -> Option<Seen<'_>>
 {
     match pass_byte(seen, byte) {
         Some(more) => Some(more),
-        None => pass_byte(unseen(skip_white_space(seen.text)), byte),
+        None => pass_byte(pass_space(seen), byte),
     }
+}
+
+/// The same text behind the white space that it begins with, of which there is mostly none, or one
+/// space.
+#[inline(always)]
+pub fn pass_space(seen: Seen<'_>) -> Seen<'_>
+    requires { Foresees seen.stops seen.text.now }
+    ensures text { result.text.now ≡ rest_while is_white_space seen.entry.text.now }
+    ensures mask { Foresees result.stops result.text.now }
+{
+    if first_is_black(seen.text) {
+        return seen;
+    }
+    if let Some(text) = after_byte(seen.text, b' ') {
+        if first_is_black(text) {
+            let stops = seen.stops >> 1;
+            return Seen { text, stops };
+        }
+    }
+    unseen(skip_white_space(seen.text))
+}
+
+/// Whether the text begins with a byte that is more than a space, as no white space is.
+#[inline(always)]
+fn first_is_black(text: &[u8]) -> bool
+    ensures { IsTrue result → rest_while is_white_space text.now ≡ text.now }
+{
+    matches!(text, [byte, ..] if *byte > b' ')
 }
 
 /// What comes after a string, where its end is near and all its bytes stand for themselves.
 #[inline(always)]
-fn pass_string(seen: Seen<'_>) -> Option<Seen<'_>>
+pub fn pass_string(seen: Seen<'_>) -> Option<Seen<'_>>
     requires { Foresees seen.stops seen.text.now }
     ensures text { IfSome result
         (λ r. Some r.text.now ≡ rest_of (string_at seen.entry.text.now)) }
