@@ -4,7 +4,7 @@
 mod live;
 
 use feed_cli::stream::Stream;
-use feed_cli::{Fault, PROGRAM, Request, parse_words, run, tell};
+use feed_cli::{Fault, Local, PROGRAM, Request, parse_words, run, tell};
 use feed_network::{audit_records, ended, input_ahead, pull_feed, relay_feed, serve_feed};
 use feed_system::hold_standard;
 use live::live_feed;
@@ -44,9 +44,14 @@ fn status_of<'a>(rt: &HostRuntime, words: &'a [&'a str]) -> u8 {
         Ok(Request::Pull(options)) => ended(rt, "pull", pull_feed(rt, &options)),
         Ok(Request::Relay(options)) => ended(rt, "relay", relay_feed(rt, &options)),
         Ok(Request::Live(options)) => ended(rt, "live", live_feed(rt, &options)),
-        Ok(Request::Local(request)) => run_words(rt, request.name(), words),
+        Ok(Request::Local(request)) => run_local(rt, request, words),
         Err(_) => run_words(rt, PROGRAM, words),
     }
+}
+
+/// Runs a command that reads its input to the end.
+fn run_local<'a>(rt: &HostRuntime, request: Local, words: &'a [&'a str]) -> u8 {
+    run_words(rt, request.name(), words)
 }
 
 /// Runs the command that the program's arguments ask for.

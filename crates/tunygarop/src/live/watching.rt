@@ -126,25 +126,35 @@ fn state_of(following: Following) -> UpstreamState {
     }
 }
 
+/// Why following failed last, so long ago.
+fn last_failure<'a>(words: &'a Words, age_ms: u64) -> LastFailure<'a> {
+    LastFailure {
+        text: words.failure.as_str(),
+        age_ms,
+    }
+}
+
 fn upstream_of<'a>(feed: &FeedFigures, words: &'a Words, now: u64) -> Upstream<'a> {
     let waiting_ms = match feed.waiting {
         0 => 0,
         _ => now.saturating_sub(feed.waiting_since),
     };
+    let last_failure = match feed.failed {
+        Some((_, at)) => Some(last_failure(words, now.saturating_sub(at))),
+        None => None,
+    };
+    let failed_by = feed.failed_by.map(|(reason, count)| Failed {
+        reason: reason.word(),
+        count,
+    });
     Upstream {
         name: words.name.as_str(),
         state: state_of(feed.following),
         since_ms: now.saturating_sub(feed.changed),
         silent_ms: now.saturating_sub(feed.heard),
         failures: feed.failures,
-        last_failure: feed.failed.map(|(_, at)| LastFailure {
-            text: words.failure.as_str(),
-            age_ms: now.saturating_sub(at),
-        }),
-        failed_by: feed.failed_by.map(|(reason, count)| Failed {
-            reason: reason.word(),
-            count,
-        }),
+        last_failure,
+        failed_by,
         coming_lines: feed.coming_lines,
         coming_bytes: feed.coming_bytes,
         waiting: feed.waiting,
