@@ -4,7 +4,7 @@
 mod live;
 
 use feed_cli::stream::Stream;
-use feed_cli::{Fault, Local, PROGRAM, Request, parse_words, run, tell};
+use feed_cli::{Fault, PROGRAM, Request, parse_words, run, tell};
 use feed_network::{audit_records, ended, input_ahead, pull_feed, relay_feed, serve_feed};
 use feed_system::hold_standard;
 use live::live_feed;
@@ -35,23 +35,25 @@ fn run_words<'a>(rt: &HostRuntime, name: &str, words: &'a [&'a str]) -> u8 {
     )
 }
 
-/// Runs the command that these words ask for. Those that open files or connections are run here;
-/// what all other words come to is proved of `run`, which reads them once more.
-fn status_of<'a>(rt: &HostRuntime, words: &'a [&'a str]) -> u8 {
-    match parse_words(rt.alloc(), words) {
-        Ok(Request::Audit(options)) => ended(rt, "audit", audit_records(rt, &options)),
-        Ok(Request::Serve(options)) => ended(rt, "serve", serve_feed(rt, &options)),
-        Ok(Request::Pull(options)) => ended(rt, "pull", pull_feed(rt, &options)),
-        Ok(Request::Relay(options)) => ended(rt, "relay", relay_feed(rt, &options)),
-        Ok(Request::Live(options)) => ended(rt, "live", live_feed(rt, &options)),
-        Ok(Request::Local(request)) => run_local(rt, request, words),
-        Err(_) => run_words(rt, PROGRAM, words),
+/// Runs the command that is asked for. What `run` does is proved of the words, which it reads once
+/// more.
+fn run_request<'a>(rt: &HostRuntime, request: &Request<'_>, words: &'a [&'a str]) -> u8 {
+    match request {
+        Request::Local(request) => run_words(rt, request.name(), words),
+        Request::Audit(options) => ended(rt, "audit", audit_records(rt, options)),
+        Request::Serve(options) => ended(rt, "serve", serve_feed(rt, options)),
+        Request::Pull(options) => ended(rt, "pull", pull_feed(rt, options)),
+        Request::Relay(options) => ended(rt, "relay", relay_feed(rt, options)),
+        Request::Live(options) => ended(rt, "live", live_feed(rt, options)),
     }
 }
 
-/// Runs a command that reads its input to the end.
-fn run_local<'a>(rt: &HostRuntime, request: Local, words: &'a [&'a str]) -> u8 {
-    run_words(rt, request.name(), words)
+/// Runs the command that these words ask for.
+fn status_of<'a>(rt: &HostRuntime, words: &'a [&'a str]) -> u8 {
+    match parse_words(rt.alloc(), words) {
+        Ok(request) => run_request(rt, &request, words),
+        Err(_) => run_words(rt, PROGRAM, words),
+    }
 }
 
 /// Runs the command that the program's arguments ask for.
