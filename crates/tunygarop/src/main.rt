@@ -4,7 +4,7 @@
 mod live;
 
 use feed_cli::stream::Stream;
-use feed_cli::{Fault, PROGRAM, Request, parse_words, run, tell};
+use feed_cli::{Fault, NoCommand, PROGRAM, Request, parse_words, run, tell};
 use feed_network::{audit_records, ended, input_ahead, pull_feed, relay_feed, serve_feed};
 use feed_system::hold_standard;
 use live::live_feed;
@@ -52,8 +52,14 @@ fn run_request<'a>(rt: &HostRuntime, request: &Request<'_>, words: &'a [&'a str]
 fn status_of<'a>(rt: &HostRuntime, words: &'a [&'a str]) -> u8 {
     match parse_words(rt.alloc(), words) {
         Ok(request) => run_request(rt, &request, words),
-        Err(_) => run_words(rt, PROGRAM, words),
+        Err(reply) => reply_to(rt, &reply, words),
     }
+}
+
+/// Replies to words that ask for no command, as `run` does.
+fn reply_to<'a>(rt: &HostRuntime, reply: &NoCommand, words: &'a [&'a str]) -> u8 {
+    let _reply = reply;
+    run_words(rt, PROGRAM, words)
 }
 
 /// Runs the command that the program's arguments ask for.

@@ -1,7 +1,9 @@
 //! What the status port tells: what the relay counts, as one value, and what is looked up of it.
 
 use feed_cli::{LiveOptions, VERSION};
-use feed_live::{FeedFigures, FileFigures, Following, LONG_WAIT, Live, ScreenFigures, ScreenRow};
+use feed_live::{
+    FeedFigures, FileFigures, Following, LONG_WAIT, Live, Reason, ScreenFigures, ScreenRow,
+};
 use feed_status::{
     Failed, LastFailure, Latency, Plots, Process, Refused, Screen, Screens, StateFile, Status,
     Upstream, UpstreamState, Watch,
@@ -126,6 +128,14 @@ fn state_of(following: Following) -> UpstreamState {
     }
 }
 
+/// How often following failed for a reason.
+fn failed<'a>(reason: Reason, count: u64) -> Failed<'a> {
+    Failed {
+        reason: reason.word(),
+        count,
+    }
+}
+
 /// Why following failed last, so long ago.
 fn last_failure<'a>(words: &'a Words, age_ms: u64) -> LastFailure<'a> {
     LastFailure {
@@ -143,10 +153,7 @@ fn upstream_of<'a>(feed: &FeedFigures, words: &'a Words, now: u64) -> Upstream<'
         Some((_, at)) => Some(last_failure(words, now.saturating_sub(at))),
         None => None,
     };
-    let failed_by = feed.failed_by.map(|(reason, count)| Failed {
-        reason: reason.word(),
-        count,
-    });
+    let failed_by = feed.failed_by.map(|(reason, count)| failed(reason, count));
     Upstream {
         name: words.name.as_str(),
         state: state_of(feed.following),
