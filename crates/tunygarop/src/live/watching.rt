@@ -129,7 +129,8 @@ fn state_of(following: Following) -> UpstreamState {
 }
 
 /// How often following failed for a reason.
-fn failed<'a>(reason: Reason, count: u64) -> Failed<'a> {
+fn failed<'a>(words: &'a Words, reason: Reason, count: u64) -> Failed<'a> {
+    let _words = words;
     Failed {
         reason: reason.word(),
         count,
@@ -153,7 +154,9 @@ fn upstream_of<'a>(feed: &FeedFigures, words: &'a Words, now: u64) -> Upstream<'
         Some((_, at)) => Some(last_failure(words, now.saturating_sub(at))),
         None => None,
     };
-    let failed_by = feed.failed_by.map(|(reason, count)| failed(reason, count));
+    let failed_by = feed
+        .failed_by
+        .map(|(reason, count)| failed(words, reason, count));
     Upstream {
         name: words.name.as_str(),
         state: state_of(feed.following),
