@@ -21,13 +21,13 @@ use Rattle.feed_words.specs.declared.request.NoCommand.TheVariants as reply
 -- the command did what was asked for
 abbrev pub Succeeds : Local → Streams → Type 0
 Succeeds (local.Tables options) s = PrintedSome options.limits s
-Succeeds local.Check s = CountsPrinted s
+Succeeds (local.Check options) s = CountsPrinted options s
 Succeeds local.Play s = Played s
 
 -- the command failed like this
 abbrev pub Fails : Local → Fault → Streams → Type 0
 Fails (local.Tables options) why s = TablesFail options.limits why s
-Fails local.Check why s = CheckFails why s
+Fails (local.Check options) why s = CheckFails options why s
 Fails local.Play why s = PlayFails why s
 
 -- where the fault is a device's, that one failed; where memory ran out, none did

@@ -8,6 +8,7 @@ pub mod Play
 pub mod Printing
 pub mod Pull
 pub mod Relay
+pub mod Repeats
 pub mod Serve
 pub mod Streams
 pub mod Tables

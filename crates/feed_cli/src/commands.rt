@@ -11,6 +11,7 @@ mod check;
 mod play;
 pub mod pull;
 pub mod relay;
+mod repeats;
 pub mod serve;
 mod tables;
 
@@ -66,7 +67,7 @@ pub fn perform<R: FeedRead, W: FeedWrite>(
 {
     match request {
         Local::Tables(options) => print_tables(alloc, options, input, out),
-        Local::Check => print_counts(alloc, input, out),
+        Local::Check(options) => print_counts(alloc, options, input, out),
         Local::Play => print_played(alloc, input, out),
     }
 }

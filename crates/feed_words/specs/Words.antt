@@ -17,6 +17,7 @@ use Rattle.feed_words.specs.declared.request.NoCommand.TheVariants as reply
 use Rattle.feed_words.specs.declared.request.Request.{Request}
 use Rattle.feed_words.specs.declared.request.Request.TheVariants as request
 use Rattle.feed_words.specs.declared.request.TablesOptions.{TablesOptions}
+use Rattle.feed_words.specs.declared.request.CheckOptions.{CheckOptions}
 use Rattle.feed_words.specs.declared.request.AuditOptions.{AuditOptions}
 use Rattle.feed_words.specs.declared.request.ServeOptions.{ServeOptions}
 use Rattle.feed_words.specs.declared.request.PullOptions.{PullOptions}
@@ -53,7 +54,7 @@ abbrev pub tables : App
 tables = with_rule (with_limits (new_app (codes "tables"))) verbose
 
 abbrev pub check : App
-check = new_app (codes "check")
+check = with_rule (new_app (codes "check")) verbose
 
 abbrev pub audit : App
 audit = with_limits (with_rule (with_rule (with_rule (new_app (codes "audit")) primary) json) verbose)
@@ -96,6 +97,10 @@ command_line = with_subcommand program_for_trying live.top
 -- the values of the options of `tables`
 pub record AsksTables (rows : List Row) (options : TablesOptions) : Type 0 where
   pub limits_are : AsksLimits rows options.limits
+  pub verbose_is : IsGiven (codes "verbose") rows options.verbose
+
+-- the values of the options of `check`
+pub record AsksCheck (rows : List Row) (options : CheckOptions) : Type 0 where
   pub verbose_is : IsGiven (codes "verbose") rows options.verbose
 
 -- the values of the options of `audit`
@@ -142,7 +147,8 @@ pub record AsksRelay (rows : List Row) (options : RelayOptions) : Type 0 where
 abbrev pub AsksBy : Text → List Row → Request → Type 0
 AsksBy name rows (request.Local (local.Tables options)) =
     (name ≡ codes "tables") × AsksTables rows options
-AsksBy name rows (request.Local local.Check) = name ≡ codes "check"
+AsksBy name rows (request.Local (local.Check options)) =
+    (name ≡ codes "check") × AsksCheck rows options
 AsksBy name rows (request.Local local.Play) = name ≡ codes "play"
 AsksBy name rows (request.Audit options) = (name ≡ codes "audit") × AsksAudit rows options
 AsksBy name rows (request.Serve options) = (name ≡ codes "serve") × AsksServe rows options

@@ -11,6 +11,13 @@ pub struct TablesOptions {
     pub verbose: bool,
 }
 
+/// What `check` tells.
+#[derive(Clone, Copy)]
+pub struct CheckOptions {
+    /// Whether tokens that come again are told, too.
+    pub verbose: bool,
+}
+
 /// What `audit` compares the record of a screen with, and how it prints what it found.
 #[derive(Clone, Copy)]
 pub struct AuditOptions<'a> {
@@ -176,7 +183,7 @@ pub enum Local {
     /// The snapshot of what the feed on standard input publishes to a mirror.
     Tables(TablesOptions),
     /// What the lines of the feed on standard input are, counted.
-    Check,
+    Check(CheckOptions),
     /// What happens in a world by the script on standard input.
     Play,
 }
@@ -186,7 +193,7 @@ impl Local {
     pub fn name(&self) -> &'static str {
         match self {
             Local::Tables(_) => "tables",
-            Local::Check => "check",
+            Local::Check(_) => "check",
             Local::Play => "play",
         }
     }

@@ -1,6 +1,7 @@
 //! A server that has nothing new for long may have lost its own way to the primary, or may be a
 //! relay that follows this one. So the others are asked in turn with our token: whoever has something
-//! new is followed then. That costs screens nothing. Where nobody has, it ends at the first one.
+//! new is followed then. That costs screens nothing. Where nobody has, the first one is
+//! followed for longer, until the next round.
 
 ghost use Rattle.std.specs.Prelude.{◌≡◌, ◌+◌, ◌%◌, min};
 
@@ -13,6 +14,10 @@ use std::mem;
 /// How long each of those has that are asked in turn, in milliseconds, or as long as the one before
 /// them where that is less.
 const TURN_TIME: u64 = 10_000;
+
+/// For how many times as long the first one is followed, once each had its turn, until they have
+/// their turns again.
+const ROUNDS_APART: u64 = 5;
 
 /// When something was published last, and how often a server was left since then that had nothing.
 #[derive(Clone, Copy)]
@@ -42,16 +47,32 @@ impl Returning {
         self.turns = 0;
     }
 
-    /// Another server has its turn. Whether that is to be told: not where it was, and none was lost
-    /// since then.
-    fn turn(&mut self) -> bool {
-        self.turns = self.turns.saturating_add(1);
+    /// Another one of so many servers has its turn: the first turn of a round, where each had one.
+    /// Whether that is to be told: not where it was, and none was lost since then.
+    fn turn(&mut self, servers: usize) -> bool {
+        self.turns = if self.turns < servers {
+            self.turns.saturating_add(1)
+        } else {
+            1
+        };
         !mem::replace(&mut self.was_told, true)
     }
 
     /// Whether a server was left for having nothing new.
     pub(crate) fn has_turned(&self) -> bool {
         self.turns > 0
+    }
+
+    /// For how long a server is followed that has nothing new: the first one, or another; and whether
+    /// each had its turn since something was published.
+    fn time(&self, is_first: bool, had_turns: bool) -> u64 {
+        if had_turns && is_first {
+            self.after.saturating_mul(ROUNDS_APART)
+        } else if self.has_turned() && !had_turns {
+            TURN_TIME.min(self.after)
+        } else {
+            self.after
+        }
     }
 
     /// A server was lost that was followed: what becomes of the others is news again.
@@ -65,12 +86,12 @@ impl Source {
     ghost use Rattle.feed_live.specs.Relaying.{IsLeft};
 
     /// When a server is left that has nothing new, where there are others. Once each had its turn
-    /// since something was published, the first one stays.
+    /// since something was published, the first one stays for longer.
     pub(crate) fn returns_at(&self) -> Option<u64> {
         let since = self.body_since?;
         let is_first = self.upstream.place() == 0;
         let had_turns = self.returning.turns >= self.places.len();
-        if self.reach != Reach::Reads || self.coming.is_some() || (is_first && had_turns) {
+        if self.reach != Reach::Reads || self.coming.is_some() {
             return None;
         }
         if self.places.len() < 2 || self.has_more || !self.rest.is_empty() {
@@ -79,11 +100,7 @@ impl Source {
         if self.returning.after == 0 {
             return None;
         }
-        let time = if self.returning.has_turned() && !had_turns {
-            TURN_TIME.min(self.returning.after)
-        } else {
-            self.returning.after
-        };
+        let time = self.returning.time(is_first, had_turns);
         Some(since.max(self.returning.published).saturating_add(time))
     }
 
@@ -106,7 +123,7 @@ impl Source {
             × (self.new.upstream.refused ≡ self.old.upstream.refused) }
     {
         let server = self.upstream.place();
-        let is_told = self.returning.turn();
+        let is_told = self.returning.turn(self.places.len());
         told.tell_if(
             is_told,
             Told::Quiet {

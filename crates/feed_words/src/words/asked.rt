@@ -6,12 +6,13 @@ ghost use Rattle.feed_words.specs.Addresses.{most_port};
 ghost use Rattle.feed_words.specs.Options.{most_rounds, most_silence};
 ghost use Rattle.feed_words.specs.Options.{number_at, text_at, IsNumber, IsNumberUpTo, IsNumberIfGiven};
 ghost use Rattle.feed_words.specs.Options.{IsGiven, IsFramed, AsksLimits};
-ghost use Rattle.feed_words.specs.Words.{AsksTables, AsksAudit, AsksServe, AsksPull, AsksRelay, AsksBy, AsksAt};
+ghost use Rattle.feed_words.specs.Words.{AsksTables, AsksCheck, AsksAudit, AsksServe, AsksPull, AsksRelay, AsksBy, AsksAt};
 
 use super::asked_live::live_options;
 use super::options::{MOST_PORT, MOST_ROUNDS, MOST_SILENCE};
 use crate::request::{
-    AuditOptions, Local, PullOptions, RelayOptions, Request, ServeOptions, TablesOptions,
+    AuditOptions, CheckOptions, Local, PullOptions, RelayOptions, Request, ServeOptions,
+    TablesOptions,
 };
 use clap::ArgMatches;
 use feed_settings::{Framing, Limits, MOST_COMMITS, MOST_MEMORY};
@@ -121,6 +122,15 @@ fn tables_options(matches: &ArgMatches<'_>) -> Option<TablesOptions>
         limits: limits(matches)?,
         verbose: is_given(matches, "verbose"),
     })
+}
+
+/// What the options of `check` ask for.
+fn check_options(matches: &ArgMatches<'_>) -> CheckOptions
+    ensures { AsksCheck (rows_of (found_of matches.now)) result }
+{
+    CheckOptions {
+        verbose: is_given(matches, "verbose"),
+    }
 }
 
 /// What the options of `audit` ask for.
@@ -235,7 +245,7 @@ fn request_named<'a>(name: &str, matches: &ArgMatches<'a>) -> Option<Request<'a>
 {
     match name {
         "tables" => Some(Request::Local(Local::Tables(tables_options(matches)?))),
-        "check" => Some(Request::Local(Local::Check)),
+        "check" => Some(Request::Local(Local::Check(check_options(matches)))),
         "play" => Some(Request::Local(Local::Play)),
         "audit" => match audit_options(matches) {
             Some(options) => Some(Request::Audit(options)),

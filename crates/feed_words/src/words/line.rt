@@ -64,6 +64,17 @@ fn tables<'a>(alloc: Global) -> Result<Command<'a>, AllocError>
     add_option(limited, options::verbose(alloc, help))
 }
 
+/// `check`.
+fn check<'a>(alloc: Global) -> Result<Command<'a>, AllocError>
+    ensures { IfOk result (λ c. app_of c ≡ words.check) }
+{
+    let about =
+        "Counts the lines of the event feed on standard input, or names the first that can't be read";
+    let help = "Count the tokens that come again, too";
+    let check = Ok(command(alloc, "check", about));
+    add_option(check, options::verbose(alloc, help))
+}
+
 /// `audit`.
 fn audit<'a>(alloc: Global) -> Result<Command<'a>, AllocError>
     ensures { IfOk result (λ c. app_of c ≡ words.audit) }
@@ -220,12 +231,10 @@ fn program<'a>(alloc: Global) -> Command<'a>
 fn local_program<'a>(alloc: Global) -> Result<Command<'a>, AllocError>
     ensures { IfOk result (λ c. app_of c ≡ words.local_program) }
 {
-    let check =
-        "Counts the lines of the event feed on standard input, or names the first that can't be read";
     let play =
         "Plays the script of events on standard input in a world of nodes, and prints what is replied";
     let program = with_command(Ok(program(alloc)), tables(alloc));
-    let program = with_command(program, Ok(command(alloc, "check", check)));
+    let program = with_command(program, check(alloc));
     let program = with_command(program, audit(alloc));
     with_command(program, Ok(command(alloc, "play", play)))
 }
