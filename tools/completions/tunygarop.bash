@@ -46,7 +46,7 @@ _tunygarop() {
 
     case $command in
         tables) names="history staged memory verbose" ;;
-        check) names="" ;;
+        check) names="verbose" ;;
         audit) names="primary json verbose history staged memory" ;;
         play) names="" ;;
         serve) names="port contest count turn chunked back verbose history staged memory" ;;
