@@ -8,6 +8,7 @@ mod PlayLemmas
 pub mod PrintingLemmas
 mod PullLemmas
 pub mod RelayLemmas
+pub mod RepeatsLemmas
 pub mod ServeLemmas
 mod TablesLemmas
 mod TellingLemmas

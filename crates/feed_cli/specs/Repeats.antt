@@ -1,7 +1,7 @@
 -- The tokens of a feed that come again on a later line: whoever resumes from such a token can't be
 -- told which of its lines is meant (CLICS Contest API 2023-06, event feed).
-use Rattle.std.specs.Prelude.{◌≡◌, ◌+◌, ℕ, Bool, true, false, List, [], ◌∷◌, ◌++◌, Option, None, Some, codes, decimal, count_by, list_any, option_map, option_map_or, bytes_eq, cond, if◌then◌else◌}
-use Rattle.std.specs.List.{AllZip, position}
+use Rattle.std.specs.Prelude.{◌≡◌, ℕ, Bool, true, false, List, [], ◌∷◌, ◌++◌, Option, None, Some, codes, decimal, count_by, list_any, option_map_or, bytes_eq, cond}
+use Rattle.std.specs.List.{AllZip, position_from}
 use Rattle.feed_text.specs.Ascii.{line_feed}
 use Rattle.feed_note.specs.Counts.{IsRead}
 use Rattle.feed_note.specs.Lines.{lines}
@@ -11,7 +11,7 @@ use Rattle.feed_cli.specs.declared.commands.repeats.Repeats.{Repeats}
 
 -- whether the line has this token
 abbrev pub has_this : List ℕ → Line → Bool
-has_this token note = option_map_or (bytes_eq token) (token_in note) false
+has_this token note = option_map_or (λ its_own. bytes_eq its_own token) (token_in note) false
 
 -- whether the line's token stood on a line before
 abbrev pub comes_again : List Line → Line → Bool
@@ -44,7 +44,7 @@ is_with token other before = option_map_or (λ t. cond (bytes_eq t other) true b
 -- the first line, where one is found on this line or was before
 abbrev pub first_or : Option ℕ → Bool → ℕ → Option ℕ
 first_or (Some line) found number = Some line
-first_or None found number = if found then Some number else None
+first_or None found number = cond found (Some number) None
 
 -- ---- all
 
@@ -54,7 +54,7 @@ pub record Repeated (text : List ℕ) (repeats : Repeats) : Type 0 where
   pub notes : List Line
   pub read : AllZip IsRead (lines text) notes
   pub count : repeats.count ≡ count_by is_true (again [] notes)
-  pub first : repeats.first ≡ option_map (λ n. n + 1) (position is_true (again [] notes))
+  pub first : repeats.first ≡ position_from is_true 1 (again [] notes)
 
 -- the line that tells them
 abbrev pub repeats_text : Repeats → List ℕ

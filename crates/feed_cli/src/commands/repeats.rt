@@ -77,7 +77,9 @@ impl Tokens {
         self.lines += 1;
         if again {
             self.repeats.count += 1;
-            self.repeats.first = self.repeats.first.or(Some(self.lines));
+            if self.repeats.first.is_none() {
+                self.repeats.first = Some(self.lines);
+            }
         }
         Ok(())
     }
