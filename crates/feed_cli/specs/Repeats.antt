@@ -1,13 +1,16 @@
 -- The tokens of a feed that come again on a later line: whoever resumes from such a token can't be
 -- told which of its lines is meant (CLICS Contest API 2023-06, event feed).
-use Rattle.std.specs.Prelude.{◌≡◌, ℕ, Bool, true, false, List, [], ◌∷◌, ◌++◌, Option, None, Some, codes, decimal, count_by, list_any, option_map_or, bytes_eq, cond}
-use Rattle.std.specs.List.{AllZip, position_from}
+use Rattle.std.specs.Prelude.{◌≡◌, ◌+◌, ℕ, Bool, true, false, List, [], ◌∷◌, ◌++◌, Option, None, Some, codes, decimal, count_by, bytes_eq, cond}
+use Rattle.std.specs.List.{AllZip, list_any, position_from}
+use Rattle.std.specs.Option.{option_map_or}
+use Rattle.std.specs.BTreeSet.{contains_text}
 use Rattle.feed_text.specs.Ascii.{line_feed}
 use Rattle.feed_note.specs.Counts.{IsRead}
 use Rattle.feed_note.specs.Lines.{lines}
 use Rattle.feed_note.specs.Notes.{token_in}
 use Rattle.feed_note.specs.declared.line.Line.{Line}
 use Rattle.feed_cli.specs.declared.commands.repeats.Repeats.{Repeats}
+use Rattle.feed_cli.specs.declared.commands.repeats.Tokens.{Tokens}
 
 -- whether the line has this token
 abbrev pub has_this : List ℕ → Line → Bool
@@ -45,6 +48,15 @@ is_with token other before = option_map_or (λ t. cond (bytes_eq t other) true b
 abbrev pub first_or : Option ℕ → Bool → ℕ → Option ℕ
 first_or (Some line) found number = Some line
 first_or None found number = cond found (Some number) None
+
+-- one line more is taken, with its token
+pub record TakesLine (line : List ℕ) (old new : Tokens) : Type 0 where
+  pub token : Option (List ℕ)
+  pub has : HasToken line token
+  pub seen : (other : List ℕ) → contains_text new.seen other ≡ is_with token other (contains_text old.seen other)
+  pub lines : new.lines ≡ old.lines + 1
+  pub count : new.repeats.count ≡ old.repeats.count + cond (is_in (contains_text old.seen) token) 1 0
+  pub first : new.repeats.first ≡ first_or old.repeats.first (is_in (contains_text old.seen) token) (old.lines + 1)
 
 -- ---- all
 

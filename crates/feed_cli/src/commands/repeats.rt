@@ -3,7 +3,7 @@ ghost use Rattle.std.specs.Prelude.{◌≡◌, ◌≢◌, ◌+◌, ◌<◌, ◌^
 ghost use Rattle.std.specs.BTreeSet.{contains_text};
 ghost use Rattle.feed_note.specs.Counts.{Stops, StopsAt};
 ghost use Rattle.feed_note.specs.Lines.{HasNoLineFeed};
-ghost use Rattle.feed_cli.specs.Repeats.{HasToken, Repeated, repeats_text, is_in, is_with, first_or};
+ghost use Rattle.feed_cli.specs.Repeats.{HasToken, TakesLine, Repeated, repeats_text, is_in, is_with, first_or};
 
 use feed_note::{LINE_BYTES, Line, LineFault, LineStop, SurveyFault, read_line, split_line};
 use feed_tables::Name;
@@ -83,6 +83,19 @@ impl Tokens {
         }
         Ok(())
     }
+
+    /// Reads one line more, and takes it with its token.
+    fn read(&mut self, alloc: Global, line: &[u8]) -> Result<(), LineStop>
+        requires unbroken { HasNoLineFeed line.now }
+        requires lines { self.old.lines + 1 < 2 ^ 64 }
+        requires count { self.old.repeats.count ≤ self.old.lines }
+        ensures ok { OnOk result (TakesLine line.now self.old self.new) }
+        ensures err { IfErr result (λ stop. stop ≢ LineStop.Memory → Stops line.now stop) }
+    {
+        let token = read_token(alloc, line)?;
+        self.take(alloc, &token)?;
+        Ok(())
+    }
 }
 
 /// Counts the lines of a feed whose token stood on a line before, or names the first that can't be
@@ -103,17 +116,10 @@ pub(super) fn count_repeats(alloc: Global, bytes: &[u8]) -> Result<Repeats, Surv
     let mut rest = bytes;
     'lines: while let Some((line, behind)) = split_line(rest) {
         let number = tokens.lines + 1;
-        let token = match read_token(alloc, line) {
-            Ok(token) => token,
+        match tokens.read(alloc, line) {
+            Ok(()) => rest = behind,
             Err(stop) => return Err(SurveyFault { line: number, stop }),
-        };
-        if tokens.take(alloc, &token).is_err() {
-            return Err(SurveyFault {
-                line: number,
-                stop: LineStop::Memory,
-            });
         }
-        rest = behind;
     }
     Ok(tokens.repeats)
 }
