@@ -201,6 +201,10 @@ abbrev pub is_quiet : Verbosity → Bool
 is_quiet verbosity.Quiet = true
 is_quiet other = false
 
+-- both of the two options are given that say how much is reported
+abbrev pub AreBothGiven : List Row → Type 0
+AreBothGiven rows = IsGiven (codes "verbose") rows true × IsGiven (codes "quiet") rows true
+
 -- the values of the options of `live`
 pub record AsksLive (rows : List Row) (options : LiveOptions) : Type 0 where
   pub contest_is : text_at (codes "contest") rows ≡ Some options.contest.now

@@ -2,7 +2,7 @@
 -- command line are the values of an option is as the crate clap reads them.
 use Rattle.std.specs.Prelude.{◌≡◌, ◌≤◌, ℕ, Bool, true, false, List, [], ◌∷◌, Option, Some, None}
 use Rattle.std.specs.Prelude.{IfSome, option_map, codes}
-use Rattle.std.specs.Str.Parse.{digits_value, without_leading_plus}
+use Rattle.std.specs.Str.Parse.{IsNumeral, digits_value, without_leading_plus}
 use Rattle.clap.specs.Walk.{first_of, one_of}
 use Rattle.clap.specs.Words.{App, Row, Rule, Text, new_rule, with_rule}
 use Rattle.clap.specs.declared.builder.action.ArgAction.TheVariants.{SetTrue}
@@ -127,13 +127,19 @@ number_at name rows = option_map (λ t. digits_value 10 (without_leading_plus t)
 abbrev pub text_at : Text → List Row → Option Text
 text_at name rows = first_of name rows
 
+-- an option's value, if it has one, is written in decimal digits, which a plus may come before
+abbrev pub IsInDigits : Text → List Row → Type 0
+IsInDigits name rows = IfSome (one_of name rows) (λ t. IsNumeral 10 (without_leading_plus t))
+
 -- an option's value says this number, from 0 to the most
 pub record IsNumberUpTo (name : Text) (most : ℕ) (rows : List Row) (number : ℕ) : Type 0 where
+  pub digits : IsInDigits name rows
   pub said : number_at name rows ≡ Some number
   pub greatest : number ≤ most
 
 -- an option's value says this number, from 1 to the most
 pub record IsNumber (name : Text) (most : ℕ) (rows : List Row) (number : ℕ) : Type 0 where
+  pub digits : IsInDigits name rows
   pub said : number_at name rows ≡ Some number
   pub least : 1 ≤ number
   pub greatest : number ≤ most
@@ -141,6 +147,7 @@ pub record IsNumber (name : Text) (most : ℕ) (rows : List Row) (number : ℕ) 
 -- the same of an option that may be left out
 pub record IsNumberIfGiven (name : Text) (most : ℕ) (rows : List Row) (number : Option ℕ)
     : Type 0 where
+  pub digits : IsInDigits name rows
   pub said : number_at name rows ≡ number
   pub least : IfSome number (λ n. 1 ≤ n)
   pub greatest : IfSome number (λ n. n ≤ most)
@@ -159,6 +166,6 @@ pub record IsFramed (rows : List Row) (framed : Framing) : Type 0 where
 
 -- the limits of a node
 pub record AsksLimits (rows : List Row) (limits : Limits) : Type 0 where
-  pub history_is : number_at (codes "history") rows ≡ Some limits.history
-  pub staged_is : number_at (codes "staged") rows ≡ Some limits.staged
-  pub memory_is : number_at (codes "memory") rows ≡ limits.memory
+  pub history_is : IsNumber (codes "history") most_commits rows limits.history
+  pub staged_is : IsNumber (codes "staged") most_changes rows limits.staged
+  pub memory_is : IsNumberIfGiven (codes "memory") most_memory rows limits.memory

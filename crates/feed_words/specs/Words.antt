@@ -167,12 +167,16 @@ pub record AsksAt (entered : Option (Text × List Row)) (asked : Request) : Type
 abbrev pub Asks : List Text → Request → Type 0
 Asks words asked = AsksAt (subcommand_of command_line words) asked
 
+-- no request is what the words ask for, if the command line takes them
+abbrev pub AskInVain : List Text → Type 0
+AskInVain words = takes command_line words ≡ true → (asked : Request) → ¬ (Asks words asked)
+
 -- Why words are refused, as the crate clap states it (`takes`): memory ran out, or the command line
--- does not take them. Of no words of `live` does it say that they are taken, since options of it have
--- rules on others; and nothing is said of a value that is refused after that.
+-- does not take them, or it takes them and yet they ask for nothing. Of no words of `live` does clap
+-- say that they are taken, since options of it have rules on others.
 abbrev pub RefusesBy : List Text → ErrorKind → Type 0
 RefusesBy words kind.OutOfMemory = Unit {0}
-RefusesBy words kind.ValueValidation = Unit {0}
+RefusesBy words kind.ValueValidation = AskInVain words
 RefusesBy words other = takes command_line words ≡ false
 
 -- what is replied to a refusal of this kind
@@ -181,8 +185,9 @@ RepliesBy why reply.Memory = Unit {0}
 RepliesBy why (reply.Shown text) = (why ≡ kind.DisplayHelp) ⊎ (why ≡ kind.DisplayVersion)
 RepliesBy why (reply.Refused text) = why ≢ kind.OutOfMemory
 
--- the words ask for nothing: where they are replied to with help or the version, the command line does
--- not take them
+-- The words ask for nothing: if they are replied to with help or the version, then the command line
+-- does not take them; if they are refused, then it does not take them, or they ask for no request.
 abbrev pub AsksNothing : List Text → NoCommand → Type 0
+AsksNothing words reply.Memory = Unit {0}
 AsksNothing words (reply.Shown text) = takes command_line words ≡ false
-AsksNothing words other = Unit {0}
+AsksNothing words (reply.Refused text) = AskInVain words

@@ -1,12 +1,20 @@
 //! What the options of a command ask for.
-ghost use Rattle.std.specs.Prelude.{◌≡◌, Some, codes, option_map, IfSome};
+ghost use Rattle.std.specs.Prelude.{◌≡◌, ℕ, Option, None, Some, codes, option_map, IfSome};
 ghost use Rattle.clap.specs.Matches.{found_of};
 ghost use Rattle.clap.specs.Words.{rows_of, subcommand_rows_of};
+ghost use Rattle.feed_settings.specs.Limits.{Limits as LimitsOf, most_changes, most_commits};
 ghost use Rattle.feed_words.specs.Addresses.{most_port};
+ghost use Rattle.feed_words.specs.Live.{AreBothGiven};
 ghost use Rattle.feed_words.specs.Options.{most_rounds, most_silence};
-ghost use Rattle.feed_words.specs.Options.{number_at, text_at, IsNumber, IsNumberUpTo, IsNumberIfGiven};
+ghost use Rattle.feed_words.specs.Options.{text_at, IsNumber, IsNumberUpTo, IsNumberIfGiven};
 ghost use Rattle.feed_words.specs.Options.{IsGiven, IsFramed, AsksLimits};
 ghost use Rattle.feed_words.specs.Words.{AsksTables, AsksCheck, AsksAudit, AsksServe, AsksPull, AsksRelay, AsksBy, AsksAt};
+ghost use Rattle.feed_words.specs.declared.request.AuditOptions.{AuditOptions as Audit};
+ghost use Rattle.feed_words.specs.declared.request.PullOptions.{PullOptions as Pull};
+ghost use Rattle.feed_words.specs.declared.request.RelayOptions.{RelayOptions as Relay};
+ghost use Rattle.feed_words.specs.declared.request.Request.{Request as Asked};
+ghost use Rattle.feed_words.specs.declared.request.ServeOptions.{ServeOptions as Serve};
+ghost use Rattle.feed_words.specs.declared.request.TablesOptions.{TablesOptions as Tables};
 
 use super::asked_live::live_options;
 use super::options::{MOST_PORT, MOST_ROUNDS, MOST_SILENCE};
@@ -15,12 +23,15 @@ use crate::request::{
     TablesOptions,
 };
 use clap::ArgMatches;
-use feed_settings::{Framing, Limits, MOST_COMMITS, MOST_MEMORY};
+use feed_settings::{Framing, Limits, MOST_CHANGES, MOST_COMMITS, MOST_MEMORY};
 
 /// The number that an option's value says; none where it is out of its range, which its parser has
 /// refused.
 pub(super) fn number_up_to(matches: &ArgMatches<'_>, name: &str, most: u64) -> Option<u64>
-    ensures { IfSome result (λ n. IsNumberUpTo name.now most (rows_of (found_of matches.now)) n) }
+    ensures some { IfSome result
+        (λ n. IsNumberUpTo name.now most (rows_of (found_of matches.now)) n) }
+    ensures none { result ≡ None → (n : ℕ)
+        → ¬ (IsNumberUpTo name.now most (rows_of (found_of matches.now)) n) }
 {
     let number = matches.get_one::<u64>(name)?;
     if number <= most { Some(number) } else { None }
@@ -28,44 +39,47 @@ pub(super) fn number_up_to(matches: &ArgMatches<'_>, name: &str, most: u64) -> O
 
 /// The same of an option whose value is 1 at least.
 pub(super) fn number(matches: &ArgMatches<'_>, name: &str, most: u64) -> Option<u64>
-    ensures { IfSome result (λ n. IsNumber name.now most (rows_of (found_of matches.now)) n) }
+    ensures some { IfSome result (λ n. IsNumber name.now most (rows_of (found_of matches.now)) n) }
+    ensures none { result ≡ None → (n : ℕ)
+        → ¬ (IsNumber name.now most (rows_of (found_of matches.now)) n) }
 {
     let number = number_up_to(matches, name, most)?;
     if 1 <= number { Some(number) } else { None }
 }
 
 /// The same of an option that may be left out.
+#[tactic(auto, using(crate::proofs::WordsLemmas::says))]
 pub(super) fn number_if_given(
     matches: &ArgMatches<'_>,
     name: &str,
     most: u64,
 ) -> Option<Option<u64>>
-    ensures { IfSome result
+    ensures some { IfSome result
         (λ n. IsNumberIfGiven name.now most (rows_of (found_of matches.now)) n) }
+    ensures none { result ≡ None → (n : Option ℕ)
+        → ¬ (IsNumberIfGiven name.now most (rows_of (found_of matches.now)) n) }
 {
-    match matches.try_get_one::<u64>(name) {
-        Ok(None) => Some(None),
-        Ok(Some(number)) if 1 <= number && number <= most => Some(Some(number)),
-        _ => None,
+    if text(matches, name).is_none() {
+        return Some(None);
+    }
+    match number(matches, name, most) {
+        Some(number) => Some(Some(number)),
+        None => None,
     }
 }
 
 /// A port.
 pub(super) fn port(matches: &ArgMatches<'_>, name: &str) -> Option<u16>
-    ensures { IfSome result (λ n. IsNumber name.now most_port (rows_of (found_of matches.now)) n) }
+    ensures some { IfSome result
+        (λ n. IsNumber name.now most_port (rows_of (found_of matches.now)) n) }
+    ensures none { result ≡ None → (n : ℕ)
+        → ¬ (IsNumber name.now most_port (rows_of (found_of matches.now)) n) }
 {
     Some(number(matches, name, MOST_PORT)? as u16)
 }
 
-/// The text of an option's value.
+/// The text of an option's value; none where it has none.
 pub(super) fn text<'a>(matches: &ArgMatches<'a>, name: &str) -> Option<&'a str>
-    ensures { IfSome result (λ t. text_at name.now (rows_of (found_of matches.now)) ≡ Some t.now) }
-{
-    matches.get_str(name)
-}
-
-/// The same of an option that may be left out.
-pub(super) fn text_if_given<'a>(matches: &ArgMatches<'a>, name: &str) -> Option<&'a str>
     ensures { text_at name.now (rows_of (found_of matches.now)) ≡ option_map (λ t. t.now) result }
 {
     matches.get_str(name)
@@ -91,7 +105,9 @@ pub(super) fn framing(matches: &ArgMatches<'_>) -> Framing
 
 /// The limits of a node.
 pub(super) fn limits(matches: &ArgMatches<'_>) -> Option<Limits>
-    ensures { IfSome result (λ limits. AsksLimits (rows_of (found_of matches.now)) limits) }
+    ensures some { IfSome result (λ limits. AsksLimits (rows_of (found_of matches.now)) limits) }
+    ensures none { result ≡ None → (limits : LimitsOf)
+        → ¬ (AsksLimits (rows_of (found_of matches.now)) limits) }
 {
     let limits = limits_of_counts(matches)?;
     match number_if_given(matches, "memory", MOST_MEMORY as u64)? {
@@ -103,20 +119,24 @@ pub(super) fn limits(matches: &ArgMatches<'_>) -> Option<Limits>
 /// The same without the limit of memory.
 fn limits_of_counts(matches: &ArgMatches<'_>) -> Option<Limits>
     ensures history { IfSome result (λ limits.
-        number_at (codes "history") (rows_of (found_of matches.now)) ≡ Some limits.history) }
+        IsNumber (codes "history") most_commits (rows_of (found_of matches.now)) limits.history) }
     ensures staged { IfSome result (λ limits.
-        number_at (codes "staged") (rows_of (found_of matches.now)) ≡ Some limits.staged) }
+        IsNumber (codes "staged") most_changes (rows_of (found_of matches.now)) limits.staged) }
     ensures memory { IfSome result (λ limits. limits.memory ≡ None) }
+    ensures none { result ≡ None → (limits : LimitsOf)
+        → ¬ (AsksLimits (rows_of (found_of matches.now)) limits) }
 {
-    let history = matches.get_one::<u64>("history")?;
-    let staged = matches.get_one::<u64>("staged")?;
+    let history = number(matches, "history", MOST_COMMITS as u64)?;
+    let staged = number(matches, "staged", MOST_CHANGES as u64)?;
     let limits = Limits::new(history as usize, staged as usize).ok()?;
     Some(limits)
 }
 
 /// What the options of `tables` ask for.
 fn tables_options(matches: &ArgMatches<'_>) -> Option<TablesOptions>
-    ensures { IfSome result (λ options. AsksTables (rows_of (found_of matches.now)) options) }
+    ensures some { IfSome result (λ options. AsksTables (rows_of (found_of matches.now)) options) }
+    ensures none { result ≡ None → (options : Tables)
+        → ¬ (AsksTables (rows_of (found_of matches.now)) options) }
 {
     Some(TablesOptions {
         limits: limits(matches)?,
@@ -135,7 +155,9 @@ fn check_options(matches: &ArgMatches<'_>) -> CheckOptions
 
 /// What the options of `audit` ask for.
 fn audit_options<'a>(matches: &ArgMatches<'a>) -> Option<AuditOptions<'a>>
-    ensures { IfSome result (λ options. AsksAudit (rows_of (found_of matches.now)) options) }
+    ensures some { IfSome result (λ options. AsksAudit (rows_of (found_of matches.now)) options) }
+    ensures none { result ≡ None → (options : Audit)
+        → ¬ (AsksAudit (rows_of (found_of matches.now)) options) }
 {
     let primary = text(matches, "primary")?;
     let limits = limits(matches)?;
@@ -149,7 +171,9 @@ fn audit_options<'a>(matches: &ArgMatches<'a>) -> Option<AuditOptions<'a>>
 
 /// What the options of `serve` ask for.
 fn serve_options<'a>(matches: &ArgMatches<'a>) -> Option<ServeOptions<'a>>
-    ensures { IfSome result (λ options. AsksServe (rows_of (found_of matches.now)) options) }
+    ensures some { IfSome result (λ options. AsksServe (rows_of (found_of matches.now)) options) }
+    ensures none { result ≡ None → (options : Serve)
+        → ¬ (AsksServe (rows_of (found_of matches.now)) options) }
 {
     let port = port(matches, "port")?;
     let contest = text(matches, "contest")?;
@@ -175,6 +199,9 @@ fn patience(matches: &ArgMatches<'_>) -> Option<(u64, Option<u64>)>
         (λ p. IsNumber (codes "turns") most_rounds (rows_of (found_of matches.now)) p.0) }
     ensures silence { IfSome result
         (λ p. IsNumberIfGiven (codes "silence") most_silence (rows_of (found_of matches.now)) p.1) }
+    ensures none { result ≡ None → (turns : ℕ) → (most : Option ℕ)
+        → IsNumber (codes "turns") most_rounds (rows_of (found_of matches.now)) turns
+        → ¬ (IsNumberIfGiven (codes "silence") most_silence (rows_of (found_of matches.now)) most) }
 {
     let turns = number(matches, "turns", MOST_ROUNDS)?;
     let silence = number_if_given(matches, "silence", MOST_SILENCE)?;
@@ -188,19 +215,18 @@ pub(super) fn identity<'a>(matches: &ArgMatches<'a>) -> (Option<&'a str>, Option
     ensures user_file { text_at (codes "user-file") (rows_of (found_of matches.now))
         ≡ option_map (λ t. t.now) result.1 }
 {
-    (
-        text_if_given(matches, "host-header"),
-        text_if_given(matches, "user-file"),
-    )
+    (text(matches, "host-header"), text(matches, "user-file"))
 }
 
 /// What the options of `pull` ask for, and those of `relay` that it has, too.
 fn pull_options<'a>(matches: &ArgMatches<'a>) -> Option<PullOptions<'a>>
-    ensures { IfSome result (λ options. AsksPull (rows_of (found_of matches.now)) options) }
+    ensures some { IfSome result (λ options. AsksPull (rows_of (found_of matches.now)) options) }
+    ensures none { result ≡ None → (options : Pull)
+        → ¬ (AsksPull (rows_of (found_of matches.now)) options) }
 {
     let host = text(matches, "host")?;
     let port = port(matches, "port")?;
-    let from = text_if_given(matches, "from");
+    let from = text(matches, "from");
     let base = text(matches, "base")?;
     let contest = text(matches, "contest")?;
     let (host_header, user_file) = identity(matches);
@@ -224,7 +250,9 @@ fn pull_options<'a>(matches: &ArgMatches<'a>) -> Option<PullOptions<'a>>
 
 /// What the options of `relay` ask for.
 fn relay_options<'a>(matches: &ArgMatches<'a>) -> Option<RelayOptions<'a>>
-    ensures { IfSome result (λ options. AsksRelay (rows_of (found_of matches.now)) options) }
+    ensures some { IfSome result (λ options. AsksRelay (rows_of (found_of matches.now)) options) }
+    ensures none { result ≡ None → (options : Relay)
+        → ¬ (AsksRelay (rows_of (found_of matches.now)) options) }
 {
     let Some(pull) = pull_options(matches) else {
         return None;
@@ -241,7 +269,11 @@ fn relay_options<'a>(matches: &ArgMatches<'a>) -> Option<RelayOptions<'a>>
 
 /// What the command of this name asks for.
 fn request_named<'a>(name: &str, matches: &ArgMatches<'a>) -> Option<Request<'a>>
-    ensures { IfSome result (λ request. AsksBy name.now (rows_of (found_of matches.now)) request) }
+    ensures some { IfSome result
+        (λ request. AsksBy name.now (rows_of (found_of matches.now)) request) }
+    ensures none { result ≡ None → (request : Asked)
+        → AsksBy name.now (rows_of (found_of matches.now)) request
+        → (name.now ≡ codes "live") × AreBothGiven (rows_of (found_of matches.now)) }
 {
     match name {
         "tables" => Some(Request::Local(Local::Tables(tables_options(matches)?))),
@@ -273,7 +305,10 @@ fn request_named<'a>(name: &str, matches: &ArgMatches<'a>) -> Option<Request<'a>
 
 /// What the command asks for that was entered.
 pub(super) fn request_entered<'a>(matches: &ArgMatches<'a>) -> Option<Request<'a>>
-    ensures { IfSome result (λ request. AsksAt (subcommand_rows_of matches.now) request) }
+    ensures some { IfSome result (λ request. AsksAt (subcommand_rows_of matches.now) request) }
+    ensures none { result ≡ None → (request : Asked)
+        → AsksAt (subcommand_rows_of matches.now) request
+        → option_map (λ p. p.0) (subcommand_rows_of matches.now) ≡ Some (codes "live") }
 {
     let (name, options) = matches.subcommand()?;
     request_named(name, options)

@@ -1,15 +1,16 @@
 //! What the options of `live` ask for.
-ghost use Rattle.std.specs.Prelude.{IfSome, codes};
+ghost use Rattle.std.specs.Prelude.{◌≡◌, ℕ, Option, None, IfSome, codes};
 ghost use Rattle.clap.specs.Matches.{found_of};
 ghost use Rattle.clap.specs.Words.{rows_of};
 ghost use Rattle.feed_words.specs.Addresses.{most_port};
 ghost use Rattle.feed_words.specs.Live.{is_verbose as verbose_of, is_quiet as quiet_of};
-ghost use Rattle.feed_words.specs.Live.{AsksUpstream, IsUpstream, AsksLive};
+ghost use Rattle.feed_words.specs.Live.{AreBothGiven, AsksUpstream, IsUpstream, AsksLive};
 ghost use Rattle.feed_words.specs.Options.{IsNumberIfGiven, IsGiven};
+ghost use Rattle.feed_words.specs.declared.request.LiveOptions.{LiveOptions as Live};
+ghost use Rattle.feed_words.specs.declared.request.UpstreamOptions.{UpstreamOptions as Upstream};
 
 use super::asked::{
     framing, identity, is_given, limits, number, number_if_given, number_up_to, port, text,
-    text_if_given,
 };
 use super::live::{MOST_HOLD, MOST_IDLE, MOST_RETURN, MOST_SCREENS, MOST_SETTLE, MOST_WINDOW};
 use super::options::MOST_PORT;
@@ -18,8 +19,10 @@ use clap::ArgMatches;
 
 /// A port that may be left out.
 fn port_if_given(matches: &ArgMatches<'_>, name: &str) -> Option<Option<u16>>
-    ensures { IfSome result
+    ensures some { IfSome result
         (λ n. IsNumberIfGiven name.now most_port (rows_of (found_of matches.now)) n) }
+    ensures none { result ≡ None → (n : Option ℕ)
+        → ¬ (IsNumberIfGiven name.now most_port (rows_of (found_of matches.now)) n) }
 {
     let port = number_if_given(matches, name, MOST_PORT)?;
     Some(port.map(|port| port as u16))
@@ -27,7 +30,10 @@ fn port_if_given(matches: &ArgMatches<'_>, name: &str) -> Option<Option<u16>>
 
 /// The server that is followed first, and those that are asked where it fails.
 fn upstream_at<'a>(matches: &ArgMatches<'a>) -> Option<UpstreamOptions<'a>>
-    ensures { IfSome result (λ upstream. AsksUpstream (rows_of (found_of matches.now)) upstream) }
+    ensures some { IfSome result
+        (λ upstream. AsksUpstream (rows_of (found_of matches.now)) upstream) }
+    ensures none { result ≡ None → (upstream : Upstream)
+        → ¬ (AsksUpstream (rows_of (found_of matches.now)) upstream) }
 {
     let host = text(matches, "host")?;
     let port = port(matches, "port")?;
@@ -36,7 +42,7 @@ fn upstream_at<'a>(matches: &ArgMatches<'a>) -> Option<UpstreamOptions<'a>>
     Some(UpstreamOptions {
         host,
         port,
-        from: text_if_given(matches, "from"),
+        from: text(matches, "from"),
         base,
         host_header,
         user_file,
@@ -45,9 +51,12 @@ fn upstream_at<'a>(matches: &ArgMatches<'a>) -> Option<UpstreamOptions<'a>>
 
 /// What is followed: standard input where no server is given.
 fn upstream<'a>(matches: &ArgMatches<'a>) -> Option<Option<UpstreamOptions<'a>>>
-    ensures { IfSome result (λ upstream. IsUpstream (rows_of (found_of matches.now)) upstream) }
+    ensures some { IfSome result
+        (λ upstream. IsUpstream (rows_of (found_of matches.now)) upstream) }
+    ensures none { result ≡ None → (upstream : Option Upstream)
+        → ¬ (IsUpstream (rows_of (found_of matches.now)) upstream) }
 {
-    if text_if_given(matches, "host").is_none() {
+    if text(matches, "host").is_none() {
         return Some(None);
     }
     match upstream_at(matches) {
@@ -62,6 +71,7 @@ fn verbosity(matches: &ArgMatches<'_>) -> Option<Verbosity>
         (λ much. IsGiven (codes "verbose") (rows_of (found_of matches.now)) (verbose_of much)) }
     ensures quiet { IfSome result
         (λ much. IsGiven (codes "quiet") (rows_of (found_of matches.now)) (quiet_of much)) }
+    ensures none { result ≡ None → AreBothGiven (rows_of (found_of matches.now)) }
 {
     match (is_given(matches, "verbose"), is_given(matches, "quiet")) {
         (false, false) => Some(Verbosity::Normal),
@@ -73,14 +83,17 @@ fn verbosity(matches: &ArgMatches<'_>) -> Option<Verbosity>
 
 /// What the options of `live` ask for.
 pub(super) fn live_options<'a>(matches: &ArgMatches<'a>) -> Option<LiveOptions<'a>>
-    ensures { IfSome result (λ options. AsksLive (rows_of (found_of matches.now)) options) }
+    ensures some { IfSome result (λ options. AsksLive (rows_of (found_of matches.now)) options) }
+    ensures none { result ≡ None → (options : Live)
+        → AsksLive (rows_of (found_of matches.now)) options
+        → AreBothGiven (rows_of (found_of matches.now)) }
 {
     let contest = text(matches, "contest")?;
     let Some(upstream) = upstream(matches) else {
         return None;
     };
     let listen = port_if_given(matches, "listen")?;
-    let state = text_if_given(matches, "state");
+    let state = text(matches, "state");
     if listen.is_none() && state.is_none() {
         return None;
     }
@@ -100,10 +113,10 @@ pub(super) fn live_options<'a>(matches: &ArgMatches<'a>) -> Option<LiveOptions<'
         upstream,
         listen,
         address,
-        allow: text_if_given(matches, "allow"),
+        allow: text(matches, "allow"),
         per_address,
         status,
-        status_address: text_if_given(matches, "status-address"),
+        status_address: text(matches, "status-address"),
         screens: screens as usize,
         idle,
         window,

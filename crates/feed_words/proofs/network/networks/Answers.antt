@@ -1,5 +1,4 @@
 use Rattle.std.proofs.Common.{rules, ap, sym, subst, ◌∙◌, map, arith}
-use Rattle.std.proofs.lemmas.Result.{IfOk-weaker}
 use Rattle.feed_words.specs.Addresses.{parts}
 use Rattle.feed_words.specs.Networks.{AreGoodNetworks, AreNetworks}
 use Rattle.feed_words.proofs.NetworkLemmas.{few_networks}
