@@ -458,8 +458,8 @@ fn with_state<'a>(
         → IfOk result (λ c. app_of c ≡ live.with_state app) }
 {
     let kept = under(command, "State");
-    let kept = add_tied(add_option(kept, state(alloc)), new(alloc));
-    let kept = with_serving(alloc, kept);
+    let kept = add_option(kept, state(alloc));
+    let kept = with_serving(alloc, add_tied(kept, new(alloc)));
     with_limits(alloc, kept)
 }
 
