@@ -51,6 +51,7 @@ complete -c tunygarop -n '__fish_seen_subcommand_from live' -l status -x -d 'Por
 complete -c tunygarop -n '__fish_seen_subcommand_from live' -l status-address -x -d 'Address that the page is at'
 complete -c tunygarop -n '__fish_seen_subcommand_from live' -l window -x -d 'Bytes that a screen may be late, 1 to 1073741824'
 complete -c tunygarop -n '__fish_seen_subcommand_from live' -l state -x -a '(__fish_complete_path)' -d 'File that keeps what was published'
+complete -c tunygarop -n '__fish_seen_subcommand_from live' -l new -d 'Begin without what the state file has'
 complete -c tunygarop -n '__fish_seen_subcommand_from live' -l settle -x -d 'Milliseconds in which 1/64 of what was asked for from the start may come before it is shown, 0 to 60000'
 complete -c tunygarop -n '__fish_seen_subcommand_from live' -l fresh -d 'Ask for everything on each connection'
 complete -c tunygarop -n '__fish_seen_subcommand_from live' -l return -x -d 'Seconds without a commit after which other servers are asked, 0 to 3600'

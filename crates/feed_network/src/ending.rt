@@ -82,7 +82,7 @@ impl Failure {
     }
 
     /// Options that can't be taken, as this text says.
-    pub(crate) fn refused(text: &'static str) -> Failure {
+    pub fn refused(text: &'static str) -> Failure {
         Failure {
             why: Why::Refused(text),
         }

@@ -5,7 +5,8 @@ use crate::hosts::{Host, without_brackets};
 use crate::link::Servers;
 use crate::sockets::Port;
 use crate::standard::{ErrorStream, InputStream};
-use crate::store::{Files, Names};
+use crate::state::StateFile;
+use crate::store::Files;
 use crate::system::System;
 use crate::watchers::{WATCHERS, Watchers};
 use feed_device::{Devices, Ready};
@@ -171,15 +172,15 @@ fn open_ends(rt: &HostRuntime, options: &LiveOptions<'_>) -> Result<Ends, OpenFa
 }
 
 /// Makes all that a relay runs on, and listens. Its time begins at the start. The servers that it
-/// may connect to are those of these hosts, and its state is kept under these names.
+/// may connect to are those of these hosts, and its state is kept in this file.
 pub fn open<'r>(
     rt: &'r HostRuntime,
     options: &LiveOptions<'_>,
-    names: Option<Names>,
+    state: Option<StateFile>,
     hosts: Vec<Host>,
     start: Instant,
 ) -> Result<System<'r>, OpenFault> {
-    let files = Files::new(rt, names);
+    let files = Files::new(rt, state);
     let buffers = make_buffers(rt.alloc())?;
     let ends = open_ends(rt, options)?;
     let registry = ends.poll.registry().try_clone()?;

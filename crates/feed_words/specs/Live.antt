@@ -88,6 +88,9 @@ window = with_default (codes "1048576") (number_in (codes "window") most_window)
 abbrev pub state : Rule
 state = text_option (codes "state")
 
+abbrev pub new : Rule
+new = tied (flag (codes "new"))
+
 abbrev pub settle : Rule
 settle = with_default (codes "2000") (number_between (codes "settle") 0 most_settle)
 
@@ -161,7 +164,7 @@ with_serving command = with_rule (with_rule command hold) serve_old
 
 -- a command with the options that say what is kept
 abbrev pub with_state : App → App
-with_state command = with_limits (with_serving (with_rule command state))
+with_state command = with_limits (with_serving (with_rule (with_rule command state) new))
 
 -- a command with the options that say where it is watched
 abbrev pub with_status : App → App
@@ -222,6 +225,7 @@ pub record AsksLive (rows : List Row) (options : LiveOptions) : Type 0 where
   pub window_is : IsNumber (codes "window") most_window rows options.window
   pub framing_is : IsFramed rows options.framing
   pub state_is : text_at (codes "state") rows ≡ option_map (λ text. text.now) options.state
+  pub new_is : IsGiven (codes "new") rows options.is_new
   pub is_some_use : (is_some options.listen ≡ true) ⊎ (is_some options.state ≡ true)
   pub settle_is : IsNumberUpTo (codes "settle") most_settle rows options.settle
   pub fresh_is : IsGiven (codes "fresh") rows options.fresh

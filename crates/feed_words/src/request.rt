@@ -156,6 +156,8 @@ pub struct LiveOptions<'a> {
     pub framing: Framing,
     /// The name of the file that keeps what was published. Any text will do.
     pub state: Option<&'a str>,
+    /// Whether it begins without what that file has.
+    pub is_new: bool,
     /// A feed that was asked for from the start is shown once no more than 1/64 of it came in so many
     /// milliseconds, 0 to 60,000. Zero: each of its states is shown as it comes.
     pub settle: u64,

@@ -1,6 +1,7 @@
 //! The command `live`: one relay, in one process and one thread, over sockets that never wait.
 
 mod making;
+mod restoring;
 mod watching;
 
 use feed_cli::{Fault, LiveOptions, Verbosity};

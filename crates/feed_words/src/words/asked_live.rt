@@ -122,6 +122,7 @@ pub(super) fn live_options<'a>(matches: &ArgMatches<'a>) -> Option<LiveOptions<'
         window,
         framing: framing(matches),
         state,
+        is_new: is_given(matches, "new"),
         settle,
         fresh: is_given(matches, "fresh"),
         return_after,

@@ -189,6 +189,16 @@ fn state<'a>(alloc: Global) -> Arg<'a>
     text(alloc, "state", "FILE").help("The file that keeps what was published, for the next start")
 }
 
+/// `--new`, with `--state`.
+fn new<'a>(alloc: Global) -> Result<Arg<'a>, AllocError>
+    ensures rule { IfOk result (λ option. rule_of option ≡ live.new) }
+    ensures local { IfOk result (λ option. option.global ≡ false) }
+{
+    flag(alloc, "new")
+        .help("Begin without what FILE has, which is moved to FILE.old")
+        .requires_arg("state")
+}
+
 /// `--hold SECONDS`.
 fn hold<'a>(alloc: Global) -> Arg<'a>
     ensures rule { rule_of result ≡ live.hold }
@@ -448,7 +458,8 @@ fn with_state<'a>(
         → IfOk result (λ c. app_of c ≡ live.with_state app) }
 {
     let kept = under(command, "State");
-    let kept = with_serving(alloc, add_option(kept, state(alloc)));
+    let kept = add_option(kept, state(alloc));
+    let kept = with_serving(alloc, add_tied(kept, new(alloc)));
     with_limits(alloc, kept)
 }
 

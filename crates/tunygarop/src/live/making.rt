@@ -1,6 +1,7 @@
 //! What a relay is made of, before its first turn: state files are read, and ports opened.
 
 use crate::live::Engine;
+use crate::live::restoring::told_of;
 use crate::live::watching::Watched;
 use feed_answer::{Identity, Place};
 use feed_cli::{
@@ -10,7 +11,7 @@ use feed_cli::{
 use feed_live::{Live, LiveLimits, Restored, Start, restore};
 use feed_network::{Failure, Hosts, identity_of};
 use feed_node::{Limits, Mirror};
-use feed_system::{Host, Names, OpenFault, System, open, read_file};
+use feed_system::{Host, Kept, OpenFault, StateFault, StateFile, System, open, take_state};
 use std::alloc::{AllocError, Global};
 use std::io;
 use std::io::ErrorKind;
@@ -147,21 +148,19 @@ fn kept_limits(options: &LiveOptions<'_>) -> Limits {
     }
 }
 
-/// What the state files have; nothing where there are none, or the feed is the input, which begins
-/// anew.
+/// What a state file has that a relay begins with: nothing where there is none, or the feed is the
+/// input, which begins anew.
 fn restored(
     rt: &HostRuntime,
     options: &LiveOptions<'_>,
     limits: Limits,
-    names: Option<&Names>,
+    kept: Option<&Kept>,
 ) -> Result<Restored, Fault> {
-    let alloc = rt.alloc();
-    let (Some(names), Some(_)) = (names, &options.upstream) else {
-        return needs_memory(restore(alloc, limits, &[], &[]));
+    let (Some(kept), Some(_)) = (kept, &options.upstream) else {
+        return needs_memory(restore(rt.alloc(), limits, &[], &[]));
     };
-    let before = of_system(read_file(rt, names.before.as_str()))?;
-    let file = of_system(read_file(rt, names.file.as_str()))?;
-    needs_memory(restore(alloc, limits, before.as_slice(), file.as_slice()))
+    let (before, file) = (kept.before.as_slice(), kept.file.as_slice());
+    needs_memory(restore(rt.alloc(), limits, before, file))
 }
 
 /// Why there is nothing to run on.
@@ -232,14 +231,28 @@ fn limits_of(options: &LiveOptions<'_>) -> LiveLimits {
 struct Plan {
     start: Start,
     contest: String,
-    names: Option<Names>,
+    state: Option<StateFile>,
+    /// What is told of the state file.
+    told: Option<String>,
     hosts: Vec<Host>,
 }
 
-fn names_of(rt: &HostRuntime, options: &LiveOptions<'_>) -> Result<Option<Names>, Fault> {
-    match options.state {
-        Some(path) => Ok(Some(of_system(Names::new(rt, path))?)),
-        None => Ok(None),
+/// Why a state file is not taken.
+fn of_state(fault: StateFault) -> Failure {
+    match fault {
+        StateFault::Memory => Failure::from(Fault::Memory),
+        _ => Failure::refused(fault.text()),
+    }
+}
+
+/// Takes the state file, where there is to be one.
+fn kept(rt: &HostRuntime, options: &LiveOptions<'_>) -> Result<Option<Kept>, Failure> {
+    let Some(path) = options.state else {
+        return Ok(None);
+    };
+    match take_state(rt, path, options.contest, options.is_new) {
+        Ok(kept) => Ok(Some(kept)),
+        Err(fault) => Err(of_state(fault)),
     }
 }
 
@@ -247,13 +260,13 @@ fn names_of(rt: &HostRuntime, options: &LiveOptions<'_>) -> Result<Option<Names>
 fn start_of(
     rt: &HostRuntime,
     options: &LiveOptions<'_>,
-    names: Option<&Names>,
+    kept: Option<&Kept>,
     places: Vec<Place>,
     identity: Identity,
 ) -> Result<Start, Fault> {
     let limits = kept_limits(options);
     let blank = needs_memory(Mirror::new(rt.alloc(), limits))?;
-    let restored = restored(rt, options, limits, names)?;
+    let restored = restored(rt, options, limits, kept)?;
     Ok(Start {
         restored,
         blank,
@@ -272,18 +285,24 @@ fn identity(rt: &HostRuntime, options: &LiveOptions<'_>) -> Result<Identity, Fai
 
 /// Reads the state files.
 fn make_plan(rt: &HostRuntime, options: &LiveOptions<'_>) -> Result<Plan, Failure> {
-    let names = names_of(rt, options)?;
     let contest = needs_memory(String::from_str(rt.alloc(), options.contest))?;
     let identity = identity(rt, options)?;
     let Asked { hosts, places } = match servers(rt, options, &identity) {
         Ok(asked) => asked,
         Err(fault) => return Err(of_servers(rt.alloc(), fault)),
     };
-    let start = start_of(rt, options, names.as_ref(), places, identity)?;
+    let kept = kept(rt, options)?;
+    let start = start_of(rt, options, kept.as_ref(), places, identity)?;
+    let told = needs_memory(told_of(rt.alloc(), options, kept.as_ref(), &start.restored))?;
+    let state = match kept {
+        Some(kept) => Some(kept.state),
+        None => None,
+    };
     Ok(Plan {
         start,
         contest,
-        names,
+        state,
+        told,
         hosts,
     })
 }
@@ -292,13 +311,22 @@ fn make_plan(rt: &HostRuntime, options: &LiveOptions<'_>) -> Result<Plan, Failur
 fn system_of<'r>(
     rt: &'r HostRuntime,
     options: &LiveOptions<'_>,
-    names: Option<Names>,
+    state: Option<StateFile>,
     hosts: Vec<Host>,
     start: Instant,
 ) -> Result<System<'r>, Failure> {
-    match open(rt, options, names, hosts, start) {
+    match open(rt, options, state, hosts, start) {
         Ok(system) => Ok(system),
         Err(fault) => Err(failure_of(rt.alloc(), fault)),
+    }
+}
+
+/// Tells what the state file had, unless little is told.
+fn tell_state(system: &mut System<'_>, options: &LiveOptions<'_>, told: Option<String>) {
+    if let Some(text) = told {
+        if options.verbosity != Verbosity::Quiet {
+            system.line(text.as_str());
+        }
     }
 }
 
@@ -312,10 +340,12 @@ pub(super) fn prepare<'r>(
     let Plan {
         start: from,
         contest,
-        names,
+        state,
+        told,
         hosts,
     } = make_plan(rt, options)?;
-    let mut system = system_of(rt, options, names, hosts, start)?;
+    let mut system = system_of(rt, options, state, hosts, start)?;
+    tell_state(&mut system, options, told);
     let store = &mut system.devices.store;
     let live = Live::new(rt.alloc(), contest, limits_of(options), from, store, 0);
     Ok(Engine {
