@@ -19,6 +19,8 @@ enum Why {
     About(Fault, String),
     /// Its options can't be taken: this text says which.
     Refused(&'static str),
+    /// The same, where the text names what is in the way.
+    RefusedFor(String),
 }
 
 /// Why a command failed, and what is told of that.
@@ -88,6 +90,16 @@ impl Failure {
         }
     }
 
+    /// The same, where the text names what is in the way; where there is no memory for it, this one.
+    pub fn refused_for(text: Result<String, AllocError>, short: &'static str) -> Failure {
+        match text {
+            Ok(text) => Failure {
+                why: Why::RefusedFor(text),
+            },
+            Err(_) => Failure::refused(short),
+        }
+    }
+
     /// A mirror was not restored from standard input: a second line names that, where a line of
     /// it is the fault.
     pub(crate) fn of_saved_tables(fault: Fault) -> Failure {
@@ -120,6 +132,15 @@ fn tell_more(rt: &HostRuntime, name: &'static str, fault: Fault, what: &str) -> 
     }
 }
 
+/// Tells why options can't be taken, and answers the status.
+fn tell_refused(rt: &HostRuntime, name: &'static str, text: &str) -> u8 {
+    if Reporter::new(rt, name, false).line(text) {
+        REFUSED
+    } else {
+        Fault::Write.status()
+    }
+}
+
 /// Tells why the command of this name failed, where it did, and answers the status.
 pub fn ended(rt: &HostRuntime, name: &'static str, outcome: Result<(), Failure>) -> u8 {
     let Err(failure) = outcome else {
@@ -132,12 +153,7 @@ pub fn ended(rt: &HostRuntime, name: &'static str, outcome: Result<(), Failure>)
             tell_about(name, fault, address, &mut Errors::new(rt))
         }
         Why::About(fault, what) => tell_more(rt, name, fault, what.as_str()),
-        Why::Refused(text) => {
-            if Reporter::new(rt, name, false).line(text) {
-                REFUSED
-            } else {
-                Fault::Write.status()
-            }
-        }
+        Why::Refused(text) => tell_refused(rt, name, text),
+        Why::RefusedFor(text) => tell_refused(rt, name, text.as_str()),
     }
 }

@@ -238,10 +238,10 @@ struct Plan {
 }
 
 /// Why a state file is not taken.
-fn of_state(fault: StateFault) -> Failure {
+fn of_state(alloc: Global, path: &str, fault: &StateFault) -> Failure {
     match fault {
         StateFault::Memory => Failure::from(Fault::Memory),
-        _ => Failure::refused(fault.text()),
+        _ => Failure::refused_for(fault.told(alloc, path), fault.text()),
     }
 }
 
@@ -252,7 +252,7 @@ fn kept(rt: &HostRuntime, options: &LiveOptions<'_>) -> Result<Option<Kept>, Fai
     };
     match take_state(rt, path, options.contest, options.is_new) {
         Ok(kept) => Ok(Some(kept)),
-        Err(fault) => Err(of_state(fault)),
+        Err(fault) => Err(of_state(rt.alloc(), path, &fault)),
     }
 }
 
