@@ -359,12 +359,12 @@ late_stays nodes old new key keeps broadcast = by (kept_was old new key (seat_at
     by (inl same) = same_stays nodes old new key same broadcast
     by (inr none) = cut_stays nodes old new key none
 
-pub ended_stays : (nodes : List NodeState) (old new : Hub) (key : Key) (log : Log) (now : ℕ)
-    → (Ends log now (seat_at old.seats.slab key) (seat_at new.seats.slab key) ⊎ (seat_at new.seats.slab key ≡ None))
+pub ended_stays : (nodes : List NodeState) (old new : Hub) (key : Key) (log : Log) (told : Option (List ℕ)) (now : ℕ)
+    → (Ends log told now (seat_at old.seats.slab key) (seat_at new.seats.slab key) ⊎ (seat_at new.seats.slab key ≡ None))
     → (IsStillSeated nodes old new key ⊎ (seat_at new.seats.slab key ≡ None)) → Stays nodes old new key
-ended_stays nodes old new key log now (inl ends) (inl still) = watched_stays nodes old new key _ ends still
-ended_stays nodes old new key log now (inl ends) (inr none) = cut_stays nodes old new key none
-ended_stays nodes old new key log now (inr none) still = cut_stays nodes old new key none
+ended_stays nodes old new key log told now (inl ends) (inl still) = watched_stays nodes old new key _ ends still
+ended_stays nodes old new key log told now (inl ends) (inr none) = cut_stays nodes old new key none
+ended_stays nodes old new key log told now (inr none) still = cut_stays nodes old new key none
 
 -- the seats stay
 pub said_stays : (nodes : List NodeState) (old new : Hub) (key : Key) → new.seats ≡ old.seats → IsStillSeated nodes old new key → Stays nodes old new key

@@ -37,6 +37,8 @@ pub(crate) struct Conn {
     /// that they are of, where others share it.
     pub(crate) owes: usize,
     pub(crate) text: Option<u64>,
+    /// When a screen sent its end: mostly it went away.
+    pub(crate) ended: Option<u64>,
     pub(crate) peer: SocketAddr,
     pub(crate) since: u64,
     pub(crate) status: u16,
@@ -56,6 +58,7 @@ impl Conn {
             has_more: false,
             owes: 0,
             text: None,
+            ended: None,
             peer,
             since: now,
             status: 0,
@@ -72,6 +75,15 @@ impl Conn {
         }
         if is_writable {
             self.is_blocked = false;
+        }
+    }
+
+    /// A screen sends no more.
+    pub(crate) fn end_input(&mut self, now: u64)
+        ensures { self.new.key ≡ self.old.key }
+    {
+        if self.stage == Stage::Watches {
+            self.ended = Some(now);
         }
     }
 
@@ -107,6 +119,33 @@ impl Conn {
             Stage::Lingers { until, .. } => until <= now,
             Stage::Asks => false,
             Stage::Watches => false,
+        }
+    }
+
+    /// The one of two places at which a connection has lingered for longer, and until when: that of
+    /// another one, and its own.
+    pub(crate) fn lingers_longer(
+        &self,
+        other: Option<(u64, usize)>,
+        at: usize,
+    ) -> Option<(u64, usize)> {
+        let Stage::Lingers { until, .. } = self.stage else {
+            return other;
+        };
+        match other {
+            Some((earlier, _)) if earlier <= until => other,
+            _ => Some((until, at)),
+        }
+    }
+
+    /// The one of two screens that sent its end first, and when: another one, and this one.
+    pub(crate) fn ended_before(&self, other: Option<(u64, Key)>) -> Option<(u64, Key)> {
+        let (Some(ended), Some(key)) = (self.ended, self.key) else {
+            return other;
+        };
+        match other {
+            Some((earlier, _)) if earlier <= ended => other,
+            _ => Some((ended, key)),
         }
     }
 }
