@@ -15,7 +15,7 @@ use Rattle.feed_hub.specs.Broadcast.{IsServedBy}
 use Rattle.feed_hub.specs.declared.hub.Heard.{Heard}
 use Rattle.feed_hub.specs.Hub.{IsSeated, IsStillSeated, ChangesOnly, prefix_of, prefix_at, IsAnsweredBy, HearsAt}
 use Rattle.feed_hub.specs.Log.{Log}
-use Rattle.feed_hub.specs.Seats.{seat_at, Watched, KeepsThose, Ends}
+use Rattle.feed_hub.specs.Seats.{seat_at, Watched, KeepsThose, Ends, IsAskingSeat}
 use Rattle.feed_hub.specs.Steps.{taken}
 use Rattle.feed_live.specs.declared.conn.Conn.{Conn}
 use Rattle.feed_live.specs.declared.screens.Screens.{Screens}
@@ -304,6 +304,29 @@ serving_finished {nodes} {contest} old new conns conns_new before after at key k
     (λ other k away is. others_stay nodes old new key k changes (apart serving at other key k keyed away is))
     (same_next _ _ changes.next)
     (subst (λ k. Stands nodes contest new k (after at)) (sym free) (subst (λ s. IsSent nodes contest s) (sym (same at)) (sent_of sits)))
+    (λ k is. let no : Some None ≡ Some (Some k) = sym free ∙ is in absurd (cc))
+    serving
+
+-- a connection whose request comes was sent nothing
+asks_opened : {nodes : List NodeState} {contest : List ℕ} {hub : Hub} {key : Key} {socket : Option Socket} → Sits nodes contest hub key socket
+    → IsAskingSeat (seat_at hub.seats.slab key) → IsSocket socket (Opened [])
+asks_opened (asks asking sits is) asked = is
+asks_opened (watches answer handed given seated is) asked = absurd (subst IsAskingSeat seated.1 asked)
+asks_opened (cut none sent) asked = absurd (subst IsAskingSeat none asked)
+
+-- one whose request comes is told that there are too many, and has no key any more
+pub serving_refused : {nodes : List NodeState} {contest : List ℕ} (old new : Hub) (conns conns_new : Slab Conn) (before after : AllSockets) (at : ℕ) (key : Key)
+    → key_at conns at ≡ Some (Some key) → IsAskingSeat (seat_at old.seats.slab key)
+    → ((other : ℕ) → other ≢ at → key_at conns_new other ≡ key_at conns other) → key_at conns_new at ≡ keyless (key_at conns at)
+    → ChangesOnly old new key → (IsSocket (before at) (Opened []) → IsSent nodes contest (after at)) → OtherSockets before after at
+    → Serving nodes contest old conns before → Serving nodes contest new conns_new after
+serving_refused {nodes} {contest} old new conns conns_new before after at key keyed asked keys without changes sent others serving =
+    let free : key_at conns_new at ≡ Some None = without ∙ ap keyless keyed in
+    let sits : Sits nodes contest old key (before at) = subst (λ k. Stands nodes contest old k (before at)) keyed (serving.each at) in
+    serving_at at keys others
+    (λ other k away is. others_stay nodes old new key k changes (apart serving at other key k keyed away is))
+    (same_next _ _ changes.next)
+    (subst (λ k. Stands nodes contest new k (after at)) (sym free) (sent (asks_opened sits asked)))
     (λ k is. let no : Some None ≡ Some (Some k) = sym free ∙ is in absurd (cc))
     serving
 

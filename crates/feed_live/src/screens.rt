@@ -1,11 +1,11 @@
 //! The screens: each has a socket, a connection at the same place, and a seat in the hub.
 
-ghost use Rattle.std.specs.Prelude.{◌≡◌, ◌+◌, ◌↔◌, [], ℕ, List, None, Contains, min, false, IsTrue};
+ghost use Rattle.std.specs.Prelude.{◌≡◌, ◌+◌, [], ℕ, List, None, Some, Contains, min, false, IfSome};
 ghost use Rattle.slab.specs.Slab.{get};
 ghost use Rattle.feed_node.specs.States.{NodeState};
 ghost use Rattle.feed_device.specs.Sockets.{Closed, Opened, AllSockets, IsSocket, OtherSockets};
 ghost use Rattle.feed_live.specs.Serving.{Serving, StillServing, SameSeating, Leaves, IsSent, key_at, IsGreeted};
-ghost use Rattle.feed_live.specs.Held.{answerer, is_over, SameMirrors, IsAnswering, Waits};
+ghost use Rattle.feed_live.specs.Held.{answerer, is_over, SameMirrors, Waits};
 
 mod coming;
 mod sending;
@@ -25,15 +25,25 @@ use std::net::SocketAddr;
 /// How many bytes one read takes.
 pub(crate) const PIECE: usize = 4096;
 
-/// While so many bytes are kept for screens that have yet to take their answers, no further request
-/// is read. A text that many share counts once: that of a large snapshot is made again only once it
-/// has changed. Those that wait are late as others are.
+/// While so many bytes are kept for screens that have yet to take their answers, no further text is
+/// made: who asks for everything is told that there are too many, where no text can be shared. A
+/// text that many share counts once: that of a large snapshot is made again only once it has
+/// changed.
 const MOST_OWED: usize = 67_108_864;
 
 /// What is sent where there are as many screens as there may be.
 pub(crate) const FULL: &[u8] = b"HTTP/1.1 503 Service Unavailable\r\n\
 Content-Type: application/json\r\nContent-Length: 41\r\nConnection: close\r\n\r\n\
 {\"code\":503,\"message\":\"too many screens\"}";
+
+/// What came of bytes of a request.
+#[derive(Clone, Copy, PartialEq, Eq)]
+pub(crate) enum Hearing {
+    /// They were heard.
+    Goes,
+    /// A text would have to be made, and too much is owed.
+    TooMuch,
+}
 
 /// What came and went since that was told last.
 #[derive(Clone, Copy)]
@@ -276,24 +286,16 @@ impl Screens {
 
     /// Whether there may be something to read at a place that is to be read now.
     fn may_read(&self, shown: &Shown<'_>, at: usize, now: u64) -> bool
-        ensures { Waits (get self.now.conns at) shown.now.is_held shown.now.hold self.now.owed now
+        ensures { Waits (get self.now.conns at) shown.now.is_held shown.now.hold now
             → result ≡ false }
     {
         let Some(conn) = self.conns.get(at) else {
             return false;
         };
-        if conn.stage == Stage::Asks && !self.may_answer(shown, conn.since, now) {
+        if conn.stage == Stage::Asks && !shown.is_answering(conn.since, now) {
             return false;
         }
         conn.has_input
-    }
-
-    /// Whether a request that came at a time can be answered now.
-    fn may_answer(&self, shown: &Shown<'_>, since: u64, now: u64) -> bool
-        ensures { IsTrue result ↔ IsAnswering shown.now.is_held shown.now.hold self.now.owed
-            since now }
-    {
-        self.owed < MOST_OWED && shown.is_answering(since, now)
     }
 
     /// So many bytes are kept for the connection at a place, of a text with a number where others
@@ -324,16 +326,13 @@ impl Screens {
         false
     }
 
-    /// Nothing is kept for it any more. Requests that waited for that are looked at.
+    /// Nothing is kept for it any more.
     fn pay(&mut self, at: usize)
         ensures { SameSeating self.old self.new }
     {
         let Some(conn) = self.conns.get_mut(at) else {
             return;
         };
-        if self.owed >= MOST_OWED {
-            self.has_more = true;
-        }
         let bytes = mem::replace(&mut conn.owes, 0);
         let text = conn.text.take();
         if !self.is_kept(text) {
@@ -363,8 +362,8 @@ impl Screens {
             answers.old.blank.mirror.node)
             → StillServing nodes shown.now.contest.now self.old self.new
             (S.socket sockets.old) (S.socket sockets.new) }
-        ensures waits { Waits (get self.old.conns at) shown.now.is_held shown.now.hold
-            self.old.owed now → (self.new ≡ self.old) × (sockets.new ≡ sockets.old) × (answers.new ≡ answers.old) }
+        ensures waits { Waits (get self.old.conns at) shown.now.is_held shown.now.hold now
+            → (self.new ≡ self.old) × (sockets.new ≡ sockets.old) × (answers.new ≡ answers.old) }
         ensures mirrors { SameMirrors answers.old answers.new }
     {
         if !self.may_read(shown, at, now) {
@@ -451,13 +450,15 @@ impl Screens {
             }
             return;
         };
-        if !self.hear_of(alloc, answers, shown, key, at, piece, now) {
-            self.end(sockets, told, at, How::Memory, now);
+        match self.hear_of(alloc, answers, shown, key, at, piece, now) {
+            Ok(Hearing::Goes) => {}
+            Ok(Hearing::TooMuch) => self.turn_away(sockets, told, at, now),
+            Err(_) => self.end(sockets, told, at, How::Memory, now),
         }
     }
 
     /// Hands bytes of a request to the hub, which answers it as one does that shows nothing where
-    /// requests are held. Whether there was memory for them.
+    /// requests are held.
     fn hear_of(
         &mut self,
         alloc: Global,
@@ -467,7 +468,7 @@ impl Screens {
         at: usize,
         piece: &[u8],
         now: u64,
-    ) -> bool
+    ) -> Result<Hearing, AllocError>
         ensures serving { (nodes : List NodeState) (sockets : AllSockets)
             → Contains nodes (answerer shown.now.is_held answers.old.shown.mirror.node
             answers.old.blank.mirror.node)
@@ -482,7 +483,9 @@ impl Screens {
     }
 
     /// The key of the connection at a place whose request comes.
-    fn asking(&self, at: usize) -> Option<Key> {
+    pub(crate) fn asking(&self, at: usize) -> Option<Key>
+        ensures { IfSome result (λ key. key_at self.now.conns at ≡ Some (Some key)) }
+    {
         let conn = self.conns.get(at)?;
         if conn.stage != Stage::Asks {
             return None;
@@ -500,7 +503,7 @@ impl Screens {
         }
     }
 
-    /// Hands bytes of a request to the hub. Whether there was memory for them.
+    /// Hands bytes of a request to the hub.
     fn hear(
         &mut self,
         alloc: Global,
@@ -510,7 +513,7 @@ impl Screens {
         at: usize,
         piece: &[u8],
         now: u64,
-    ) -> bool
+    ) -> Result<Hearing, AllocError>
         ensures serving { (nodes : List NodeState) (sockets : AllSockets)
             → Contains nodes answering.old.mirror.node
             → StillServing nodes contest.now self.old self.new sockets sockets }
@@ -518,13 +521,28 @@ impl Screens {
     {
         let mut rest = piece;
         for _ in 0..piece.len() {
-            match self.hear_once(alloc, answering, contest, key, at, rest, now) {
-                Ok(0) => return true,
-                Ok(taken) => rest = rest.get(taken..).unwrap_or(&[]),
-                Err(_) => return false,
+            if self.has_no_room(alloc, answering, contest, key, rest) {
+                return Ok(Hearing::TooMuch);
+            }
+            match self.hear_once(alloc, answering, contest, key, at, rest, now)? {
+                0 => return Ok(Hearing::Goes),
+                taken => rest = rest.get(taken..).unwrap_or(&[]),
             }
         }
-        true
+        Ok(Hearing::Goes)
+    }
+
+    /// Whether these bytes end a request for which there is no room: a text has to be made for it,
+    /// and too much is owed already.
+    fn has_no_room(
+        &self,
+        alloc: Global,
+        answering: &Answering,
+        contest: &str,
+        key: Key,
+        piece: &[u8],
+    ) -> bool {
+        self.owed >= MOST_OWED && self.hub.makes_text(alloc, answering, contest, key, piece)
     }
 
     /// Hands some bytes of a request to the hub. How many it took, and none where it takes no more.
@@ -547,19 +565,20 @@ impl Screens {
         let Some(status) = heard.status else {
             return Ok(heard.taken);
         };
-        self.is_answered(at, status);
+        self.is_answered(at, status, now);
         let kept = self.hub.prefix(key).len();
         let text = heard.is_shared.then_some(answering.made());
         self.owe(at, kept, text);
         Ok(0)
     }
 
-    fn is_answered(&mut self, at: usize, status: u16)
+    fn is_answered(&mut self, at: usize, status: u16, now: u64)
         ensures { SameSeating self.old self.new }
     {
         self.totals.answer(status);
         if let Some(conn) = self.conns.get_mut(at) {
             conn.stage = Stage::Watches;
+            conn.answered = now;
             conn.status = status;
         }
     }

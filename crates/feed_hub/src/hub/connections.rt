@@ -177,6 +177,29 @@ impl Hub {
         Ok(heard)
     }
 
+    /// Whether the next bytes of a connection end a request for which a text of the snapshot has to
+    /// be made, since there is none that it can share.
+    pub fn makes_text(
+        &self,
+        alloc: Global,
+        answering: &Answering,
+        contest: &str,
+        key: Key,
+        piece: &[u8],
+    ) -> bool
+        ensures { IsTrue result → IsAskingSeat (seat_at self.now.seats.slab key) }
+    {
+        let Some(Seat::Asks(asking)) = self.seats.get(key) else {
+            return false;
+        };
+        match asking.with(alloc, piece) {
+            Ok(head) => {
+                answering.makes_text(alloc, head.as_slice(), contest, self.broadcast.framing())
+            }
+            Err(_) => false,
+        }
+    }
+
     /// Gets what comes next for a screen that has been handed all of its own; one that is as far as
     /// the log follows that from then on. Where memory runs out the connection is cut.
     pub fn refill(

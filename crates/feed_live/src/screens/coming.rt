@@ -202,6 +202,59 @@ impl Screens {
         self.is_full = true;
     }
 
+    /// A request for which there is no room is told that there are too many. Those who take their
+    /// texts too slowly are cut, so that who comes next finds room.
+    pub(crate) fn turn_away<S: Sockets>(
+        &mut self,
+        sockets: &mut S,
+        told: &mut Telling,
+        at: usize,
+        now: u64,
+    )
+        ensures serving { (nodes : List NodeState) (contest : List ℕ)
+            → StillServing nodes contest self.old self.new
+            (S.socket sockets.old) (S.socket sockets.new) }
+    {
+        self.refuse_at(sockets, told, at, now);
+        self.cut_slow(sockets, told, now);
+    }
+
+    /// The connection at a place, whose request comes, is told that there are too many.
+    fn refuse_at<S: Sockets>(
+        &mut self,
+        sockets: &mut S,
+        told: &mut Telling,
+        at: usize,
+        now: u64,
+    )
+        ensures serving { (nodes : List NodeState) (contest : List ℕ)
+            → StillServing nodes contest self.old self.new
+            (S.socket sockets.old) (S.socket sockets.new) }
+    {
+        let Some(key) = self.asking(at) else {
+            return;
+        };
+        if !self.hub.is_asking(key) {
+            return;
+        }
+        self.hub.leave(key);
+        self.refuse(sockets, told, at);
+        self.linger(at, now);
+    }
+
+    /// Cuts those who take their texts too slowly.
+    fn cut_slow<S: Sockets>(&mut self, sockets: &mut S, told: &mut Telling, now: u64)
+        ensures serving { (nodes : List NodeState) (contest : List ℕ)
+            → StillServing nodes contest self.old self.new
+            (S.socket sockets.old) (S.socket sockets.new) }
+    {
+        for at in 0..self.conns.capacity() {
+            if self.conns.get(at).is_some_and(|conn| conn.is_slow(now)) {
+                self.end(sockets, told, at, How::Cut, now);
+            }
+        }
+    }
+
     /// Closes a connection that was refused just now, where its request has come whole: nothing
     /// more comes then, so that it loses nothing of its answer. Else it lingers.
     fn dismiss<S: Sockets>(&mut self, sockets: &mut S, told: &mut Telling, at: usize, now: u64)

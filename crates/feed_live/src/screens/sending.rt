@@ -158,7 +158,7 @@ impl Screens {
     }
 
     /// The connection at a place has no key from here on.
-    fn linger(&mut self, at: usize, now: u64)
+    pub(crate) fn linger(&mut self, at: usize, now: u64)
         ensures key { key_at self.new.conns at ≡ keyless (key_at self.old.conns at) }
         ensures others { (other : ℕ) → other ≢ at
             → key_at self.new.conns other ≡ key_at self.old.conns other }
