@@ -127,9 +127,7 @@ impl Answering {
             return false;
         }
         match reply_to(alloc, head, self.node(), contest, framing, 0) {
-            Ok(Reply::Snapshot(framing, _)) => {
-                framing != self.framing || self.opening.is_none()
-            }
+            Ok(Reply::Snapshot(framing, _)) => { framing != self.framing || self.opening.is_none() }
             _ => false,
         }
     }
