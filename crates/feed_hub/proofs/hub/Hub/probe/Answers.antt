@@ -1,4 +1,4 @@
-use Rattle.std.proofs.Common.{◌≡◌, ◌+◌, ◌≤◌, ◌∙◌, sym, subst, Some, arith}
+use Rattle.std.proofs.Common.{◌≡◌, ◌+◌, ◌≤◌, Some, arith}
 use Rattle.slab.specs.Slab.{slab_len}
 use Rattle.feed_hub.specs.declared.seats.Seat.TheVariants.{Watches}
 use Rattle.feed_hub.proofs.HubLemmas.{fine_at, changed_on, kept_fine}
