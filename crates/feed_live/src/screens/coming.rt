@@ -220,13 +220,7 @@ impl Screens {
     }
 
     /// The connection at a place, whose request comes, is told that there are too many.
-    fn refuse_at<S: Sockets>(
-        &mut self,
-        sockets: &mut S,
-        told: &mut Telling,
-        at: usize,
-        now: u64,
-    )
+    fn refuse_at<S: Sockets>(&mut self, sockets: &mut S, told: &mut Telling, at: usize, now: u64)
         ensures serving { (nodes : List NodeState) (contest : List ℕ)
             → StillServing nodes contest self.old self.new
             (S.socket sockets.old) (S.socket sockets.new) }
