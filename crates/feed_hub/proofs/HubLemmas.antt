@@ -167,6 +167,12 @@ module _ (common : Framing) (told : Option (List ℕ)) (log : Log) (s : Screen)
       let kept : idled now s ≡ s = idled_way now s at (ap (λ x. x.way) (sym same) ∙ way) in
       subst (λ x. IsFollowed common told log x.framing at) (sym (same ∙ kept)) (fine at (ap (λ x. x.way) (sym (same ∙ kept)) ∙ way))
 
+  pub kept_fine : (t : Screen) → t.way ≡ s.way → t.framing ≡ s.framing → IsFine common told log (Watches t)
+  kept_fine t same_way same_framing u at is way =
+      let same : t ≡ u = cc in
+      subst (λ f. IsFollowed common told log f at) (sym same_framing ∙ ap (λ x. x.framing) same)
+      (fine at (sym same_way ∙ ap (λ x. x.way) same ∙ way))
+
   pub joined_fine : (node : NodeState) (now : ℕ) (t : Screen)
       → ((at : ℕ) → t.way ≡ OnLog at → (t ≡ refilled node now s) ⊎ IsFollowed common told log t.framing at) → IsFine common told log (Watches t)
   joined_fine node now t joins u at is way = by (joins at (ap (λ x. x.way) same ∙ way))
@@ -235,10 +241,10 @@ module _ (seats : Slab Seated) where
   says_on node b new Gone on says = subst (λ x. AreOnLog x.framing x.told x.log seats) (sym says.same) on
 
 -- who is left once all have left is not on the log
-pub left_on : (log : Log) (now : ℕ) (old new : Slab Seated) (common : Framing) (told : Option (List ℕ)) (later : Log)
-    → ((key : Key) → Ends log now (seat_at old key) (seat_at new key) ⊎ (seat_at new key ≡ None)) → AreOnLog common told later new
-left_on log now old new common told later left key s at sits way =
-    absurd (left_off log now (seat_at old key) (seat_at new key) s at (left key) sits way)
+pub left_on : (log : Log) (was : Option (List ℕ)) (now : ℕ) (old new : Slab Seated) (common : Framing) (told : Option (List ℕ)) (later : Log)
+    → ((key : Key) → Ends log was now (seat_at old key) (seat_at new key) ⊎ (seat_at new key ≡ None)) → AreOnLog common told later new
+left_on log was now old new common told later left key s at sits way =
+    absurd (left_off log was now (seat_at old key) (seat_at new key) s at (left key) sits way)
 
 not_behind_at : (place at : ℕ) (way : Way) → IsNotBehind place way → way ≡ OnLog at → place ≤ at
 not_behind_at place at way holds e = subst (IsNotBehind place) e holds
@@ -383,16 +389,16 @@ joined_over t u r f g o p l m at ef eo el er (inr followed) =
 -- whoever was seated and served is so once all have ended, or is cut
 pub ends_seated : (nodes : List NodeState) (b new : Broadcast) (now : ℕ) (old seats : Option Seat)
     → new.told ≡ None → new.framing ≡ b.framing
-    → Ends b.log now old seats ⊎ (seats ≡ None)
+    → Ends b.log b.told now old seats ⊎ (seats ≡ None)
     → ((answer : AnswerParts) (handed : List ℕ) → ((s : Screen) × (old ≡ Some (Watches s)) × IsServedBy nodes b answer handed s)
     → (s : Screen) × (seats ≡ Some (Watches s)) × IsServedBy nodes new answer handed s) ⊎ (seats ≡ None)
 ends_seated nodes b new now old seats told framing (inr none) = inr none
 ends_seated nodes b new now old seats told framing (inl ends) = inl (λ answer handed seated.
-    let here : Ends b.log now (Some (Watches seated.0)) seats = subst (λ o. Ends b.log now o seats) seated.1 ends in
+    let here : Ends b.log b.told now (Some (Watches seated.0)) seats = subst (λ o. Ends b.log b.told now o seats) seated.1 ends in
     let served = ended_served b.told seated.0 now new.log None seated.2 in
-    let over : IsServedBy nodes new answer handed (ended b.log now seated.0) =
-    subst (λ o. IsServed nodes new.framing new.log o answer handed (ended b.log now seated.0)) (sym told)
-    (subst (λ f. IsServed nodes f new.log None answer handed (ended b.log now seated.0)) (sym framing) served) in
+    let over : IsServedBy nodes new answer handed (ended b.log b.told now seated.0) =
+    subst (λ o. IsServed nodes new.framing new.log o answer handed (ended b.log b.told now seated.0)) (sym told)
+    (subst (λ f. IsServed nodes f new.log None answer handed (ended b.log b.told now seated.0)) (sym framing) served) in
     (here.0, here.1, subst (λ x. IsServedBy nodes new answer handed x) (sym here.2) over))
 
 -- whoever was seated and served is so once the log was trimmed, or is cut

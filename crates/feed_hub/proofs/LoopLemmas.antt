@@ -1,5 +1,5 @@
 -- Seats one after the other.
-use Rattle.std.proofs.Common.{◌≡◌, ◌≢◌, refl, sym, ap, ◌∙◌, subst, ℕ, ◌⊎◌, Bool, true, false, Option, Some, None, inl, inr, ◌≤◌, ◌<◌, ◌+◌, length, arith}
+use Rattle.std.proofs.Common.{◌≡◌, ◌≢◌, refl, sym, ap, ◌∙◌, subst, ℕ, ◌⊎◌, List, Bool, true, false, Option, Some, None, inl, inr, ◌≤◌, ◌<◌, ◌+◌, length, arith}
 use Rattle.std.specs.Prelude.{◌==◌}
 use Rattle.std.proofs.lemmas.Bool.{cases_lt}
 use Rattle.std.proofs.lemmas.Bool.Decides.{eqb_tells}
@@ -169,34 +169,34 @@ module _ (seats : Slab Seated) (end index least : ℕ) (so_far : LeastBelow seat
 -- ---- whose body ends
 
 -- so far below an index
-pub record LeaveBelow (log : Log) (now index : ℕ) (old seats : Slab Seated) (failed : Bool) : Type 0 where
-  pub ok : failed ≡ false → (key : Key) → key.index < index → Ends log now (seat_at old key) (seat_at seats key)
-  pub left : (key : Key) → key.index < index → Ends log now (seat_at old key) (seat_at seats key) ⊎ (seat_at seats key ≡ None)
+pub record LeaveBelow (log : Log) (told : Option (List ℕ)) (now index : ℕ) (old seats : Slab Seated) (failed : Bool) : Type 0 where
+  pub ok : failed ≡ false → (key : Key) → key.index < index → Ends log told now (seat_at old key) (seat_at seats key)
+  pub left : (key : Key) → key.index < index → Ends log told now (seat_at old key) (seat_at seats key) ⊎ (seat_at seats key ≡ None)
   pub later : (key : Key) → index ≤ key.index → seat_at seats key ≡ seat_at old key
   pub err : failed ≡ true → IsSomeCut old seats
   pub len : slab_len seats ≤ slab_len old
 
 -- whoever ends is not on the log
-ends_off : (log : Log) (now : ℕ) (old : Option Seat) (s : Screen) (at : ℕ) → Ends log now old (Some (Watches s)) → s.way ≡ OnLog at → ⊥
-ends_off log now None s at e w = cc
-ends_off log now (Some (Asks asking)) s at e w = cc
-ends_off log now (Some (Watches t)) s at e w =
+ends_off : (log : Log) (told : Option (List ℕ)) (now : ℕ) (old : Option Seat) (s : Screen) (at : ℕ) → Ends log told now old (Some (Watches s)) → s.way ≡ OnLog at → ⊥
+ends_off log told now None s at e w = cc
+ends_off log told now (Some (Asks asking)) s at e w = cc
+ends_off log told now (Some (Watches t)) s at e w =
     let same : s ≡ e.0 = (let is : Some (Watches s) ≡ Some (Watches e.0) = e.1 in cc) in
-    ended_is_off log now t at (ap (λ x. x.way) (sym (same ∙ e.2)) ∙ w)
+    ended_is_off log told now t at (ap (λ x. x.way) (sym (same ∙ e.2)) ∙ w)
 
-pub left_off : (log : Log) (now : ℕ) (old new : Option Seat) (s : Screen) (at : ℕ) → Ends log now old new ⊎ (new ≡ None) → new ≡ Some (Watches s) → s.way ≡ OnLog at → ⊥
-left_off log now old new s at (inl e) is w = ends_off log now old s at (subst (Ends log now old) is e) w
-left_off log now old new s at (inr none) is w = let no : None ≡ Some (Watches s) = sym none ∙ is in cc
+pub left_off : (log : Log) (told : Option (List ℕ)) (now : ℕ) (old new : Option Seat) (s : Screen) (at : ℕ) → Ends log told now old new ⊎ (new ≡ None) → new ≡ Some (Watches s) → s.way ≡ OnLog at → ⊥
+left_off log told now old new s at (inl e) is w = ends_off log told now old s at (subst (Ends log told now old) is e) w
+left_off log told now old new s at (inr none) is w = let no : None ≡ Some (Watches s) = sym none ∙ is in cc
 
-pub still_has_all : (log : Log) (now index : ℕ) (old seats : Slab Seated) (failed : Bool) → LeaveBelow log now index old seats failed → HasAll log old → HasAll log seats
-still_has_all log now index old seats failed so_far all key s at sits way = by (cases_lt key.index index)
+pub still_has_all : (log : Log) (told : Option (List ℕ)) (now index : ℕ) (old seats : Slab Seated) (failed : Bool) → LeaveBelow log told now index old seats failed → HasAll log old → HasAll log seats
+still_has_all log told now index old seats failed so_far all key s at sits way = by (cases_lt key.index index)
   where
     by : (key.index < index) ⊎ (index ≤ key.index) → Has log at
-    by (inl less) = absurd (left_off log now (seat_at old key) (seat_at seats key) s at (so_far.left key less) sits way)
+    by (inl less) = absurd (left_off log told now (seat_at old key) (seat_at seats key) s at (so_far.left key less) sits way)
     by (inr past) = all key s at (sym (so_far.later key past) ∙ sits) way
 
-pub none_left : (log : Log) (now : ℕ) (old : Slab Seated) → LeaveBelow log now 0 old old false
-none_left log now old =
+pub none_left : (log : Log) (told : Option (List ℕ)) (now : ℕ) (old : Slab Seated) → LeaveBelow log told now 0 old old false
+none_left log told now old =
     record {
       ok = λ _ key less. absurd (omega (arith, less));
       left = λ key less. absurd (omega (arith, less));
@@ -205,7 +205,7 @@ none_left log now old =
       len = omega arith;
     }
 
-module _ (log : Log) (now index : ℕ) (old seats new : Slab Seated) (failed : Bool) (so_far : LeaveBelow log now index old seats failed)
+module _ (log : Log) (told : Option (List ℕ)) (now index : ℕ) (old seats new : Slab Seated) (failed : Bool) (so_far : LeaveBelow log told now index old seats failed)
     (others : (key : Key) → key.index ≢ index → seat_at new key ≡ seat_at seats key) (fewer : slab_len new ≤ slab_len seats) where
   shorter : slab_len new ≤ slab_len old
   shorter = (let a : slab_len new ≤ slab_len seats = fewer in let b : slab_len seats ≤ slab_len old = so_far.len in omega arith)
@@ -217,8 +217,8 @@ module _ (log : Log) (now index : ℕ) (old seats new : Slab Seated) (failed : B
   below_it key less differ = (let far : key.index ≢ index = differ in grind (arith, less, far))
 
   -- the one at this index has ended
-  ended_here : ((key : Key) → key.index ≡ index → Ends log now (seat_at seats key) (seat_at new key)) → (key : Key) → key.index ≡ index → Ends log now (seat_at old key) (seat_at new key)
-  ended_here here key same = subst (λ o. Ends log now o (seat_at new key)) (so_far.later key (omega (arith, same))) (here key same)
+  ended_here : ((key : Key) → key.index ≡ index → Ends log told now (seat_at seats key) (seat_at new key)) → (key : Key) → key.index ≡ index → Ends log told now (seat_at old key) (seat_at new key)
+  ended_here here key same = subst (λ o. Ends log told now o (seat_at new key)) (so_far.later key (omega (arith, same))) (here key same)
 
   still_cut : (key : Key) → IsCut old seats key → key.index ≢ index → IsCut old new key
   still_cut key c differ = record { screen = c.screen; sat = c.sat; follows_log = c.follows_log; cut = others key differ ∙ c.cut }
@@ -236,7 +236,7 @@ module _ (log : Log) (now index : ℕ) (old seats new : Slab Seated) (failed : B
   cut_before key c same =
       let none : Some (Watches c.screen) ≡ None = sym c.sat ∙ sym (so_far.later key (omega (arith, same))) ∙ c.cut in absurd (cc)
 
-  pub one_leaves : ((key : Key) → key.index ≡ index → Ends log now (seat_at seats key) (seat_at new key)) → LeaveBelow log now (index + 1) old new failed
+  pub one_leaves : ((key : Key) → key.index ≡ index → Ends log told now (seat_at seats key) (seat_at new key)) → LeaveBelow log told now (index + 1) old new failed
   one_leaves here =
       record {
         ok = λ f key less. ok_by f key less (eqb_tells key.index index);
@@ -247,16 +247,16 @@ module _ (log : Log) (now index : ℕ) (old seats new : Slab Seated) (failed : B
       }
     where
       ok_by : failed ≡ false → (key : Key) → key.index < index + 1
-          → (((key.index == index) ≡ true) × (key.index ≡ index)) ⊎ (((key.index == index) ≡ false) × (key.index ≢ index)) → Ends log now (seat_at old key) (seat_at new key)
+          → (((key.index == index) ≡ true) × (key.index ≡ index)) ⊎ (((key.index == index) ≡ false) × (key.index ≢ index)) → Ends log told now (seat_at old key) (seat_at new key)
       ok_by f key less (inl (_, same)) = ended_here here key same
-      ok_by f key less (inr (_, differ)) = subst (λ n. Ends log now (seat_at old key) n) (sym (others key differ)) (so_far.ok f key (below_it key less differ))
+      ok_by f key less (inr (_, differ)) = subst (λ n. Ends log told now (seat_at old key) n) (sym (others key differ)) (so_far.ok f key (below_it key less differ))
 
       left_by : (key : Key) → key.index < index + 1
-          → (((key.index == index) ≡ true) × (key.index ≡ index)) ⊎ (((key.index == index) ≡ false) × (key.index ≢ index)) → Ends log now (seat_at old key) (seat_at new key) ⊎ (seat_at new key ≡ None)
+          → (((key.index == index) ≡ true) × (key.index ≡ index)) ⊎ (((key.index == index) ≡ false) × (key.index ≢ index)) → Ends log told now (seat_at old key) (seat_at new key) ⊎ (seat_at new key ≡ None)
       left_by key less (inl (_, same)) = inl (ended_here here key same)
-      left_by key less (inr (_, differ)) = subst (λ n. Ends log now (seat_at old key) n ⊎ (n ≡ None)) (sym (others key differ)) (so_far.left key (below_it key less differ))
+      left_by key less (inr (_, differ)) = subst (λ n. Ends log told now (seat_at old key) n ⊎ (n ≡ None)) (sym (others key differ)) (so_far.left key (below_it key less differ))
 
-  pub one_is_cut : IsCutAt seats new index → LeaveBelow log now (index + 1) old new true
+  pub one_is_cut : IsCutAt seats new index → LeaveBelow log told now (index + 1) old new true
   one_is_cut c =
       record {
         ok = λ f. absurd (let no : true ≡ false = f in cc);
@@ -268,33 +268,33 @@ module _ (log : Log) (now index : ℕ) (old seats new : Slab Seated) (failed : B
       }
     where
       left_by : (key : Key) → key.index < index + 1
-          → (((key.index == index) ≡ true) × (key.index ≡ index)) ⊎ (((key.index == index) ≡ false) × (key.index ≢ index)) → Ends log now (seat_at old key) (seat_at new key) ⊎ (seat_at new key ≡ None)
+          → (((key.index == index) ≡ true) × (key.index ≡ index)) ⊎ (((key.index == index) ≡ false) × (key.index ≢ index)) → Ends log told now (seat_at old key) (seat_at new key) ⊎ (seat_at new key ≡ None)
       left_by key less (inl (_, same)) = inr (c.all key same)
-      left_by key less (inr (_, differ)) = subst (λ n. Ends log now (seat_at old key) n ⊎ (n ≡ None)) (sym (others key differ)) (so_far.left key (below_it key less differ))
+      left_by key less (inr (_, differ)) = subst (λ n. Ends log told now (seat_at old key) n ⊎ (n ≡ None)) (sym (others key differ)) (so_far.left key (below_it key less differ))
 
-nobody_ends : (log : Log) (now : ℕ) (old new : Option Seat) → old ≡ None → new ≡ old → Ends log now old new
-nobody_ends log now old new none same = subst (λ o. Ends log now o new) (sym none) (same ∙ none)
+nobody_ends : (log : Log) (told : Option (List ℕ)) (now : ℕ) (old new : Option Seat) → old ≡ None → new ≡ old → Ends log told now old new
+nobody_ends log told now old new none same = subst (λ o. Ends log told now o new) (sym none) (same ∙ none)
 
-module _ (log : Log) (now index : ℕ) (old seats : Slab Seated) (failed : Bool) (so_far : LeaveBelow log now index old seats failed) (short : length old.slots ≤ index) where
-  past_end : (key : Key) → index ≤ key.index → Ends log now (seat_at old key) (seat_at seats key)
-  past_end key past = nobody_ends log now (seat_at old key) (seat_at seats key) (nobody_past old key index short past) (so_far.later key past)
+module _ (log : Log) (told : Option (List ℕ)) (now index : ℕ) (old seats : Slab Seated) (failed : Bool) (so_far : LeaveBelow log told now index old seats failed) (short : length old.slots ≤ index) where
+  past_end : (key : Key) → index ≤ key.index → Ends log told now (seat_at old key) (seat_at seats key)
+  past_end key past = nobody_ends log told now (seat_at old key) (seat_at seats key) (nobody_past old key index short past) (so_far.later key past)
 
-  pub all_ended : failed ≡ false → (key : Key) → Ends log now (seat_at old key) (seat_at seats key)
+  pub all_ended : failed ≡ false → (key : Key) → Ends log told now (seat_at old key) (seat_at seats key)
   all_ended f key = by (cases_lt key.index index)
     where
-      by : (key.index < index) ⊎ (index ≤ key.index) → Ends log now (seat_at old key) (seat_at seats key)
+      by : (key.index < index) ⊎ (index ≤ key.index) → Ends log told now (seat_at old key) (seat_at seats key)
       by (inl less) = so_far.ok f key less
       by (inr past) = past_end key past
 
-  pub all_left : (key : Key) → Ends log now (seat_at old key) (seat_at seats key) ⊎ (seat_at seats key ≡ None)
+  pub all_left : (key : Key) → Ends log told now (seat_at old key) (seat_at seats key) ⊎ (seat_at seats key ≡ None)
   all_left key = by (cases_lt key.index index)
     where
-      by : (key.index < index) ⊎ (index ≤ key.index) → Ends log now (seat_at old key) (seat_at seats key) ⊎ (seat_at seats key ≡ None)
+      by : (key.index < index) ⊎ (index ≤ key.index) → Ends log told now (seat_at old key) (seat_at seats key) ⊎ (seat_at seats key ≡ None)
       by (inl less) = so_far.left key less
       by (inr past) = inl (past_end key past)
 
 -- whoever ends sat there before
-pub ends_was : (log : Log) (now : ℕ) (old new : Option Seat) (seat : Seat) → Ends log now old new ⊎ (new ≡ None) → new ≡ Some seat → (was : Seat) × (old ≡ Some was)
-ends_was log now old new seat (inr none) is = let no : None ≡ Some seat = sym none ∙ is in absurd (cc)
-ends_was log now None new seat (inl e) is = let no : None ≡ Some seat = sym e ∙ is in absurd (cc)
-ends_was log now (Some was) new seat (inl e) is = (was, refl)
+pub ends_was : (log : Log) (told : Option (List ℕ)) (now : ℕ) (old new : Option Seat) (seat : Seat) → Ends log told now old new ⊎ (new ≡ None) → new ≡ Some seat → (was : Seat) × (old ≡ Some was)
+ends_was log told now old new seat (inr none) is = let no : None ≡ Some seat = sym none ∙ is in absurd (cc)
+ends_was log told now None new seat (inl e) is = let no : None ≡ Some seat = sym e ∙ is in absurd (cc)
+ends_was log told now (Some was) new seat (inl e) is = (was, refl)

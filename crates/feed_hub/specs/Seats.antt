@@ -101,8 +101,8 @@ HasAll log seats = (key : Key) (s : Screen) (at : ℕ)
     → seat_at seats key ≡ Some (Watches s) → s.way ≡ OnLog at → Has log at
 
 -- a screen is sent what it has, what the log has for it and the end of the body, and no more
-abbrev pub Ends : Log → ℕ → Option Seat → Option Seat → Type 0
-Ends log now old new = Watched (λ s t. t ≡ ended log now s) old new
+abbrev pub Ends : Log → Option (List ℕ) → ℕ → Option Seat → Option Seat → Type 0
+Ends log told now old new = Watched (λ s t. t ≡ ended log told now s) old new
 
 -- a screen whose body hadn't ended sat at this key, and is cut
 pub record IsCut (old new : Slab Seated) (key : Key) : Type 0 where

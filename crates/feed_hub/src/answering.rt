@@ -7,7 +7,8 @@ ghost use Rattle.feed_hub.specs.Answering.{IsOpeningOf};
 
 use crate::screen::bytes_of;
 use bytes::Bytes;
-use feed_answer::{Framing, snapshot_opening};
+use feed_answer::{Framing, Reply, reply_to, snapshot_opening};
+use feed_http::head_reading::is_needed;
 use feed_node::{Mirror, Node};
 use std::alloc::{AllocError, Global};
 
@@ -112,6 +113,23 @@ impl Answering {
         self.opening = Some(text.clone()?);
         self.made = self.made.wrapping_add(1);
         Ok((text, true))
+    }
+
+    /// Whether this head is a request for which that text has to be made.
+    pub(crate) fn makes_text(
+        &self,
+        alloc: Global,
+        head: &[u8],
+        contest: &str,
+        framing: Framing,
+    ) -> bool {
+        if is_needed(head) {
+            return false;
+        }
+        match reply_to(alloc, head, self.node(), contest, framing, 0) {
+            Ok(Reply::Snapshot(framing, _)) => { framing != self.framing || self.opening.is_none() }
+            _ => false,
+        }
     }
 
     /// Makes that text.

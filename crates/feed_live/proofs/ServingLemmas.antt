@@ -15,7 +15,7 @@ use Rattle.feed_hub.specs.Broadcast.{IsServedBy}
 use Rattle.feed_hub.specs.declared.hub.Heard.{Heard}
 use Rattle.feed_hub.specs.Hub.{IsSeated, IsStillSeated, ChangesOnly, prefix_of, prefix_at, IsAnsweredBy, HearsAt}
 use Rattle.feed_hub.specs.Log.{Log}
-use Rattle.feed_hub.specs.Seats.{seat_at, Watched, KeepsThose, Ends}
+use Rattle.feed_hub.specs.Seats.{seat_at, Watched, KeepsThose, Ends, IsAskingSeat}
 use Rattle.feed_hub.specs.Steps.{taken}
 use Rattle.feed_live.specs.declared.conn.Conn.{Conn}
 use Rattle.feed_live.specs.declared.screens.Screens.{Screens}
@@ -307,6 +307,29 @@ serving_finished {nodes} {contest} old new conns conns_new before after at key k
     (λ k is. let no : Some None ≡ Some (Some k) = sym free ∙ is in absurd (cc))
     serving
 
+-- a connection whose request comes was sent nothing
+asks_opened : {nodes : List NodeState} {contest : List ℕ} {hub : Hub} {key : Key} {socket : Option Socket} → Sits nodes contest hub key socket
+    → IsAskingSeat (seat_at hub.seats.slab key) → IsSocket socket (Opened [])
+asks_opened (asks asking sits is) asked = is
+asks_opened (watches answer handed given seated is) asked = absurd (subst IsAskingSeat seated.1 asked)
+asks_opened (cut none sent) asked = absurd (subst IsAskingSeat none asked)
+
+-- one whose request comes is told that there are too many, and has no key any more
+pub serving_refused : {nodes : List NodeState} {contest : List ℕ} (old new : Hub) (conns conns_new : Slab Conn) (before after : AllSockets) (at : ℕ) (key : Key)
+    → key_at conns at ≡ Some (Some key) → IsAskingSeat (seat_at old.seats.slab key)
+    → ((other : ℕ) → other ≢ at → key_at conns_new other ≡ key_at conns other) → key_at conns_new at ≡ keyless (key_at conns at)
+    → ChangesOnly old new key → (IsSocket (before at) (Opened []) → IsSent nodes contest (after at)) → OtherSockets before after at
+    → Serving nodes contest old conns before → Serving nodes contest new conns_new after
+serving_refused {nodes} {contest} old new conns conns_new before after at key keyed asked keys without changes sent others serving =
+    let free : key_at conns_new at ≡ Some None = without ∙ ap keyless keyed in
+    let sits : Sits nodes contest old key (before at) = subst (λ k. Stands nodes contest old k (before at)) keyed (serving.each at) in
+    serving_at at keys others
+    (λ other k away is. others_stay nodes old new key k changes (apart serving at other key k keyed away is))
+    (same_next _ _ changes.next)
+    (subst (λ k. Stands nodes contest new k (after at)) (sym free) (sent (asks_opened sits asked)))
+    (λ k is. let no : Some None ≡ Some (Some k) = sym free ∙ is in absurd (cc))
+    serving
+
 -- ---- connections that come
 
 pub serving_accepted : {nodes : List NodeState} {contest : List ℕ} (old new : Hub) (conns conns_new : Slab Conn) (before after : AllSockets) (at : ℕ) (held : Option Key)
@@ -359,12 +382,12 @@ late_stays nodes old new key keeps broadcast = by (kept_was old new key (seat_at
     by (inl same) = same_stays nodes old new key same broadcast
     by (inr none) = cut_stays nodes old new key none
 
-pub ended_stays : (nodes : List NodeState) (old new : Hub) (key : Key) (log : Log) (now : ℕ)
-    → (Ends log now (seat_at old.seats.slab key) (seat_at new.seats.slab key) ⊎ (seat_at new.seats.slab key ≡ None))
+pub ended_stays : (nodes : List NodeState) (old new : Hub) (key : Key) (log : Log) (told : Option (List ℕ)) (now : ℕ)
+    → (Ends log told now (seat_at old.seats.slab key) (seat_at new.seats.slab key) ⊎ (seat_at new.seats.slab key ≡ None))
     → (IsStillSeated nodes old new key ⊎ (seat_at new.seats.slab key ≡ None)) → Stays nodes old new key
-ended_stays nodes old new key log now (inl ends) (inl still) = watched_stays nodes old new key _ ends still
-ended_stays nodes old new key log now (inl ends) (inr none) = cut_stays nodes old new key none
-ended_stays nodes old new key log now (inr none) still = cut_stays nodes old new key none
+ended_stays nodes old new key log told now (inl ends) (inl still) = watched_stays nodes old new key _ ends still
+ended_stays nodes old new key log told now (inl ends) (inr none) = cut_stays nodes old new key none
+ended_stays nodes old new key log told now (inr none) still = cut_stays nodes old new key none
 
 -- the seats stay
 pub said_stays : (nodes : List NodeState) (old new : Hub) (key : Key) → new.seats ≡ old.seats → IsStillSeated nodes old new key → Stays nodes old new key

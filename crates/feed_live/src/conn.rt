@@ -11,6 +11,12 @@ const LINGER: u64 = 2_000;
 
 const LINGER_BYTES: usize = 65_536;
 
+/// In how many milliseconds a screen has to take the whole text of its answer where others want
+/// room for theirs; and for how long nobody is called slow.
+const SHARE: u64 = 60_000;
+
+const PATIENCE: u64 = 2_000;
+
 /// How far a connection has come.
 #[derive(Clone, Copy, PartialEq, Eq)]
 pub(crate) enum Stage {
@@ -37,6 +43,10 @@ pub(crate) struct Conn {
     /// that they are of, where others share it.
     pub(crate) owes: usize,
     pub(crate) text: Option<u64>,
+    /// When it was answered.
+    pub(crate) answered: u64,
+    /// When a screen sent its end: mostly it went away.
+    pub(crate) ended: Option<u64>,
     pub(crate) peer: SocketAddr,
     pub(crate) since: u64,
     pub(crate) status: u16,
@@ -56,6 +66,8 @@ impl Conn {
             has_more: false,
             owes: 0,
             text: None,
+            answered: 0,
+            ended: None,
             peer,
             since: now,
             status: 0,
@@ -72,6 +84,23 @@ impl Conn {
         }
         if is_writable {
             self.is_blocked = false;
+        }
+    }
+
+    /// Whether it has yet to take a text, and takes it so slowly that it would need more than
+    /// `SHARE` for all of it.
+    pub(crate) fn is_slow(&self, now: u64) -> bool {
+        let time = now.saturating_sub(self.answered);
+        let share = (self.owes as u64).saturating_mul(time);
+        self.owes > 0 && time >= PATIENCE && self.bytes.saturating_mul(SHARE) < share
+    }
+
+    /// A screen sends no more.
+    pub(crate) fn end_input(&mut self, now: u64)
+        ensures { self.new.key ≡ self.old.key }
+    {
+        if self.stage == Stage::Watches {
+            self.ended = Some(now);
         }
     }
 
@@ -107,6 +136,33 @@ impl Conn {
             Stage::Lingers { until, .. } => until <= now,
             Stage::Asks => false,
             Stage::Watches => false,
+        }
+    }
+
+    /// The one of two places at which a connection has lingered for longer, and until when: that of
+    /// another one, and its own.
+    pub(crate) fn lingers_longer(
+        &self,
+        other: Option<(u64, usize)>,
+        at: usize,
+    ) -> Option<(u64, usize)> {
+        let Stage::Lingers { until, .. } = self.stage else {
+            return other;
+        };
+        match other {
+            Some((earlier, _)) if earlier <= until => other,
+            _ => Some((until, at)),
+        }
+    }
+
+    /// The one of two screens that sent its end first, and when: another one, and this one.
+    pub(crate) fn ended_before(&self, other: Option<(u64, Key)>) -> Option<(u64, Key)> {
+        let (Some(ended), Some(key)) = (self.ended, self.key) else {
+            return other;
+        };
+        match other {
+            Some((earlier, _)) if earlier <= ended => other,
+            _ => Some((ended, key)),
         }
     }
 }

@@ -57,6 +57,7 @@ impl Screens {
         ensures { SameSeating self.old self.new }
     {
         self.saying.is_trimmed = false;
+        self.made = 0;
         let had_more = self.has_more;
         self.has_more = false;
         had_more
@@ -262,6 +263,20 @@ impl Screens {
         };
         if let Some(key) = conn.key {
             let _ = self.hub.idle(alloc, key, now);
+        }
+    }
+
+    /// Sends a line feed to a screen that has nothing pending, where one is at this place: one that
+    /// is gone altogether refuses it, and so leaves as soon as it has.
+    pub(crate) fn probe_at(&mut self, alloc: Global, at: usize, now: u64)
+        ensures serving { (nodes : List NodeState) (contest : List ℕ) (sockets : AllSockets)
+            → StillServing nodes contest self.old self.new sockets sockets }
+    {
+        let Some(conn) = self.conns.get(at) else {
+            return;
+        };
+        if let Some(key) = conn.key {
+            let _ = self.hub.probe(alloc, key, now);
         }
     }
 

@@ -1,12 +1,13 @@
 //! The screens: each has a socket, a connection at the same place, and a seat in the hub.
 
-ghost use Rattle.std.specs.Prelude.{◌≡◌, ◌+◌, ◌↔◌, [], ℕ, List, None, Contains, min, false, IsTrue};
+ghost use Rattle.std.specs.Prelude.{◌≡◌, ◌+◌, [], ℕ, List, None, Some, Contains, min, false, IfSome};
 ghost use Rattle.slab.specs.Slab.{get};
 ghost use Rattle.feed_node.specs.States.{NodeState};
 ghost use Rattle.feed_device.specs.Sockets.{Closed, Opened, AllSockets, IsSocket, OtherSockets};
 ghost use Rattle.feed_live.specs.Serving.{Serving, StillServing, SameSeating, Leaves, IsSent, key_at, IsGreeted};
-ghost use Rattle.feed_live.specs.Held.{answerer, is_over, SameMirrors, IsAnswering, Waits};
+ghost use Rattle.feed_live.specs.Held.{answerer, is_over, SameMirrors, Waits};
 
+mod coming;
 mod sending;
 
 use crate::conn::{Conn, Stage};
@@ -21,31 +22,28 @@ use std::alloc::{AllocError, Global};
 use std::mem;
 use std::net::SocketAddr;
 
-/// How long a request's head may take, in milliseconds.
-const HEAD_TIME: u64 = 30_000;
-
-/// How many connections are taken in one turn.
-const ACCEPTS: usize = 256;
-
-/// For how long none is taken after that failed, in milliseconds.
-const ACCEPT_PAUSE: u64 = 1_000;
-
-/// How many connections there may be beside those that have a seat: refused, and lingering. With a
-/// thousand screens all stay below the 1,024 descriptors that a process mostly may have.
-const FURTHER: usize = 8;
-
 /// How many bytes one read takes.
-const PIECE: usize = 4096;
+pub(crate) const PIECE: usize = 4096;
 
-/// While so many bytes are kept for screens that have yet to take their answers, no further request
-/// is read. A text that many share counts once: that of a large snapshot is made again only once it
-/// has changed. Those that wait are late as others are.
+/// While so many bytes are kept for screens that have yet to take their answers, no further text is
+/// made: who asks for everything is told that there are too many, where no text can be shared. A
+/// text that many share counts once: that of a large snapshot is made again only once it has
+/// changed.
 const MOST_OWED: usize = 67_108_864;
 
 /// What is sent where there are as many screens as there may be.
-const FULL: &[u8] = b"HTTP/1.1 503 Service Unavailable\r\n\
+pub(crate) const FULL: &[u8] = b"HTTP/1.1 503 Service Unavailable\r\n\
 Content-Type: application/json\r\nContent-Length: 41\r\nConnection: close\r\n\r\n\
 {\"code\":503,\"message\":\"too many screens\"}";
+
+/// What came of bytes of a request.
+#[derive(Clone, Copy, PartialEq, Eq)]
+pub(crate) enum Hearing {
+    /// They were heard.
+    Goes,
+    /// A text would have to be made, and too much is owed.
+    TooMuch,
+}
 
 /// What came and went since that was told last.
 #[derive(Clone, Copy)]
@@ -115,6 +113,8 @@ pub(crate) struct Screens {
     pub(crate) totals: ScreenTotals,
     /// How many bytes of answers are kept for screens that have not taken them yet.
     pub(crate) owed: usize,
+    /// How many bytes were made in this turn for those who catch up.
+    pub(crate) made: usize,
     /// Some connection has more to read or to write, of which no event will tell.
     pub(crate) has_more: bool,
     /// Somebody waits to be taken; not before this time.
@@ -140,6 +140,7 @@ impl Screens {
             counts: Counts::none(),
             totals: ScreenTotals::none(),
             owed: 0,
+            made: 0,
             has_more: false,
             is_waited_for: false,
             accept_at: 0,
@@ -149,7 +150,7 @@ impl Screens {
     }
 
     /// The connection at a place is over: its seat, its socket and its place are given back.
-    fn end<S: Sockets>(
+    pub(crate) fn end<S: Sockets>(
         &mut self,
         sockets: &mut S,
         told: &mut Telling,
@@ -205,6 +206,14 @@ impl Screens {
         }
     }
 
+    /// How a connection ended that has lost its seat: one that had sent its end left before.
+    fn how_cut(&self, at: usize) -> How {
+        match self.conns.get(at) {
+            Some(conn) if conn.ended.is_some() => How::Left,
+            _ => How::Cut,
+        }
+    }
+
     /// Closes the sockets of those that the hub cut. To be called before a seat is given again.
     pub(crate) fn sweep<S: Sockets>(&mut self, sockets: &mut S, told: &mut Telling, now: u64)
         ensures serving { (nodes : List NodeState) (contest : List ℕ)
@@ -213,7 +222,8 @@ impl Screens {
     {
         for at in 0..self.conns.capacity() {
             if self.is_cut(at) {
-                self.end(sockets, told, at, How::Cut, now);
+                let how = self.how_cut(at);
+                self.end(sockets, told, at, how, now);
             }
         }
     }
@@ -236,124 +246,6 @@ impl Screens {
                 self.end(sockets, told, at, How::Done, now);
             }
         }
-    }
-
-    // ---- who comes
-
-    /// Takes who waits.
-    pub(crate) fn accept<S: Sockets>(
-        &mut self,
-        alloc: Global,
-        sockets: &mut S,
-        told: &mut Telling,
-        now: u64,
-    )
-        ensures serving { (nodes : List NodeState) (contest : List ℕ)
-            → StillServing nodes contest self.old self.new
-            (S.socket sockets.old) (S.socket sockets.new) }
-    {
-        if !self.is_waited_for || now < self.accept_at {
-            return;
-        }
-        self.sweep(sockets, told, now);
-        for _ in 0..ACCEPTS {
-            if self.conns.len() >= self.limits.screens.saturating_add(FURTHER) {
-                self.accept_at = now.saturating_add(ACCEPT_PAUSE);
-                return;
-            }
-            match self.accept_one(alloc, sockets, told, now) {
-                Ok(()) | Err(Stop::Gone) => {}
-                Err(Stop::Waits) => {
-                    self.is_waited_for = false;
-                    return;
-                }
-                Err(Stop::Failed) => {
-                    self.stick(told, now);
-                    return;
-                }
-            }
-        }
-    }
-
-    /// No connection is taken for a while.
-    fn stick(&mut self, told: &mut Telling, now: u64)
-        ensures { SameSeating self.old self.new }
-    {
-        self.accept_at = now.saturating_add(ACCEPT_PAUSE);
-        if !self.is_stuck {
-            told.tell(Told::NoAccept);
-        }
-        self.is_stuck = true;
-    }
-
-    fn accept_one<S: Sockets>(
-        &mut self,
-        alloc: Global,
-        sockets: &mut S,
-        told: &mut Telling,
-        now: u64,
-    ) -> Result<(), Stop>
-        ensures serving { (nodes : List NodeState) (contest : List ℕ)
-            → StillServing nodes contest self.old self.new
-            (S.socket sockets.old) (S.socket sockets.new) }
-    {
-        if self.conns.reserve(1).is_err() {
-            return Err(Stop::Failed);
-        }
-        let at = self.conns.vacant_key();
-        let peer = sockets.accept(at)?;
-        let conn = self.greet(alloc, sockets, told, at, peer, now);
-        let _at = self.conns.insert_reserved(conn);
-        self.totals.open(self.conns.len());
-        Ok(())
-    }
-
-    /// A connection that came just now gets a seat, or is refused.
-    fn greet<S: Sockets>(
-        &mut self,
-        alloc: Global,
-        sockets: &mut S,
-        told: &mut Telling,
-        at: usize,
-        peer: SocketAddr,
-        now: u64,
-    ) -> Conn
-        ensures greeted { (nodes : List NodeState) (contest : List ℕ)
-            → IsSocket (S.socket sockets.old at) (Opened [])
-            → IsGreeted nodes contest self.old.hub self.new.hub result.key
-            (S.socket sockets.new at) }
-        ensures conns { self.new.conns ≡ self.old.conns }
-        ensures others { OtherSockets (S.socket sockets.old) (S.socket sockets.new) at }
-    {
-        self.counts.came = self.counts.came.saturating_add(1);
-        let mut conn = Conn::new(peer, now);
-        match self.hub.open(alloc, now.saturating_add(HEAD_TIME)) {
-            Ok(key) => conn.key = Some(key),
-            Err(_) => {
-                self.refuse(sockets, told, at);
-                conn.status = 503;
-                conn.linger(now);
-            }
-        }
-        conn
-    }
-
-    /// One more than there may be is told so.
-    fn refuse<S: Sockets>(&mut self, sockets: &mut S, told: &mut Telling, at: usize)
-        ensures sent { (nodes : List NodeState) (contest : List ℕ)
-            → IsSocket (S.socket sockets.old at) (Opened [])
-            → IsSent nodes contest (S.socket sockets.new at) }
-        ensures others { OtherSockets (S.socket sockets.old) (S.socket sockets.new) at }
-        ensures hub { self.new.hub ≡ self.old.hub }
-        ensures conns { self.new.conns ≡ self.old.conns }
-    {
-        let _ = sockets.write(at, FULL);
-        sockets.shut(at);
-        self.totals.answer(503);
-        if !self.is_full {
-            told.tell(Told::Full);
-        }
-        self.is_full = true;
     }
 
     // ---- what they ask
@@ -394,24 +286,16 @@ impl Screens {
 
     /// Whether there may be something to read at a place that is to be read now.
     fn may_read(&self, shown: &Shown<'_>, at: usize, now: u64) -> bool
-        ensures { Waits (get self.now.conns at) shown.now.is_held shown.now.hold self.now.owed now
+        ensures { Waits (get self.now.conns at) shown.now.is_held shown.now.hold now
             → result ≡ false }
     {
         let Some(conn) = self.conns.get(at) else {
             return false;
         };
-        if conn.stage == Stage::Asks && !self.may_answer(shown, conn.since, now) {
+        if conn.stage == Stage::Asks && !shown.is_answering(conn.since, now) {
             return false;
         }
         conn.has_input
-    }
-
-    /// Whether a request that came at a time can be answered now.
-    fn may_answer(&self, shown: &Shown<'_>, since: u64, now: u64) -> bool
-        ensures { IsTrue result ↔ IsAnswering shown.now.is_held shown.now.hold self.now.owed
-            since now }
-    {
-        self.owed < MOST_OWED && shown.is_answering(since, now)
     }
 
     /// So many bytes are kept for the connection at a place, of a text with a number where others
@@ -442,16 +326,13 @@ impl Screens {
         false
     }
 
-    /// Nothing is kept for it any more. Requests that waited for that are looked at.
+    /// Nothing is kept for it any more.
     fn pay(&mut self, at: usize)
         ensures { SameSeating self.old self.new }
     {
         let Some(conn) = self.conns.get_mut(at) else {
             return;
         };
-        if self.owed >= MOST_OWED {
-            self.has_more = true;
-        }
         let bytes = mem::replace(&mut conn.owes, 0);
         let text = conn.text.take();
         if !self.is_kept(text) {
@@ -481,8 +362,8 @@ impl Screens {
             answers.old.blank.mirror.node)
             → StillServing nodes shown.now.contest.now self.old self.new
             (S.socket sockets.old) (S.socket sockets.new) }
-        ensures waits { Waits (get self.old.conns at) shown.now.is_held shown.now.hold
-            self.old.owed now → (self.new ≡ self.old) × (sockets.new ≡ sockets.old) × (answers.new ≡ answers.old) }
+        ensures waits { Waits (get self.old.conns at) shown.now.is_held shown.now.hold now
+            → (self.new ≡ self.old) × (sockets.new ≡ sockets.old) × (answers.new ≡ answers.old) }
         ensures mirrors { SameMirrors answers.old answers.new }
     {
         if !self.may_read(shown, at, now) {
@@ -490,7 +371,7 @@ impl Screens {
         }
         let mut buf = [0u8; PIECE];
         match sockets.read(at, &mut buf) {
-            Ok(0) => self.end_of_input(sockets, told, at, now),
+            Ok(0) => self.end_of_input(alloc, sockets, told, at, now),
             Ok(count) => self.take(alloc, sockets, told, answers, shown, at, &buf[..count], now),
             Err(Stop::Waits) => self.is_read(at),
             Err(_) => self.end(sockets, told, at, How::Left, now),
@@ -507,16 +388,33 @@ impl Screens {
     }
 
     /// The peer sends no more; it may still read.
-    fn end_of_input<S: Sockets>(&mut self, sockets: &mut S, told: &mut Telling, at: usize, now: u64)
+    fn end_of_input<S: Sockets>(
+        &mut self,
+        alloc: Global,
+        sockets: &mut S,
+        told: &mut Telling,
+        at: usize,
+        now: u64,
+    )
         ensures serving { (nodes : List NodeState) (contest : List ℕ)
             → StillServing nodes contest self.old self.new
             (S.socket sockets.old) (S.socket sockets.new) }
     {
-        self.is_read(at);
+        self.has_ended(at, now);
         match self.stage(at) {
             Some(Stage::Asks) => self.end(sockets, told, at, How::Left, now),
             Some(Stage::Lingers { .. }) => self.end(sockets, told, at, How::Done, now),
-            _ => {}
+            _ => self.probe_at(alloc, at, now),
+        }
+    }
+
+    /// The peer of the connection at a place sends no more.
+    fn has_ended(&mut self, at: usize, now: u64)
+        ensures { SameSeating self.old self.new }
+    {
+        if let Some(conn) = self.conns.get_mut(at) {
+            conn.has_input = false;
+            conn.end_input(now);
         }
     }
 
@@ -552,13 +450,15 @@ impl Screens {
             }
             return;
         };
-        if !self.hear_of(alloc, answers, shown, key, at, piece, now) {
-            self.end(sockets, told, at, How::Memory, now);
+        match self.hear_of(alloc, answers, shown, key, at, piece, now) {
+            Ok(Hearing::Goes) => {}
+            Ok(Hearing::TooMuch) => self.turn_away(sockets, told, at, now),
+            Err(_) => self.end(sockets, told, at, How::Memory, now),
         }
     }
 
     /// Hands bytes of a request to the hub, which answers it as one does that shows nothing where
-    /// requests are held. Whether there was memory for them.
+    /// requests are held.
     fn hear_of(
         &mut self,
         alloc: Global,
@@ -568,7 +468,7 @@ impl Screens {
         at: usize,
         piece: &[u8],
         now: u64,
-    ) -> bool
+    ) -> Result<Hearing, AllocError>
         ensures serving { (nodes : List NodeState) (sockets : AllSockets)
             → Contains nodes (answerer shown.now.is_held answers.old.shown.mirror.node
             answers.old.blank.mirror.node)
@@ -583,7 +483,9 @@ impl Screens {
     }
 
     /// The key of the connection at a place whose request comes.
-    fn asking(&self, at: usize) -> Option<Key> {
+    pub(crate) fn asking(&self, at: usize) -> Option<Key>
+        ensures { IfSome result (λ key. key_at self.now.conns at ≡ Some (Some key)) }
+    {
         let conn = self.conns.get(at)?;
         if conn.stage != Stage::Asks {
             return None;
@@ -601,7 +503,7 @@ impl Screens {
         }
     }
 
-    /// Hands bytes of a request to the hub. Whether there was memory for them.
+    /// Hands bytes of a request to the hub.
     fn hear(
         &mut self,
         alloc: Global,
@@ -611,7 +513,7 @@ impl Screens {
         at: usize,
         piece: &[u8],
         now: u64,
-    ) -> bool
+    ) -> Result<Hearing, AllocError>
         ensures serving { (nodes : List NodeState) (sockets : AllSockets)
             → Contains nodes answering.old.mirror.node
             → StillServing nodes contest.now self.old self.new sockets sockets }
@@ -619,13 +521,28 @@ impl Screens {
     {
         let mut rest = piece;
         for _ in 0..piece.len() {
-            match self.hear_once(alloc, answering, contest, key, at, rest, now) {
-                Ok(0) => return true,
-                Ok(taken) => rest = rest.get(taken..).unwrap_or(&[]),
-                Err(_) => return false,
+            if self.has_no_room(alloc, answering, contest, key, rest) {
+                return Ok(Hearing::TooMuch);
+            }
+            match self.hear_once(alloc, answering, contest, key, at, rest, now)? {
+                0 => return Ok(Hearing::Goes),
+                taken => rest = rest.get(taken..).unwrap_or(&[]),
             }
         }
-        true
+        Ok(Hearing::Goes)
+    }
+
+    /// Whether these bytes end a request for which there is no room: a text has to be made for it,
+    /// and too much is owed already.
+    fn has_no_room(
+        &self,
+        alloc: Global,
+        answering: &Answering,
+        contest: &str,
+        key: Key,
+        piece: &[u8],
+    ) -> bool {
+        self.owed >= MOST_OWED && self.hub.makes_text(alloc, answering, contest, key, piece)
     }
 
     /// Hands some bytes of a request to the hub. How many it took, and none where it takes no more.
@@ -648,19 +565,20 @@ impl Screens {
         let Some(status) = heard.status else {
             return Ok(heard.taken);
         };
-        self.is_answered(at, status);
+        self.is_answered(at, status, now);
         let kept = self.hub.prefix(key).len();
         let text = heard.is_shared.then_some(answering.made());
         self.owe(at, kept, text);
         Ok(0)
     }
 
-    fn is_answered(&mut self, at: usize, status: u16)
+    fn is_answered(&mut self, at: usize, status: u16, now: u64)
         ensures { SameSeating self.old self.new }
     {
         self.totals.answer(status);
         if let Some(conn) = self.conns.get_mut(at) {
             conn.stage = Stage::Watches;
+            conn.answered = now;
             conn.status = status;
         }
     }

@@ -4,7 +4,7 @@ ghost use Rattle.std.specs.Prelude.{◌≡◌, ◌⊎◌, ◌+◌, ◌-◌, ◌<
 ghost use Rattle.slab.specs.Slab.{slab_len, HasRoomFor};
 ghost use Rattle.feed_node.specs.States.{NodeState};
 ghost use Rattle.feed_answer.specs.Answered.{AnswerParts};
-ghost use Rattle.feed_hub.specs.Steps.{idled, taken, HasNext, IsWaiting};
+ghost use Rattle.feed_hub.specs.Steps.{idled, taken, HasNext, IsWaiting, IsQuiet, Probes};
 ghost use Rattle.feed_hub.specs.Seats.{seat_at, Others, SameSeats, KeepsThose, IsOnTime, Watched, IsWatcher, IsAskingSeat, IsOverSeat};
 ghost use Rattle.feed_hub.specs.Hub.{IsSeated, IsStillSeated, IsAnsweredBy, prefix_at, SameLimits, ChangesOnly, IsNew, Takes, IsAnswered, IsKept, HearsOf, HearsAt, Refills};
 
@@ -177,6 +177,29 @@ impl Hub {
         Ok(heard)
     }
 
+    /// Whether the next bytes of a connection end a request for which a text of the snapshot has to
+    /// be made, since there is none that it can share.
+    pub fn makes_text(
+        &self,
+        alloc: Global,
+        answering: &Answering,
+        contest: &str,
+        key: Key,
+        piece: &[u8],
+    ) -> bool
+        ensures { IsTrue result → IsAskingSeat (seat_at self.now.seats.slab key) }
+    {
+        let Some(Seat::Asks(asking)) = self.seats.get(key) else {
+            return false;
+        };
+        match asking.with(alloc, piece) {
+            Ok(head) => {
+                answering.makes_text(alloc, head.as_slice(), contest, self.broadcast.framing())
+            }
+            Err(_) => false,
+        }
+    }
+
     /// Gets what comes next for a screen that has been handed all of its own; one that is as far as
     /// the log follows that from then on. Where memory runs out the connection is cut.
     pub fn refill(
@@ -196,7 +219,7 @@ impl Hub {
     {
         if let Some(screen) = self.seats.take_screen(key) {
             let mut screen = screen;
-            screen.refill(alloc, node, now)?;
+            screen.refill(alloc, node, &mut self.frames, now)?;
             screen.join(
                 self.broadcast.log(),
                 self.broadcast.told(),
@@ -224,6 +247,32 @@ impl Hub {
             self.seats.put_back(key, Seat::Watches(screen));
         }
         Ok(())
+    }
+
+    /// Sends a line feed to the screen at a key, where its body goes on and nothing is pending: so it
+    /// is soon seen whether that is still there. Where memory runs out the connection is cut.
+    pub fn probe(&mut self, alloc: Global, key: Key, now: u64) -> Result<(), AllocError>
+        ensures ok { OnOk result (Watched (Probes self.old.broadcast.log now)
+            (seat_at self.old.seats.slab key) (seat_at self.new.seats.slab key)) }
+        ensures served { (nodes : List NodeState)
+            → OnOk result (IsStillSeated nodes self.old self.new key) }
+        ensures err { OnErr result ((seat_at self.new.seats.slab key ≡ None)
+            × IsWatcher (IsQuiet self.old.broadcast.log) (seat_at self.old.seats.slab key)) }
+        ensures rest { ChangesOnly self.old self.new key }
+    {
+        if let Some(screen) = self.seats.take_screen(key) {
+            let mut screen = screen;
+            screen.probe(alloc, self.broadcast.log(), now)?;
+            self.seats.put_back(key, Seat::Watches(screen));
+        }
+        Ok(())
+    }
+
+    /// Whether there are as many connections as there may be.
+    pub fn is_full(&self) -> bool
+        ensures { IsTrue result ↔ (self.now.most ≤ slab_len self.now.seats.slab) }
+    {
+        self.seats.len() >= self.most
     }
 
     /// Whether there is a connection at a key: one that is not was cut.

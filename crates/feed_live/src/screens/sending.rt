@@ -14,6 +14,10 @@ use feed_hub::Key;
 use feed_node::Node;
 use std::alloc::{AllocError, Global};
 
+/// How many bytes of commits one turn makes for those who catch up, and one commit more: so each
+/// turn is short, however many come back at once.
+const MOST_MADE: usize = 16_777_216;
+
 impl Screens {
     /// The seat of the connection at a place, where that can be written to now.
     fn writable(&mut self, at: usize) -> Option<Key>
@@ -81,8 +85,13 @@ impl Screens {
         ensures { SameSeating self.old self.new }
     {
         if let Some(conn) = self.conns.get_mut(at) {
-            conn.has_more = has_more;
+            conn.has_more = conn.has_more || has_more;
         }
+    }
+
+    /// Whether those who catch up have to wait for the next turn.
+    fn has_made_most(&self) -> bool {
+        self.made >= MOST_MADE
     }
 
     /// Whether there is something to write at a place, now that it has what comes next. Where
@@ -107,6 +116,10 @@ impl Screens {
             return true;
         }
         self.pay(at);
+        if self.has_made_most() {
+            self.has_more_to_write(at, true);
+            return false;
+        }
         if self.refill(alloc, node, key, now).is_err() {
             self.end(sockets, told, at, How::Memory, now);
             return false;
@@ -127,7 +140,9 @@ impl Screens {
             → StillServing nodes contest self.old self.new sockets sockets }
         ensures keys { self.new.conns ≡ self.old.conns }
     {
-        self.hub.refill(alloc, node, key, now)
+        self.hub.refill(alloc, node, key, now)?;
+        self.made = self.made.saturating_add(self.hub.prefix(key).len());
+        Ok(())
     }
 
     /// All was sent: what still comes is read for a while.
@@ -143,7 +158,7 @@ impl Screens {
     }
 
     /// The connection at a place has no key from here on.
-    fn linger(&mut self, at: usize, now: u64)
+    pub(crate) fn linger(&mut self, at: usize, now: u64)
         ensures key { key_at self.new.conns at ≡ keyless (key_at self.old.conns at) }
         ensures others { (other : ℕ) → other ≢ at
             → key_at self.new.conns other ≡ key_at self.old.conns other }

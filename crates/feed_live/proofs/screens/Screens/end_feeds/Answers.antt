@@ -7,5 +7,5 @@ returns c =
     record {
       serving = λ nodes contest sockets serving.
           serving_noted c.spoke.ensures
-          (serving_on (λ key. still_sits contest (ended_stays nodes _ _ key _ _ (c.end_all.ensures.left key) (c.end_all.ensures.served nodes key))) (omega (arith, c.end_all.ensures.next)) serving);
+          (serving_on (λ key. still_sits contest (ended_stays nodes _ _ key _ _ _ (c.end_all.ensures.left key) (c.end_all.ensures.served nodes key))) (omega (arith, c.end_all.ensures.next)) serving);
     }

@@ -24,3 +24,8 @@ pub returns-else-is_over-clause-serving : goal.returns-else-is_over-clause-servi
 returns-else-is_over-clause-serving g c =
     λ nodes contest among keyed serving.
     (c.refill.ensures.serving nodes contest (g.S.Sockets.socket c.args.sockets.now) among (serving_noted c.pay.ensures serving))
+
+pub returns-then-has_made_most-clause-serving : goal.returns-then-has_made_most-clause-serving
+returns-then-has_made_most-clause-serving g c =
+    λ nodes contest among keyed serving.
+    serving_noted c.has_more_to_write.ensures (serving_noted c.pay.ensures serving)

@@ -1,0 +1,7 @@
+use Rattle.feed_live.proofs.ServingLemmas.{serving_changed, still_sits, cut_stays}
+use Rattle.feed_live.proofs.screens.Screens.make_seat.Goals as goal
+
+pub returns-in-Some-clause-serving : goal.returns-in-Some-clause-serving
+returns-in-Some-clause-serving c =
+    λ nodes contest sockets serving.
+    serving_changed c.in-Some.key c.leave.ensures.rest (still_sits contest (cut_stays nodes _ _ c.in-Some.key c.leave.ensures.seat)) serving

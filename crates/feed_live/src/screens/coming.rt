@@ -1,0 +1,286 @@
+//! Who comes: each gets a seat, or is refused.
+
+ghost use Rattle.std.specs.Prelude.{◌≡◌, [], ℕ, List};
+ghost use Rattle.feed_node.specs.States.{NodeState};
+ghost use Rattle.feed_device.specs.Sockets.{AllSockets, Opened, IsSocket, OtherSockets};
+ghost use Rattle.feed_live.specs.Serving.{StillServing, SameSeating, IsSent, IsGreeted};
+
+use crate::conn::{Conn, Stage};
+use crate::screens::{FULL, PIECE, Screens};
+use crate::told::Telling;
+use feed_device::{How, Sockets, Stop, Told};
+use feed_hub::Key;
+use std::alloc::Global;
+use std::net::SocketAddr;
+
+/// How long a request's head may take, in milliseconds.
+const HEAD_TIME: u64 = 30_000;
+
+/// How many connections are taken in one turn: so screens have their turns, however many come.
+const ACCEPTS: usize = 64;
+
+/// For how long none is taken after that failed, in milliseconds.
+const ACCEPT_PAUSE: u64 = 1_000;
+
+/// How many connections there may be beside those that have a seat: refused, and lingering. With a
+/// thousand screens all stay below the 1,024 descriptors that a process mostly may have.
+const FURTHER: usize = 8;
+
+impl Screens {
+    /// Takes who waits.
+    pub(crate) fn accept<S: Sockets>(
+        &mut self,
+        alloc: Global,
+        sockets: &mut S,
+        told: &mut Telling,
+        now: u64,
+    )
+        ensures serving { (nodes : List NodeState) (contest : List ℕ)
+            → StillServing nodes contest self.old self.new
+            (S.socket sockets.old) (S.socket sockets.new) }
+    {
+        if !self.is_waited_for || now < self.accept_at {
+            return;
+        }
+        self.sweep(sockets, told, now);
+        for _ in 0..ACCEPTS {
+            if self.has_no_place() {
+                self.make_place(sockets, told, now);
+            }
+            match self.accept_one(alloc, sockets, told, now) {
+                Ok(()) | Err(Stop::Gone) => {}
+                Err(Stop::Waits) => {
+                    self.is_waited_for = false;
+                    return;
+                }
+                Err(Stop::Failed) => {
+                    self.stick(told, now);
+                    return;
+                }
+            }
+        }
+    }
+
+    /// Whether there are as many connections as there may be.
+    fn has_no_place(&self) -> bool {
+        self.conns.len() >= self.limits.screens.saturating_add(FURTHER)
+    }
+
+    /// Makes place for a connection: those that lost their seats are closed, and the one that has
+    /// lingered for longest.
+    fn make_place<S: Sockets>(&mut self, sockets: &mut S, told: &mut Telling, now: u64)
+        ensures serving { (nodes : List NodeState) (contest : List ℕ)
+            → StillServing nodes contest self.old self.new
+            (S.socket sockets.old) (S.socket sockets.new) }
+    {
+        self.sweep(sockets, told, now);
+        if let Some(at) = self.longest_lingering() {
+            self.end(sockets, told, at, How::Done, now);
+        }
+    }
+
+    /// The place of the connection that has lingered for longest.
+    fn longest_lingering(&self) -> Option<usize> {
+        let mut longest: Option<(u64, usize)> = None;
+        for at in 0..self.conns.capacity() {
+            if let Some(conn) = self.conns.get(at) {
+                longest = conn.lingers_longer(longest, at);
+            }
+        }
+        Some(longest?.1)
+    }
+
+    /// No connection is taken for a while.
+    fn stick(&mut self, told: &mut Telling, now: u64)
+        ensures { SameSeating self.old self.new }
+    {
+        self.accept_at = now.saturating_add(ACCEPT_PAUSE);
+        if !self.is_stuck {
+            told.tell(Told::NoAccept);
+        }
+        self.is_stuck = true;
+    }
+
+    fn accept_one<S: Sockets>(
+        &mut self,
+        alloc: Global,
+        sockets: &mut S,
+        told: &mut Telling,
+        now: u64,
+    ) -> Result<(), Stop>
+        ensures serving { (nodes : List NodeState) (contest : List ℕ)
+            → StillServing nodes contest self.old self.new
+            (S.socket sockets.old) (S.socket sockets.new) }
+    {
+        if self.conns.reserve(1).is_err() {
+            return Err(Stop::Failed);
+        }
+        let at = self.conns.vacant_key();
+        let peer = sockets.accept(at)?;
+        self.make_seat();
+        let conn = self.greet(alloc, sockets, told, at, peer, now);
+        let _at = self.conns.insert_reserved(conn);
+        self.totals.open(self.conns.len());
+        self.dismiss(sockets, told, at, now);
+        Ok(())
+    }
+
+    /// Where there are as many screens as there may be, the one that sent its end first gives its
+    /// seat to who comes: mostly it went away. Its socket is closed by the next `sweep`.
+    fn make_seat(&mut self)
+        ensures serving { (nodes : List NodeState) (contest : List ℕ) (sockets : AllSockets)
+            → StillServing nodes contest self.old self.new sockets sockets }
+        ensures conns { self.new.conns ≡ self.old.conns }
+    {
+        if !self.hub.is_full() {
+            return;
+        }
+        if let Some(key) = self.first_ended() {
+            self.hub.leave(key);
+        }
+    }
+
+    /// The key of the screen that sent its end first, of those that have a seat.
+    fn first_ended(&self) -> Option<Key> {
+        let mut first: Option<(u64, Key)> = None;
+        for at in 0..self.conns.capacity() {
+            if let Some(conn) = self.conns.get(at) {
+                let is_seated = conn.key.is_some_and(|key| self.hub.has(key));
+                if is_seated {
+                    first = conn.ended_before(first);
+                }
+            }
+        }
+        Some(first?.1)
+    }
+
+    /// A connection that came just now gets a seat, or is refused.
+    fn greet<S: Sockets>(
+        &mut self,
+        alloc: Global,
+        sockets: &mut S,
+        told: &mut Telling,
+        at: usize,
+        peer: SocketAddr,
+        now: u64,
+    ) -> Conn
+        ensures greeted { (nodes : List NodeState) (contest : List ℕ)
+            → IsSocket (S.socket sockets.old at) (Opened [])
+            → IsGreeted nodes contest self.old.hub self.new.hub result.key
+            (S.socket sockets.new at) }
+        ensures conns { self.new.conns ≡ self.old.conns }
+        ensures others { OtherSockets (S.socket sockets.old) (S.socket sockets.new) at }
+    {
+        self.counts.came = self.counts.came.saturating_add(1);
+        let mut conn = Conn::new(peer, now);
+        match self.hub.open(alloc, now.saturating_add(HEAD_TIME)) {
+            Ok(key) => conn.key = Some(key),
+            Err(_) => {
+                self.refuse(sockets, told, at);
+                conn.status = 503;
+                conn.linger(now);
+            }
+        }
+        conn
+    }
+
+    /// One more than there may be is told so.
+    fn refuse<S: Sockets>(&mut self, sockets: &mut S, told: &mut Telling, at: usize)
+        ensures sent { (nodes : List NodeState) (contest : List ℕ)
+            → IsSocket (S.socket sockets.old at) (Opened [])
+            → IsSent nodes contest (S.socket sockets.new at) }
+        ensures others { OtherSockets (S.socket sockets.old) (S.socket sockets.new) at }
+        ensures hub { self.new.hub ≡ self.old.hub }
+        ensures conns { self.new.conns ≡ self.old.conns }
+    {
+        let _ = sockets.write(at, FULL);
+        sockets.shut(at);
+        self.totals.answer(503);
+        if !self.is_full {
+            told.tell(Told::Full);
+        }
+        self.is_full = true;
+    }
+
+    /// A request for which there is no room is told that there are too many. Those who take their
+    /// texts too slowly are cut, so that who comes next finds room.
+    pub(crate) fn turn_away<S: Sockets>(
+        &mut self,
+        sockets: &mut S,
+        told: &mut Telling,
+        at: usize,
+        now: u64,
+    )
+        ensures serving { (nodes : List NodeState) (contest : List ℕ)
+            → StillServing nodes contest self.old self.new
+            (S.socket sockets.old) (S.socket sockets.new) }
+    {
+        self.refuse_at(sockets, told, at, now);
+        self.cut_slow(sockets, told, now);
+    }
+
+    /// The connection at a place, whose request comes, is told that there are too many.
+    fn refuse_at<S: Sockets>(&mut self, sockets: &mut S, told: &mut Telling, at: usize, now: u64)
+        ensures serving { (nodes : List NodeState) (contest : List ℕ)
+            → StillServing nodes contest self.old self.new
+            (S.socket sockets.old) (S.socket sockets.new) }
+    {
+        let Some(key) = self.asking(at) else {
+            return;
+        };
+        if !self.hub.is_asking(key) {
+            return;
+        }
+        self.hub.leave(key);
+        self.refuse(sockets, told, at);
+        self.linger(at, now);
+    }
+
+    /// Cuts those who take their texts too slowly.
+    fn cut_slow<S: Sockets>(&mut self, sockets: &mut S, told: &mut Telling, now: u64)
+        ensures serving { (nodes : List NodeState) (contest : List ℕ)
+            → StillServing nodes contest self.old self.new
+            (S.socket sockets.old) (S.socket sockets.new) }
+    {
+        for at in 0..self.conns.capacity() {
+            if self.conns.get(at).is_some_and(|conn| conn.is_slow(now)) {
+                self.end(sockets, told, at, How::Cut, now);
+            }
+        }
+    }
+
+    /// Closes a connection that was refused just now, where its request has come whole: nothing
+    /// more comes then, so that it loses nothing of its answer. Else it lingers.
+    fn dismiss<S: Sockets>(&mut self, sockets: &mut S, told: &mut Telling, at: usize, now: u64)
+        ensures serving { (nodes : List NodeState) (contest : List ℕ)
+            → StillServing nodes contest self.old self.new
+            (S.socket sockets.old) (S.socket sockets.new) }
+    {
+        if !self.lingers(at) {
+            return;
+        }
+        let mut buf = [0u8; PIECE];
+        let read = sockets.read(at, &mut buf);
+        if has_come(&buf, read) {
+            self.end(sockets, told, at, How::Done, now);
+        }
+    }
+
+    /// Whether nothing more is sent to the connection at a place.
+    fn lingers(&self, at: usize) -> bool {
+        match self.conns.get(at) {
+            Some(conn) => matches!(conn.stage, Stage::Lingers { .. }),
+            None => false,
+        }
+    }
+}
+
+/// Whether what was read of a connection ends as a head does, or nothing more comes of it.
+fn has_come(buf: &[u8], read: Result<usize, Stop>) -> bool {
+    match read {
+        Ok(0) => true,
+        Ok(count) => buf.get(..count).unwrap_or(&[]).ends_with(b"\r\n\r\n"),
+        Err(Stop::Waits) => false,
+        Err(_) => true,
+    }
+}
