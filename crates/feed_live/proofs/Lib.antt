@@ -11,3 +11,4 @@ pub mod TokenedLemmas
 pub mod ReplayLemmas
 pub mod TokenedExample
 pub mod ReplayExample
+mod KeptLemmas
