@@ -46,3 +46,19 @@ keeps_on None b c first second = tt
 keeps_on (Some xs) None c first second = absurd first
 keeps_on (Some xs) (Some ys) None first second = absurd second
 keeps_on (Some xs) (Some ys) (Some zs) first second = second ∙ first
+
+-- the files of both are the same
+pub kept_so : (nodes : List NodeState) (written next : Option (List ℕ)) (old new : Saved) → new.file ≡ old.file → new.next ≡ old.next
+    → IsKept nodes written next old → IsKept nodes written next new
+kept_so nodes written next old new file later kept =
+    record {
+      file = subst (λ f. IfSome f (λ s. IsFiled nodes written s.record)) (sym file) kept.file;
+      later = subst (λ f. IfSome f (λ s. IsFiled nodes next s.record)) (sym later) kept.later;
+      known = kept.known;
+    }
+
+-- a file that was resumed has what a record wrote
+pub resumed_filed : (nodes : List NodeState) (file : Option (List ℕ)) (text : List ℕ) (sheet : Option Sheet) → file ≡ Some text
+    → IfSome sheet (λ s. IsRecorded nodes text s.record) → IfSome sheet (λ s. IsFiled nodes file s.record)
+resumed_filed nodes file text None is recorded = recorded
+resumed_filed nodes file text (Some s) is recorded = (text, is, recorded)
