@@ -11,4 +11,3 @@ pub mod TokenedLemmas
 pub mod ReplayLemmas
 pub mod TokenedExample
 pub mod ReplayExample
-mod KeptLemmas
