@@ -2,6 +2,7 @@
 
 ghost use Rattle.std.specs.Prelude.{◌≡◌, ◌≢◌, ◌<◌, ◌≤◌, ℕ, List, [], Option, None, Some, length, take, option_map, IfOk, OnOk, OnErr};
 ghost use Rattle.std.specs.Io.KnownBytes.{Keeps, WriteAppends};
+ghost use Rattle.feed_device.specs.Files.{IsKnown};
 ghost use Rattle.feed_device.specs.Links.{Exchange, Begins, Asks, Receives, shown_so, once_at, all_from};
 ghost use Rattle.feed_device.specs.Sockets.{Socket, Closed, Opened, IsSocket, IsWrite, SameSockets, OtherSockets};
 
@@ -130,8 +131,9 @@ pub trait Store {
 
     /// Goes on with the file, of which only so many bytes count.
     fn resume(&mut self, length: u64) -> Result<(), Stop>
-        ensures { (text : List ℕ) → written self.old ≡ Some text
-            → OnOk result (written self.new ≡ Some (take length text)) };
+        ensures file { (text : List ℕ) → written self.old ≡ Some text
+            → OnOk result (written self.new ≡ Some (take length text)) }
+        ensures next { Keeps (written_next self.old) (written_next self.new) };
 
     /// Appends some of the bytes to the file, from the first on, and answers how many.
     fn append(&mut self, bytes: &[u8]) -> Result<usize, Stop>
@@ -143,6 +145,7 @@ pub trait Store {
     fn begin(&mut self) -> Result<(), Stop>
         ensures begun { (text : List ℕ) → written_next self.old ≡ Some text
             → OnOk result (written_next self.new ≡ Some []) }
+        ensures known { IsKnown (written_next self.old) → IsKnown (written_next self.new) }
         ensures file { Keeps (written self.old) (written self.new) };
 
     /// Appends some of the bytes to that one, from the first on, and answers how many.
@@ -154,8 +157,9 @@ pub trait Store {
 
     /// It takes the place of the file. What becomes of the one before is said, too.
     fn replace(&mut self, before: Before) -> Result<(), Stop>
-        ensures { (text : List ℕ) → written_next self.old ≡ Some text
-            → OnOk result (written self.new ≡ Some text) };
+        ensures file { (text : List ℕ) → written_next self.old ≡ Some text
+            → OnOk result (written self.new ≡ Some text) }
+        ensures known { IsKnown (written_next self.old) → IsKnown (written_next self.new) };
 }
 
 /// All that a turn reads from and writes to.

@@ -7,3 +7,4 @@ pub mod Relaying
 pub mod Taking
 pub mod Telling
 pub mod Examples
+pub mod Saved
