@@ -3,7 +3,7 @@
 ghost use Rattle.std.specs.Prelude.{◌≡◌};
 ghost use Rattle.feed_system.specs.Counted.{counted_as};
 
-use feed_words::{Network, Origin, is_in_any};
+use feed_arguments::{Network, Origin, is_in_any};
 
 /// How many bits of an address of IPv6 are those of its interface.
 const INTERFACE_BITS: u32 = 64;

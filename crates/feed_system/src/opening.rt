@@ -10,7 +10,7 @@ use crate::store::Files;
 use crate::system::System;
 use crate::watchers::{WATCHERS, Watchers};
 use feed_device::{Devices, Ready};
-use feed_words::{AddressFault, LiveOptions, Network, networks};
+use feed_arguments::{AddressFault, LiveOptions, Network, networks};
 use mio::net::TcpListener;
 use mio::{Events, Interest, Poll, Token};
 use std::alloc::{AllocError, Global};

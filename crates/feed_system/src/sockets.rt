@@ -4,7 +4,7 @@ ghost use Rattle.std.specs.Prelude.{◌≡◌, ◌≤◌, length, IfOk};
 
 use crate::guard::{Guard, counted};
 use feed_device::{Sockets, Stop};
-use feed_words::Origin;
+use feed_arguments::Origin;
 use mio::net::{TcpListener, TcpStream};
 use mio::{Interest, Registry, Token};
 use std::alloc::Global;

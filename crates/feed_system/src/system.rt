@@ -9,7 +9,7 @@ use crate::telling::{is_told, stamp, text_of};
 use crate::watchers::{FIRST_WATCHER, WATCHERS, Watchers};
 use feed_device::{Devices, Ready, Told};
 use feed_status::Watch;
-use feed_words::Verbosity;
+use feed_arguments::Verbosity;
 use mio::event::Event;
 use mio::{Events, Poll, Token};
 use std::alloc::AllocError;

@@ -2,7 +2,7 @@
 
 use crate::link::Servers;
 use feed_device::Told;
-use feed_words::Verbosity;
+use feed_arguments::Verbosity;
 use jiff::Timestamp;
 use std::alloc::{AllocError, Global};
 use std::time::{SystemTime, UNIX_EPOCH};

@@ -7,7 +7,7 @@ use crate::sockets::{read_once, write_once};
 use feed_answer::{HEAD_BYTES, HeadRead, look_at_request};
 use feed_device::Stop;
 use feed_status::{Watch, answer};
-use feed_words::Origin;
+use feed_arguments::Origin;
 use mio::net::{TcpListener, TcpStream};
 use mio::{Interest, Registry, Token};
 use slab::Slab;

@@ -4,9 +4,9 @@ mod making;
 mod restoring;
 mod watching;
 
-use feed_cli::{Fault, LiveOptions, Verbosity};
+use feed_commands::{Fault, LiveOptions, Verbosity};
 use feed_live::{Following, Input, Live, Turn};
-use feed_network::Failure;
+use feed_host::Failure;
 use feed_system::System;
 use making::{needs_memory, of_system, prepare};
 use std::alloc::AllocError;

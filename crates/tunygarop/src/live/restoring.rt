@@ -1,6 +1,6 @@
 //! What is told of the state file at the start.
 
-use feed_cli::LiveOptions;
+use feed_commands::LiveOptions;
 use feed_live::Restored;
 use feed_system::Kept;
 use std::alloc::{AllocError, Global};

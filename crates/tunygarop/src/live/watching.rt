@@ -1,6 +1,6 @@
 //! What the status port tells: what the relay counts, as one value, and what is looked up of it.
 
-use feed_cli::{LiveOptions, VERSION};
+use feed_commands::{LiveOptions, VERSION};
 use feed_live::{
     FeedFigures, FileFigures, Following, LONG_WAIT, Live, Reason, ScreenFigures, ScreenRow,
 };

@@ -1,0 +1,13 @@
+use Rattle.std.proofs.Common.{rules, ap, ◌≡◌, ◌∙◌, codes}
+use Rattle.std.proofs.lemmas.Result.{IfOk-weaker}
+use Rattle.clap.specs.Words.{rule_of}
+use Rattle.feed_arguments.specs.Addresses.{most_port}
+use Rattle.feed_arguments.specs.Live.{tied}
+use Rattle.feed_arguments.specs.Options.{number_in}
+use Rattle.feed_arguments.proofs.LiveLemmas.{requires}
+use Rattle.feed_arguments.proofs.words.live.port.Goals as goal
+
+pub returns-clause-rule : goal.returns-clause-rule
+returns-clause-rule c =
+    let before : rule_of c.help.result ≡ number_in (codes "port") most_port = search rules in
+    IfOk-weaker c.requires_arg.result _ _ (λ option h. requires c.help.result option _ h ∙ ap tied before) c.requires_arg.ensures

@@ -1,0 +1,12 @@
+use Rattle.std.proofs.Common.{ap, ◌≡◌, ◌∙◌}
+use Rattle.std.proofs.lemmas.Result.{IfOk-weaker}
+use Rattle.clap.specs.Words.{rule_of}
+use Rattle.feed_arguments.specs.Live.{tied}
+use Rattle.feed_arguments.specs.Options as options
+use Rattle.feed_arguments.proofs.LiveLemmas.{requires}
+use Rattle.feed_arguments.proofs.words.live.user_file.Goals as goal
+
+pub returns-clause-rule : goal.returns-clause-rule
+returns-clause-rule c =
+    let before : rule_of c.user_file.result ≡ options.user_file = c.user_file.ensures.rule in
+    IfOk-weaker c.requires_arg.result _ _ (λ option h. requires c.user_file.result option _ h ∙ ap tied before) c.requires_arg.ensures

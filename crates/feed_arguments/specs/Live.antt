@@ -1,0 +1,238 @@
+-- The command `live`: its options, and what they ask for.
+use Rattle.std.specs.Prelude.{◌≡◌, ◌⊎◌, ℕ, Bool, true, false, List, Option, Some, None, codes, is_some}
+use Rattle.std.specs.Prelude.{option_map}
+use Rattle.clap.specs.Words.{App, Row, Rule, new_app, with_rule}
+use Rattle.feed_settings.specs.Limits.{most_commits}
+use Rattle.feed_arguments.specs.Addresses.{most_port}
+use Rattle.feed_arguments.specs.Options as options
+use Rattle.feed_arguments.specs.Options.{flag, number_in, number_between, text_option, with_default, text_at}
+use Rattle.feed_arguments.specs.Options.{IsNumber, IsNumberUpTo, IsNumberIfGiven, IsGiven, IsFramed, AsksLimits}
+use Rattle.feed_arguments.specs.declared.request.LiveOptions.{LiveOptions}
+use Rattle.feed_arguments.specs.declared.request.UpstreamOptions.{UpstreamOptions}
+use Rattle.feed_arguments.specs.declared.request.Verbosity.{Verbosity}
+use Rattle.feed_arguments.specs.declared.request.Verbosity.TheVariants as verbosity
+
+-- the most screens, seconds of silence, and bytes that a screen may be late, that may be asked for
+abbrev pub most_screens : ℕ
+most_screens = 10000
+
+abbrev pub most_idle : ℕ
+most_idle = 3600
+
+abbrev pub most_window : ℕ
+most_window = 1073741824
+
+-- the most milliseconds that a feed which was asked for from the start may be quiet before it is shown
+abbrev pub most_settle : ℕ
+most_settle = 60000
+
+-- the most seconds without a publication after which another server is asked, and that a request may
+-- wait for a server to be heard
+abbrev pub most_return : ℕ
+most_return = 3600
+
+abbrev pub most_hold : ℕ
+most_hold = 3600
+
+-- ---- the command
+
+-- the option, which has a rule on another one
+abbrev pub tied : Rule → Rule
+tied rule = record rule { is_free = false }
+
+abbrev pub host : Rule
+host = tied (text_option (codes "host"))
+
+abbrev pub port : Rule
+port = tied (number_in (codes "port") most_port)
+
+abbrev pub from : Rule
+from = tied options.from
+
+abbrev pub base : Rule
+base = tied options.base
+
+abbrev pub listen : Rule
+listen = tied (number_in (codes "listen") most_port)
+
+abbrev pub address : Rule
+address = tied (with_default (codes "127.0.0.1") (text_option (codes "address")))
+
+abbrev pub host_header : Rule
+host_header = tied options.host_header
+
+abbrev pub user_file : Rule
+user_file = tied options.user_file
+
+abbrev pub allow : Rule
+allow = text_option (codes "allow")
+
+abbrev pub per_address : Rule
+per_address = number_in (codes "per-address") most_screens
+
+abbrev pub status : Rule
+status = number_in (codes "status") most_port
+
+abbrev pub status_address : Rule
+status_address = tied (text_option (codes "status-address"))
+
+abbrev pub screens : Rule
+screens = with_default (codes "1000") (number_in (codes "screens") most_screens)
+
+abbrev pub idle : Rule
+idle = with_default (codes "120") (number_in (codes "idle") most_idle)
+
+abbrev pub window : Rule
+window = with_default (codes "1048576") (number_in (codes "window") most_window)
+
+abbrev pub state : Rule
+state = text_option (codes "state")
+
+abbrev pub new : Rule
+new = tied (flag (codes "new"))
+
+abbrev pub settle : Rule
+settle = with_default (codes "2000") (number_between (codes "settle") 0 most_settle)
+
+abbrev pub fresh : Rule
+fresh = flag (codes "fresh")
+
+abbrev pub return_after : Rule
+return_after = with_default (codes "30") (number_between (codes "return") 0 most_return)
+
+abbrev pub hold : Rule
+hold = with_default (codes "10") (number_between (codes "hold") 0 most_hold)
+
+abbrev pub serve_old : Rule
+serve_old = flag (codes "serve-old")
+
+abbrev pub history : Rule
+history = with_default (codes "65536") (number_in (codes "history") most_commits)
+
+abbrev pub until_eof : Rule
+until_eof = flag (codes "until-eof")
+
+abbrev pub verbose : Rule
+verbose = tied (flag (codes "verbose"))
+
+abbrev pub quiet : Rule
+quiet = flag (codes "quiet")
+
+-- a command with the options that name a server
+abbrev pub with_server : App → App
+with_server command = with_rule (with_rule command host) port
+
+-- a command with the options that say what a server is told of who asks
+abbrev pub with_identity : App → App
+with_identity command = with_rule (with_rule command host_header) user_file
+
+-- a command with the options that say which feed is followed
+abbrev pub with_feed : App → App
+with_feed command =
+    with_rule (with_rule (with_server (with_rule command options.contest)) base) from
+
+-- a command with the options that say how a feed is asked for, and when it is shown
+abbrev pub with_settling : App → App
+with_settling command = with_rule (with_rule command settle) fresh
+
+-- a command with the options that say what is followed, as whom, and until when
+abbrev pub with_upstream : App → App
+with_upstream command =
+    with_rule (with_rule (with_settling (with_identity (with_feed command))) return_after) until_eof
+
+-- a command with the options that say to whom it is served
+abbrev pub with_listener : App → App
+with_listener command = with_rule (with_rule (with_rule command listen) address) screens
+
+-- a command with the options that say who may connect
+abbrev pub with_guard : App → App
+with_guard command = with_rule (with_rule command allow) per_address
+
+-- a command with the options that say to whom it is served, and how
+abbrev pub with_screens : App → App
+with_screens command = with_rule (with_rule (with_rule (with_guard (with_listener command)) idle)
+    window) options.chunked
+
+-- a command with the limits of the node that is served
+abbrev pub with_limits : App → App
+with_limits command =
+    with_rule (with_rule (with_rule command history) options.staged) options.memory
+
+-- a command with the options that say what of the file is served, and when
+abbrev pub with_serving : App → App
+with_serving command = with_rule (with_rule command hold) serve_old
+
+-- a command with the options that say what is kept
+abbrev pub with_state : App → App
+with_state command = with_limits (with_serving (with_rule (with_rule command state) new))
+
+-- a command with the options that say where it is watched
+abbrev pub with_status : App → App
+with_status command = with_rule (with_rule command status) status_address
+
+-- a command with the options that say where it is watched, and what it reports
+abbrev pub with_watching : App → App
+with_watching command = with_rule (with_rule (with_status command) verbose) quiet
+
+abbrev pub live : App
+live = with_watching (with_state (with_screens (with_upstream (new_app (codes "live")))))
+
+-- ---- what its options ask for
+
+-- the server that is followed first, and those that are asked where it fails
+pub record AsksUpstream (rows : List Row) (upstream : UpstreamOptions) : Type 0 where
+  pub host_is : text_at (codes "host") rows ≡ Some upstream.host.now
+  pub port_is : IsNumber (codes "port") most_port rows upstream.port
+  pub from_is : text_at (codes "from") rows ≡ option_map (λ text. text.now) upstream.from
+  pub base_is : text_at (codes "base") rows ≡ Some upstream.base.now
+  pub host_header_is :
+      text_at (codes "host-header") rows ≡ option_map (λ text. text.now) upstream.host_header
+  pub user_file_is :
+      text_at (codes "user-file") rows ≡ option_map (λ text. text.now) upstream.user_file
+
+-- a server is followed where `--host` is given, and else standard input
+abbrev pub IsUpstream : List Row → Option UpstreamOptions → Type 0
+IsUpstream rows (Some upstream) = AsksUpstream rows upstream
+IsUpstream rows None = text_at (codes "host") rows ≡ None
+
+-- as much is reported as the two options say
+abbrev pub is_verbose : Verbosity → Bool
+is_verbose verbosity.Verbose = true
+is_verbose other = false
+
+abbrev pub is_quiet : Verbosity → Bool
+is_quiet verbosity.Quiet = true
+is_quiet other = false
+
+-- both of the two options are given that say how much is reported
+abbrev pub AreBothGiven : List Row → Type 0
+AreBothGiven rows = IsGiven (codes "verbose") rows true × IsGiven (codes "quiet") rows true
+
+-- the values of the options of `live`
+pub record AsksLive (rows : List Row) (options : LiveOptions) : Type 0 where
+  pub contest_is : text_at (codes "contest") rows ≡ Some options.contest.now
+  pub upstream_is : IsUpstream rows options.upstream
+  pub listen_is : IsNumberIfGiven (codes "listen") most_port rows options.listen
+  pub address_is : text_at (codes "address") rows ≡ Some options.address.now
+  pub allow_is : text_at (codes "allow") rows ≡ option_map (λ text. text.now) options.allow
+  pub per_address_is :
+      IsNumberIfGiven (codes "per-address") most_screens rows options.per_address
+  pub status_is : IsNumberIfGiven (codes "status") most_port rows options.status
+  pub status_address_is :
+      text_at (codes "status-address") rows ≡ option_map (λ text. text.now) options.status_address
+  pub screens_are : IsNumber (codes "screens") most_screens rows options.screens
+  pub idle_is : IsNumber (codes "idle") most_idle rows options.idle
+  pub window_is : IsNumber (codes "window") most_window rows options.window
+  pub framing_is : IsFramed rows options.framing
+  pub state_is : text_at (codes "state") rows ≡ option_map (λ text. text.now) options.state
+  pub new_is : IsGiven (codes "new") rows options.is_new
+  pub is_some_use : (is_some options.listen ≡ true) ⊎ (is_some options.state ≡ true)
+  pub settle_is : IsNumberUpTo (codes "settle") most_settle rows options.settle
+  pub fresh_is : IsGiven (codes "fresh") rows options.fresh
+  pub return_is : IsNumberUpTo (codes "return") most_return rows options.return_after
+  pub hold_is : IsNumberUpTo (codes "hold") most_hold rows options.hold
+  pub serve_old_is : IsGiven (codes "serve-old") rows options.serve_old
+  pub until_eof_is : IsGiven (codes "until-eof") rows options.until_eof
+  pub verbose_is : IsGiven (codes "verbose") rows (is_verbose options.verbosity)
+  pub quiet_is : IsGiven (codes "quiet") rows (is_quiet options.verbosity)
+  pub limits_are : AsksLimits rows options.limits

@@ -1,0 +1,193 @@
+-- What the words of a command line ask for. Which of them name a command, and which are the values
+-- of its options, is as the crate clap reads them (`subcommand_of`), for the command line defined
+-- here.
+use Rattle.std.specs.Prelude.{◌≡◌, ◌≢◌, ◌⊎◌, List, Option, Some, codes, option_map, true, false}
+use Rattle.clap.specs.Simple.{on_top}
+use Rattle.clap.specs.Words.{App, Row, Text, new_app, subcommand_of, takes, with_rule, with_subcommand}
+use Rattle.feed_settings.specs.Limits.{most_commits}
+use Rattle.feed_arguments.specs.Addresses.{most_port}
+use Rattle.feed_arguments.specs.Live.{live, AsksLive}
+use Rattle.feed_arguments.specs.Options.{most_rounds, most_silence, verbose, primary, json, port, listen, contest, count, turn, chunked, back, host, from, base, host_header, user_file, turns, silence, resume, with_limits}
+use Rattle.feed_arguments.specs.Options.{text_at, IsNumber, IsNumberUpTo, IsNumberIfGiven, IsGiven, IsFramed, AsksLimits}
+use Rattle.feed_arguments.specs.declared.request.Local.TheVariants as local
+use Rattle.clap.specs.declared.error.kind.ErrorKind.{ErrorKind}
+use Rattle.clap.specs.declared.error.kind.ErrorKind.TheVariants as kind
+use Rattle.feed_arguments.specs.declared.request.NoCommand.{NoCommand}
+use Rattle.feed_arguments.specs.declared.request.NoCommand.TheVariants as reply
+use Rattle.feed_arguments.specs.declared.request.Request.{Request}
+use Rattle.feed_arguments.specs.declared.request.Request.TheVariants as request
+use Rattle.feed_arguments.specs.declared.request.TablesOptions.{TablesOptions}
+use Rattle.feed_arguments.specs.declared.request.CheckOptions.{CheckOptions}
+use Rattle.feed_arguments.specs.declared.request.AuditOptions.{AuditOptions}
+use Rattle.feed_arguments.specs.declared.request.ServeOptions.{ServeOptions}
+use Rattle.feed_arguments.specs.declared.request.PullOptions.{PullOptions}
+use Rattle.feed_arguments.specs.declared.request.RelayOptions.{RelayOptions}
+
+-- ---- the command line
+
+-- a command with the options that say what is followed
+abbrev pub with_place : App → App
+with_place command = with_rule (with_rule (with_rule (with_rule command host) port) from) contest
+
+-- a command with the options that say what a server is told of who asks
+abbrev pub with_identity : App → App
+with_identity command = with_rule (with_rule command host_header) user_file
+
+-- a command with the options that say what is followed, and how far
+abbrev pub with_followed : App → App
+with_followed command =
+    with_rule (with_rule (with_identity (with_rule (with_place command) base)) turns) silence
+
+-- a command with the options of `pull`
+abbrev pub with_pull : App → App
+with_pull command = with_limits (with_rule (with_rule (with_followed command) resume) verbose)
+
+-- a command with the options that `serve` needs
+abbrev pub with_served : App → App
+with_served command = with_rule (with_rule (with_rule command port) contest) count
+
+-- a command with the options that say what `serve` sends
+abbrev pub with_sent : App → App
+with_sent command = with_rule (with_rule (with_rule command turn) chunked) back
+
+abbrev pub tables : App
+tables = with_rule (with_limits (new_app (codes "tables"))) verbose
+
+abbrev pub check : App
+check = with_rule (new_app (codes "check")) verbose
+
+abbrev pub audit : App
+audit = with_limits (with_rule (with_rule (with_rule (new_app (codes "audit")) primary) json) verbose)
+
+abbrev pub play : App
+play = new_app (codes "play")
+
+abbrev pub serve : App
+serve = with_limits (with_rule (with_sent (with_served (new_app (codes "serve")))) verbose)
+
+abbrev pub pull : App
+pull = with_pull (new_app (codes "pull"))
+
+abbrev pub relay : App
+relay =
+    with_rule (with_rule (with_rule (with_pull (new_app (codes "relay"))) listen) count) chunked
+
+-- the program's name, with a version; one of the commands must follow
+abbrev pub program : App
+program =
+    on_top (λ s. record s { has_version = true; subcommand_required = true })
+    (new_app (codes "tunygarop"))
+
+-- the program, with the commands that open no connection
+abbrev pub local_program : App
+local_program =
+    with_subcommand (with_subcommand (with_subcommand (with_subcommand program tables.top) check.top) audit.top)
+    play.top
+
+-- the program, with those and the commands for trying
+abbrev pub program_for_trying : App
+program_for_trying =
+    with_subcommand (with_subcommand (with_subcommand local_program serve.top) pull.top) relay.top
+
+abbrev pub command_line : App
+command_line = with_subcommand program_for_trying live.top
+
+-- ---- what words ask for
+
+-- the values of the options of `tables`
+pub record AsksTables (rows : List Row) (options : TablesOptions) : Type 0 where
+  pub limits_are : AsksLimits rows options.limits
+  pub verbose_is : IsGiven (codes "verbose") rows options.verbose
+
+-- the values of the options of `check`
+pub record AsksCheck (rows : List Row) (options : CheckOptions) : Type 0 where
+  pub verbose_is : IsGiven (codes "verbose") rows options.verbose
+
+-- the values of the options of `audit`
+pub record AsksAudit (rows : List Row) (options : AuditOptions) : Type 0 where
+  pub primary_is : text_at (codes "primary") rows ≡ Some options.primary.now
+  pub json_is : IsGiven (codes "json") rows options.json
+  pub verbose_is : IsGiven (codes "verbose") rows options.verbose
+  pub limits_are : AsksLimits rows options.limits
+
+-- the values of the options of `serve`
+pub record AsksServe (rows : List Row) (options : ServeOptions) : Type 0 where
+  pub port_is : IsNumber (codes "port") most_port rows options.port
+  pub contest_is : text_at (codes "contest") rows ≡ Some options.contest.now
+  pub count_is : IsNumber (codes "count") most_rounds rows options.count
+  pub turn_is : IsNumberIfGiven (codes "turn") most_rounds rows options.turn
+  pub back_is : IsNumberUpTo (codes "back") most_commits rows options.back
+  pub framing_is : IsFramed rows options.framing
+  pub verbose_is : IsGiven (codes "verbose") rows options.verbose
+  pub limits_are : AsksLimits rows options.limits
+
+-- the values of the options of `pull`
+pub record AsksPull (rows : List Row) (options : PullOptions) : Type 0 where
+  pub host_is : text_at (codes "host") rows ≡ Some options.host.now
+  pub port_is : IsNumber (codes "port") most_port rows options.port
+  pub from_is : text_at (codes "from") rows ≡ option_map (λ text. text.now) options.from
+  pub base_is : text_at (codes "base") rows ≡ Some options.base.now
+  pub contest_is : text_at (codes "contest") rows ≡ Some options.contest.now
+  pub host_header_is : text_at (codes "host-header") rows ≡ option_map (λ text. text.now) options.host_header
+  pub user_file_is : text_at (codes "user-file") rows ≡ option_map (λ text. text.now) options.user_file
+  pub turns_are : IsNumber (codes "turns") most_rounds rows options.turns
+  pub silence_is : IsNumberIfGiven (codes "silence") most_silence rows options.silence
+  pub resume_is : IsGiven (codes "resume") rows options.resume
+  pub verbose_is : IsGiven (codes "verbose") rows options.verbose
+  pub limits_are : AsksLimits rows options.limits
+
+-- the values of the options of `relay`
+pub record AsksRelay (rows : List Row) (options : RelayOptions) : Type 0 where
+  pub pull_is : AsksPull rows options.pull
+  pub listen_is : IsNumber (codes "listen") most_port rows options.listen
+  pub count_is : IsNumber (codes "count") most_rounds rows options.count
+  pub framing_is : IsFramed rows options.framing
+
+-- the command of this name, with these values of its options, is what is requested
+abbrev pub AsksBy : Text → List Row → Request → Type 0
+AsksBy name rows (request.Local (local.Tables options)) =
+    (name ≡ codes "tables") × AsksTables rows options
+AsksBy name rows (request.Local (local.Check options)) =
+    (name ≡ codes "check") × AsksCheck rows options
+AsksBy name rows (request.Local local.Play) = name ≡ codes "play"
+AsksBy name rows (request.Audit options) = (name ≡ codes "audit") × AsksAudit rows options
+AsksBy name rows (request.Serve options) = (name ≡ codes "serve") × AsksServe rows options
+AsksBy name rows (request.Pull options) = (name ≡ codes "pull") × AsksPull rows options
+AsksBy name rows (request.Relay options) = (name ≡ codes "relay") × AsksRelay rows options
+AsksBy name rows (request.Live options) = (name ≡ codes "live") × AsksLive rows options
+
+-- the command that was entered asks for this
+pub record AsksAt (entered : Option (Text × List Row)) (asked : Request) : Type 0 where
+  pub name : Text
+  pub rows : List Row
+  pub is : entered ≡ Some (name, rows)
+  pub by : AsksBy name rows asked
+
+-- the words ask for this
+abbrev pub Asks : List Text → Request → Type 0
+Asks words asked = AsksAt (subcommand_of command_line words) asked
+
+-- no request is what the words ask for, if the command line takes them
+abbrev pub AskInVain : List Text → Type 0
+AskInVain words = takes command_line words ≡ true → (asked : Request) → ¬ (Asks words asked)
+
+-- Why words are refused, as the crate clap states it (`takes`): memory ran out, or the command line
+-- does not take them, or it takes them and yet they ask for nothing. Of no words of `live` does clap
+-- say that they are taken, since options of it have rules on others.
+abbrev pub RefusesBy : List Text → ErrorKind → Type 0
+RefusesBy words kind.OutOfMemory = Unit {0}
+RefusesBy words kind.ValueValidation = AskInVain words
+RefusesBy words other = takes command_line words ≡ false
+
+-- what is replied to a refusal of this kind
+abbrev pub RepliesBy : ErrorKind → NoCommand → Type 0
+RepliesBy why reply.Memory = Unit {0}
+RepliesBy why (reply.Shown text) = (why ≡ kind.DisplayHelp) ⊎ (why ≡ kind.DisplayVersion)
+RepliesBy why (reply.Refused text) = why ≢ kind.OutOfMemory
+
+-- The words ask for nothing: if they are replied to with help or the version, then the command line
+-- does not take them; if they are refused, then it does not take them, or they ask for no request.
+abbrev pub AsksNothing : List Text → NoCommand → Type 0
+AsksNothing words reply.Memory = Unit {0}
+AsksNothing words (reply.Shown text) = takes command_line words ≡ false
+AsksNothing words (reply.Refused text) = AskInVain words

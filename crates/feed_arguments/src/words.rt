@@ -1,0 +1,84 @@
+//! The words of a command line, and what they ask for.
+ghost use Rattle.std.specs.Prelude.{◌≡◌, List, map, IfOk, IfErr};
+ghost use Rattle.clap.specs.Words.{Text, kind_of};
+ghost use Rattle.feed_arguments.specs.Words.{Asks, AsksNothing, RefusesBy, RepliesBy};
+
+mod asked;
+mod asked_live;
+mod line;
+mod live;
+mod options;
+
+use crate::request::{NoCommand, Request};
+use asked::request_entered;
+use clap::error::ErrorKind;
+use line::{USUAL_CALLS, command_line};
+use std::alloc::Global;
+
+/// The name of the program.
+pub const PROGRAM: &str = "tunygarop";
+
+/// The version of the program.
+pub const VERSION: &str = "0.2.0";
+
+/// What clap replies to words that ask for no command.
+fn reply(alloc: Global, error: &clap::Error) -> NoCommand
+    ensures { RepliesBy (kind_of error.now) result }
+{
+    if error.kind() == ErrorKind::OutOfMemory {
+        return NoCommand::Memory;
+    }
+    let Ok(text) = format!(in alloc; "{error}") else {
+        return NoCommand::Memory;
+    };
+    if error.use_stderr() {
+        NoCommand::Refused(text)
+    } else {
+        NoCommand::Shown(text)
+    }
+}
+
+/// What the words ask for, or what clap replies to them.
+fn parse<'a>(alloc: Global, words: &'a [&'a str]) -> Result<Request<'a>, clap::Error>
+    ensures ok { IfOk result (λ request. Asks (map (λ word. word.now) words.entry.now) request) }
+    ensures err { IfErr result (λ error.
+        RefusesBy (map (λ word. word.now) words.entry.now) (kind_of error)) }
+{
+    let mut program = command_line(alloc)?;
+    let matches = program.try_get_matches_from_mut(words)?;
+    match request_entered(&matches) {
+        Some(request) => Ok(request),
+        None => Err(program.error(
+            ErrorKind::ValueValidation,
+            "no such command, or a number out of its range",
+        )?),
+    }
+}
+
+/// A refusal with the usual calls below it.
+fn with_usual_calls(reply: NoCommand) -> NoCommand
+    ensures { (words : List Text) → AsksNothing words reply → AsksNothing words result }
+{
+    let NoCommand::Refused(mut text) = reply else {
+        return reply;
+    };
+    for more in ["\n", USUAL_CALLS, "\n"] {
+        if text.push_str(more).is_err() {
+            return NoCommand::Memory;
+        }
+    }
+    NoCommand::Refused(text)
+}
+
+/// What the words ask for; the first of them is the program's name.
+pub fn parse_words<'a>(alloc: Global, words: &'a [&'a str]) -> Result<Request<'a>, NoCommand>
+    ensures ok { IfOk result (λ request. Asks (map (λ word. word.now) words.entry.now) request) }
+    ensures err { IfErr result (λ reply.
+        AsksNothing (map (λ word. word.now) words.entry.now) reply) }
+{
+    match parse(alloc, words) {
+        Ok(request) => Ok(request),
+        Err(error) if words.len() <= 1 => Err(with_usual_calls(reply(alloc, &error))),
+        Err(error) => Err(reply(alloc, &error)),
+    }
+}

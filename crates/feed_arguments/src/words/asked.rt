@@ -1,0 +1,315 @@
+//! What the options of a command ask for.
+ghost use Rattle.std.specs.Prelude.{◌≡◌, ℕ, Option, None, Some, codes, option_map, IfSome};
+ghost use Rattle.clap.specs.Matches.{found_of};
+ghost use Rattle.clap.specs.Words.{rows_of, subcommand_rows_of};
+ghost use Rattle.feed_settings.specs.Limits.{Limits as LimitsOf, most_changes, most_commits};
+ghost use Rattle.feed_arguments.specs.Addresses.{most_port};
+ghost use Rattle.feed_arguments.specs.Live.{AreBothGiven};
+ghost use Rattle.feed_arguments.specs.Options.{most_rounds, most_silence};
+ghost use Rattle.feed_arguments.specs.Options.{text_at, IsNumber, IsNumberUpTo, IsNumberIfGiven};
+ghost use Rattle.feed_arguments.specs.Options.{IsGiven, IsFramed, AsksLimits};
+ghost use Rattle.feed_arguments.specs.Words.{AsksTables, AsksCheck, AsksAudit, AsksServe, AsksPull, AsksRelay, AsksBy, AsksAt};
+ghost use Rattle.feed_arguments.specs.declared.request.AuditOptions.{AuditOptions as Audit};
+ghost use Rattle.feed_arguments.specs.declared.request.PullOptions.{PullOptions as Pull};
+ghost use Rattle.feed_arguments.specs.declared.request.RelayOptions.{RelayOptions as Relay};
+ghost use Rattle.feed_arguments.specs.declared.request.Request.{Request as Asked};
+ghost use Rattle.feed_arguments.specs.declared.request.ServeOptions.{ServeOptions as Serve};
+ghost use Rattle.feed_arguments.specs.declared.request.TablesOptions.{TablesOptions as Tables};
+
+use super::asked_live::live_options;
+use super::options::{MOST_PORT, MOST_ROUNDS, MOST_SILENCE};
+use crate::request::{
+    AuditOptions, CheckOptions, Local, PullOptions, RelayOptions, Request, ServeOptions,
+    TablesOptions,
+};
+use clap::ArgMatches;
+use feed_settings::{Framing, Limits, MOST_CHANGES, MOST_COMMITS, MOST_MEMORY};
+
+/// The number that an option's value says; none where it is out of its range, which its parser has
+/// refused.
+pub(super) fn number_up_to(matches: &ArgMatches<'_>, name: &str, most: u64) -> Option<u64>
+    ensures some { IfSome result
+        (λ n. IsNumberUpTo name.now most (rows_of (found_of matches.now)) n) }
+    ensures none { result ≡ None → (n : ℕ)
+        → ¬ (IsNumberUpTo name.now most (rows_of (found_of matches.now)) n) }
+{
+    let number = matches.get_one::<u64>(name)?;
+    if number <= most { Some(number) } else { None }
+}
+
+/// The same of an option whose value is 1 at least.
+pub(super) fn number(matches: &ArgMatches<'_>, name: &str, most: u64) -> Option<u64>
+    ensures some { IfSome result (λ n. IsNumber name.now most (rows_of (found_of matches.now)) n) }
+    ensures none { result ≡ None → (n : ℕ)
+        → ¬ (IsNumber name.now most (rows_of (found_of matches.now)) n) }
+{
+    let number = number_up_to(matches, name, most)?;
+    if 1 <= number { Some(number) } else { None }
+}
+
+/// The same of an option that may be left out.
+#[tactic(auto, using(crate::proofs::WordsLemmas::says))]
+pub(super) fn number_if_given(
+    matches: &ArgMatches<'_>,
+    name: &str,
+    most: u64,
+) -> Option<Option<u64>>
+    ensures some { IfSome result
+        (λ n. IsNumberIfGiven name.now most (rows_of (found_of matches.now)) n) }
+    ensures none { result ≡ None → (n : Option ℕ)
+        → ¬ (IsNumberIfGiven name.now most (rows_of (found_of matches.now)) n) }
+{
+    if text(matches, name).is_none() {
+        return Some(None);
+    }
+    match number(matches, name, most) {
+        Some(number) => Some(Some(number)),
+        None => None,
+    }
+}
+
+/// A port.
+pub(super) fn port(matches: &ArgMatches<'_>, name: &str) -> Option<u16>
+    ensures some { IfSome result
+        (λ n. IsNumber name.now most_port (rows_of (found_of matches.now)) n) }
+    ensures none { result ≡ None → (n : ℕ)
+        → ¬ (IsNumber name.now most_port (rows_of (found_of matches.now)) n) }
+{
+    Some(number(matches, name, MOST_PORT)? as u16)
+}
+
+/// The text of an option's value; none where it has none.
+pub(super) fn text<'a>(matches: &ArgMatches<'a>, name: &str) -> Option<&'a str>
+    ensures { text_at name.now (rows_of (found_of matches.now)) ≡ option_map (λ t. t.now) result }
+{
+    matches.get_str(name)
+}
+
+/// Whether an option without a value is given.
+pub(super) fn is_given(matches: &ArgMatches<'_>, name: &str) -> bool
+    ensures { IsGiven name.now (rows_of (found_of matches.now)) result }
+{
+    matches.get_flag(name)
+}
+
+/// How answers are framed.
+pub(super) fn framing(matches: &ArgMatches<'_>) -> Framing
+    ensures { IsFramed (rows_of (found_of matches.now)) result }
+{
+    if is_given(matches, "chunked") {
+        Framing::Chunked
+    } else {
+        Framing::Close
+    }
+}
+
+/// The limits of a node.
+pub(super) fn limits(matches: &ArgMatches<'_>) -> Option<Limits>
+    ensures some { IfSome result (λ limits. AsksLimits (rows_of (found_of matches.now)) limits) }
+    ensures none { result ≡ None → (limits : LimitsOf)
+        → ¬ (AsksLimits (rows_of (found_of matches.now)) limits) }
+{
+    let limits = limits_of_counts(matches)?;
+    match number_if_given(matches, "memory", MOST_MEMORY as u64)? {
+        None => Some(limits),
+        Some(bytes) => limits.with_memory(bytes as usize).ok(),
+    }
+}
+
+/// The same without the limit of memory.
+fn limits_of_counts(matches: &ArgMatches<'_>) -> Option<Limits>
+    ensures history { IfSome result (λ limits.
+        IsNumber (codes "history") most_commits (rows_of (found_of matches.now)) limits.history) }
+    ensures staged { IfSome result (λ limits.
+        IsNumber (codes "staged") most_changes (rows_of (found_of matches.now)) limits.staged) }
+    ensures memory { IfSome result (λ limits. limits.memory ≡ None) }
+    ensures none { result ≡ None → (limits : LimitsOf)
+        → ¬ (AsksLimits (rows_of (found_of matches.now)) limits) }
+{
+    let history = number(matches, "history", MOST_COMMITS as u64)?;
+    let staged = number(matches, "staged", MOST_CHANGES as u64)?;
+    let limits = Limits::new(history as usize, staged as usize).ok()?;
+    Some(limits)
+}
+
+/// What the options of `tables` ask for.
+fn tables_options(matches: &ArgMatches<'_>) -> Option<TablesOptions>
+    ensures some { IfSome result (λ options. AsksTables (rows_of (found_of matches.now)) options) }
+    ensures none { result ≡ None → (options : Tables)
+        → ¬ (AsksTables (rows_of (found_of matches.now)) options) }
+{
+    Some(TablesOptions {
+        limits: limits(matches)?,
+        verbose: is_given(matches, "verbose"),
+    })
+}
+
+/// What the options of `check` ask for.
+fn check_options(matches: &ArgMatches<'_>) -> CheckOptions
+    ensures { AsksCheck (rows_of (found_of matches.now)) result }
+{
+    CheckOptions {
+        verbose: is_given(matches, "verbose"),
+    }
+}
+
+/// What the options of `audit` ask for.
+fn audit_options<'a>(matches: &ArgMatches<'a>) -> Option<AuditOptions<'a>>
+    ensures some { IfSome result (λ options. AsksAudit (rows_of (found_of matches.now)) options) }
+    ensures none { result ≡ None → (options : Audit)
+        → ¬ (AsksAudit (rows_of (found_of matches.now)) options) }
+{
+    let primary = text(matches, "primary")?;
+    let limits = limits(matches)?;
+    Some(AuditOptions {
+        primary,
+        json: is_given(matches, "json"),
+        verbose: is_given(matches, "verbose"),
+        limits,
+    })
+}
+
+/// What the options of `serve` ask for.
+fn serve_options<'a>(matches: &ArgMatches<'a>) -> Option<ServeOptions<'a>>
+    ensures some { IfSome result (λ options. AsksServe (rows_of (found_of matches.now)) options) }
+    ensures none { result ≡ None → (options : Serve)
+        → ¬ (AsksServe (rows_of (found_of matches.now)) options) }
+{
+    let port = port(matches, "port")?;
+    let contest = text(matches, "contest")?;
+    let count = number(matches, "count", MOST_ROUNDS)?;
+    let turn = number_if_given(matches, "turn", MOST_ROUNDS)?;
+    let back = number_up_to(matches, "back", MOST_COMMITS as u64)?;
+    let limits = limits(matches)?;
+    Some(ServeOptions {
+        port,
+        contest,
+        count,
+        turn: turn.map(|turn| turn as usize),
+        framing: framing(matches),
+        back: back as usize,
+        verbose: is_given(matches, "verbose"),
+        limits,
+    })
+}
+
+/// The most reads of a connection, and the most seconds of silence.
+fn patience(matches: &ArgMatches<'_>) -> Option<(u64, Option<u64>)>
+    ensures turns { IfSome result
+        (λ p. IsNumber (codes "turns") most_rounds (rows_of (found_of matches.now)) p.0) }
+    ensures silence { IfSome result
+        (λ p. IsNumberIfGiven (codes "silence") most_silence (rows_of (found_of matches.now)) p.1) }
+    ensures none { result ≡ None → (turns : ℕ) → (most : Option ℕ)
+        → IsNumber (codes "turns") most_rounds (rows_of (found_of matches.now)) turns
+        → ¬ (IsNumberIfGiven (codes "silence") most_silence (rows_of (found_of matches.now)) most) }
+{
+    let turns = number(matches, "turns", MOST_ROUNDS)?;
+    let silence = number_if_given(matches, "silence", MOST_SILENCE)?;
+    Some((turns, silence))
+}
+
+/// What a server is told of who asks: its name, and the file with the user.
+pub(super) fn identity<'a>(matches: &ArgMatches<'a>) -> (Option<&'a str>, Option<&'a str>)
+    ensures host_header { text_at (codes "host-header") (rows_of (found_of matches.now))
+        ≡ option_map (λ t. t.now) result.0 }
+    ensures user_file { text_at (codes "user-file") (rows_of (found_of matches.now))
+        ≡ option_map (λ t. t.now) result.1 }
+{
+    (text(matches, "host-header"), text(matches, "user-file"))
+}
+
+/// What the options of `pull` ask for, and those of `relay` that it has, too.
+fn pull_options<'a>(matches: &ArgMatches<'a>) -> Option<PullOptions<'a>>
+    ensures some { IfSome result (λ options. AsksPull (rows_of (found_of matches.now)) options) }
+    ensures none { result ≡ None → (options : Pull)
+        → ¬ (AsksPull (rows_of (found_of matches.now)) options) }
+{
+    let host = text(matches, "host")?;
+    let port = port(matches, "port")?;
+    let from = text(matches, "from");
+    let base = text(matches, "base")?;
+    let contest = text(matches, "contest")?;
+    let (host_header, user_file) = identity(matches);
+    let (turns, silence) = patience(matches)?;
+    let limits = limits(matches)?;
+    Some(PullOptions {
+        host,
+        port,
+        from,
+        base,
+        contest,
+        host_header,
+        user_file,
+        turns,
+        silence,
+        resume: is_given(matches, "resume"),
+        verbose: is_given(matches, "verbose"),
+        limits,
+    })
+}
+
+/// What the options of `relay` ask for.
+fn relay_options<'a>(matches: &ArgMatches<'a>) -> Option<RelayOptions<'a>>
+    ensures some { IfSome result (λ options. AsksRelay (rows_of (found_of matches.now)) options) }
+    ensures none { result ≡ None → (options : Relay)
+        → ¬ (AsksRelay (rows_of (found_of matches.now)) options) }
+{
+    let Some(pull) = pull_options(matches) else {
+        return None;
+    };
+    let listen = port(matches, "listen")?;
+    let count = number(matches, "count", MOST_ROUNDS)?;
+    Some(RelayOptions {
+        pull,
+        listen,
+        count,
+        framing: framing(matches),
+    })
+}
+
+/// What the command of this name asks for.
+fn request_named<'a>(name: &str, matches: &ArgMatches<'a>) -> Option<Request<'a>>
+    ensures some { IfSome result
+        (λ request. AsksBy name.now (rows_of (found_of matches.now)) request) }
+    ensures none { result ≡ None → (request : Asked)
+        → AsksBy name.now (rows_of (found_of matches.now)) request
+        → (name.now ≡ codes "live") × AreBothGiven (rows_of (found_of matches.now)) }
+{
+    match name {
+        "tables" => Some(Request::Local(Local::Tables(tables_options(matches)?))),
+        "check" => Some(Request::Local(Local::Check(check_options(matches)))),
+        "play" => Some(Request::Local(Local::Play)),
+        "audit" => match audit_options(matches) {
+            Some(options) => Some(Request::Audit(options)),
+            None => None,
+        },
+        "serve" => match serve_options(matches) {
+            Some(options) => Some(Request::Serve(options)),
+            None => None,
+        },
+        "pull" => match pull_options(matches) {
+            Some(options) => Some(Request::Pull(options)),
+            None => None,
+        },
+        "relay" => match relay_options(matches) {
+            Some(options) => Some(Request::Relay(options)),
+            None => None,
+        },
+        "live" => match live_options(matches) {
+            Some(options) => Some(Request::Live(options)),
+            None => None,
+        },
+        _ => None,
+    }
+}
+
+/// What the command asks for that was entered.
+pub(super) fn request_entered<'a>(matches: &ArgMatches<'a>) -> Option<Request<'a>>
+    ensures some { IfSome result (λ request. AsksAt (subcommand_rows_of matches.now) request) }
+    ensures none { result ≡ None → (request : Asked)
+        → AsksAt (subcommand_rows_of matches.now) request
+        → option_map (λ p. p.0) (subcommand_rows_of matches.now) ≡ Some (codes "live") }
+{
+    let (name, options) = matches.subcommand()?;
+    request_named(name, options)
+}

@@ -1,0 +1,135 @@
+//! What the options of `live` ask for.
+ghost use Rattle.std.specs.Prelude.{◌≡◌, ℕ, Option, None, IfSome, codes};
+ghost use Rattle.clap.specs.Matches.{found_of};
+ghost use Rattle.clap.specs.Words.{rows_of};
+ghost use Rattle.feed_arguments.specs.Addresses.{most_port};
+ghost use Rattle.feed_arguments.specs.Live.{is_verbose as verbose_of, is_quiet as quiet_of};
+ghost use Rattle.feed_arguments.specs.Live.{AreBothGiven, AsksUpstream, IsUpstream, AsksLive};
+ghost use Rattle.feed_arguments.specs.Options.{IsNumberIfGiven, IsGiven};
+ghost use Rattle.feed_arguments.specs.declared.request.LiveOptions.{LiveOptions as Live};
+ghost use Rattle.feed_arguments.specs.declared.request.UpstreamOptions.{UpstreamOptions as Upstream};
+
+use super::asked::{
+    framing, identity, is_given, limits, number, number_if_given, number_up_to, port, text,
+};
+use super::live::{MOST_HOLD, MOST_IDLE, MOST_RETURN, MOST_SCREENS, MOST_SETTLE, MOST_WINDOW};
+use super::options::MOST_PORT;
+use crate::request::{LiveOptions, UpstreamOptions, Verbosity};
+use clap::ArgMatches;
+
+/// A port that may be left out.
+fn port_if_given(matches: &ArgMatches<'_>, name: &str) -> Option<Option<u16>>
+    ensures some { IfSome result
+        (λ n. IsNumberIfGiven name.now most_port (rows_of (found_of matches.now)) n) }
+    ensures none { result ≡ None → (n : Option ℕ)
+        → ¬ (IsNumberIfGiven name.now most_port (rows_of (found_of matches.now)) n) }
+{
+    let port = number_if_given(matches, name, MOST_PORT)?;
+    Some(port.map(|port| port as u16))
+}
+
+/// The server that is followed first, and those that are asked where it fails.
+fn upstream_at<'a>(matches: &ArgMatches<'a>) -> Option<UpstreamOptions<'a>>
+    ensures some { IfSome result
+        (λ upstream. AsksUpstream (rows_of (found_of matches.now)) upstream) }
+    ensures none { result ≡ None → (upstream : Upstream)
+        → ¬ (AsksUpstream (rows_of (found_of matches.now)) upstream) }
+{
+    let host = text(matches, "host")?;
+    let port = port(matches, "port")?;
+    let base = text(matches, "base")?;
+    let (host_header, user_file) = identity(matches);
+    Some(UpstreamOptions {
+        host,
+        port,
+        from: text(matches, "from"),
+        base,
+        host_header,
+        user_file,
+    })
+}
+
+/// What is followed: standard input where no server is given.
+fn upstream<'a>(matches: &ArgMatches<'a>) -> Option<Option<UpstreamOptions<'a>>>
+    ensures some { IfSome result
+        (λ upstream. IsUpstream (rows_of (found_of matches.now)) upstream) }
+    ensures none { result ≡ None → (upstream : Option Upstream)
+        → ¬ (IsUpstream (rows_of (found_of matches.now)) upstream) }
+{
+    if text(matches, "host").is_none() {
+        return Some(None);
+    }
+    match upstream_at(matches) {
+        Some(upstream) => Some(Some(upstream)),
+        None => None,
+    }
+}
+
+/// How much is reported.
+fn verbosity(matches: &ArgMatches<'_>) -> Option<Verbosity>
+    ensures verbose { IfSome result
+        (λ much. IsGiven (codes "verbose") (rows_of (found_of matches.now)) (verbose_of much)) }
+    ensures quiet { IfSome result
+        (λ much. IsGiven (codes "quiet") (rows_of (found_of matches.now)) (quiet_of much)) }
+    ensures none { result ≡ None → AreBothGiven (rows_of (found_of matches.now)) }
+{
+    match (is_given(matches, "verbose"), is_given(matches, "quiet")) {
+        (false, false) => Some(Verbosity::Normal),
+        (true, false) => Some(Verbosity::Verbose),
+        (false, true) => Some(Verbosity::Quiet),
+        (true, true) => None,
+    }
+}
+
+/// What the options of `live` ask for.
+pub(super) fn live_options<'a>(matches: &ArgMatches<'a>) -> Option<LiveOptions<'a>>
+    ensures some { IfSome result (λ options. AsksLive (rows_of (found_of matches.now)) options) }
+    ensures none { result ≡ None → (options : Live)
+        → AsksLive (rows_of (found_of matches.now)) options
+        → AreBothGiven (rows_of (found_of matches.now)) }
+{
+    let contest = text(matches, "contest")?;
+    let Some(upstream) = upstream(matches) else {
+        return None;
+    };
+    let listen = port_if_given(matches, "listen")?;
+    let state = text(matches, "state");
+    if listen.is_none() && state.is_none() {
+        return None;
+    }
+    let address = text(matches, "address")?;
+    let per_address = number_if_given(matches, "per-address", MOST_SCREENS)?;
+    let status = port_if_given(matches, "status")?;
+    let screens = number(matches, "screens", MOST_SCREENS)?;
+    let idle = number(matches, "idle", MOST_IDLE)?;
+    let window = number(matches, "window", MOST_WINDOW)?;
+    let settle = number_up_to(matches, "settle", MOST_SETTLE)?;
+    let return_after = number_up_to(matches, "return", MOST_RETURN)?;
+    let hold = number_up_to(matches, "hold", MOST_HOLD)?;
+    let verbosity = verbosity(matches)?;
+    let limits = limits(matches)?;
+    Some(LiveOptions {
+        contest,
+        upstream,
+        listen,
+        address,
+        allow: text(matches, "allow"),
+        per_address,
+        status,
+        status_address: text(matches, "status-address"),
+        screens: screens as usize,
+        idle,
+        window,
+        framing: framing(matches),
+        state,
+        is_new: is_given(matches, "new"),
+        settle,
+        fresh: is_given(matches, "fresh"),
+        return_after,
+        hold,
+        serve_old: is_given(matches, "serve-old"),
+        until_eof: is_given(matches, "until-eof"),
+        verbosity,
+        limits,
+    })
+}

@@ -1,0 +1,23 @@
+use Rattle.std.proofs.Common.{inl, refl}
+use Rattle.std.proofs.lemmas.Result.{err_from_is_err_and}
+use Rattle.feed_commands.proofs.InTurnLemmas.{done_none, done_more}
+use Rattle.feed_commands.proofs.RelayLemmas.{keeps_same, broke_off}
+use Rattle.feed_commands.proofs.TellingLemmas.{told_then}
+use Rattle.feed_commands.proofs.commands.relay.print_relayed.Goals as goal
+
+pub rounds-init : goal.rounds-init
+rounds-init g c = record { made = done_none _ _; told = inl (refl, c.new-teller.ensures) }
+
+pub returns-in_err-make_round-clause-err : goal.returns-in_err-make_round-clause-err
+returns-in_err-make_round-clause-err g c =
+    let p = err_from_is_err_and c.from_residual.result c.from_residual.ensures.1 in
+    rw (p.1, p.2) (broke_off _ _ _ _ _ _ _ _ _ _ _ c.rounds._made _ _ c.rounds-test.true
+    c.rounds.invariant.made c.in_err-make_round.ensures.err (keeps_same _))
+
+pub rounds-preserved : goal.rounds-preserved
+rounds-preserved g c =
+    let on = c.in_ok-make_round.ensures.ok in
+    record {
+      made = done_more _ _ _ _ _ on.0 c.rounds.invariant.made on.1;
+      told = told_then _ _ _ _ _ _ c.rounds.invariant.told c.make_round.ensures.told;
+    }

@@ -1,0 +1,55 @@
+-- What the command `audit` reads and prints.
+use Rattle.std.specs.Prelude.{◌≡◌, ◌⊎◌, ℕ, ◌≤◌, Bool, true, false, List, Option}
+use Rattle.std.specs.Io.KnownBytes.{Appends, Keeps}
+use Rattle.feed_audit.specs.Answers.{Agreement, Straying, HasStates, FailsToAudit}
+use Rattle.feed_audit.specs.Told.{agreement_text, agreement_json, stray_text, stray_json}
+use Rattle.feed_audit.specs.declared.verdict.Stray.{Stray}
+use Rattle.feed_http.specs.Device.{AppendsPrefix}
+use Rattle.feed_arguments.specs.declared.request.AuditOptions.{AuditOptions}
+use Rattle.feed_commands.specs.declared.fault.Fault.{Fault}
+use Rattle.feed_commands.specs.declared.fault.Fault.TheVariants as fault
+
+-- the greatest number of bytes of a record
+abbrev pub record_bytes : ℕ
+record_bytes = 536870912
+
+-- how an agreement is told: as JSON, or as a line
+abbrev pub agreement_told : Bool → ℕ → ℕ → List ℕ
+agreement_told true states primary = agreement_json states primary
+agreement_told false states primary = agreement_text states primary
+
+-- and a stray state: as JSON, or as lines with objects whole or not
+abbrev pub stray_told : Bool → Bool → Stray → List ℕ
+stray_told true whole stray = stray_json stray
+stray_told false whole stray = stray_text whole stray
+
+module _ (options : AuditOptions) (primary screen : List ℕ) where
+  -- nothing is wrong with the records, each state of the screen's is one of the primary's, and the
+  -- text tells how many they are, one or more
+  pub record TellsAgreement (text : List ℕ) : Type 0 where
+    pub states : ℕ
+    pub some : 1 ≤ states
+    pub agrees : Agreement options.limits primary screen states
+    pub all : ℕ
+    pub has : HasStates options.limits primary all
+    pub told : text ≡ agreement_told options.json states all
+
+  -- this state of the screen's is the first that is none of the primary's, and the text tells it
+  pub record TellsStray (text : List ℕ) : Type 0 where
+    pub stray : Stray
+    pub strays : Straying options.limits primary screen stray
+    pub told : text ≡ stray_told options.json options.verbose stray
+
+  -- the records agree, and that was printed
+  abbrev pub PrintsAgreement : Option (List ℕ) → Option (List ℕ) → Type 0
+  PrintsAgreement old new = (text : List ℕ) × TellsAgreement text × Appends old new text
+
+  -- what was printed where the command fails
+  abbrev pub AuditFails : Fault → Option (List ℕ) → Option (List ℕ) → Type 0
+  AuditFails fault.Differs old new = (text : List ℕ) × TellsStray text × Appends old new text
+  AuditFails fault.Unpublished old new = Agreement options.limits primary screen 0 × Keeps old new
+  AuditFails (fault.Audit why) old new = FailsToAudit options.limits primary screen why × Keeps old new
+  AuditFails fault.Write old new =
+      (text : List ℕ) × (TellsAgreement text ⊎ TellsStray text) × AppendsPrefix old new text
+  AuditFails fault.Memory old new = Keeps old new
+  AuditFails why old new = ⊥

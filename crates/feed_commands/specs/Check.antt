@@ -1,0 +1,103 @@
+-- What the command `check` reads and prints.
+use Rattle.std.specs.Prelude.{◌≡◌, ℕ, ◌<◌, ◌≤◌, Bool, true, false, List, [], ◌∷◌, ◌++◌, length, codes, decimal, Option}
+use Rattle.std.specs.Io.KnownBytes.{Appends, Consumes, IsAtEnd, Keeps}
+use Rattle.feed_text.specs.Ascii.{line_feed}
+use Rattle.feed_note.specs.Counts.{Counted, StopsAt}
+use Rattle.feed_note.specs.declared.counts.Counts.{Counts}
+use Rattle.feed_note.specs.declared.counts.SurveyFault.{SurveyFault}
+use Rattle.feed_http.specs.Device.{AppendsPrefix}
+use Rattle.feed_commands.specs.Repeats.{Repeated, repeats_text}
+use Rattle.feed_commands.specs.Streams.{Streams}
+use Rattle.feed_commands.specs.declared.commands.repeats.Repeats.{Repeats}
+use Rattle.feed_arguments.specs.declared.request.CheckOptions.{CheckOptions}
+use Rattle.feed_commands.specs.declared.fault.Fault.{Fault}
+use Rattle.feed_commands.specs.declared.fault.Fault.TheVariants as fault
+
+-- the greatest number of bytes of an input that is read whole
+abbrev pub input_bytes : ℕ
+input_bytes = 67108864
+
+-- the line that tells the counts
+abbrev pub counts_text : Counts → List ℕ
+counts_text counts =
+    codes "lines " ++ decimal counts.lines
+    ++ codes " keepalives " ++ decimal counts.keepalives
+    ++ codes " notes " ++ decimal counts.notes
+    ++ codes " changes " ++ decimal counts.changes
+    ++ codes " tokens " ++ decimal counts.tokens
+    ++ codes " rest " ++ decimal counts.rest ++ line_feed ∷ []
+
+-- the whole input was read, and has at most so many bytes
+pub record IsWholeWithin (most : ℕ) (old new : Option (List ℕ)) (bytes : List ℕ) : Type 0 where
+  pub read : Consumes old new bytes
+  pub end : IsAtEnd new
+  pub short : length bytes ≤ most
+
+-- the whole input was read, and is within the limit
+abbrev pub IsWhole : Option (List ℕ) → Option (List ℕ) → List ℕ → Type 0
+IsWhole old new bytes = IsWholeWithin input_bytes old new bytes
+
+-- these lines tell what comes to it besides: which tokens come again, if that was asked for
+abbrev pub TellsMore : Bool → List ℕ → List ℕ → Type 0
+TellsMore false bytes lines = lines ≡ []
+TellsMore true bytes lines = (repeats : Repeats) × Repeated bytes repeats × (lines ≡ repeats_text repeats)
+
+-- the text tells what the lines of the feed are
+pub record TellsCounts (options : CheckOptions) (bytes text : List ℕ) : Type 0 where
+  pub counts : Counts
+  pub counted : Counted bytes counts
+  pub more : List ℕ
+  pub told : TellsMore options.verbose bytes more
+  pub is : text ≡ counts_text counts ++ more
+
+-- the whole input was read, and this tells what its lines are
+pub record InputCounted (options : CheckOptions) (old new : Option (List ℕ)) (text : List ℕ) : Type 0 where
+  pub bytes : List ℕ
+  pub whole : IsWhole old new bytes
+  pub tells : TellsCounts options bytes text
+
+-- the whole input was read, and stops at this line
+pub record InputStops (old new : Option (List ℕ)) (why : SurveyFault) : Type 0 where
+  pub bytes : List ℕ
+  pub whole : IsWhole old new bytes
+  pub stops : StopsAt bytes why.line why.stop
+
+-- the input has more bytes than that
+pub record IsOver (most : ℕ) (old new : Option (List ℕ)) : Type 0 where
+  pub bytes : List ℕ
+  pub read : Consumes old new bytes
+  pub long : most < length bytes
+
+-- what was read where the input is not read whole
+abbrev pub FailsWithin : ℕ → Fault → Option (List ℕ) → Option (List ℕ) → Type 0
+FailsWithin most fault.Memory old new = Unit {0}
+FailsWithin most fault.Read old new = Unit {0}
+FailsWithin most fault.TooLong old new = IsOver most old new
+FailsWithin most why old new = ⊥
+
+-- the same of the limit
+abbrev pub InputFails : Fault → Option (List ℕ) → Option (List ℕ) → Type 0
+InputFails why old new = FailsWithin input_bytes why old new
+
+-- what was read where the input can't be counted
+abbrev pub CountFails : Fault → Option (List ℕ) → Option (List ℕ) → Type 0
+CountFails (fault.Survey why) old new = InputStops old new why
+CountFails why old new = InputFails why old new
+
+-- the input was counted, and the counts were printed
+pub record CountsPrinted (options : CheckOptions) (s : Streams) : Type 0 where
+  pub text : List ℕ
+  pub counted : InputCounted options s.input_old s.input_new text
+  pub printed : Appends s.out_old s.out_new text
+
+-- the input was counted, and a prefix of the counts was printed
+pub record CountsPrintedPrefix (options : CheckOptions) (s : Streams) : Type 0 where
+  pub text : List ℕ
+  pub counted : InputCounted options s.input_old s.input_new text
+  pub printed : AppendsPrefix s.out_old s.out_new text
+
+-- a prefix of the counts was printed where a write failed, and nothing where the input can't be
+-- counted
+abbrev pub CheckFails : CheckOptions → Fault → Streams → Type 0
+CheckFails options fault.Write s = CountsPrintedPrefix options s
+CheckFails options why s = CountFails why s.input_old s.input_new × Keeps s.out_old s.out_new

@@ -1,0 +1,124 @@
+-- What the commands do, by what a command line asks for.
+use Rattle.std.specs.Prelude.{◌≡◌, ◌≢◌, ◌⊎◌, ◌≤◌, ℕ, Bool, true, false, List, string_bytes}
+use Rattle.std.specs.Io.KnownBytes.{Appends, Keeps}
+use Rattle.feed_http.specs.Device.{AppendsPrefix, HasFailed as HasDeviceFailed}
+use Rattle.feed_commands.specs.Check.{CountsPrinted, CheckFails}
+use Rattle.feed_commands.specs.Play.{Played, PlayFails}
+use Rattle.feed_commands.specs.Streams.{Streams}
+use Rattle.feed_http.specs.Exchange.{Wrote}
+use Rattle.feed_commands.specs.Tables.{PrintedSome, TablesFail}
+use Rattle.feed_commands.specs.Telling.{IsToldStatus, TellsLines}
+use Rattle.feed_commands.specs.declared.fault.Fault.{Fault}
+use Rattle.feed_commands.specs.declared.fault.Fault.TheVariants as fault
+use Rattle.feed_arguments.specs.declared.request.Local.{Local}
+use Rattle.feed_arguments.specs.declared.request.Local.TheVariants as local
+use Rattle.feed_arguments.specs.Words.{Asks, AsksNothing}
+use Rattle.feed_arguments.specs.declared.request.Request.{Request}
+use Rattle.feed_arguments.specs.declared.request.Request.TheVariants as request
+use Rattle.feed_arguments.specs.declared.request.NoCommand.{NoCommand}
+use Rattle.feed_arguments.specs.declared.request.NoCommand.TheVariants as reply
+
+-- the command did what was asked for
+abbrev pub Succeeds : Local → Streams → Type 0
+Succeeds (local.Tables options) s = PrintedSome options.limits s
+Succeeds (local.Check options) s = CountsPrinted options s
+Succeeds local.Play s = Played s
+
+-- the command failed like this
+abbrev pub Fails : Local → Fault → Streams → Type 0
+Fails (local.Tables options) why s = TablesFail options.limits why s
+Fails (local.Check options) why s = CheckFails options why s
+Fails local.Play why s = PlayFails why s
+
+-- where the fault is a device's, that one failed; where memory ran out, none did
+abbrev pub IsDeviceFault : Fault → Streams → Type 0
+IsDeviceFault fault.Read s = HasDeviceFailed s.failed_reads_old s.failed_reads_new
+IsDeviceFault fault.Write s = HasDeviceFailed s.failed_writes_old s.failed_writes_new
+IsDeviceFault fault.Memory s =
+    (s.failed_reads_new ≡ s.failed_reads_old) × (s.failed_writes_new ≡ s.failed_writes_old)
+IsDeviceFault why s = Unit {0}
+
+-- the command failed, and this is the status that tells it, behind what was told of it
+pub record EndsBy (asked : Local) (status : ℕ) (s : Streams) (err : Wrote) : Type 0 where
+  pub why : Fault
+  pub failed : Fails asked why s
+  pub device : IsDeviceFault why s
+  pub told : IsToldStatus why err status
+
+-- all of the text was written, or the device failed, and a prefix of it was
+abbrev pub IsWritten : List ℕ → Wrote → Type 0
+IsWritten text wrote =
+    Appends wrote.old wrote.new text
+    ⊎ (HasDeviceFailed wrote.failed_old wrote.failed_new × AppendsPrefix wrote.old wrote.new text)
+
+-- the status for words that ask for no command, and what was printed for them
+abbrev pub Replies : NoCommand → ℕ → Wrote → Type 0
+Replies reply.Memory status wrote = (status ≡ 5) × Keeps wrote.old wrote.new
+Replies (reply.Refused text) status wrote = (status ≡ 1) × Keeps wrote.old wrote.new
+Replies (reply.Shown text) status wrote =
+    ((status ≡ 0) × Appends wrote.old wrote.new (string_bytes text))
+    ⊎ ((status ≡ 4) × HasDeviceFailed wrote.failed_old wrote.failed_new
+    × AppendsPrefix wrote.old wrote.new (string_bytes text))
+
+-- why they are refused was told, and that memory ran out, unless the device failed
+abbrev pub TellsRefusal : NoCommand → Wrote → Type 0
+TellsRefusal (reply.Refused text) wrote = IsWritten (string_bytes text) wrote
+TellsRefusal reply.Memory wrote =
+    TellsLines wrote.old wrote.new ⊎ HasDeviceFailed wrote.failed_old wrote.failed_new
+TellsRefusal (reply.Shown text) wrote = Unit {0}
+
+-- ---- by the words
+
+-- the command opens no connection, and reads standard input alone
+abbrev pub is_local : Request → Bool
+is_local (request.Local asked) = true
+is_local other = false
+
+-- the standard streams
+pub record Standard (R W E : Type 0) : Type 0 where
+  pub input : R
+  pub out : W
+  pub err : E
+
+abbrev pub standard : {R W E : Type 0} → R → W → E → Standard R W E
+standard input out err = record { input = input; out = out; err = err }
+
+-- what was printed
+abbrev pub printed_by : Streams → Wrote
+printed_by s = record {
+  old = s.out_old;
+  new = s.out_new;
+  failed_old = s.failed_writes_old;
+  failed_new = s.failed_writes_new;
+}
+
+module _ {R W E : Type 0} (words : List (List ℕ)) (status : ℕ) (s : Streams) (told : Wrote)
+    (old new : Standard R W E) where
+  -- the words ask for such a command, it was run, and this is its status
+  pub record RunsLocal : Type 0 where
+    pub asked : Local
+    pub asks : Asks words (request.Local asked)
+    pub done : status ≡ 0 → Succeeds asked s × (new.err ≡ old.err)
+    pub failed : status ≢ 0 → EndsBy asked status s told
+    pub unrefused : status ≢ 1
+    pub greatest : status ≤ 5
+
+  -- the words ask for another command: nothing is read or written
+  pub record LeavesOther : Type 0 where
+    pub asked : Request
+    pub asks : Asks words asked
+    pub other : is_local asked ≡ false
+    pub refused : status ≡ 1
+    pub untouched : new ≡ old
+
+  -- the words ask for no command, and are replied to
+  pub record RepliesTo : Type 0 where
+    pub reply : NoCommand
+    pub asks : AsksNothing words reply
+    pub unread : new.input ≡ old.input
+    pub replied : Replies reply status (printed_by s)
+    pub tells : TellsRefusal reply told
+
+  -- what the words of a command line come to
+  abbrev pub RunsBy : Type 0
+  RunsBy = RunsLocal ⊎ (LeavesOther ⊎ RepliesTo)

@@ -1,0 +1,136 @@
+//! The commands, as a command line asks for them.
+ghost use Rattle.std.specs.Prelude.{◌≡◌, ◌≢◌, ◌≤◌, None, false, map, IfErr, IfSome, OnOk};
+ghost use Rattle.feed_commands.specs.Commands.{Succeeds, Fails, IsDeviceFault, EndsBy, Replies, TellsRefusal};
+ghost use Rattle.feed_commands.specs.Commands.{is_local, standard, RunsBy};
+ghost use Rattle.feed_arguments.specs.declared.request.Request.TheVariants as asked;
+ghost use Rattle.feed_commands.specs.Streams.{streams_of};
+ghost use Rattle.feed_http.specs.Exchange.{wrote_by};
+
+pub mod audit;
+mod check;
+mod play;
+pub mod pull;
+pub mod relay;
+mod repeats;
+pub mod serve;
+mod tables;
+
+use crate::fault::{Fault, REFUSED};
+use crate::telling::tell;
+use check::print_counts;
+use feed_http::device::{Failed, FeedRead, FeedWrite, write_all};
+use feed_arguments::{Local, NoCommand, PROGRAM, Request, parse_words};
+use play::print_played;
+use std::alloc::Global;
+use tables::print_tables;
+
+/// Prints what is replied to words that ask for no command: help and the version to `out`, why they
+/// are refused to `err`. The status is 0 where all of that text was printed, 1 for words that are
+/// refused, 4 where `out` failed, and 5 where memory had run out.
+fn answer_words<W: FeedWrite, E: FeedWrite>(reply: &NoCommand, out: &mut W, err: &mut E) -> u8
+    ensures out { let wrote = wrote_by W.contents W.failures out.old out.new in
+        Replies reply.now result wrote }
+    ensures err { let wrote = wrote_by E.contents E.failures err.old err.new in
+        TellsRefusal reply.now wrote }
+{
+    match reply {
+        NoCommand::Memory => tell(PROGRAM, Fault::Memory, err),
+        NoCommand::Shown(text) => match write_all(out, text.as_bytes()) {
+            Ok(()) => 0,
+            Err(Failed) => tell(PROGRAM, Fault::Write, err),
+        },
+        NoCommand::Refused(text) => {
+            let _ = write_all(err, text.as_bytes());
+            REFUSED
+        }
+    }
+}
+
+/// Does what a command is asked for that opens no connection. Where a device failed, its count of
+/// failures tells so.
+pub fn perform<R: FeedRead, W: FeedWrite>(
+    alloc: Global,
+    request: Local,
+    input: &mut R,
+    out: &mut W,
+) -> Result<(), Fault>
+    ensures ok { let streams = streams_of R.remaining R.failures W.contents W.failures
+        input.old input.new out.old out.new in
+        OnOk result (Succeeds request streams) }
+    ensures err { let streams = streams_of R.remaining R.failures W.contents W.failures
+        input.old input.new out.old out.new in
+        IfErr result (λ why. Fails request why streams) }
+
+    ensures device { let streams = streams_of R.remaining R.failures W.contents W.failures
+        input.old input.new out.old out.new in
+        IfErr result (λ why. IsDeviceFault why streams) }
+{
+    match request {
+        Local::Tables(options) => print_tables(alloc, options, input, out),
+        Local::Check(options) => print_counts(alloc, options, input, out),
+        Local::Play => print_played(alloc, input, out),
+    }
+}
+
+/// Does that, tells its fault, and answers the status for it.
+fn run_local<R: FeedRead, W: FeedWrite, E: FeedWrite>(
+    alloc: Global,
+    request: Local,
+    input: &mut R,
+    out: &mut W,
+    err: &mut E,
+) -> u8
+    ensures ok { let streams = streams_of R.remaining R.failures W.contents W.failures
+        input.old input.new out.old out.new in
+        result ≡ 0 → Succeeds request streams }
+    ensures err { let streams = streams_of R.remaining R.failures W.contents W.failures
+        input.old input.new out.old out.new in
+        let told = wrote_by E.contents E.failures err.old err.new in
+        result ≢ 0 → EndsBy request result streams told }
+    ensures untold { result ≡ 0 → err.new ≡ err.old }
+    ensures statuses { (result ≢ 1) × (result ≤ 5) }
+{
+    match perform(alloc, request, input, out) {
+        Ok(()) => 0,
+        Err(fault) => tell(request.name(), fault, err),
+    }
+}
+
+/// The command that opens no connection, where one is asked for.
+fn local_of(request: &Request<'_>) -> Option<Local>
+    ensures some { IfSome result (λ local. request.now ≡ asked.Local local) }
+    ensures none { result ≡ None → is_local request.now ≡ false }
+{
+    match request {
+        Request::Local(local) => Some(*local),
+        _ => None,
+    }
+}
+
+/// Runs the command that these words ask for, the first of which is the program's name, and answers
+/// the status that the program ends with. Of a command that opens no connection that is 0, or the
+/// first of these that applies: 5 when out of memory, 4 for a device that failed or an input that
+/// did not end, 2 for a faulty input, 3 where nothing was published. Where the words ask for another
+/// command, nothing is read or written, and the status is 1. Where they ask for none, it is that of
+/// what is replied to them.
+pub fn run<'a, R: FeedRead, W: FeedWrite, E: FeedWrite>(
+    alloc: Global,
+    words: &'a [&'a str],
+    input: &mut R,
+    out: &mut W,
+    err: &mut E,
+) -> u8
+    ensures { let streams = streams_of R.remaining R.failures W.contents W.failures
+        input.old input.new out.old out.new in
+        let told = wrote_by E.contents E.failures err.old err.new in
+        RunsBy (map (λ word. word.now) words.entry.now) result streams told
+        (standard input.old out.old err.old) (standard input.new out.new err.new) }
+{
+    match parse_words(alloc, words) {
+        Ok(request) => match local_of(&request) {
+            Some(local) => run_local(alloc, local, input, out, err),
+            None => REFUSED,
+        },
+        Err(reply) => answer_words(&reply, out, err),
+    }
+}

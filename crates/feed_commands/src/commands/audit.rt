@@ -1,0 +1,113 @@
+//! Two records, compared.
+ghost use Rattle.std.specs.Prelude.{◌≡◌, IfOk, IfErr, OnOk, OnErr, IsErrOf};
+ghost use Rattle.std.specs.Io.KnownBytes.{Appends};
+ghost use Rattle.feed_commands.specs.Audit.{record_bytes, agreement_told, stray_told, PrintsAgreement, AuditFails};
+ghost use Rattle.feed_commands.specs.Check.{IsWholeWithin, FailsWithin};
+ghost use Rattle.feed_http.specs.Device.{AppendsPrefix, HasFailed};
+
+use crate::fault::Fault;
+use crate::input::read_within;
+use feed_audit::{
+    Stray, Verdict, audit, count_states, print_agreement, print_agreement_json, print_stray,
+    print_stray_json,
+};
+use feed_http::device::{FeedRead, FeedWrite, write_all};
+use feed_arguments::AuditOptions;
+use std::alloc::{AllocError, Global};
+
+/// The most bytes of a record.
+pub const RECORD_BYTES: usize = 536_870_912;
+
+/// Reads a record to its end, at most 536,870,912 bytes.
+pub fn read_record<R: FeedRead>(alloc: Global, input: &mut R) -> Result<Vec<u8>, Fault>
+    ensures ok { IfOk result (λ bytes. IsWholeWithin record_bytes
+        (R.remaining input.old) (R.remaining input.new) bytes.items) }
+    ensures err { IfErr result (λ why. FailsWithin record_bytes why
+        (R.remaining input.old) (R.remaining input.new)) }
+    ensures read { IsErrOf result Fault.Read
+        → HasFailed (R.failures input.old) (R.failures input.new) }
+    ensures quiet { ¬ (IsErrOf result Fault.Read)
+        → R.failures input.new ≡ R.failures input.old }
+{
+    read_within(alloc, RECORD_BYTES, input)
+}
+
+/// What is told of records that agree.
+fn agreement(
+    alloc: Global,
+    json: bool,
+    states: usize,
+    primary: usize,
+) -> Result<Vec<u8>, AllocError>
+    ensures { IfOk result (λ text. text.items ≡ agreement_told json states primary) }
+{
+    let mut text = Vec::new(alloc);
+    if json {
+        print_agreement_json(alloc, states, primary, &mut text)?;
+        return Ok(text);
+    }
+    print_agreement(alloc, states, primary, &mut text)?;
+    Ok(text)
+}
+
+/// What is told of the first state that is none of the primary's.
+fn strayed(alloc: Global, json: bool, verbose: bool, stray: &Stray) -> Result<Vec<u8>, AllocError>
+    ensures { IfOk result (λ text. text.items ≡ stray_told json verbose stray.now) }
+{
+    let mut text = Vec::new(alloc);
+    if json {
+        print_stray_json(alloc, stray, &mut text)?;
+        return Ok(text);
+    }
+    print_stray(alloc, stray, verbose, &mut text)?;
+    Ok(text)
+}
+
+/// Prints a text.
+fn print_text<W: FeedWrite>(text: &[u8], out: &mut W) -> Result<(), Fault>
+    ensures ok { OnOk result (Appends (W.contents out.old) (W.contents out.new) text.now) }
+    ensures err { OnErr result (AppendsPrefix (W.contents out.old) (W.contents out.new) text.now) }
+    ensures write { IfErr result (λ why. why ≡ Fault.Write) }
+    ensures failed { OnErr result (HasFailed (W.failures out.old) (W.failures out.new)) }
+    ensures quiet { OnOk result (W.failures out.new ≡ W.failures out.old) }
+{
+    match write_all(out, text) {
+        Ok(()) => Ok(()),
+        Err(_) => Err(Fault::Write),
+    }
+}
+
+/// Prints whether each state that the screen's record publishes is one that the primary's publishes
+/// under the same token, each read as a fresh connection. Where one is not, the fault is
+/// `Differs`, behind what is printed of the first such state. Where the screen's publishes nothing,
+/// and where a line of a record can't be read, nothing is printed.
+pub fn print_verdict<W: FeedWrite>(
+    alloc: Global,
+    options: &AuditOptions<'_>,
+    primary: &[u8],
+    screen: &[u8],
+    out: &mut W,
+) -> Result<(), Fault>
+    ensures ok { OnOk result (PrintsAgreement options.now primary.now screen.now
+        (W.contents out.old) (W.contents out.new)) }
+    ensures err { IfErr result (λ why. AuditFails options.now primary.now screen.now why
+        (W.contents out.old) (W.contents out.new)) }
+    ensures write { IsErrOf result Fault.Write
+        → HasFailed (W.failures out.old) (W.failures out.new) }
+    ensures quiet { ¬ (IsErrOf result Fault.Write)
+        → W.failures out.new ≡ W.failures out.old }
+{
+    match audit(alloc, options.limits, primary, screen)? {
+        Verdict::Agrees(0) => Err(Fault::Unpublished),
+        Verdict::Agrees(states) => {
+            let all = count_states(alloc, options.limits, primary)?;
+            let text = agreement(alloc, options.json, states, all)?;
+            print_text(text.as_slice(), out)
+        }
+        Verdict::Strays(stray) => {
+            let text = strayed(alloc, options.json, options.verbose, &stray)?;
+            print_text(text.as_slice(), out)?;
+            Err(Fault::Differs)
+        }
+    }
+}

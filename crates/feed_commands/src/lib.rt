@@ -1,0 +1,27 @@
+//! The commands, over devices.
+#![tactic(auto)]
+
+mod buffer;
+mod commands;
+mod fault;
+mod input;
+mod opening;
+mod printing;
+mod snapshot;
+mod telling;
+
+pub use commands::audit::{print_verdict, read_record};
+pub use commands::pull::{print_pulled, pull_outcome, servers_of, start_mirror};
+pub use commands::relay::print_relayed;
+pub use commands::serve::{Source, serve_all, start_source};
+pub use commands::{perform, run};
+pub use fault::{Fault, FeedStop, REFUSED};
+pub use feed_http::{device, memory, stream};
+pub use feed_play::{PlayCause, PlayFault, play};
+pub use feed_relay::{Accept, Dial, NetworkFault, Server};
+pub use feed_arguments::{
+    AddressFault, AuditOptions, LiveOptions, Local, NoCommand, PROGRAM, PullOptions, RelayOptions,
+    Request, ServeOptions, TablesOptions, UpstreamOptions, VERSION, Verbosity, addresses,
+    parse_words,
+};
+pub use telling::{tell, tell_about};

@@ -1,0 +1,229 @@
+//! What is told of faults.
+ghost use Rattle.std.specs.Prelude.{◌≡◌, true, false, IfErr, OnOk, OnErr};
+ghost use Rattle.feed_http.specs.Device.{failures_after};
+ghost use Rattle.feed_http.specs.Exchange.{wrote_by};
+ghost use Rattle.feed_commands.specs.Fault.{goes_on};
+ghost use Rattle.feed_commands.specs.Telling.{IsEnded, TellsLines, IsToldStatus, HasTold, FailsAs};
+
+use crate::commands::pull::attempt_outcome;
+use crate::fault::Fault;
+use arrayvec::ArrayString;
+use feed_http::Served;
+use feed_http::device::{Failed, FeedWrite, write_all};
+use feed_relay::{Attempt, AttemptEnd, NetworkFault, Server};
+use std::fmt::Write;
+
+/// The most bytes of what is told of one fault. The longest text names a server, of at most 255
+/// bytes, and has far fewer.
+const ROOM: usize = 512;
+
+/// The most bytes of it before its last line feed.
+const WORDS: usize = ROOM - 1;
+
+/// A host and a port.
+type Address<'h> = (&'h str, u16);
+
+/// Appends what more is known of a fault, as a second line: the address that it is about, or where
+/// in the input it is.
+fn add_more(
+    words: &mut ArrayString<WORDS>,
+    name: &str,
+    fault: Fault,
+    address: Option<Address<'_>>,
+) {
+    let _ = match (fault, address) {
+        (_, Some((host, port))) => write!(words, "\n{name}: {host}:{port}"),
+        (Fault::Feed(stop), None) => match stop.line {
+            Some(line) => write!(words, "\n{name}: line {line}"),
+            None => Ok(()),
+        },
+        (Fault::Batches(stop), None) => {
+            write!(words, "\n{name}: line {} of standard input", stop.line)
+        }
+        _ => Ok(()),
+    };
+}
+
+/// What is told of a fault: a line with its text alone, and a second one where more is known.
+fn text_of(name: &str, fault: Fault, address: Option<Address<'_>>) -> ArrayString<ROOM>
+    ensures { IsEnded result.bytes }
+{
+    let mut words: ArrayString<WORDS> = ArrayString::new();
+    let _ = write!(words, "{name}: {fault}");
+    add_more(&mut words, name, fault, address);
+    let mut text = ArrayString::new();
+    text.push_str(words.as_str());
+    text.push_str("\n");
+    text
+}
+
+/// Prints a fault of the command of this name.
+fn print_fault<E: FeedWrite>(
+    name: &str,
+    fault: Fault,
+    address: Option<Address<'_>>,
+    err: &mut E,
+) -> Result<(), Failed>
+    ensures lines { OnOk result (TellsLines (E.contents err.old) (E.contents err.new)) }
+    ensures failures { E.failures err.new ≡ failures_after (E.failures err.old) result }
+{
+    let text = text_of(name, fault, address);
+    write_all(err, text.as_bytes())
+}
+
+/// Tells a fault of the command of this name, and answers the status of the program. Where it can't
+/// be told, a device has failed too.
+pub fn tell<E: FeedWrite>(name: &str, fault: Fault, err: &mut E) -> u8
+    ensures { IsToldStatus fault (wrote_by E.contents E.failures err.old err.new) result }
+{
+    tell_about(name, fault, None, err)
+}
+
+/// The same of a fault that is about an address, a host and a port, which a second line tells.
+pub fn tell_about<E: FeedWrite>(
+    name: &str,
+    fault: Fault,
+    address: Option<(&str, u16)>,
+    err: &mut E,
+) -> u8
+    ensures { IsToldStatus fault (wrote_by E.contents E.failures err.old err.new) result }
+{
+    match print_fault(name, fault, address, err) {
+        Ok(()) => fault.status(),
+        Err(Failed) => fault.status().max(Fault::Write.status()),
+    }
+}
+
+/// The address of the server that an attempt did not reach.
+fn address_of<'s>(servers: &'s [Server<'_>], attempt: &Attempt) -> Option<Address<'s>> {
+    match attempt.outcome {
+        AttemptEnd::NoLink => servers
+            .get(attempt.server)
+            .map(|it| (it.host.as_str(), it.port)),
+        _ => None,
+    }
+}
+
+/// What tells the faults that don't end a command.
+#[derive(Drop)]
+pub(crate) struct Teller {
+    name: &'static str,
+    has_failed: bool,
+}
+
+impl Teller {
+    /// Nothing was told yet by the command of this name.
+    pub(crate) fn new(name: &'static str) -> Teller
+        ensures { result.has_failed ≡ false }
+    {
+        Teller {
+            name,
+            has_failed: false,
+        }
+    }
+
+    /// Tells a fault, and on a second line the address that it is about where there is one. Where it
+    /// can't be told, the command goes on all the same.
+    fn tell<E: FeedWrite>(&mut self, fault: Fault, address: Option<Address<'_>>, err: &mut E)
+        ensures told { HasTold (E.failures err.old) (E.failures err.new)
+            self.old.has_failed self.new.has_failed }
+        ensures lines { self.new.has_failed ≡ false
+            → TellsLines (E.contents err.old) (E.contents err.new) }
+    {
+        if print_fault(self.name, fault, address, err).is_err() {
+            self.has_failed = true;
+        }
+    }
+
+    /// Tells why an attempt at one of these servers failed, where it did.
+    fn tell_attempt<E: FeedWrite>(&mut self, servers: &[Server<'_>], attempt: &Attempt, err: &mut E)
+        ensures { HasTold (E.failures err.old) (E.failures err.new)
+            self.old.has_failed self.new.has_failed }
+    {
+        if let Err(fault) = attempt_outcome(attempt.outcome) {
+            self.tell(fault, address_of(servers, attempt), err);
+        }
+    }
+
+    /// Tells why these attempts failed.
+    pub(crate) fn tell_attempts<E: FeedWrite>(
+        &mut self,
+        servers: &[Server<'_>],
+        attempts: &[Attempt],
+        err: &mut E,
+    )
+        ensures { HasTold (E.failures err.old) (E.failures err.new)
+            self.old.has_failed self.new.has_failed }
+    {
+        'attempts: for attempt in attempts {
+            self.tell_attempt(servers, attempt, err);
+        }
+    }
+
+    /// The same of all but the last one.
+    pub(crate) fn tell_earlier<E: FeedWrite>(
+        &mut self,
+        servers: &[Server<'_>],
+        attempts: &[Attempt],
+        err: &mut E,
+    )
+        ensures { HasTold (E.failures err.old) (E.failures err.new)
+            self.old.has_failed self.new.has_failed }
+    {
+        if let Some((_, earlier)) = attempts.split_last() {
+            self.tell_attempts(servers, earlier, err);
+        }
+    }
+
+    /// The same of the last one alone.
+    pub(crate) fn tell_last<E: FeedWrite>(
+        &mut self,
+        servers: &[Server<'_>],
+        attempts: &[Attempt],
+        err: &mut E,
+    )
+        ensures { HasTold (E.failures err.old) (E.failures err.new)
+            self.old.has_failed self.new.has_failed }
+    {
+        if let Some(attempt) = attempts.last() {
+            self.tell_attempt(servers, attempt, err);
+        }
+    }
+
+    /// What a connection came to: its fault is told where others can be served after it, and is the
+    /// command's else.
+    pub(crate) fn end_connection<E: FeedWrite>(
+        &mut self,
+        served: Result<Served, NetworkFault>,
+        err: &mut E,
+    ) -> Result<(), Fault>
+        ensures on { OnOk result (goes_on served ≡ true) }
+        ensures ends { IfErr result (λ why. (goes_on served ≡ false) × FailsAs served why) }
+        ensures told { HasTold (E.failures err.old) (E.failures err.new)
+            self.old.has_failed self.new.has_failed }
+    {
+        let Err(fault) = served else {
+            return Ok(());
+        };
+        let fault = Fault::from(fault);
+        if !fault.is_of_a_connection() {
+            return Err(fault);
+        }
+        self.tell(fault, None, err);
+        Ok(())
+    }
+
+    /// What the command comes to that has gone on to its end: a device's fault where something
+    /// could not be told.
+    pub(crate) fn outcome(&self) -> Result<(), Fault>
+        ensures ok { OnOk result (self.now.has_failed ≡ false) }
+        ensures err { IfErr result
+            (λ why. (why ≡ Fault.Write) × (self.now.has_failed ≡ true)) }
+    {
+        if self.has_failed {
+            Err(Fault::Write)
+        } else {
+            Ok(())
+        }
+    }
+}

@@ -1,0 +1,159 @@
+//! How a command ends.
+
+use crate::errors::{Errors, Reporter};
+use feed_commands::{Fault, NetworkFault, REFUSED, Server, tell, tell_about};
+use std::alloc::AllocError;
+use std::net::Ipv4Addr;
+
+/// What a second line says of tables that can't be resumed.
+const SAVED_TABLES: &str = "standard input has no tables to resume from";
+
+/// Why a command failed.
+#[derive(Drop)]
+enum Why {
+    /// For a fault; a second line may say more.
+    Fault(Fault, Option<&'static str>),
+    /// For a fault at this host and port.
+    At(Fault, String, u16),
+    /// For a fault, with what it is about.
+    About(Fault, String),
+    /// Its options can't be taken: this text says which.
+    Refused(&'static str),
+    /// The same, where the text names what is in the way.
+    RefusedFor(String),
+}
+
+/// Why a command failed, and what is told of that.
+#[derive(Drop)]
+pub struct Failure {
+    why: Why,
+}
+
+impl From<Fault> for Failure {
+    fn from(fault: Fault) -> Failure {
+        Failure {
+            why: Why::Fault(fault, None),
+        }
+    }
+}
+
+impl Failure {
+    /// A fault, of which a second line says more.
+    pub(crate) fn with_more(fault: Fault, more: &'static str) -> Failure {
+        Failure {
+            why: Why::Fault(fault, Some(more)),
+        }
+    }
+
+    /// A fault at a host and a port; where there is no memory to name them, the fault alone.
+    fn at(fault: Fault, host: Result<String, AllocError>, port: u16) -> Failure {
+        match host {
+            Ok(host) => Failure {
+                why: Why::At(fault, host, port),
+            },
+            Err(_) => Failure::from(fault),
+        }
+    }
+
+    /// A fault, with what it is about; where there is no memory to say that, the fault alone.
+    pub fn about(fault: Fault, what: Result<String, AllocError>) -> Failure {
+        match what {
+            Ok(what) => Failure {
+                why: Why::About(fault, what),
+            },
+            Err(_) => Failure::from(fault),
+        }
+    }
+
+    /// This port of 127.0.0.1 can't be listened at.
+    pub(crate) fn at_port(rt: &HostRuntime, fault: Fault, port: u16) -> Failure {
+        let host = format!(in rt.alloc(); "{}", Ipv4Addr::LOCALHOST);
+        Failure::at(fault, host, port)
+    }
+
+    /// A fault of following these servers. Where there was no connection, that is about the last one:
+    /// each before it was asked in vain.
+    pub(crate) fn of_servers(rt: &HostRuntime, fault: Fault, servers: &[Server<'_>]) -> Failure {
+        match (fault, servers.last()) {
+            (Fault::Network(NetworkFault::Connect), Some(server)) => {
+                let host = String::from_str(rt.alloc(), server.host.as_str());
+                Failure::at(fault, host, server.port)
+            }
+            _ => Failure::from(fault),
+        }
+    }
+
+    /// Options that can't be taken, as this text says.
+    pub fn refused(text: &'static str) -> Failure {
+        Failure {
+            why: Why::Refused(text),
+        }
+    }
+
+    /// The same, where the text names what is in the way; where there is no memory for it, this one.
+    pub fn refused_for(text: Result<String, AllocError>, short: &'static str) -> Failure {
+        match text {
+            Ok(text) => Failure {
+                why: Why::RefusedFor(text),
+            },
+            Err(_) => Failure::refused(short),
+        }
+    }
+
+    /// A mirror was not restored from standard input: a second line names that, where a line of
+    /// it is the fault.
+    pub(crate) fn of_saved_tables(fault: Fault) -> Failure {
+        match fault {
+            Fault::Feed(_) => Failure::with_more(fault, SAVED_TABLES),
+            _ => Failure::from(fault),
+        }
+    }
+}
+
+/// Tells of a fault, and answers the status.
+fn tell_fault(rt: &HostRuntime, name: &'static str, fault: Fault, more: Option<&str>) -> u8 {
+    let status = tell(name, fault, &mut Errors::new(rt));
+    if let Some(more) = more {
+        Reporter::new(rt, name, false).line(more);
+    }
+    status
+}
+
+/// Tells of a fault with what it is about, and answers the status.
+fn tell_more(rt: &HostRuntime, name: &'static str, fault: Fault, what: &str) -> u8 {
+    let is_told = match format!(in rt.alloc(); "{fault}: {what}") {
+        Ok(text) => Reporter::new(rt, name, false).line(text.as_str()),
+        Err(_) => false,
+    };
+    if is_told {
+        fault.status()
+    } else {
+        Fault::Write.status()
+    }
+}
+
+/// Tells why options can't be taken, and answers the status.
+fn tell_refused(rt: &HostRuntime, name: &'static str, text: &str) -> u8 {
+    if Reporter::new(rt, name, false).line(text) {
+        REFUSED
+    } else {
+        Fault::Write.status()
+    }
+}
+
+/// Tells why the command of this name failed, where it did, and answers the status.
+pub fn ended(rt: &HostRuntime, name: &'static str, outcome: Result<(), Failure>) -> u8 {
+    let Err(failure) = outcome else {
+        return 0;
+    };
+    match failure.why {
+        Why::Fault(fault, more) => tell_fault(rt, name, fault, more),
+        Why::At(fault, host, port) => {
+            let address = Some((host.as_str(), port));
+            tell_about(name, fault, address, &mut Errors::new(rt))
+        }
+        Why::About(fault, what) => tell_more(rt, name, fault, what.as_str()),
+        Why::Refused(text) => tell_refused(rt, name, text),
+        Why::RefusedFor(text) => tell_refused(rt, name, text.as_str()),
+    }
+}

@@ -1,0 +1,102 @@
+//! As whom the program asks servers: the name that a request calls the server by, and the file with
+//! a user's name and password.
+
+use crate::ending::Failure;
+use feed_answer::{Identity, IdentityFault, PlaceFault};
+use feed_commands::{Fault, PullOptions, servers_of};
+use libc::geteuid;
+use std::fs::{File, Metadata};
+use std::io;
+use std::io::{ErrorKind, Read};
+use std::os::unix::fs::MetadataExt;
+
+/// The most bytes that are read of the file: more than any user has.
+const MOST: u64 = 4_096;
+
+/// The bits of a file's mode that let its group, and all others, read, write or run it.
+const GROUP: u32 = 0o070;
+
+const OTHERS: u32 = 0o007;
+
+const OPEN_FILE: &str = "the user file is open to others: chmod 600 it";
+
+const BAD_FILE: &str = "the user file is not one line NAME:PASSWORD";
+
+const UNREAD_FILE: &str = "the user file can't be read";
+
+const BAD_HEADER: &str = "--host-header is no host";
+
+/// Whether others than the file's owner may do something with it. A file that somebody else gave to
+/// a group of ours may be read by that group.
+fn is_open_to_others(file: &Metadata) -> bool {
+    let mode = file.mode();
+    mode & OTHERS != 0 || mode & GROUP != 0 && file.uid() == geteuid()
+}
+
+/// The text of the file; none where others may read it.
+fn read_file(rt: &HostRuntime, path: &str) -> io::Result<Option<Vec<u8>>> {
+    let file = File::open(rt, path)?;
+    if is_open_to_others(&file.metadata()?) {
+        return Ok(None);
+    }
+    let mut text = Vec::new(rt.alloc());
+    file.take(MOST).read_to_end(&mut text)?;
+    Ok(Some(text))
+}
+
+/// What the file has, or why it can't be taken.
+fn text_of(rt: &HostRuntime, path: &str) -> Result<Vec<u8>, Failure> {
+    match read_file(rt, path) {
+        Ok(Some(text)) => Ok(text),
+        Ok(None) => Err(Failure::refused(OPEN_FILE)),
+        Err(error) => match error.kind() {
+            ErrorKind::OutOfMemory => Err(Failure::from(Fault::Memory)),
+            _ => Err(Failure::with_more(Fault::Read, UNREAD_FILE)),
+        },
+    }
+}
+
+/// The line of the file, without its end.
+fn line_of(text: &[u8]) -> Option<&str> {
+    let line = text.strip_suffix(b"\n".as_slice()).unwrap_or(text);
+    std::str::from_utf8(line).ok()
+}
+
+fn failure_of(fault: IdentityFault) -> Failure {
+    match fault {
+        IdentityFault::BadHost => {
+            Failure::with_more(Fault::from(PlaceFault::BadHost), BAD_HEADER)
+        }
+        IdentityFault::BadUser => Failure::refused(BAD_FILE),
+        IdentityFault::Memory => Failure::from(Fault::Memory),
+    }
+}
+
+/// As whom servers are asked: the name that they are called by, and the file with the user, where
+/// there are such. No failure says what the file has.
+pub fn identity_of(
+    rt: &HostRuntime,
+    host_header: Option<&str>,
+    user_file: Option<&str>,
+) -> Result<Identity, Failure> {
+    let alloc = rt.alloc();
+    let Some(path) = user_file else {
+        return Identity::new(alloc, host_header, None).map_err(failure_of);
+    };
+    let text = text_of(rt, path)?;
+    let Some(line) = line_of(text.as_slice()) else {
+        return Err(Failure::refused(BAD_FILE));
+    };
+    Identity::new(alloc, host_header, Some(line)).map_err(failure_of)
+}
+
+/// As whom the servers of these options are asked. What is wrong with the servers is found first:
+/// they are made once for nobody in particular, since each borrows the identity.
+pub(crate) fn identity_for(
+    rt: &HostRuntime,
+    options: &PullOptions<'_>,
+) -> Result<Identity, Failure> {
+    let nobody = Identity::anonymous();
+    servers_of(rt.alloc(), options, &nobody)?;
+    identity_of(rt, options.host_header, options.user_file)
+}

@@ -1,0 +1,57 @@
+//! The command `relay`, over the standard streams and sockets.
+
+use crate::ending::Failure;
+use crate::errors::{Errors, Reporter};
+use crate::hosts::Hosts;
+use crate::identity::identity_for;
+use crate::sockets::{Dialer, Port};
+use feed_commands::stream::Stream;
+use feed_commands::{PullOptions, RelayOptions, print_relayed, servers_of, start_mirror};
+use std::mem;
+
+/// Follows the feed of the first server that serves, and serves it, in turns, and prints the tables
+/// at the end.
+pub fn relay_feed(rt: &HostRuntime, options: &RelayOptions<'_>) -> Result<(), Failure> {
+    let hosts = Hosts::new(rt.alloc(), &options.pull)?;
+    relay_from(rt, options, &hosts)
+}
+
+/// The same, of servers with these names.
+fn relay_from(rt: &HostRuntime, options: &RelayOptions<'_>, hosts: &Hosts) -> Result<(), Failure> {
+    let pull = PullOptions {
+        host: hosts.host(),
+        from: hosts.from(),
+        ..options.pull
+    };
+    relay_named(rt, &RelayOptions { pull, ..*options })
+}
+
+/// The same, of servers whose names are as a request has them.
+fn relay_named(rt: &HostRuntime, options: &RelayOptions<'_>) -> Result<(), Failure> {
+    let pull = &options.pull;
+    let identity = identity_for(rt, pull)?;
+    let servers = servers_of(rt.alloc(), pull, &identity)?;
+    let mut mirror = match start_mirror(rt.alloc(), &options.pull, &mut Stream::new(rt.stdin())) {
+        Ok(mirror) => mirror,
+        Err(fault) => return Err(Failure::of_saved_tables(fault)),
+    };
+    let reporter = Reporter::new(rt, "relay", options.pull.verbose);
+    let mut port = match Port::bind(rt, reporter, options.listen) {
+        Ok(port) => port,
+        Err(fault) => return Err(Failure::at_port(rt, fault, options.listen)),
+    };
+    let mut dialer = Dialer::new(rt, reporter, &options.pull, &servers);
+    let relayed = print_relayed(
+        rt.alloc(),
+        options,
+        &servers,
+        &mut mirror,
+        &mut dialer,
+        &mut port,
+        &mut Stream::new(rt.stdout()),
+        &mut Errors::new(rt),
+    );
+    // The program ends here: freeing each object would take time alone.
+    mem::forget(mirror);
+    Ok(relayed?)
+}

@@ -1,9 +1,0 @@
-use Rattle.std.proofs.Common.{ap, sym}
-use Rattle.std.specs.Prelude.{◌==◌}
-use Rattle.feed_words.proofs.NetworkLemmas.{all_bits}
-use Rattle.feed_words.proofs.network.ends_in_zeros.Goals as goal
-
-pub returns-in-None : goal.returns-in-None
-returns-in-None c =
-    ap (λ n. n == 0)
-    (sym (all_bits c.args.number c.args.bits c.ranges.number.fits c.in-None.ensures))

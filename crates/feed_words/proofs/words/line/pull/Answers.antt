@@ -1,5 +1,0 @@
-use Rattle.feed_words.proofs.words.line.pull.Goals as goal
-
-pub returns : goal.returns
-returns c =
-    c.with_pull.ensures _ c.command.ensures

@@ -1,5 +1,0 @@
-use Rattle.feed_words.proofs.words.line.tables.Goals as goal
-
-pub returns : goal.returns
-returns c =
-    c.add_option.ensures _ _ (c.with_limits-limited.ensures _ c.command.ensures) c.verbose.ensures.rule
