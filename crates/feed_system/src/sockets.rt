@@ -3,8 +3,8 @@
 ghost use Rattle.std.specs.Prelude.{◌≡◌, ◌≤◌, length, IfOk};
 
 use crate::guard::{Guard, counted};
-use feed_device::{Sockets, Stop};
 use feed_arguments::Origin;
+use feed_device::{Sockets, Stop};
 use mio::net::{TcpListener, TcpStream};
 use mio::{Interest, Registry, Token};
 use std::alloc::Global;

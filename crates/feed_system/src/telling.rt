@@ -1,8 +1,8 @@
 //! What is told on standard error: a line for each thing that happened, with the time in UTC.
 
 use crate::link::Servers;
-use feed_device::Told;
 use feed_arguments::Verbosity;
+use feed_device::Told;
 use jiff::Timestamp;
 use std::alloc::{AllocError, Global};
 use std::time::{SystemTime, UNIX_EPOCH};

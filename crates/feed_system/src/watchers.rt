@@ -5,9 +5,9 @@
 use crate::guard::Guard;
 use crate::sockets::{read_once, write_once};
 use feed_answer::{HEAD_BYTES, HeadRead, look_at_request};
+use feed_arguments::Origin;
 use feed_device::Stop;
 use feed_status::{Watch, answer};
-use feed_arguments::Origin;
 use mio::net::{TcpListener, TcpStream};
 use mio::{Interest, Registry, Token};
 use slab::Slab;

@@ -5,8 +5,8 @@ mod restoring;
 mod watching;
 
 use feed_commands::{Fault, LiveOptions, Verbosity};
-use feed_live::{Following, Input, Live, Turn};
 use feed_host::Failure;
+use feed_live::{Following, Input, Live, Turn};
 use feed_system::System;
 use making::{needs_memory, of_system, prepare};
 use std::alloc::AllocError;

@@ -8,8 +8,8 @@ use feed_commands::{
     AddressFault, Fault, LiveOptions, NetworkFault, PullOptions, Server, UpstreamOptions,
     Verbosity, servers_of,
 };
-use feed_live::{Live, LiveLimits, Restored, Start, restore};
 use feed_host::{Failure, Hosts, identity_of};
+use feed_live::{Live, LiveLimits, Restored, Start, restore};
 use feed_node::{Limits, Mirror};
 use feed_system::{Host, Kept, OpenFault, StateFault, StateFile, System, open, take_state};
 use std::alloc::{AllocError, Global};
