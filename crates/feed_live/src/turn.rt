@@ -6,7 +6,7 @@ ghost use Rattle.feed_node.specs.States.{NodeState};
 ghost use Rattle.feed_world.specs.Log.{Log};
 ghost use Rattle.feed_hub.specs.Laws.{IsInLog};
 ghost use Rattle.feed_device.specs.Links.{Exchanges};
-ghost use Rattle.feed_device.specs.Sockets.{AllSockets, Closed, IsSocket};
+ghost use Rattle.feed_device.specs.Sockets.{AllSockets, IsUnused};
 ghost use Rattle.feed_live.specs.Upstream.{Servers};
 
 use crate::options::{LiveLimits, Start};
@@ -87,14 +87,14 @@ impl Live {
             → start.places.items ≢ []
             → start.restored.mirror.limits ≡ limits
             → IsInLog limits log start.restored.mirror.node → IsInLog limits log start.blank.node
-            → ((at : ℕ) → IsSocket (sockets at) Closed)
+            → ((at : ℕ) → IsUnused (sockets at))
             → IsRelaying limits log servers exchanges result sockets }
 
         // where its feed is the input, and the state files had a state of the log, or nothing
         ensures taking { (limits : Limits) (log : Log) (sockets : AllSockets)
             → start.places.items ≡ [] → start.restored.mirror.limits ≡ limits
             → IsInLog limits log start.restored.mirror.node → IsInLog limits log start.blank.node
-            → ((at : ℕ) → IsSocket (sockets at) Closed)
+            → ((at : ℕ) → IsUnused (sockets at))
             → IsTakingInput limits log start.restored.mirror [] result sockets }
         ensures contest { result.contest ≡ contest }
     {
