@@ -17,6 +17,7 @@ use Rattle.feed_live.specs.declared.source.Reach.TheVariants.{Away}
 use Rattle.feed_live.specs.declared.source.Source.{Source}
 use Rattle.feed_live.specs.declared.told.Telling.{Telling}
 use Rattle.feed_live.specs.declared.turn.Live.{Live}
+use Rattle.feed_live.specs.Saved.{SameSaved}
 use Rattle.feed_live.specs.Relaying.{MayFollow, Shows, FollowsLog, IsRelaying, SameSource, OnlyServes, followed_by}
 use Rattle.feed_live.specs.Serving.{Serving, StillServing}
 use Rattle.feed_live.specs.States.{states_of}
@@ -28,7 +29,7 @@ use Rattle.feed_live.proofs.RelayLemmas.{either, among_shown, among_blank, shows
 -- ---- only screens are served
 
 pub same_none : (source : Source) → SameSource source source
-same_none source = record { servers = refl; shown = refl; blank = refl; coming = refl; follower = refl; reach = refl; request = refl; rest = refl }
+same_none source = record { servers = refl; shown = refl; blank = refl; coming = refl; follower = refl; reach = refl; request = refl; rest = refl; epoch = refl }
 
 pub same_then : {a b c : Source} → SameSource b c → SameSource a b → SameSource a c
 same_then two one =
@@ -41,7 +42,12 @@ same_then two one =
       reach = two.reach ∙ one.reach;
       request = two.request ∙ one.request;
       rest = two.rest ∙ one.rest;
+      epoch = two.epoch ∙ one.epoch;
     }
+
+-- the state files were not touched
+pub saved_then : {a b c : Live} → SameSaved b c → SameSaved a b → SameSaved a c
+saved_then two one = (two.0 ∙ one.0, two.1 ∙ one.1)
 
 pub serves_none : (live : Live) (sockets : AllSockets) → OnlyServes live live sockets sockets
 serves_none live sockets =

@@ -164,6 +164,7 @@ pub record SameSource (old new : Source) : Type 0 where
   pub reach : new.reach ≡ old.reach
   pub request : new.request.items ≡ old.request.items
   pub rest : new.rest.items ≡ old.rest.items
+  pub epoch : new.epoch ≡ old.epoch
 
 -- the same but for what is kept unread
 pub record IsKeeping (old new : Source) : Type 0 where

@@ -158,7 +158,9 @@ impl Source {
     }
 
     /// How often the feed was published afresh.
-    pub(crate) fn epoch(&self) -> u64 {
+    pub(crate) fn epoch(&self) -> u64
+        ensures { result ≡ self.now.epoch }
+    {
         self.epoch
     }
 

@@ -33,5 +33,6 @@ returns g c =
                 (subst (λ n. Contains (states_of limits log) n) (sym c.node-2.ensures) (among_shown limits log shows)) serving) shows;
             takes = λ feeds. takes_so (begins.rest ∙ c.new-source.ensures.rest) refl (takes_nothing (subst (λ m. StandsAt (present_opening m) [] [] c.begin_input.new.self.answers.shown.mirror) c.new-source.ensures.shown begins.stands));
           };
+      kept = λ nodes text written known good. saved_new;
       contest = refl;
     }

@@ -10,4 +10,5 @@ returns-then-says_now c =
         source = c.say_more.ensures.same;
         serves = λ nodes shown blank. c.say_more.ensures.serves nodes _ sockets shown;
       };
+      saved = (refl, refl);
     }

@@ -12,4 +12,5 @@ returns-then-not-is_heard g c =
         serves = λ nodes shown blank serving.
             c.close_past.ensures.serving nodes _ (c.sweep.ensures.serving nodes _ (c.cut_late.ensures.serving nodes _ _ (c.idle.ensures.serving nodes _ _ serving)));
       });
+      saved = c.hold.ensures.saved;
     }
