@@ -29,7 +29,7 @@ use Rattle.feed_live.proofs.RelayLemmas.{either, among_shown, among_blank, shows
 -- ---- only screens are served
 
 pub same_none : (source : Source) → SameSource source source
-same_none source = record { servers = refl; shown = refl; blank = refl; coming = refl; follower = refl; reach = refl; request = refl; rest = refl; epoch = refl }
+same_none source = record { servers = refl; shown = refl; blank = refl; coming = refl; follower = refl; reach = refl; request = refl; rest = refl }
 
 pub same_then : {a b c : Source} → SameSource b c → SameSource a b → SameSource a c
 same_then two one =
@@ -42,7 +42,6 @@ same_then two one =
       reach = two.reach ∙ one.reach;
       request = two.request ∙ one.request;
       rest = two.rest ∙ one.rest;
-      epoch = two.epoch ∙ one.epoch;
     }
 
 -- the state files were not touched
@@ -51,7 +50,7 @@ saved_then two one = (two.0 ∙ one.0, two.1 ∙ one.1)
 
 pub serves_none : (live : Live) (sockets : AllSockets) → OnlyServes live live sockets sockets
 serves_none live sockets =
-    record { contest = refl; feeds = refl; source = same_none live.source; serves = λ nodes shown blank serving. serving }
+    record { contest = refl; feeds = refl; source = same_none live.source; epoch = refl; serves = λ nodes shown blank serving. serving }
 
 pub serves_then : {a b c : Live} {before between after : AllSockets} → OnlyServes b c between after → OnlyServes a b before between → OnlyServes a c before after
 serves_then {a} {b} {c} {before} {between} {after} two one =
@@ -59,6 +58,7 @@ serves_then {a} {b} {c} {before} {between} {after} two one =
       contest = two.contest ∙ one.contest;
       feeds = two.feeds ∙ one.feeds;
       source = same_then two.source one.source;
+      epoch = two.epoch ∙ one.epoch;
       serves = λ nodes shown blank serving.
           let later : StillServing nodes (string_bytes b.contest) b.screens c.screens between after =
           two.serves nodes (subst (λ m. Contains nodes m.node) (sym one.source.shown) shown) (subst (λ m. Contains nodes m.node) (sym one.source.blank) blank) in
@@ -70,7 +70,7 @@ pub screens_only : (live : Live) (screens : Screens) (telling : Telling) {before
     → ((nodes : List NodeState) → Contains nodes live.source.answers.shown.mirror.node → Contains nodes live.source.answers.blank.mirror.node
     → StillServing nodes (string_bytes live.contest) live.screens screens before after)
     → OnlyServes live (record live { screens = screens; telling = telling }) before after
-screens_only live screens telling serves = record { contest = refl; feeds = refl; source = same_none live.source; serves = serves }
+screens_only live screens telling serves = record { contest = refl; feeds = refl; source = same_none live.source; epoch = refl; serves = serves }
 
 module _ (limits : Limits) (log : Log) where
   -- its feed is its input

@@ -10,7 +10,10 @@ use Rattle.feed_hub.specs.declared.asking.Asking.{Asking}
 use Rattle.feed_hub.specs.declared.hub.Hub.{Hub}
 use Rattle.feed_hub.specs.declared.screen.Screen.{Screen}
 use Rattle.feed_hub.specs.declared.seats.Key.{Key}
-use Rattle.feed_hub.specs.declared.seats.Seat.TheVariants.{Asks}
+use Rattle.feed_hub.specs.declared.screen.Way.{Way}
+use Rattle.feed_hub.specs.declared.screen.Way.TheVariants.{CatchesUp, OnLog, Stops, Over}
+use Rattle.feed_hub.specs.declared.seats.Seat.{Seat}
+use Rattle.feed_hub.specs.declared.seats.Seat.TheVariants.{Asks, Watches}
 use Rattle.feed_hub.specs.Hub.{IsSeated, ChangesOnly}
 use Rattle.feed_hub.specs.Log.{Log}
 use Rattle.feed_hub.specs.Screen.{IsServed}
@@ -186,3 +189,21 @@ pub record IsGreeted (nodes : List NodeState) (contest : List ℕ) (old new : Hu
   pub broadcast : new.broadcast ≡ old.broadcast
   pub others : (key : Key) → key.generation < old.seats.next
       → seat_at new.seats.slab key ≡ seat_at old.seats.slab key
+
+-- ---- bodies that end
+
+-- a screen is sent what is pending and the end of its body, and no more
+abbrev pub HasEnd : Way → Type 0
+HasEnd (CatchesUp token) = ⊥
+HasEnd (OnLog at) = ⊥
+HasEnd (Stops token) = Unit {0}
+HasEnd Over = Unit {0}
+
+abbrev pub IsEnding : Option Seat → Type 0
+IsEnding None = Unit {0}
+IsEnding (Some (Asks asking)) = Unit {0}
+IsEnding (Some (Watches s)) = HasEnd s.way
+
+-- so it is with each of them
+abbrev pub AllEnd : Hub → Type 0
+AllEnd hub = (key : Key) → IsEnding (seat_at hub.seats.slab key)

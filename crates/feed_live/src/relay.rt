@@ -4,7 +4,7 @@ ghost use Rattle.std.specs.Prelude.{◌≡◌, ℕ, List, Contains, true};
 ghost use Rattle.feed_node.specs.States.{NodeState};
 ghost use Rattle.feed_hub.specs.Seats.{KeepsThose, IsOnTime};
 ghost use Rattle.feed_device.specs.Sockets.{AllSockets};
-ghost use Rattle.feed_live.specs.Serving.{StillServing, SameSeating};
+ghost use Rattle.feed_live.specs.Serving.{StillServing, SameSeating, AllEnd};
 
 use crate::screens::{Counts, Screens};
 use crate::told::Telling;
@@ -135,6 +135,7 @@ impl Screens {
     fn trim(&mut self)
         ensures serving { (nodes : List NodeState) (contest : List ℕ) (sockets : AllSockets)
             → StillServing nodes contest self.old self.new sockets sockets }
+        ensures ended { AllEnd self.old.hub → AllEnd self.new.hub }
         ensures once { self.old.saying.is_trimmed ≡ true → self.new ≡ self.old }
     {
         if !self.saying.is_trimmed {
@@ -148,6 +149,7 @@ impl Screens {
         ensures serving { (nodes : List NodeState) (contest : List ℕ) (sockets : AllSockets)
             → Contains nodes node.now.shown
             → StillServing nodes contest self.old self.new sockets sockets }
+        ensures ended { AllEnd self.old.hub → AllEnd self.new.hub }
     {
         if self.is_at(node) {
             self.saying.waits = None;
@@ -167,6 +169,7 @@ impl Screens {
         ensures serving { (nodes : List NodeState) (contest : List ℕ) (sockets : AllSockets)
             → Contains nodes node.now.shown
             → StillServing nodes contest self.old self.new sockets sockets }
+        ensures ended { AllEnd self.old.hub → AllEnd self.new.hub }
     {
         self.saying.waits = None;
         self.saying.is_short = false;
@@ -203,6 +206,7 @@ impl Screens {
     pub(crate) fn end_feeds(&mut self, alloc: Global, now: u64)
         ensures serving { (nodes : List NodeState) (contest : List ℕ) (sockets : AllSockets)
             → StillServing nodes contest self.old self.new sockets sockets }
+        ensures ended { AllEnd self.new.hub }
     {
         let (was_said, bodies) = (self.has_said(), self.following());
         // Who there was no memory for is cut.

@@ -277,6 +277,9 @@ impl Screens {
             → Contains nodes answers.old.blank.mirror.node
             → StillServing nodes shown.now.contest.now self.old self.new
             (S.socket sockets.old) (S.socket sockets.new) }
+        // nothing is read of a request that waits, and nothing is written
+        ensures waits { Waits (get self.old.conns at) shown.now.is_held shown.now.hold now
+            → sockets.new ≡ sockets.old }
         ensures mirrors { SameMirrors answers.old answers.new }
     {
         self.read(alloc, sockets, told, answers, shown, at, now);

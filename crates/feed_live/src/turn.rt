@@ -72,6 +72,8 @@ impl Live {
     ghost use Rattle.feed_live.specs.Taking.{IsTakingInput, StillTaking, bytes_in};
     ghost use Rattle.feed_device.specs.Files.{IsKnown};
     ghost use Rattle.feed_live.specs.Saved.{GoesOn, KeepsFiles, SameSaved};
+    ghost use Rattle.feed_live.specs.Held.{Waits, has_heard};
+    ghost use Rattle.slab.specs.Slab.{get};
 
     /// A relay that starts from what the state files had.
     pub fn new<D: Store>(
@@ -443,6 +445,10 @@ impl Live {
 
     /// Reads from and writes to the one at a place.
     fn serve_one<S: Sockets>(&mut self, alloc: Global, sockets: &mut S, at: usize, now: u64)
+        // until a server was heard, or for so long, a request waits
+        ensures waits { has_heard self.old.source ≡ false
+            → Waits (get self.old.screens.conns at) true self.old.limits.hold now
+            → sockets.new ≡ sockets.old }
         ensures serves { OnlyServes self.old self.new (S.socket sockets.old)
             (S.socket sockets.new) }
         ensures saved { SameSaved self.old self.new }

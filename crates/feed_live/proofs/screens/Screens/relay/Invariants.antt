@@ -2,10 +2,13 @@ use Rattle.std.proofs.Common.{ℕ, List}
 use Rattle.std.specs.Prelude.{Contains}
 use Rattle.feed_node.specs.States.{NodeState}
 use Rattle.feed_device.specs.Sockets.{AllSockets}
-use Rattle.feed_live.specs.Serving.{StillServing}
+use Rattle.feed_live.specs.Serving.{StillServing, AllEnd}
 use Rattle.feed_live.proofs.screens.Screens.relay.Given as goal
 
 abbrev pub invariant-loop : goal.invariant-loop
 invariant-loop l =
-    (nodes : List NodeState) (contest : List ℕ) (sockets : AllSockets) → Contains nodes l.node.shown
-    → StillServing nodes contest l.initial.self l.self sockets sockets
+    record {
+      serving : (nodes : List NodeState) (contest : List ℕ) (sockets : AllSockets) → Contains nodes l.node.shown
+          → StillServing nodes contest l.initial.self l.self sockets sockets;
+      ended : AllEnd l.initial.self.hub → AllEnd l.self.hub;
+    }

@@ -28,6 +28,6 @@ returns g c =
           (c.save.ensures.kept nodes (subst (λ m. Contains nodes m.node) served.source.shown shown) (subst (KeepsFiles nodes (written c.args.devices.now.store) (next c.args.devices.now.store)) (sym before.0) files));
       anew = λ newer nodes shown known.
           subst (KeepsFiles nodes (written c.save.new.store) (next c.save.new.store)) (sym after.0)
-          (c.save.ensures.anew (λ same. newer (served.source.epoch ∙ same ∙ before.1)) nodes (subst (λ m. Contains nodes m.node) served.source.shown shown) known);
+          (c.save.ensures.anew (λ same. newer (served.epoch ∙ same ∙ before.1)) nodes (subst (λ m. Contains nodes m.node) served.source.shown shown) known);
       wakes = c.next.ensures.wakes;
     }
