@@ -1,10 +1,10 @@
 -- THE PROMISE, up to each socket: what is written to it is what the hub was told at the key of its
 -- connection, and so a prefix of what is due to the answer that one of the nodes gave.
-use Rattle.std.specs.Prelude.{◌≡◌, ℕ, zero, suc, ◌<◌, ◌≤◌, List, [], ◌++◌, take, drop, Option, Some, None, Result, Ok, Err, Contains, IfSome}
+use Rattle.std.specs.Prelude.{◌≡◌, ℕ, zero, suc, ◌<◌, ◌≤◌, List, [], ◌++◌, take, drop, Option, Some, None, Result, Ok, Err, Contains, IfSome, IsSome, ◌⊎◌}
 use Rattle.std.specs.List.{AllByRecursion}
 use Rattle.slab.specs.Slab.{Slab, get}
 use Rattle.feed_settings.specs.declared.framing.Framing.{Framing}
-use Rattle.feed_node.specs.States.{NodeState}
+use Rattle.feed_node.specs.States.{NodeState, published_token}
 use Rattle.feed_answer.specs.Answered.{AnswerParts, AnswersTo}
 use Rattle.feed_hub.specs.declared.asking.Asking.{Asking}
 use Rattle.feed_hub.specs.declared.hub.Hub.{Hub}
@@ -189,6 +189,13 @@ pub record IsGreeted (nodes : List NodeState) (contest : List ℕ) (old new : Hu
   pub broadcast : new.broadcast ≡ old.broadcast
   pub others : (key : Key) → key.generation < old.seats.next
       → seat_at new.seats.slab key ≡ seat_at old.seats.slab key
+
+-- ---- what was said
+
+-- what was said to all is as far as what the node publishes, or the rest waits for a time
+abbrev pub SaysAll : Screens → NodeState → Type 0
+SaysAll screens node =
+    (screens.hub.broadcast.told ≡ published_token node) ⊎ IsSome screens.saying.waits
 
 -- ---- bodies that end
 

@@ -1,10 +1,10 @@
 //! What the node has more is said to all screens.
 
-ghost use Rattle.std.specs.Prelude.{◌≡◌, ℕ, List, Contains, true};
-ghost use Rattle.feed_node.specs.States.{NodeState};
+ghost use Rattle.std.specs.Prelude.{◌≡◌, ℕ, List, Contains, IsTrue, true};
+ghost use Rattle.feed_node.specs.States.{NodeState, published_token};
 ghost use Rattle.feed_hub.specs.Seats.{KeepsThose, IsOnTime};
 ghost use Rattle.feed_device.specs.Sockets.{AllSockets};
-ghost use Rattle.feed_live.specs.Serving.{StillServing, SameSeating, AllEnd};
+ghost use Rattle.feed_live.specs.Serving.{StillServing, SameSeating, AllEnd, SaysAll};
 
 use crate::screens::{Counts, Screens};
 use crate::told::Telling;
@@ -121,7 +121,10 @@ impl Screens {
     }
 
     /// Whether what is said is as far as the node.
-    fn is_at(&self, node: &Node) -> bool {
+    fn is_at(&self, node: &Node) -> bool
+        ensures { IsTrue result
+            → self.now.hub.broadcast.told ≡ published_token node.now.shown }
+    {
         match (self.hub.broadcast().told(), node.token()) {
             (Some(told), Some(token)) => told.text() == token.text(),
             (None, None) => true,
@@ -150,6 +153,7 @@ impl Screens {
             → Contains nodes node.now.shown
             → StillServing nodes contest self.old self.new sockets sockets }
         ensures ended { AllEnd self.old.hub → AllEnd self.new.hub }
+        ensures says { SaysAll self.new node.now.shown }
     {
         if self.is_at(node) {
             self.saying.waits = None;
@@ -161,7 +165,18 @@ impl Screens {
                 break;
             }
         }
+        self.wait_for_rest(node, now);
         true
+    }
+
+    /// What isn't said yet is said in the next turn, unless it waits for longer.
+    fn wait_for_rest(&mut self, node: &Node, now: u64)
+        ensures same { SameSeating self.old self.new }
+        ensures says { SaysAll self.new node.now.shown }
+    {
+        if self.saying.waits.is_none() && !self.is_at(node) {
+            self.saying.waits = Some(now);
+        }
     }
 
     /// Says the next commit. Whether there may be more that can be said now.

@@ -1,6 +1,6 @@
 //! The screens: each has a socket, a connection at the same place, and a seat in the hub.
 
-ghost use Rattle.std.specs.Prelude.{◌≡◌, ◌≤◌, ◌+◌, [], ℕ, List, None, Some, Contains, length, min, false, IfOk, IfSome};
+ghost use Rattle.std.specs.Prelude.{◌≡◌, ◌≤◌, ◌+◌, ◌-◌, [], ℕ, List, None, Some, Contains, length, min, false, IfOk, IfSome};
 ghost use Rattle.slab.specs.Slab.{get};
 ghost use Rattle.feed_node.specs.States.{NodeState};
 ghost use Rattle.feed_hub.specs.Seats.{seat_at, IsAskingSeat};
@@ -319,7 +319,9 @@ impl Screens {
     }
 
     /// Whether a shared text is kept for some connection.
-    fn is_kept(&self, text: Option<u64>) -> bool {
+    fn is_kept(&self, text: Option<u64>) -> bool
+        ensures { text ≡ None → result ≡ false }
+    {
         if text.is_none() {
             return false;
         }
@@ -333,7 +335,9 @@ impl Screens {
 
     /// Nothing is kept for it any more.
     fn pay(&mut self, at: usize)
-        ensures { SameSeating self.old self.new }
+        ensures same { SameSeating self.old self.new }
+        ensures owed { IfSome (get self.old.conns at)
+            (λ conn. conn.text ≡ None → self.new.owed ≡ self.old.owed - conn.owes) }
     {
         let Some(conn) = self.conns.get_mut(at) else {
             return;

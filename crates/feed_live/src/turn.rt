@@ -1,6 +1,6 @@
 //! The turn.
 
-ghost use Rattle.std.specs.Prelude.{◌≡◌, ◌≢◌, ◌≤◌, [], List, ℕ, Some, Contains, IfSome, false, true};
+ghost use Rattle.std.specs.Prelude.{◌≡◌, ◌≢◌, ◌≤◌, ◌+◌, ◌-◌, ◌^◌, [], List, ℕ, min, Some, Contains, IfSome, false, true};
 ghost use Rattle.feed_settings.specs.Limits.{Limits};
 ghost use Rattle.feed_node.specs.States.{NodeState};
 ghost use Rattle.feed_world.specs.Log.{Log};
@@ -198,6 +198,9 @@ impl Live {
 
         // where some screen has more to read or to write, the next turn is due at once
         ensures wakes { self.new.screens.has_more ≡ true → result.due ≤ now }
+
+        // a minute after the number of screens was told last, at the latest
+        ensures awake { result.due ≤ min (self.new.reported + 60000) (2 ^ 64 - 1) }
     {
         let had_more = self.screens.begin_turn();
         self.note(events);
@@ -479,6 +482,7 @@ impl Live {
     /// What comes next.
     fn next(&mut self, now: u64) -> Turn
         ensures wakes { self.new.screens.has_more ≡ true → result.due ≤ now }
+        ensures awake { result.due ≤ min (self.new.reported + 60000) (2 ^ 64 - 1) }
         ensures serves { (sockets : AllSockets) → OnlyServes self.old self.new sockets sockets }
         ensures saved { SameSaved self.old self.new }
     {
@@ -511,7 +515,8 @@ impl Live {
 
     /// When the next turn is due at the latest.
     fn due(&self, now: u64) -> u64
-        ensures { self.now.screens.has_more ≡ true → result ≤ now }
+        ensures wakes { self.now.screens.has_more ≡ true → result ≤ now }
+        ensures awake { result ≤ min (self.now.reported + 60000) (2 ^ 64 - 1) }
     {
         let mut due = self.reported.saturating_add(REPORT);
         if !self.screens.conns.is_empty() {

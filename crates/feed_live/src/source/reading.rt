@@ -29,7 +29,7 @@ const LOCATION: &[u8] = b"location:";
 impl Source {
     ghost use Rattle.feed_live.specs.Relaying.{StillFollows, StillServes, SameSource};
     ghost use Rattle.feed_live.specs.Relaying.{IsKeeping, IsLeft, PushesOnly, followed_by};
-    ghost use Rattle.feed_live.specs.Serving.{AllEnd};
+    ghost use Rattle.feed_live.specs.Serving.{AllEnd, SaysAll};
     ghost use Rattle.feed_live.specs.declared.source.Reach.TheVariants.{Away, Reads as Read};
 
     /// Reads what came, so many times.
@@ -318,6 +318,8 @@ impl Source {
             → IsSome self.old.answers.shown.mirror.since
             → self.new.epoch ≡ min (self.old.epoch + 1) (2 ^ 64 - 1) }
         ensures ended { self.new.epoch ≢ self.old.epoch → AllEnd screens.new.hub }
+        ensures says { self.old.coming ≡ None
+            → SaysAll screens.new self.new.answers.shown.mirror.node }
     {
         self.tell_twice(told);
         if self.coming.is_some() {
@@ -367,6 +369,7 @@ impl Source {
         ensures same { SameSource self.old self.new }
         ensures epoch { self.new.epoch ≡ self.old.epoch }
         ensures serves { StillServes self.old.answers.shown.mirror.node screens.old screens.new }
+        ensures says { SaysAll screens.new self.new.answers.shown.mirror.node }
     {
         screens.relay(alloc, self.answers.shown.node(), now);
     }

@@ -30,4 +30,5 @@ returns g c =
           subst (KeepsFiles nodes (written c.save.new.store) (next c.save.new.store)) (sym after.0)
           (c.save.ensures.anew (λ same. newer (served.epoch ∙ same ∙ before.1)) nodes (subst (λ m. Contains nodes m.node) served.source.shown shown) known);
       wakes = c.next.ensures.wakes;
+      awake = c.next.ensures.awake;
     }
