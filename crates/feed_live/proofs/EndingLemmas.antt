@@ -1,5 +1,5 @@
 -- Bodies that end stay so.
-use Rattle.std.proofs.Common.{◌≡◌, ℕ, ◌⊎◌, List, Option, Some, None, inl, inr, sym, subst, ap}
+use Rattle.std.proofs.Common.{◌≡◌, refl, ◌∙◌, ℕ, ◌⊎◌, List, Option, Some, None, inl, inr, sym, subst, ap}
 use Rattle.feed_hub.specs.declared.hub.Hub.{Hub}
 use Rattle.feed_hub.specs.declared.screen.Screen.{Screen}
 use Rattle.feed_hub.specs.declared.screen.Way.{Way}

@@ -1,6 +1,6 @@
 -- How sockets stand, step by step.
 use Rattle.std.proofs.Common.{◌≡◌, ◌≢◌, refl, sym, ap, ◌∙◌, subst, ℕ, ◌⊎◌, true, false, List, [], ◌++◌, Option, Some, None, inl, inr, ◌<◌, ◌≤◌, arith, take, drop, append-nil, append_assoc, suc, zero}
-use Rattle.std.specs.Prelude.{Bool, ◌==◌, Contains, Result, Ok, Err, IfOk, OnOk, OnErr, IfSome, option_map, if◌then◌else◌}
+use Rattle.std.specs.Prelude.{Bool, ◌==◌, Contains, Result, Ok, Err, IfOk, OnOk, OnErr, IsErrAnd, IfSome, option_map, if◌then◌else◌}
 use Rattle.std.specs.List.{AllByRecursion}
 use Rattle.std.proofs.lemmas.Bool.Decides.{eqb_tells}
 use Rattle.std.proofs.lemmas.List.{take-append-drop}
@@ -21,10 +21,10 @@ use Rattle.feed_hub.specs.Seats.{seat_at, Watched, KeepsThose, Ends, IsAskingSea
 use Rattle.feed_hub.specs.Steps.{taken}
 use Rattle.feed_live.specs.declared.conn.Conn.{Conn}
 use Rattle.feed_live.specs.declared.screens.Screens.{Screens}
-use Rattle.feed_device.specs.Sockets.{Socket, Traffic, AllSockets, IsSocket, IsUnused, opened, closed, traffic_of, with_current, former_of, goes_on_with, came_to, written_to, on_current, IsWrite, SameSockets, OtherSockets}
+use Rattle.feed_device.specs.Sockets.{Socket, Traffic, AllSockets, IsSocket, IsUnused, opened, closed, traffic_of, with_current, former_of, goes_on_with, came_to, written_to, on_current, IsRead, IsWrite, SameSockets, OtherSockets}
 use Rattle.feed_live.specs.Held.{answerer}
 use Rattle.feed_live.specs.Laws.{SocketsAreFaithful}
-use Rattle.feed_live.specs.Serving.{IsGiven, WasServed, IsFaithful, WasFaithful, WereFaithful, nothing, refused, served, IsSent, Sits, asks, watches, cut, key_of, key_at, Stands, Serving, SameKeys, Leaves, keyless, IsGreeted, SameSeating, full_text, Came, ServesBut, HearsSome}
+use Rattle.feed_live.specs.Serving.{IsGiven, WasServed, IsFaithful, WasFaithful, WereFaithful, nothing, refused, served, IsSent, Sits, asks, watches, cut, key_of, key_at, Stands, Serving, SameKeys, Leaves, keyless, IsGreeted, SameSeating, full_text, Came, ServesBut, HearsSo, HearsSome}
 
 -- ---- numbers and keys
 
@@ -209,8 +209,8 @@ take_none zero = refl
 take_none (suc n) = refl
 
 -- the connections that are over stay as they were
-pub former_same : {nodes : List NodeState} {contest : List ℕ} (before after : Option Socket) → former_of after ≡ former_of before → WereFaithful nodes contest before → WereFaithful nodes contest after
-former_same {nodes} {contest} before after same were = subst (λ f. IfSome f (AllByRecursion (WasFaithful nodes contest))) (sym same) were
+pub former_same : (nodes : List NodeState) (contest : List ℕ) (before after : Option Socket) → former_of after ≡ former_of before → WereFaithful nodes contest before → WereFaithful nodes contest after
+former_same nodes contest before after same were = subst (λ f. IfSome f (AllByRecursion (WasFaithful nodes contest))) (sym same) were
 
 former_on : (becomes : Traffic → Traffic) (socket : Option Socket) → former_of (on_current becomes socket) ≡ former_of socket
 former_on becomes None = refl
@@ -281,7 +281,7 @@ serving_sent {nodes} {contest} old new conns before after at key now count keyed
     (subst (λ k. Stands nodes contest new k (after at)) (sym keyed)
     (sent_sits old new key now count (before at) (after at) exact serves after_is
     (subst (λ k. Stands nodes contest old k (before at)) keyed (serving.each at))))
-    (former_same (before at) (after at) (former_becomes _ (before at) (after at) after_is) (serving.former at))
+    (former_same _ _ (before at) (after at) (former_becomes _ (before at) (after at) after_is) (serving.former at))
     (λ k is. (subst (λ n. k.generation < n) (sym changes.next) (serving.below at k is), own_still serving at k is))
     serving
 
@@ -325,33 +325,33 @@ sent_further socket bytes sent =
     }
 
 -- all that is known of a number
-current_faithful : {nodes : List NodeState} {contest : List ℕ} (current : Option Traffic) (former : List Traffic) → IfSome current (WasFaithful nodes contest) → AllByRecursion (WasFaithful nodes contest) former
+current_faithful : (nodes : List NodeState) (contest : List ℕ) (current : Option Traffic) (former : List Traffic) → IfSome current (WasFaithful nodes contest) → AllByRecursion (WasFaithful nodes contest) former
     → AllByRecursion (WasFaithful nodes contest) (with_current current former)
-current_faithful None former is were = were
-current_faithful (Some traffic) former is were = (is, were)
+current_faithful nodes contest None former is were = were
+current_faithful nodes contest (Some traffic) former is were = (is, were)
 
 sent_current : {nodes : List NodeState} {contest : List ℕ} (known : Socket) → IsSent nodes contest (Some known) → IfSome known.current (WasFaithful nodes contest)
 sent_current {nodes} {contest} known sent = subst (λ c. IfSome c (WasFaithful nodes contest)) (sym sent.socket_is) sent.faithful
 
-stands_current : {nodes : List NodeState} {contest : List ℕ} {hub : Hub} (held : Option (Option Key)) (known : Socket) → Stands nodes contest hub held (Some known) → IfSome known.current (WasFaithful nodes contest)
-stands_current {nodes} {contest} None known stands = subst (λ c. IfSome c (WasFaithful nodes contest)) (sym stands) tt
-stands_current (Some None) known stands = sent_current known stands
-stands_current (Some (Some key)) known stands = sent_current known (sent_of stands)
+stands_current : (nodes : List NodeState) (contest : List ℕ) (hub : Hub) (held : Option (Option Key)) (known : Socket) → Stands nodes contest hub held (Some known) → IfSome known.current (WasFaithful nodes contest)
+stands_current nodes contest hub None known stands = subst (λ c. IfSome c (WasFaithful nodes contest)) (sym stands) tt
+stands_current nodes contest hub (Some None) known stands = sent_current known stands
+stands_current nodes contest hub (Some (Some key)) known stands = sent_current known (sent_of stands)
 
-stands_all : {nodes : List NodeState} {contest : List ℕ} {hub : Hub} (held : Option (Option Key)) (known : Socket) → Stands nodes contest hub held (Some known) → WereFaithful nodes contest (Some known)
+stands_all : (nodes : List NodeState) (contest : List ℕ) (hub : Hub) (held : Option (Option Key)) (known : Socket) → Stands nodes contest hub held (Some known) → WereFaithful nodes contest (Some known)
     → AllByRecursion (WasFaithful nodes contest) (traffic_of known)
-stands_all held known stands were = current_faithful known.current known.former (stands_current held known stands) were
+stands_all nodes contest hub held known stands were = current_faithful nodes contest known.current known.former (stands_current nodes contest hub held known stands) were
 
 -- a connection is over, and its traffic is still known
-former_over : {nodes : List NodeState} {contest : List ℕ} {hub : Hub} (held : Option (Option Key)) (current : Option Traffic) (socket : Option Socket) → Stands nodes contest hub held socket → WereFaithful nodes contest socket
+former_over : (nodes : List NodeState) (contest : List ℕ) (hub : Hub) (held : Option (Option Key)) (current : Option Traffic) (socket : Option Socket) → Stands nodes contest hub held socket → WereFaithful nodes contest socket
     → WereFaithful nodes contest (goes_on_with current socket)
-former_over held current None stands were = tt
-former_over held current (Some known) stands were = stands_all held known stands were
+former_over nodes contest hub held current None stands were = tt
+former_over nodes contest hub held current (Some known) stands were = stands_all nodes contest hub held known stands were
 
 over_so : {nodes : List NodeState} {contest : List ℕ} {hub : Hub} {conns : Slab Conn} {sockets : AllSockets} (at : ℕ) (current : Option Traffic) (after : Option Socket) → after ≡ goes_on_with current (sockets at)
     → Serving nodes contest hub conns sockets → WereFaithful nodes contest after
-over_so {nodes} {contest} {conns = conns} {sockets = sockets} at current after is serving =
-    subst (WereFaithful nodes contest) (sym is) (former_over (key_at conns at) current (sockets at) (serving.each at) (serving.former at))
+over_so {nodes} {contest} {hub} {conns} {sockets} at current after is serving =
+    subst (WereFaithful nodes contest) (sym is) (former_over nodes contest hub (key_at conns at) current (sockets at) (serving.each at) (serving.former at))
 
 pub goes_on : (current : Option Traffic) (socket after : Option Socket) → after ≡ goes_on_with current socket → IsSocket after current
 goes_on current socket after is = subst (λ s. IsSocket s current) (sym is) (by socket)
@@ -434,7 +434,7 @@ serving_refused {nodes} {contest} old new middle after at key unheard keyed aske
     (λ other k away is. others_stay nodes old.hub new.hub key k changes (apart serving at other key k keyed away is))
     (same_next _ _ changes.next)
     (subst (λ k. Stands nodes contest new.hub k (after at)) (sym free) (sent (came ++ unheard) (subst (λ s. IsSocket s (opened (came ++ unheard) [])) (sym serves.came.more) (more_came (before at) came [] unheard is))))
-    (former_same (before at) (after at) (former ∙ former_becomes _ (before at) (middle at) serves.came.more) (serving.former at))
+    (former_same _ _ (before at) (after at) (former ∙ former_becomes _ (before at) (middle at) serves.came.more) (serving.former at))
     (λ k is. let no : Some None ≡ Some (Some k) = sym free ∙ is in absurd (cc))
     serving
 
@@ -557,11 +557,11 @@ further_sits bytes socket not_asked (watches came answer handed given seated is)
     watches (came ++ bytes) answer handed (given_further came bytes given) seated (more_came socket came handed bytes is)
 further_sits bytes socket not_asked (cut none sent) = cut none (sent_further socket bytes sent)
 
-further_stands : {nodes : List NodeState} {contest : List ℕ} {hub : Hub} (held : Option (Option Key)) (bytes : List ℕ) (socket : Option Socket)
+further_stands : (nodes : List NodeState) (contest : List ℕ) (hub : Hub) (held : Option (Option Key)) (bytes : List ℕ) (socket : Option Socket)
     → ((key : Key) → held ≡ Some (Some key) → IsAskingSeat (seat_at hub.seats.slab key) → ⊥) → Stands nodes contest hub held socket → Stands nodes contest hub held (on_current (came_to bytes) socket)
-further_stands None bytes socket not_asked stands = on_socket (came_to bytes) socket closed stands
-further_stands (Some None) bytes socket not_asked stands = sent_further socket bytes stands
-further_stands (Some (Some key)) bytes socket not_asked stands = further_sits bytes socket (not_asked key refl) stands
+further_stands nodes contest hub None bytes socket not_asked stands = on_socket (came_to bytes) socket closed stands
+further_stands nodes contest hub (Some None) bytes socket not_asked stands = sent_further socket bytes stands
+further_stands nodes contest hub (Some (Some key)) bytes socket not_asked stands = further_sits bytes socket (not_asked key refl) stands
 
 -- nothing of it is a request
 pub serving_further : {nodes : List NodeState} {contest : List ℕ} (hub : Hub) (conns : Slab Conn) (sockets : AllSockets) (at : ℕ) (bytes : List ℕ)
@@ -571,8 +571,8 @@ serving_further {nodes} {contest} hub conns sockets at bytes not_asked serves =
     let before = serves.before in
     serving_at {old = hub} {new = hub} {conns = conns} {conns_new = conns} at (λ other _. refl) serves.came.others
     (λ other k away is. hub_stays nodes hub hub k refl) (same_next _ _ refl)
-    (subst (Stands nodes contest hub (key_at conns at)) (sym serves.came.more) (further_stands (key_at conns at) bytes (before at) not_asked (serves.serving.each at)))
-    (former_same (before at) (sockets at) (former_becomes _ (before at) (sockets at) serves.came.more) (serves.serving.former at))
+    (subst (Stands nodes contest hub (key_at conns at)) (sym serves.came.more) (further_stands nodes contest hub (key_at conns at) bytes (before at) not_asked (serves.serving.each at)))
+    (former_same _ _ (before at) (sockets at) (former_becomes _ (before at) (sockets at) serves.came.more) (serves.serving.former at))
     (λ k is. (serves.serving.below at k is, own_still serves.serving at k is))
     serves.serving
 
@@ -623,7 +623,7 @@ module _ {nodes : List NodeState} (contest : List ℕ) (old new : Hub) (key : Ke
 
   -- what sits there was heard, as far as it is heard
   pub heard_sits : (socket : Option Socket) → Sits nodes contest old key socket → Sits nodes contest new key (on_current (came_to (take heard.taken piece)) socket)
-  heard_sits socket (asks asking sits is) = let h = hears_from (Some (Asks asking)) sits in heard_at asking h.1.0 socket sits h.1.1.0 h.1.1.1 is
+  heard_sits socket (asks asking sits is) = let h = hears_from (Some (Asks asking)) sits in heard_at asking h.1.0 socket sits h.1.1 h.1.2 is
   heard_sits socket (watches came answer handed given seated is) =
       let h = hears_from (Some (Watches seated.0)) seated.1 in
       further_sits (take heard.taken piece) socket (λ asked. subst IsAskingSeat (h.0) asked)
@@ -640,9 +640,9 @@ module _ {nodes : List NodeState} (contest : List ℕ) (old new : Hub) (key : Ke
       asks_on asking (Watches s) so is_asking = is_asking
 
       by : (before : Option Seat) → seat_at old.seats.slab key ≡ before → ⊥
-      by None is = some (hears_from None is).1.1
-      by (Some (Watches s)) is = some (hears_from (Some (Watches s)) is).1.1
-      by (Some (Asks asking)) is = let h = hears_from (Some (Asks asking)) is in asks_on asking h.1.0 h.1.1.1 (subst IsAskingSeat h.1.1.0 asked)
+      by None is = some (hears_from None is).2
+      by (Some (Watches s)) is = some (hears_from (Some (Watches s)) is).2
+      by (Some (Asks asking)) is = let h = hears_from (Some (Asks asking)) is in asks_on asking h.1.0 h.1.2 (subst IsAskingSeat h.1.1 asked)
 
 -- where nothing was taken no request comes there any more, or there was nothing to be taken
 pub is_unasked : (seat : Option Seat) (piece : List ℕ) → (IsAskingSeat seat → piece ≡ []) → (IsAskingSeat seat → ⊥) ⊎ (piece ≡ [])
@@ -651,7 +651,7 @@ is_unasked (Some (Asks asking)) piece moves = inr (moves tt)
 is_unasked (Some (Watches s)) piece moves = inl (λ asked. asked)
 
 -- one socket is another now
-update : AllSockets → ℕ → Option Socket → AllSockets
+abbrev update : AllSockets → ℕ → Option Socket → AllSockets
 update sockets at socket n = if n == at then socket else sockets n
 
 updated : (sockets : AllSockets) (at : ℕ) (socket : Option Socket) → update sockets at socket at ≡ socket
@@ -692,7 +692,7 @@ serving_heard {nodes} {contest} old new conns sockets at key bytes count keyed c
           (subst (λ k. Stands nodes contest new k (middle at)) (sym keyed)
           (subst (Sits nodes contest new key) (sym here)
           (sits (before at) (subst (λ k. Stands nodes contest old k (before at)) keyed (serving.each at)))))
-          (former_same (before at) (middle at) (former_becomes _ (before at) (middle at) here) (serving.former at))
+          (former_same _ _ (before at) (middle at) (former_becomes _ (before at) (middle at) here) (serving.former at))
           (λ k is. (subst (λ n. k.generation < n) (sym changes.next) (serving.below at k is), own_still serving at k is))
           serving;
     }
@@ -724,20 +724,26 @@ pub serving_all : {nodes : List NodeState} {contest : List ℕ} (hub : Hub) (con
 serving_all hub conns sockets at key bytes keyed (inl not_asked) serves = serving_further hub conns sockets at bytes (keyed_unasked hub conns at key keyed not_asked) serves
 serving_all hub conns sockets at key bytes keyed (inr none) serves = serving_nothing hub conns sockets at bytes none serves
 
+-- memory ran out
+pub hears_failed : {nodes : List NodeState} {contest : List ℕ} {E : Type 0} (new : Screens) (sockets : AllSockets) (at : ℕ) (bytes : List ℕ) (Q : E → Type 0) (result : Result ℕ E) → IsErrAnd result Q
+    → Serving nodes contest new.hub new.conns sockets → HearsSome nodes contest new sockets at bytes result
+hears_failed new sockets at bytes Q (Ok count) failed serving = absurd failed
+hears_failed new sockets at bytes Q (Err why) failed serving = serving
+
 -- by how many were taken
-pub hears_none : {nodes : List NodeState} {contest : List ℕ} {E : Type 0} (new : Screens) (sockets : AllSockets) (at : ℕ) (bytes : List ℕ) (count : ℕ) → count ≡ 0
-    → HearsSome {E = E} nodes contest new sockets at bytes (Ok count) → Serving nodes contest new.hub new.conns sockets
+pub hears_none : {nodes : List NodeState} {contest : List ℕ} (new : Screens) (sockets : AllSockets) (at : ℕ) (bytes : List ℕ) (count : ℕ) → count ≡ 0
+    → HearsSo nodes contest new sockets at bytes count → Serving nodes contest new.hub new.conns sockets
 hears_none new sockets at bytes zero is hears = hears
 hears_none new sockets at bytes (suc n) is hears = absurd (omega (arith, is))
 
-pub hears_more : {nodes : List NodeState} {contest : List ℕ} {E : Type 0} (new : Screens) (sockets : AllSockets) (at : ℕ) (bytes : List ℕ) (count : ℕ) → count ≢ 0
-    → HearsSome {E = E} nodes contest new sockets at bytes (Ok count) → ServesBut nodes contest new.hub new.conns sockets at (drop count bytes)
+pub hears_more : {nodes : List NodeState} {contest : List ℕ} (new : Screens) (sockets : AllSockets) (at : ℕ) (bytes : List ℕ) (count : ℕ) → count ≢ 0
+    → HearsSo nodes contest new sockets at bytes count → ServesBut nodes contest new.hub new.conns sockets at (drop count bytes)
 hears_more new sockets at bytes zero is hears = absurd (is refl)
 hears_more new sockets at bytes (suc n) is hears = hears
 
-pub hears_so : {nodes : List NodeState} {contest : List ℕ} {E : Type 0} (new : Screens) (sockets : AllSockets) (at : ℕ) (bytes : List ℕ) (count : ℕ)
+pub hears_so : {nodes : List NodeState} {contest : List ℕ} (new : Screens) (sockets : AllSockets) (at : ℕ) (bytes : List ℕ) (count : ℕ)
     → (count ≡ 0 → Serving nodes contest new.hub new.conns sockets) → ServesBut nodes contest new.hub new.conns sockets at (drop count bytes)
-    → HearsSome {E = E} nodes contest new sockets at bytes (Ok count)
+    → HearsSo nodes contest new sockets at bytes count
 hears_so new sockets at bytes zero none serves = none refl
 hears_so new sockets at bytes (suc n) none serves = serves
 
@@ -779,7 +785,7 @@ serving_inserted {nodes} {contest} old new conns reserved conns_new before mid a
     serving_accepted old new conns conns_new before after at conn.key
     (λ other away. ap key_of (updates.others other (λ e. away (e ∙ here))) ∙ ap key_of (same other))
     (subst (λ n. key_at conns_new n ≡ Some conn.key) here (ap key_of updates.changed))
-    greeted (former_same (mid at) (after at) former (over_so at (opened [] []) (mid at) accepts serving)) (λ other away. more other away ∙ others other away) serving
+    greeted (former_same _ _ (mid at) (after at) former (over_so at (opened [] []) (mid at) accepts serving)) (λ other away. more other away ∙ others other away) serving
 
 -- what is written to one more than there may be
 pub refused_sent : {E : Type 0} (nodes : List NodeState) (contest came : List ℕ) (before after : Option Socket) (result : Result ℕ E) → IsWrite before after result full_text → IsSocket before (opened came []) → IsSent nodes contest after
@@ -802,6 +808,21 @@ pub read_so : {nodes : List NodeState} {contest : List ℕ} (hub : Hub) (conns :
     → after at ≡ on_current (came_to bytes) (before at) → OtherSockets before after at
     → Serving nodes contest hub conns before → ServesBut nodes contest hub conns after at bytes
 read_so hub conns before after at bytes more others serving = record { before = before; came = record { more = more; others = others }; serving = serving }
+
+-- nothing came
+pub serving_unread : {nodes : List NodeState} {contest : List ℕ} (hub : Hub) (conns : Slab Conn) (before after : AllSockets) (at : ℕ) → after at ≡ before at → OtherSockets before after at
+    → Serving nodes contest hub conns before → Serving nodes contest hub conns after
+serving_unread hub conns before after at here others serving =
+    serving_same {old = hub} {new = hub} {conns = conns} {conns_new = conns} refl (λ _. refl) (same_sockets before after at here others) serving
+
+-- what came of a connection without a key is read and forgotten
+pub serving_forgotten : {nodes : List NodeState} {contest : List ℕ} {E : Type 0} (hub : Hub) (conns : Slab Conn) (before after : AllSockets) (at : ℕ) (result : Result ℕ E) (bytes : List ℕ)
+    → IsRead (before at) (after at) result bytes → OtherSockets before after at → key_at conns at ≡ Some None
+    → Serving nodes contest hub conns before → Serving nodes contest hub conns after
+serving_forgotten hub conns before after at (Ok count) bytes reads others keyless_at serving =
+    serving_further hub conns after at (take count bytes) (λ key keyed asked. let none : Some None ≡ Some (Some key) = sym keyless_at ∙ keyed in absurd (cc))
+    (read_so hub conns before after at (take count bytes) reads others serving)
+serving_forgotten hub conns before after at (Err _) bytes reads others keyless_at serving = serving_unread hub conns before after at reads others serving
 
 -- ---- what requests are answered with
 
@@ -831,4 +852,4 @@ serving_none {nodes} {contest} hub conns sockets empty unused =
 
 pub sockets_are_faithful : SocketsAreFaithful
 sockets_are_faithful nodes contest hub conns sockets at socket serving is =
-    stands_all (key_at conns at) socket (subst (Stands nodes contest hub (key_at conns at)) is (serving.each at)) (subst (WereFaithful nodes contest) is (serving.former at))
+    stands_all nodes contest hub (key_at conns at) socket (subst (Stands nodes contest hub (key_at conns at)) is (serving.each at)) (subst (WereFaithful nodes contest) is (serving.former at))

@@ -1,6 +1,7 @@
 -- How a turn stays at places of the log.
-use Rattle.std.proofs.Common.{◌≡◌, ◌≢◌, refl, eqb-true, sym, ap, ◌∙◌, subst, ℕ, List, [], length, nat_eq, Bool, None}
-use Rattle.std.specs.Prelude.{Contains, false, is_none, string_bytes}
+use Rattle.std.proofs.Common.{◌≡◌, ◌≢◌, refl, eqb-true, inl, inr, sym, ap, ◌∙◌, subst, ℕ, List, [], length, nat_eq, Bool, None}
+use Rattle.std.proofs.lemmas.Bool.Decides.{eqb_tells}
+use Rattle.std.specs.Prelude.{◌==◌, ◌⊎◌, true, not, Contains, false, is_none, string_bytes}
 use Rattle.std.proofs.lemmas.List.{nil_from_length}
 use Rattle.slab.specs.Slab.{Slab}
 use Rattle.feed_settings.specs.Limits.{Limits}
@@ -17,7 +18,6 @@ use Rattle.feed_live.specs.declared.source.Reach.TheVariants.{Away}
 use Rattle.feed_live.specs.declared.source.Source.{Source}
 use Rattle.feed_live.specs.declared.told.Telling.{Telling}
 use Rattle.feed_live.specs.declared.turn.Live.{Live}
-use Rattle.feed_live.specs.Saved.{SameSaved}
 use Rattle.feed_live.specs.Relaying.{MayFollow, Shows, FollowsLog, IsRelaying, SameSource, OnlyServes, followed_by}
 use Rattle.feed_live.specs.Serving.{Serving, StillServing}
 use Rattle.feed_live.specs.States.{states_of}
@@ -44,9 +44,13 @@ same_then two one =
       rest = two.rest ∙ one.rest;
     }
 
--- the state files were not touched
-pub saved_then : {a b c : Live} → SameSaved b c → SameSaved a b → SameSaved a c
-saved_then two one = (two.0 ∙ one.0, two.1 ∙ one.1)
+-- numbers that differ
+pub differ_so : (a b : ℕ) → a ≢ b → not (a == b) ≡ true
+differ_so a b differ = by (eqb_tells a b)
+  where
+    by : (((a == b) ≡ true) × (a ≡ b)) ⊎ (((a == b) ≡ false) × (a ≢ b)) → not (a == b) ≡ true
+    by (inl (_, same)) = absurd (differ same)
+    by (inr (is, _)) = ap not is
 
 pub serves_none : (live : Live) (sockets : AllSockets) → OnlyServes live live sockets sockets
 serves_none live sockets =

@@ -1,6 +1,6 @@
 -- THE PROMISE, up to each socket: what is written to it is what the hub was told at the key of its
 -- connection, and so a prefix of what is due to the answer that one of the nodes gave.
-use Rattle.std.specs.Prelude.{◌≡◌, ℕ, zero, suc, ◌<◌, ◌≤◌, List, [], ◌++◌, take, drop, Option, Some, None, Result, Ok, Err, Contains, IfSome, IsSome, ◌⊎◌}
+use Rattle.std.specs.Prelude.{◌≡◌, ℕ, zero, suc, ◌<◌, ◌≤◌, List, [], ◌++◌, take, drop, Option, Some, None, Result, MatchResult, Contains, IfSome, IsSome, ◌⊎◌}
 use Rattle.std.specs.List.{AllByRecursion}
 use Rattle.slab.specs.Slab.{Slab, get}
 use Rattle.feed_settings.specs.declared.framing.Framing.{Framing}
@@ -141,23 +141,29 @@ StillServingWith nodes contest at bytes old new before after =
     ServesBut nodes contest old.hub old.conns before at bytes
     → Serving nodes contest new.hub new.conns after
 
--- So many of these bytes were heard, and the rest may be next; or all that are ever heard were.
+-- so many of these bytes were heard, and the rest may be next; or all that are ever heard were
+abbrev pub HearsSo : List NodeState → List ℕ → Screens → AllSockets → ℕ → List ℕ → ℕ → Type 0
+HearsSo nodes contest new sockets at bytes zero = Serving nodes contest new.hub new.conns sockets
+HearsSo nodes contest new sockets at bytes (suc n) =
+    ServesBut nodes contest new.hub new.conns sockets at (drop (suc n) bytes)
+
 abbrev pub HearsSome : {E : Type 0} → List NodeState → List ℕ → Screens → AllSockets → ℕ → List ℕ
     → Result ℕ E → Type 0
-HearsSome nodes contest new sockets at bytes (Ok zero) =
-    Serving nodes contest new.hub new.conns sockets
-HearsSome nodes contest new sockets at bytes (Ok (suc n)) =
-    ServesBut nodes contest new.hub new.conns sockets at (drop (suc n) bytes)
-HearsSome nodes contest new sockets at bytes (Err _) =
-    Serving nodes contest new.hub new.conns sockets
+HearsSome nodes contest new sockets at bytes result =
+    MatchResult result (HearsSo nodes contest new sockets at bytes)
+    (λ _. Serving nodes contest new.hub new.conns sockets)
 
 -- they were, or some were, and then there was no room
+abbrev pub HearsTo : List NodeState → List ℕ → Screens → AllSockets → ℕ → Hearing → Type 0
+HearsTo nodes contest new sockets at Goes = Serving nodes contest new.hub new.conns sockets
+HearsTo nodes contest new sockets at TooMuch =
+    (unheard : List ℕ) × ServesBut nodes contest new.hub new.conns sockets at unheard
+
 abbrev pub HearsAll : {E : Type 0} → List NodeState → List ℕ → Screens → AllSockets → ℕ
     → Result Hearing E → Type 0
-HearsAll nodes contest new sockets at (Ok Goes) = Serving nodes contest new.hub new.conns sockets
-HearsAll nodes contest new sockets at (Ok TooMuch) =
-    (unheard : List ℕ) × ServesBut nodes contest new.hub new.conns sockets at unheard
-HearsAll nodes contest new sockets at (Err _) = Serving nodes contest new.hub new.conns sockets
+HearsAll nodes contest new sockets at result =
+    MatchResult result (HearsTo nodes contest new sockets at)
+    (λ _. Serving nodes contest new.hub new.conns sockets)
 
 -- each number has the key that it had
 abbrev pub SameKeys : Slab Conn → Slab Conn → Type 0

@@ -160,13 +160,23 @@ impl Screens {
             return false;
         }
         self.trim();
-        for _ in 0..node.kept().saturating_add(2) {
-            if !self.say_one(alloc, node, now) {
-                break;
-            }
-        }
+        self.say_all(alloc, node, now);
         self.wait_for_rest(node, now);
         true
+    }
+
+    /// Says one commit after another, as many as can be said now.
+    fn say_all(&mut self, alloc: Global, node: &Node, now: u64)
+        ensures serving { (nodes : List NodeState) (contest : List ℕ) (sockets : AllSockets)
+            → Contains nodes node.now.shown
+            → StillServing nodes contest self.old self.new sockets sockets }
+        ensures ended { AllEnd self.old.hub → AllEnd self.new.hub }
+    {
+        for _ in 0..node.kept().saturating_add(2) {
+            if !self.say_one(alloc, node, now) {
+                return;
+            }
+        }
     }
 
     /// What isn't said yet is said in the next turn, unless it waits for longer.

@@ -8,9 +8,11 @@ ghost use Rattle.feed_hub.specs.Laws.{IsInLog};
 ghost use Rattle.feed_device.specs.Links.{Exchanges};
 ghost use Rattle.feed_device.specs.Sockets.{AllSockets, IsUnused};
 ghost use Rattle.feed_live.specs.Upstream.{Servers};
+ghost use Rattle.feed_device.specs.Files.{IsKnown};
+ghost use Rattle.feed_live.specs.Saved.{GoesOn, KeepsFiles};
 
 use crate::options::{LiveLimits, Start};
-use crate::saved::{Restored, Saved};
+use crate::saved::{Good, Restored, Saved};
 use crate::screens::{Screens, Shown};
 use crate::source::Source;
 use crate::told::Telling;
@@ -70,8 +72,7 @@ pub struct Live {
 impl Live {
     ghost use Rattle.feed_live.specs.Relaying.{IsRelaying, StillRelaying, OnlyServes};
     ghost use Rattle.feed_live.specs.Taking.{IsTakingInput, StillTaking, bytes_in};
-    ghost use Rattle.feed_device.specs.Files.{IsKnown};
-    ghost use Rattle.feed_live.specs.Saved.{GoesOn, KeepsFiles, SameSaved};
+    ghost use Rattle.feed_live.specs.Saved.{SameSaved};
     ghost use Rattle.feed_live.specs.Held.{Waits, has_heard};
     ghost use Rattle.slab.specs.Slab.{get};
 
@@ -114,11 +115,7 @@ impl Live {
             blank,
         } = start;
         let Restored { mirror, file } = restored;
-        let saved = if limits.has_store {
-            Some(Saved::new(store, mirror.node(), file))
-        } else {
-            None
-        };
+        let saved = saved_of(store, mirror.node(), file, limits.has_store);
         let feeds = are_none(&places);
         let mut source = Source::new(alloc, places, identity, mirror, blank, limits, now);
         source.begin_input(feeds, now);
@@ -363,10 +360,8 @@ impl Live {
             return;
         };
         let epoch = self.source.epoch();
-        if epoch != self.epoch {
-            self.epoch = epoch;
-            saved.begin_again();
-        }
+        saved.begin_where(epoch != self.epoch);
+        self.epoch = epoch;
         saved.save(alloc, store, &mut self.telling, self.source.node(), now);
     }
 
@@ -534,10 +529,28 @@ impl Live {
         if self.source.has_servers() {
             due = due.min(self.source.due(self.limits.idle));
             if self.source.has_more() && self.screens.says_at().is_none() {
-                due = now;
+                due = due.min(now);
             }
         }
         due
+    }
+}
+
+/// The state files, where there are some: they go on with what was restored, where that can be.
+fn saved_of<D: Store>(
+    store: &mut D,
+    node: &Node,
+    file: Option<Good>,
+    has_store: bool,
+) -> Option<Saved>
+    ensures kept { (nodes : List NodeState) (text : List ℕ) → D.written store.old ≡ Some text
+        → IsKnown (D.written_next store.old) → IfSome file (GoesOn nodes text node.now.shown)
+        → KeepsFiles nodes (D.written store.new) (D.written_next store.new) result }
+{
+    if has_store {
+        Some(Saved::new(store, node, file))
+    } else {
+        None
     }
 }
 

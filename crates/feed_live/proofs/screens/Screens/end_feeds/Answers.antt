@@ -10,5 +10,5 @@ returns c =
       serving = λ nodes contest sockets serving.
           serving_noted c.spoke.ensures
           (serving_on (λ key. still_sits contest (ended_stays nodes _ _ key _ _ _ (c.end_all.ensures.left key) (c.end_all.ensures.served nodes key))) (omega (arith, c.end_all.ensures.next)) serving);
-      ended = subst AllEnd (sym c.spoke.ensures.hub) (all_ended _ _ _ _ _ c.end_all.ensures.left);
+      ended = subst AllEnd (sym c.spoke.ensures.hub) (all_ended c.args.self.now.hub c.end_all.new.self _ _ _ c.end_all.ensures.left);
     }

@@ -1,4 +1,4 @@
-use Rattle.std.proofs.Common.{◌∙◌, ap, sym, subst}
+use Rattle.std.proofs.Common.{◌∙◌, refl, ap, sym, subst}
 use Rattle.feed_hub.specs.Hub.{ChangesOnly}
 use Rattle.feed_live.specs.Serving.{key_at, keyless}
 use Rattle.feed_live.proofs.ServingLemmas.{serving_refused, serving_further}
@@ -21,5 +21,5 @@ pub returns-in_default : goal.returns-in_default
 returns-in_default g c =
     record {
       serving = λ nodes contest unheard serves.
-          serving_further _ _ _ c.args.at unheard (c.in-None.ensures.none) serves;
+          serving_further _ _ _ c.args.at unheard (c.in_default.ensures.none refl) serves;
     }

@@ -10,7 +10,7 @@ returns-in-Ok-Looked-More c =
       serving = λ nodes contest sockets among serving.
           serving_noted c.spoke.ensures
           (serving_said c.say_next.ensures.seats (λ key. c.say_next.ensures.served nodes key among) serving);
-      ended = λ all. subst AllEnd (sym c.spoke.ensures.hub) (end_same _ _ c.say_next.ensures.seats all);
+      ended = λ all. subst AllEnd (sym c.spoke.ensures.hub) (end_same c.args.self.now.hub c.say_next.new.self c.say_next.ensures.seats all);
     }
 
 pub returns-in-Ok-Looked-UpToDate : goal.returns-in-Ok-Looked-UpToDate
@@ -18,7 +18,7 @@ returns-in-Ok-Looked-UpToDate c =
     record {
       serving = λ nodes contest sockets among serving.
           serving_said c.say_next.ensures.seats (λ key. c.say_next.ensures.served nodes key among) serving;
-      ended = end_same _ _ c.say_next.ensures.seats;
+      ended = end_same c.args.self.now.hub c.say_next.new.self c.say_next.ensures.seats;
     }
 
 pub returns-in-Ok-Looked-Gone : goal.returns-in-Ok-Looked-Gone
@@ -35,7 +35,7 @@ returns-in-Ok-Waits c =
     record {
       serving = λ nodes contest sockets among serving.
           serving_said c.say_next.ensures.seats (λ key. c.say_next.ensures.served nodes key among) serving;
-      ended = end_same _ _ c.say_next.ensures.seats;
+      ended = end_same c.args.self.now.hub c.say_next.new.self c.say_next.ensures.seats;
     }
 
 pub returns-in-Err : goal.returns-in-Err
@@ -43,5 +43,5 @@ returns-in-Err c =
     record {
       serving = λ nodes contest sockets among serving.
           serving_said c.say_next.ensures.seats (λ key. c.say_next.ensures.served nodes key among) serving;
-      ended = end_same _ _ c.say_next.ensures.seats;
+      ended = end_same c.args.self.now.hub c.say_next.new.self c.say_next.ensures.seats;
     }

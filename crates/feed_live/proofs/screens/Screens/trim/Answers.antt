@@ -9,4 +9,4 @@ returns-then-not-self-clause-serving c =
     serving_on (λ key. still_sits contest (kept_stays nodes _ _ key c.trim.ensures.cuts (c.trim.ensures.served nodes key))) (omega (arith, c.trim.ensures.next)) serving
 
 pub returns-then-not-self-clause-ended : goal.returns-then-not-self-clause-ended
-returns-then-not-self-clause-ended c = end_kept _ _ c.trim.ensures.cuts
+returns-then-not-self-clause-ended c = end_kept c.args.self.now.hub c.trim.new.self c.trim.ensures.cuts

@@ -2,7 +2,7 @@ use Rattle.std.proofs.Common.{sym, subst, ◌∙◌}
 use Rattle.std.specs.Prelude.{Contains}
 use Rattle.feed_live.specs.Saved.{KeepsFiles, SameSaved}
 use Rattle.feed_live.proofs.ServingLemmas.{serving_noted}
-use Rattle.feed_live.proofs.TurnLemmas.{serves_then, saved_then, screens_only, relays_on, takes_only, takes_still}
+use Rattle.feed_live.proofs.TurnLemmas.{serves_then, screens_only, relays_on, takes_only, takes_still}
 use Rattle.feed_live.proofs.turn.Live.turn.Goals as goal
 
 pub returns : goal.returns
@@ -13,8 +13,14 @@ returns g c =
     (λ nodes shown blank serving. c.drain_due.ensures.serving nodes _ (subst (λ n. Contains nodes n) (sym c.node-node.ensures) shown) serving) in
     let accepted = screens_only c.serve.new.self c.accept.new.self c.accept.new.told (λ nodes shown blank serving. c.accept.ensures.serving nodes _ serving) in
     let served = serves_then (c.next.ensures.serves _) (serves_then accepted (serves_then c.serve.ensures.serves (serves_then drained (serves_then c.tick.ensures.serves (c.save.ensures.serves _))))) in
-    let before : SameSaved c.args.self.now c.follow.new.self = saved_then c.follow.ensures.saved (saved_then c.take_input.ensures.saved (saved_then c.say_more.ensures.saved c.note.ensures.saved)) in
-    let after : SameSaved c.save.new.self c.next.new.self = saved_then c.next.ensures.saved (saved_then c.serve.ensures.saved c.tick.ensures.saved) in
+    let before : SameSaved c.args.self.now c.follow.new.self = (
+      c.follow.ensures.saved.0 ∙ c.take_input.ensures.saved.0 ∙ c.say_more.ensures.saved.0 ∙ c.note.ensures.saved.0,
+      c.follow.ensures.saved.1 ∙ c.take_input.ensures.saved.1 ∙ c.say_more.ensures.saved.1 ∙ c.note.ensures.saved.1,
+    ) in
+    let after : SameSaved c.save.new.self c.next.new.self = (
+      c.next.ensures.saved.0 ∙ c.serve.ensures.saved.0 ∙ c.tick.ensures.saved.0,
+      c.next.ensures.saved.1 ∙ c.serve.ensures.saved.1 ∙ c.tick.ensures.saved.1,
+    ) in
     let written = g.D.Store.written in
     let next = g.D.Store.written_next in
     record {

@@ -3,7 +3,7 @@ use Rattle.std.specs.Prelude.{Contains}
 use Rattle.feed_node.specs.States.{NodeState}
 use Rattle.feed_device.specs.Sockets.{AllSockets}
 use Rattle.feed_live.specs.Serving.{StillServing, AllEnd}
-use Rattle.feed_live.proofs.screens.Screens.relay.Given as goal
+use Rattle.feed_live.proofs.screens.Screens.say_all.Given as goal
 
 abbrev pub invariant-loop : goal.invariant-loop
 invariant-loop l =
