@@ -9,7 +9,7 @@ use Rattle.feed_hub.specs.declared.seats.Seat.{Seat}
 use Rattle.feed_hub.specs.declared.seats.Seat.TheVariants.{Asks, Watches}
 use Rattle.feed_hub.specs.Log.{Log}
 use Rattle.feed_hub.specs.Seats.{seat_at, KeepsThose, Ends}
-use Rattle.feed_hub.specs.Steps.{ended, ended_at}
+use Rattle.feed_hub.specs.Steps.{ended_at}
 use Rattle.feed_live.specs.Serving.{HasEnd, IsEnding, AllEnd}
 
 ended_ends : (way : Way) (log : Log) (told : Option (List ℕ)) (now : ℕ) (s : Screen) → s.way ≡ way → HasEnd (ended_at way log told now s).way

@@ -24,7 +24,7 @@ use Rattle.feed_live.specs.declared.screens.Screens.{Screens}
 use Rattle.feed_device.specs.Sockets.{Socket, Traffic, AllSockets, IsSocket, IsUnused, opened, closed, traffic_of, with_current, former_of, goes_on_with, came_to, written_to, on_current, IsRead, IsWrite, SameSockets, OtherSockets}
 use Rattle.feed_live.specs.Held.{answerer}
 use Rattle.feed_live.specs.Laws.{SocketsAreFaithful}
-use Rattle.feed_live.specs.Serving.{IsGiven, WasServed, IsFaithful, WasFaithful, WereFaithful, nothing, refused, served, IsSent, Sits, asks, watches, cut, key_of, key_at, Stands, Serving, SameKeys, Leaves, keyless, IsGreeted, SameSeating, full_text, Came, ServesBut, HearsSo, HearsSome}
+use Rattle.feed_live.specs.Serving.{IsGiven, WasServed, IsFaithful, WasFaithful, WereFaithful, nothing, refused, served, IsSent, Sits, asks, watches, cut, key_of, key_at, Stands, Serving, SameKeys, Leaves, keyless, IsGreeted, SameSeating, full_text, ServesBut, HearsSo, HearsSome}
 
 -- ---- numbers and keys
 
