@@ -1,10 +1,10 @@
 //! What a turn reads from and writes to, by what a contract can say of it.
 
-ghost use Rattle.std.specs.Prelude.{◌≡◌, ◌≢◌, ◌<◌, ◌≤◌, ℕ, List, [], Option, None, Some, length, take, option_map, IfOk, OnOk, OnErr};
+ghost use Rattle.std.specs.Prelude.{◌≡◌, ◌≢◌, ◌<◌, ◌≤◌, ℕ, List, [], Option, None, Some, length, take, option_map, IfOk, OnOk};
 ghost use Rattle.std.specs.Io.KnownBytes.{Keeps, WriteAppends};
 ghost use Rattle.feed_device.specs.Files.{IsKnown};
 ghost use Rattle.feed_device.specs.Links.{Exchange, Begins, Asks, Receives, shown_so, once_at, all_from};
-ghost use Rattle.feed_device.specs.Sockets.{Socket, Closed, Opened, IsSocket, IsWrite, SameSockets, OtherSockets};
+ghost use Rattle.feed_device.specs.Sockets.{Socket, IsAccept, IsRead, IsWrite, closed, goes_on_with, SameSockets, OtherSockets};
 
 use crate::told::Why;
 use std::alloc::AllocError;
@@ -30,13 +30,12 @@ impl From<AllocError> for Stop {
 
 /// The sockets of screens, each at a number that is given to it.
 pub trait Sockets {
-    // The socket at a number, where it is known.
+    // What went over the connections at a number, where it is known.
     ghost socket: { Self → ℕ → Option Socket } = { λ _ _. None };
 
     /// Takes the connection that has waited longest, and answers who it is. It never waits.
     fn accept(&mut self, at: usize) -> Result<SocketAddr, Stop>
-        ensures ok { OnOk result (IsSocket (socket self.new at) (Opened [])) }
-        ensures err { OnErr result (socket self.new at ≡ socket self.old at) }
+        ensures connection { IsAccept (socket self.old at) (socket self.new at) result }
         ensures others { OtherSockets (socket self.old) (socket self.new) at };
 
     /// Reads some bytes to the start of `buf`, and answers how many: none where no more come.
@@ -44,7 +43,8 @@ pub trait Sockets {
         requires { 0 < length buf.old }
         ensures same { length buf.new ≡ length buf.old }
         ensures bound { IfOk result (λ n. n ≤ length buf.new) }
-        ensures sockets { SameSockets (socket self.old) (socket self.new) };
+        ensures bytes { IsRead (socket self.old at) (socket self.new at) result buf.new }
+        ensures others { OtherSockets (socket self.old) (socket self.new) at };
 
     /// Writes some of the bytes, from the first on, and answers how many.
     fn write(&mut self, at: usize, bytes: &[u8]) -> Result<usize, Stop>
@@ -56,9 +56,9 @@ pub trait Sockets {
     fn shut(&mut self, at: usize)
         ensures sockets { SameSockets (socket self.old) (socket self.new) };
 
-    /// Closes the connection, where there is one.
+    /// Closes the connection, where there is one. What went over it stays known.
     fn close(&mut self, at: usize)
-        ensures closed { IsSocket (socket self.new at) Closed }
+        ensures closed { socket self.new at ≡ goes_on_with closed (socket self.old at) }
         ensures others { OtherSockets (socket self.old) (socket self.new) at };
 }
 

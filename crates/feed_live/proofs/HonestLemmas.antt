@@ -51,7 +51,7 @@ relays_show_the_log limits log servers exchanges live sockets honest relaying =
       shown = here.shown_is;
       states = states_in_log limits log;
       within = states_within limits log;
-      written = λ at bytes open'. sockets_are_faithful (states_of limits log) _ _ _ sockets at bytes here.serving open';
+      written = λ at socket is. sockets_are_faithful (states_of limits log) _ _ _ sockets at socket here.serving is;
     }
 
 -- ---- the input
@@ -63,7 +63,7 @@ input_shows_the_log limits log begun input live sockets honest taking =
       shown = here.shown_is;
       states = states_in_log limits log;
       within = states_within limits log;
-      written = λ at bytes open'. sockets_are_faithful (states_of limits log) _ _ _ sockets at bytes here.serving open';
+      written = λ at socket is. sockets_are_faithful (states_of limits log) _ _ _ sockets at socket here.serving is;
     }
 
 module _ (one : ReadingIsOne) (limits : Limits) (log : Log) (place : Option Position) (fresh : Bool) (input : List ℕ)

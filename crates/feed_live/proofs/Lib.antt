@@ -1,3 +1,4 @@
+pub mod EndingLemmas
 pub mod Filed
 pub mod SourceLemmas
 pub mod ServingLemmas

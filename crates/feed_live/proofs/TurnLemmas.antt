@@ -1,6 +1,7 @@
 -- How a turn stays at places of the log.
-use Rattle.std.proofs.Common.{◌≡◌, ◌≢◌, refl, eqb-true, sym, ap, ◌∙◌, subst, ℕ, List, [], length, nat_eq, Bool, None}
-use Rattle.std.specs.Prelude.{Contains, false, is_none, string_bytes}
+use Rattle.std.proofs.Common.{◌≡◌, ◌≢◌, refl, eqb-true, inl, inr, sym, ap, ◌∙◌, subst, ℕ, List, [], length, nat_eq, Bool, None}
+use Rattle.std.proofs.lemmas.Bool.Decides.{eqb_tells}
+use Rattle.std.specs.Prelude.{◌==◌, ◌⊎◌, true, not, Contains, false, is_none, string_bytes}
 use Rattle.std.proofs.lemmas.List.{nil_from_length}
 use Rattle.slab.specs.Slab.{Slab}
 use Rattle.feed_settings.specs.Limits.{Limits}
@@ -43,9 +44,17 @@ same_then two one =
       rest = two.rest ∙ one.rest;
     }
 
+-- numbers that differ
+pub differ_so : (a b : ℕ) → a ≢ b → not (a == b) ≡ true
+differ_so a b differ = by (eqb_tells a b)
+  where
+    by : (((a == b) ≡ true) × (a ≡ b)) ⊎ (((a == b) ≡ false) × (a ≢ b)) → not (a == b) ≡ true
+    by (inl (_, same)) = absurd (differ same)
+    by (inr (is, _)) = ap not is
+
 pub serves_none : (live : Live) (sockets : AllSockets) → OnlyServes live live sockets sockets
 serves_none live sockets =
-    record { contest = refl; feeds = refl; source = same_none live.source; serves = λ nodes shown blank serving. serving }
+    record { contest = refl; feeds = refl; source = same_none live.source; epoch = refl; serves = λ nodes shown blank serving. serving }
 
 pub serves_then : {a b c : Live} {before between after : AllSockets} → OnlyServes b c between after → OnlyServes a b before between → OnlyServes a c before after
 serves_then {a} {b} {c} {before} {between} {after} two one =
@@ -53,6 +62,7 @@ serves_then {a} {b} {c} {before} {between} {after} two one =
       contest = two.contest ∙ one.contest;
       feeds = two.feeds ∙ one.feeds;
       source = same_then two.source one.source;
+      epoch = two.epoch ∙ one.epoch;
       serves = λ nodes shown blank serving.
           let later : StillServing nodes (string_bytes b.contest) b.screens c.screens between after =
           two.serves nodes (subst (λ m. Contains nodes m.node) (sym one.source.shown) shown) (subst (λ m. Contains nodes m.node) (sym one.source.blank) blank) in
@@ -64,7 +74,7 @@ pub screens_only : (live : Live) (screens : Screens) (telling : Telling) {before
     → ((nodes : List NodeState) → Contains nodes live.source.answers.shown.mirror.node → Contains nodes live.source.answers.blank.mirror.node
     → StillServing nodes (string_bytes live.contest) live.screens screens before after)
     → OnlyServes live (record live { screens = screens; telling = telling }) before after
-screens_only live screens telling serves = record { contest = refl; feeds = refl; source = same_none live.source; serves = serves }
+screens_only live screens telling serves = record { contest = refl; feeds = refl; source = same_none live.source; epoch = refl; serves = serves }
 
 module _ (limits : Limits) (log : Log) where
   -- its feed is its input

@@ -1,7 +1,10 @@
 -- Requests wait until a server was heard.
-use Rattle.std.specs.Prelude.{◌≡◌, ℕ, ◌+◌, ◌-◌, ◌^◌, min, Bool, true, false, nat_le, Option, Some, None}
+use Rattle.std.specs.Prelude.{◌≡◌, ℕ, ◌+◌, ◌-◌, ◌^◌, min, Bool, true, false, ◌&&◌, not, is_some, is_none, nat_le, Option, Some, None}
+use Rattle.feed_node.specs.States.{published_token}
 use Rattle.feed_live.specs.declared.conn.Conn.{Conn}
+use Rattle.feed_live.specs.declared.conn.Stage.{Stage}
 use Rattle.feed_live.specs.declared.conn.Stage.TheVariants.{Asks}
+use Rattle.feed_live.specs.declared.source.Source.{Source}
 use Rattle.feed_live.specs.declared.screens.Answers.{Answers}
 
 -- with what a request is answered, which is held or not: with what shows nothing, or with what the
@@ -24,6 +27,19 @@ abbrev pub Waits : Option Conn → Bool → ℕ → ℕ → Type 0
 Waits None held hold now = ⊥
 Waits (Some conn) held hold now =
     (conn.stage ≡ Asks) × (IsAnswering held hold conn.since now → ⊥)
+
+-- the connection is at this stage
+abbrev pub IsAt : Option Conn → Stage → Type 0
+IsAt None stage = ⊥
+IsAt (Some conn) stage = conn.stage ≡ stage
+
+-- nothing was shown yet, and what comes is to settle
+abbrev pub is_first_start : Source → Bool
+is_first_start source = is_some source.coming && is_none (published_token source.answers.shown.mirror.node)
+
+-- Requests may be answered: a server was heard, and what comes at a first start has settled.
+abbrev pub has_heard : Source → Bool
+has_heard source = source.is_heard && not (is_first_start source)
 
 -- what answers shows what it did
 pub record SameMirrors (old new : Answers) : Type 0 where

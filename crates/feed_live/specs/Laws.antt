@@ -1,5 +1,6 @@
 -- What the sockets of screens were written, and what mirrors make of that.
 use Rattle.std.specs.Prelude.{◌≡◌, ℕ, ◌≤◌, Bool, true, false, List, ◌++◌, length, Option, Some, Contains, string_bytes}
+use Rattle.std.specs.List.{AllByRecursion}
 use Rattle.slab.specs.Slab.{Slab}
 use Rattle.feed_settings.specs.Limits.{Limits}
 use Rattle.feed_note.specs.declared.line.Line.{Line}
@@ -22,26 +23,26 @@ use Rattle.feed_device.specs.Links.{Exchange, Exchanges}
 use Rattle.feed_live.specs.declared.conn.Conn.{Conn}
 use Rattle.feed_live.specs.declared.turn.Live.{Live}
 use Rattle.feed_live.specs.Relaying.{IsRelaying}
-use Rattle.feed_live.specs.Serving.{WasServed, IsFaithful, Serving}
+use Rattle.feed_live.specs.Serving.{WasServed, WasFaithful, Serving}
 use Rattle.feed_live.specs.States.{states_of}
 use Rattle.feed_live.specs.Taking.{IsTakingInput}
 use Rattle.feed_live.specs.Upstream.{Servers, IsRequestOf, IsHonest, AreKnownHonest, IsHonestInput}
-use Rattle.feed_device.specs.Sockets.{Opened, AllSockets}
+use Rattle.feed_device.specs.Sockets.{Socket, AllSockets, traffic_of}
 
--- what was written to any socket that is open is faithful
+-- what was written to each connection, also to one that is over, is faithful
 abbrev pub SocketsAreFaithful : Type 0
 SocketsAreFaithful =
     (nodes : List NodeState) (contest : List ℕ) (hub : Hub) (conns : Slab Conn)
-    (sockets : AllSockets) (at : ℕ) (bytes : List ℕ)
-    → Serving nodes contest hub conns sockets → sockets at ≡ Some (Opened bytes)
-    → IsFaithful nodes contest bytes
+    (sockets : AllSockets) (at : ℕ) (socket : Socket)
+    → Serving nodes contest hub conns sockets → sockets at ≡ Some socket
+    → AllByRecursion (WasFaithful nodes contest) (traffic_of socket)
 
 -- Where the nodes are at places of a log, and a mirror at a place of it asked with the head that was
 -- answered, any prefix of what a screen was handed leaves the mirror at a place of that log.
 abbrev pub HandedIsFollowed : Type 0
 HandedIsFollowed =
-    (limits : Limits) (log : Log) (nodes : List NodeState) (contest handed : List ℕ)
-    (begun : MirrorState) (was : WasServed nodes contest handed)
+    (limits : Limits) (log : Log) (nodes : List NodeState) (contest came handed : List ℕ)
+    (begun : MirrorState) (was : WasServed nodes contest came handed)
     → IsLog limits log → AreInLog log nodes
     → HasAskedSo limits log was.given.head contest begun
     → FollowsInLog limits log was.answer begun handed
@@ -49,15 +50,16 @@ HandedIsFollowed =
 -- ---- a relay that follows servers
 
 -- A relay whose servers were honest so far shows nothing or a state of the log at its token. What
--- was written to any socket that is open is faithful, for nodes that are at places of the log, within
--- the relay's own limits.
+-- was written to each connection of a screen, also to one that is over, is faithful, for nodes that are
+-- at places of the log, within the relay's own limits.
 pub record ShowsTheLog (limits : Limits) (log : Log) (live : Live) (sockets : AllSockets)
     : Type 0 where
   pub shown : IsInLog limits log live.source.answers.shown.mirror.node
   pub states : AreInLog log (states_of limits log)
   pub within : (node : NodeState) → Contains (states_of limits log) node → IsInLog limits log node
-  pub written : (at : ℕ) (bytes : List ℕ) → sockets at ≡ Some (Opened bytes)
-      → IsFaithful (states_of limits log) (string_bytes live.contest) bytes
+  pub written : (at : ℕ) (socket : Socket) → sockets at ≡ Some socket
+      → AllByRecursion (WasFaithful (states_of limits log) (string_bytes live.contest))
+      (traffic_of socket)
 
 abbrev pub RelaysShowTheLog : Type 0
 RelaysShowTheLog =

@@ -225,6 +225,7 @@ pub record OnlyServes (old new : Live) (before after : AllSockets) : Type 0 wher
   pub contest : new.contest ≡ old.contest
   pub feeds : new.feeds ≡ old.feeds
   pub source : SameSource old.source new.source
+  pub epoch : new.source.epoch ≡ old.source.epoch
   pub serves : (nodes : List NodeState) → Contains nodes old.source.answers.shown.mirror.node
       → Contains nodes old.source.answers.blank.mirror.node
       → StillServing nodes (string_bytes old.contest) old.screens new.screens before after

@@ -1,15 +1,19 @@
 -- THE PROMISE, up to each socket: what is written to it is what the hub was told at the key of its
 -- connection, and so a prefix of what is due to the answer that one of the nodes gave.
-use Rattle.std.specs.Prelude.{◌≡◌, ℕ, ◌<◌, ◌≤◌, List, [], take, Option, Some, None, Contains}
+use Rattle.std.specs.Prelude.{◌≡◌, ℕ, zero, suc, ◌<◌, ◌≤◌, List, [], ◌++◌, take, drop, Option, Some, None, Result, MatchResult, Contains, IfSome, IsSome, ◌⊎◌}
+use Rattle.std.specs.List.{AllByRecursion}
 use Rattle.slab.specs.Slab.{Slab, get}
 use Rattle.feed_settings.specs.declared.framing.Framing.{Framing}
-use Rattle.feed_node.specs.States.{NodeState}
+use Rattle.feed_node.specs.States.{NodeState, published_token}
 use Rattle.feed_answer.specs.Answered.{AnswerParts, AnswersTo}
 use Rattle.feed_hub.specs.declared.asking.Asking.{Asking}
 use Rattle.feed_hub.specs.declared.hub.Hub.{Hub}
 use Rattle.feed_hub.specs.declared.screen.Screen.{Screen}
 use Rattle.feed_hub.specs.declared.seats.Key.{Key}
-use Rattle.feed_hub.specs.declared.seats.Seat.TheVariants.{Asks}
+use Rattle.feed_hub.specs.declared.screen.Way.{Way}
+use Rattle.feed_hub.specs.declared.screen.Way.TheVariants.{CatchesUp, OnLog, Stops, Over}
+use Rattle.feed_hub.specs.declared.seats.Seat.{Seat}
+use Rattle.feed_hub.specs.declared.seats.Seat.TheVariants.{Asks, Watches}
 use Rattle.feed_hub.specs.Hub.{IsSeated, ChangesOnly}
 use Rattle.feed_hub.specs.Log.{Log}
 use Rattle.feed_hub.specs.Screen.{IsServed}
@@ -17,20 +21,26 @@ use Rattle.feed_hub.specs.Seats.{seat_at}
 use Rattle.feed_live.specs.declared.conn.Conn.{Conn}
 use Rattle.feed_live.specs.declared.screens.Screens.{Screens}
 use Rattle.feed_live.specs.declared.screens.TheConstants.{FULL}
-use Rattle.feed_device.specs.Sockets.{Socket, Closed, Opened, AllSockets, IsSocket}
+use Rattle.feed_live.specs.declared.screens.Hearing.{Hearing}
+use Rattle.feed_live.specs.declared.screens.Hearing.TheVariants.{Goes, TooMuch}
+use Rattle.feed_device.specs.Sockets.{Socket, Traffic, AllSockets, IsSocket, opened, closed, former_of, came_to, on_current, OtherSockets}
 
--- one of these nodes gave this answer to a request for the feed of the contest
-pub record IsGiven (nodes : List NodeState) (contest : List ℕ) (answer : AnswerParts) : Type 0 where
+-- one of these nodes gave this answer to the request for the feed of the contest with which what came
+-- over the connection begins
+pub record IsGiven (nodes : List NodeState) (contest came : List ℕ) (answer : AnswerParts)
+    : Type 0 where
   pub node : NodeState
   pub among : Contains nodes node
   pub head : List ℕ
+  pub behind : List ℕ
+  pub begins : came ≡ head ++ behind
   pub framing : Framing
   pub answers : AnswersTo head contest node framing 0 answer
 
 -- a screen with such an answer was handed these bytes, and nothing else
-pub record WasServed (nodes : List NodeState) (contest handed : List ℕ) : Type 0 where
+pub record WasServed (nodes : List NodeState) (contest came handed : List ℕ) : Type 0 where
   pub answer : AnswerParts
-  pub given : IsGiven nodes contest answer
+  pub given : IsGiven nodes contest came answer
   pub common : Framing
   pub lines : Log
   pub told : Option (List ℕ)
@@ -41,29 +51,40 @@ pub record WasServed (nodes : List NodeState) (contest handed : List ℕ) : Type
 unfoldable pub full_text : List ℕ
 full_text = FULL.now
 
--- All that is ever written to a socket: nothing; what a screen is handed; or a prefix of the text for
--- those who are too many.
-pub data IsFaithful (nodes : List NodeState) (contest : List ℕ) : List ℕ → Type 0 where
-  nothing : IsFaithful nodes contest []
-  refused : (count : ℕ) → IsFaithful nodes contest (take count full_text)
-  served : (handed : List ℕ) → WasServed nodes contest handed → IsFaithful nodes contest handed
+-- All that is ever written to a connection over which this came: nothing; what a screen is handed; or
+-- a prefix of the text for those who are too many.
+pub data IsFaithful (nodes : List NodeState) (contest came : List ℕ) : List ℕ → Type 0 where
+  nothing : IsFaithful nodes contest came []
+  refused : (count : ℕ) → IsFaithful nodes contest came (take count full_text)
+  served : (handed : List ℕ) → WasServed nodes contest came handed
+      → IsFaithful nodes contest came handed
 
--- so it is for a socket that is open
+-- so it was with what went over a connection
+abbrev pub WasFaithful : List NodeState → List ℕ → Traffic → Type 0
+WasFaithful nodes contest traffic = IsFaithful nodes contest traffic.came traffic.written
+
+-- so it was with each connection at a number that is over
+abbrev pub WereFaithful : List NodeState → List ℕ → Option Socket → Type 0
+WereFaithful nodes contest socket =
+    IfSome (former_of socket) (AllByRecursion (WasFaithful nodes contest))
+
+-- so it is for a connection that is open
 pub record IsSent (nodes : List NodeState) (contest : List ℕ) (socket : Option Socket)
     : Type 0 where
+  pub came : List ℕ
   pub bytes : List ℕ
-  pub socket_is : IsSocket socket (Opened bytes)
-  pub faithful : IsFaithful nodes contest bytes
+  pub socket_is : IsSocket socket (opened came bytes)
+  pub faithful : IsFaithful nodes contest came bytes
 
--- The socket of the connection with this key. Its request comes, and nothing was written; or it is
--- served, and what was written is what the hub was told of; or the hub cut it.
+-- The socket of the connection with this key. All that came is its request so far, and nothing was
+-- written; or it is served, and what was written is what the hub was told of; or the hub cut it.
 pub data Sits (nodes : List NodeState) (contest : List ℕ) (hub : Hub) (key : Key)
     (socket : Option Socket) : Type 0 where
   asks : (asking : Asking) → seat_at hub.seats.slab key ≡ Some (Asks asking)
-      → IsSocket socket (Opened []) → Sits nodes contest hub key socket
-  watches : (answer : AnswerParts) (handed : List ℕ) → IsGiven nodes contest answer
-      → IsSeated nodes hub key answer handed → IsSocket socket (Opened handed)
-      → Sits nodes contest hub key socket
+      → IsSocket socket (opened asking.head.items []) → Sits nodes contest hub key socket
+  watches : (came : List ℕ) (answer : AnswerParts) (handed : List ℕ)
+      → IsGiven nodes contest came answer → IsSeated nodes hub key answer handed
+      → IsSocket socket (opened came handed) → Sits nodes contest hub key socket
   cut : seat_at hub.seats.slab key ≡ None → IsSent nodes contest socket
       → Sits nodes contest hub key socket
 
@@ -79,14 +100,16 @@ key_at conns at = key_of (get conns at)
 -- a key is sent no more.
 abbrev pub Stands : List NodeState → List ℕ → Hub → Option (Option Key) → Option Socket
     → Type 0
-Stands nodes contest hub None socket = IsSocket socket Closed
+Stands nodes contest hub None socket = IsSocket socket closed
 Stands nodes contest hub (Some None) socket = IsSent nodes contest socket
 Stands nodes contest hub (Some (Some key)) socket = Sits nodes contest hub key socket
 
--- So it is at each number. No two have the same key, and a key that the hub gives next is nobody's.
+-- So it is at each number, and what was written to each connection that is over was faithful. No two
+-- have the same key, and a key that the hub gives next is nobody's.
 pub record Serving (nodes : List NodeState) (contest : List ℕ) (hub : Hub) (conns : Slab Conn)
     (sockets : AllSockets) : Type 0 where
   pub each : (at : ℕ) → Stands nodes contest hub (key_at conns at) (sockets at)
+  pub former : (at : ℕ) → WereFaithful nodes contest (sockets at)
   pub one : (at other : ℕ) (key : Key) → key_at conns at ≡ Some (Some key)
       → key_at conns other ≡ Some (Some key) → at ≡ other
   pub below : (at : ℕ) (key : Key) → key_at conns at ≡ Some (Some key)
@@ -98,6 +121,49 @@ abbrev pub StillServing : List NodeState → List ℕ → Screens → Screens �
 StillServing nodes contest old new before after =
     Serving nodes contest old.hub old.conns before
     → Serving nodes contest new.hub new.conns after
+
+-- these bytes more came over the connection at a number, and nothing else happened
+pub record Came (old new : AllSockets) (at : ℕ) (bytes : List ℕ) : Type 0 where
+  pub more : new at ≡ on_current (came_to bytes) (old at)
+  pub others : OtherSockets old new at
+
+-- so it is but for these bytes, which came, and were not heard yet
+pub record ServesBut (nodes : List NodeState) (contest : List ℕ) (hub : Hub) (conns : Slab Conn)
+    (sockets : AllSockets) (at : ℕ) (unheard : List ℕ) : Type 0 where
+  pub before : AllSockets
+  pub came : Came before sockets at unheard
+  pub serving : Serving nodes contest hub conns before
+
+-- it was so before these bytes came, and is so now
+abbrev pub StillServingWith : List NodeState → List ℕ → ℕ → List ℕ → Screens → Screens
+    → AllSockets → AllSockets → Type 0
+StillServingWith nodes contest at bytes old new before after =
+    ServesBut nodes contest old.hub old.conns before at bytes
+    → Serving nodes contest new.hub new.conns after
+
+-- so many of these bytes were heard, and the rest may be next; or all that are ever heard were
+abbrev pub HearsSo : List NodeState → List ℕ → Screens → AllSockets → ℕ → List ℕ → ℕ → Type 0
+HearsSo nodes contest new sockets at bytes zero = Serving nodes contest new.hub new.conns sockets
+HearsSo nodes contest new sockets at bytes (suc n) =
+    ServesBut nodes contest new.hub new.conns sockets at (drop (suc n) bytes)
+
+abbrev pub HearsSome : {E : Type 0} → List NodeState → List ℕ → Screens → AllSockets → ℕ → List ℕ
+    → Result ℕ E → Type 0
+HearsSome nodes contest new sockets at bytes result =
+    MatchResult result (HearsSo nodes contest new sockets at bytes)
+    (λ _. Serving nodes contest new.hub new.conns sockets)
+
+-- they were, or some were, and then there was no room
+abbrev pub HearsTo : List NodeState → List ℕ → Screens → AllSockets → ℕ → Hearing → Type 0
+HearsTo nodes contest new sockets at Goes = Serving nodes contest new.hub new.conns sockets
+HearsTo nodes contest new sockets at TooMuch =
+    (unheard : List ℕ) × ServesBut nodes contest new.hub new.conns sockets at unheard
+
+abbrev pub HearsAll : {E : Type 0} → List NodeState → List ℕ → Screens → AllSockets → ℕ
+    → Result Hearing E → Type 0
+HearsAll nodes contest new sockets at result =
+    MatchResult result (HearsTo nodes contest new sockets at)
+    (λ _. Serving nodes contest new.hub new.conns sockets)
 
 -- each number has the key that it had
 abbrev pub SameKeys : Slab Conn → Slab Conn → Type 0
@@ -129,3 +195,28 @@ pub record IsGreeted (nodes : List NodeState) (contest : List ℕ) (old new : Hu
   pub broadcast : new.broadcast ≡ old.broadcast
   pub others : (key : Key) → key.generation < old.seats.next
       → seat_at new.seats.slab key ≡ seat_at old.seats.slab key
+
+-- ---- what was said
+
+-- what was said to all is as far as what the node publishes, or the rest waits for a time
+abbrev pub SaysAll : Screens → NodeState → Type 0
+SaysAll screens node =
+    (screens.hub.broadcast.told ≡ published_token node) ⊎ IsSome screens.saying.waits
+
+-- ---- bodies that end
+
+-- a screen is sent what is pending and the end of its body, and no more
+abbrev pub HasEnd : Way → Type 0
+HasEnd (CatchesUp token) = ⊥
+HasEnd (OnLog at) = ⊥
+HasEnd (Stops token) = Unit {0}
+HasEnd Over = Unit {0}
+
+abbrev pub IsEnding : Option Seat → Type 0
+IsEnding None = Unit {0}
+IsEnding (Some (Asks asking)) = Unit {0}
+IsEnding (Some (Watches s)) = HasEnd s.way
+
+-- so it is with each of them
+abbrev pub AllEnd : Hub → Type 0
+AllEnd hub = (key : Key) → IsEnding (seat_at hub.seats.slab key)

@@ -1,10 +1,10 @@
 //! What the node has more is said to all screens.
 
-ghost use Rattle.std.specs.Prelude.{◌≡◌, ℕ, List, Contains, true};
-ghost use Rattle.feed_node.specs.States.{NodeState};
+ghost use Rattle.std.specs.Prelude.{◌≡◌, ℕ, List, Contains, IsTrue, true};
+ghost use Rattle.feed_node.specs.States.{NodeState, published_token};
 ghost use Rattle.feed_hub.specs.Seats.{KeepsThose, IsOnTime};
 ghost use Rattle.feed_device.specs.Sockets.{AllSockets};
-ghost use Rattle.feed_live.specs.Serving.{StillServing, SameSeating};
+ghost use Rattle.feed_live.specs.Serving.{StillServing, SameSeating, AllEnd, SaysAll};
 
 use crate::screens::{Counts, Screens};
 use crate::told::Telling;
@@ -121,7 +121,10 @@ impl Screens {
     }
 
     /// Whether what is said is as far as the node.
-    fn is_at(&self, node: &Node) -> bool {
+    fn is_at(&self, node: &Node) -> bool
+        ensures { IsTrue result
+            → self.now.hub.broadcast.told ≡ published_token node.now.shown }
+    {
         match (self.hub.broadcast().told(), node.token()) {
             (Some(told), Some(token)) => told.text() == token.text(),
             (None, None) => true,
@@ -135,6 +138,7 @@ impl Screens {
     fn trim(&mut self)
         ensures serving { (nodes : List NodeState) (contest : List ℕ) (sockets : AllSockets)
             → StillServing nodes contest self.old self.new sockets sockets }
+        ensures ended { AllEnd self.old.hub → AllEnd self.new.hub }
         ensures once { self.old.saying.is_trimmed ≡ true → self.new ≡ self.old }
     {
         if !self.saying.is_trimmed {
@@ -148,18 +152,41 @@ impl Screens {
         ensures serving { (nodes : List NodeState) (contest : List ℕ) (sockets : AllSockets)
             → Contains nodes node.now.shown
             → StillServing nodes contest self.old self.new sockets sockets }
+        ensures ended { AllEnd self.old.hub → AllEnd self.new.hub }
+        ensures says { SaysAll self.new node.now.shown }
     {
         if self.is_at(node) {
             self.saying.waits = None;
             return false;
         }
         self.trim();
+        self.say_all(alloc, node, now);
+        self.wait_for_rest(node, now);
+        true
+    }
+
+    /// Says one commit after another, as many as can be said now.
+    fn say_all(&mut self, alloc: Global, node: &Node, now: u64)
+        ensures serving { (nodes : List NodeState) (contest : List ℕ) (sockets : AllSockets)
+            → Contains nodes node.now.shown
+            → StillServing nodes contest self.old self.new sockets sockets }
+        ensures ended { AllEnd self.old.hub → AllEnd self.new.hub }
+    {
         for _ in 0..node.kept().saturating_add(2) {
             if !self.say_one(alloc, node, now) {
-                break;
+                return;
             }
         }
-        true
+    }
+
+    /// What isn't said yet is said in the next turn, unless it waits for longer.
+    fn wait_for_rest(&mut self, node: &Node, now: u64)
+        ensures same { SameSeating self.old self.new }
+        ensures says { SaysAll self.new node.now.shown }
+    {
+        if self.saying.waits.is_none() && !self.is_at(node) {
+            self.saying.waits = Some(now);
+        }
     }
 
     /// Says the next commit. Whether there may be more that can be said now.
@@ -167,6 +194,7 @@ impl Screens {
         ensures serving { (nodes : List NodeState) (contest : List ℕ) (sockets : AllSockets)
             → Contains nodes node.now.shown
             → StillServing nodes contest self.old self.new sockets sockets }
+        ensures ended { AllEnd self.old.hub → AllEnd self.new.hub }
     {
         self.saying.waits = None;
         self.saying.is_short = false;
@@ -203,6 +231,7 @@ impl Screens {
     pub(crate) fn end_feeds(&mut self, alloc: Global, now: u64)
         ensures serving { (nodes : List NodeState) (contest : List ℕ) (sockets : AllSockets)
             → StillServing nodes contest self.old self.new sockets sockets }
+        ensures ended { AllEnd self.new.hub }
     {
         let (was_said, bodies) = (self.has_said(), self.following());
         // Who there was no memory for is cut.

@@ -1,10 +1,12 @@
 //! The screens: each has a socket, a connection at the same place, and a seat in the hub.
 
-ghost use Rattle.std.specs.Prelude.{◌≡◌, ◌+◌, [], ℕ, List, None, Some, Contains, min, false, IfSome};
+ghost use Rattle.std.specs.Prelude.{◌≡◌, ◌≤◌, ◌+◌, ◌-◌, [], ℕ, List, None, Some, Contains, length, min, false, IfOk, IfSome};
 ghost use Rattle.slab.specs.Slab.{get};
 ghost use Rattle.feed_node.specs.States.{NodeState};
-ghost use Rattle.feed_device.specs.Sockets.{Closed, Opened, AllSockets, IsSocket, OtherSockets};
-ghost use Rattle.feed_live.specs.Serving.{Serving, StillServing, SameSeating, Leaves, IsSent, key_at, IsGreeted};
+ghost use Rattle.feed_hub.specs.Seats.{seat_at, IsAskingSeat};
+ghost use Rattle.feed_device.specs.Sockets.{AllSockets, IsSocket, IsUnused, closed};
+ghost use Rattle.feed_live.specs.Serving.{Serving, StillServing, StillServingWith, SameSeating, SameKeys};
+ghost use Rattle.feed_live.specs.Serving.{Leaves, ServesBut, HearsSome, HearsAll, key_at};
 ghost use Rattle.feed_live.specs.Held.{answerer, is_over, SameMirrors, Waits};
 
 mod coming;
@@ -128,7 +130,7 @@ pub(crate) struct Screens {
 impl Screens {
     pub(crate) fn new(alloc: Global, limits: LiveLimits) -> Screens
         ensures serving { (nodes : List NodeState) (contest : List ℕ) (sockets : AllSockets)
-            → ((at : ℕ) → IsSocket (sockets at) Closed)
+            → ((at : ℕ) → IsUnused (sockets at))
             → Serving nodes contest result.hub result.conns sockets }
         ensures most { result.hub.most ≡ limits.screens }
     {
@@ -163,7 +165,7 @@ impl Screens {
             (S.socket sockets.old) (S.socket sockets.new) }
         // its number is free then, and its socket closed
         ensures free { key_at self.new.conns at ≡ None }
-        ensures closed { IsSocket (S.socket sockets.new at) Closed }
+        ensures closed { IsSocket (S.socket sockets.new at) closed }
     {
         sockets.close(at);
         self.pay(at);
@@ -275,6 +277,9 @@ impl Screens {
             → Contains nodes answers.old.blank.mirror.node
             → StillServing nodes shown.now.contest.now self.old self.new
             (S.socket sockets.old) (S.socket sockets.new) }
+        // nothing is read of a request that waits, and nothing is written
+        ensures waits { Waits (get self.old.conns at) shown.now.is_held shown.now.hold now
+            → sockets.new ≡ sockets.old }
         ensures mirrors { SameMirrors answers.old answers.new }
     {
         self.read(alloc, sockets, told, answers, shown, at, now);
@@ -314,7 +319,9 @@ impl Screens {
     }
 
     /// Whether a shared text is kept for some connection.
-    fn is_kept(&self, text: Option<u64>) -> bool {
+    fn is_kept(&self, text: Option<u64>) -> bool
+        ensures { text ≡ None → result ≡ false }
+    {
         if text.is_none() {
             return false;
         }
@@ -328,7 +335,9 @@ impl Screens {
 
     /// Nothing is kept for it any more.
     fn pay(&mut self, at: usize)
-        ensures { SameSeating self.old self.new }
+        ensures same { SameSeating self.old self.new }
+        ensures owed { IfSome (get self.old.conns at)
+            (λ conn. conn.text ≡ None → self.new.owed ≡ self.old.owed - conn.owes) }
     {
         let Some(conn) = self.conns.get_mut(at) else {
             return;
@@ -440,7 +449,7 @@ impl Screens {
         ensures serving { (nodes : List NodeState)
             → Contains nodes (answerer shown.now.is_held answers.old.shown.mirror.node
             answers.old.blank.mirror.node)
-            → StillServing nodes shown.now.contest.now self.old self.new
+            → StillServingWith nodes shown.now.contest.now at piece.now self.old self.new
             (S.socket sockets.old) (S.socket sockets.new) }
         ensures mirrors { SameMirrors answers.old answers.new }
     {
@@ -472,7 +481,9 @@ impl Screens {
         ensures serving { (nodes : List NodeState) (sockets : AllSockets)
             → Contains nodes (answerer shown.now.is_held answers.old.shown.mirror.node
             answers.old.blank.mirror.node)
-            → StillServing nodes shown.now.contest.now self.old self.new sockets sockets }
+            → key_at self.old.conns at ≡ Some (Some key)
+            → ServesBut nodes shown.now.contest.now self.old.hub self.old.conns sockets at piece.now
+            → HearsAll nodes shown.now.contest.now self.new sockets at result }
         ensures mirrors { SameMirrors answers.old answers.new }
     {
         let contest = shown.contest;
@@ -484,13 +495,18 @@ impl Screens {
 
     /// The key of the connection at a place whose request comes.
     pub(crate) fn asking(&self, at: usize) -> Option<Key>
-        ensures { IfSome result (λ key. key_at self.now.conns at ≡ Some (Some key)) }
+        ensures some { IfSome result (λ key. (key_at self.now.conns at ≡ Some (Some key))
+            × IsAskingSeat (seat_at self.now.hub.seats.slab key)) }
+        ensures none { result ≡ None → (key : Key) → key_at self.now.conns at ≡ Some (Some key)
+            → ¬ (IsAskingSeat (seat_at self.now.hub.seats.slab key)) }
     {
         let conn = self.conns.get(at)?;
-        if conn.stage != Stage::Asks {
-            return None;
+        let key = conn.key?;
+        if self.hub.is_asking(key) {
+            Some(key)
+        } else {
+            None
         }
-        conn.key
     }
 
     /// So many bytes that came are forgotten. Whether the connection is to be closed.
@@ -516,17 +532,19 @@ impl Screens {
     ) -> Result<Hearing, AllocError>
         ensures serving { (nodes : List NodeState) (sockets : AllSockets)
             → Contains nodes answering.old.mirror.node
-            → StillServing nodes contest.now self.old self.new sockets sockets }
+            → key_at self.old.conns at ≡ Some (Some key)
+            → ServesBut nodes contest.now self.old.hub self.old.conns sockets at piece.now
+            → HearsAll nodes contest.now self.new sockets at result }
         ensures mirror { answering.new.mirror ≡ answering.old.mirror }
     {
         let mut rest = piece;
-        for _ in 0..piece.len() {
+        'parts: while !rest.is_empty() {
             if self.has_no_room(alloc, answering, contest, key, rest) {
                 return Ok(Hearing::TooMuch);
             }
             match self.hear_once(alloc, answering, contest, key, at, rest, now)? {
                 0 => return Ok(Hearing::Goes),
-                taken => rest = rest.get(taken..).unwrap_or(&[]),
+                taken => rest = &rest[taken..],
             }
         }
         Ok(Hearing::Goes)
@@ -558,7 +576,11 @@ impl Screens {
     ) -> Result<usize, AllocError>
         ensures serving { (nodes : List NodeState) (sockets : AllSockets)
             → Contains nodes answering.old.mirror.node
-            → StillServing nodes contest.now self.old self.new sockets sockets }
+            → key_at self.old.conns at ≡ Some (Some key)
+            → ServesBut nodes contest.now self.old.hub self.old.conns sockets at piece.now
+            → HearsSome nodes contest.now self.new sockets at piece.now result }
+        ensures bound { IfOk result (λ taken. taken ≤ length piece.now) }
+        ensures keys { SameKeys self.old.conns self.new.conns }
         ensures mirror { answering.new.mirror ≡ answering.old.mirror }
     {
         let heard = self.hub.hear(alloc, answering, contest, key, piece, now)?;

@@ -87,6 +87,7 @@ impl Source {
     ghost use Rattle.feed_live.specs.Relaying.{StillFollows, SameSource, IsLeft, servers_of};
     ghost use Rattle.feed_live.specs.Upstream.{IsRequestOf};
     ghost use Rattle.feed_live.specs.declared.source.Reach.TheVariants.{Away, Asks as Asked};
+    ghost use Rattle.feed_live.specs.Held.{has_heard};
     ghost use Rattle.feed_live.specs.declared.screens.Screens.{Screens};
 
     pub(crate) fn new(
@@ -146,19 +147,24 @@ impl Source {
 
     /// Forgets the text of the snapshot, where no screen has any of it.
     pub(crate) fn tidy(&mut self)
-        ensures { SameSource self.old self.new }
+        ensures same { SameSource self.old self.new }
+        ensures epoch { self.new.epoch ≡ self.old.epoch }
     {
         self.answers.shown.tidy();
     }
 
     /// Whether requests may be answered: a server was heard, and what comes at a first start has
     /// settled.
-    pub(crate) fn is_heard(&self) -> bool {
+    pub(crate) fn is_heard(&self) -> bool
+        ensures { result ≡ has_heard self.now }
+    {
         self.is_heard && !self.is_first()
     }
 
     /// How often the feed was published afresh.
-    pub(crate) fn epoch(&self) -> u64 {
+    pub(crate) fn epoch(&self) -> u64
+        ensures { result ≡ self.now.epoch }
+    {
         self.epoch
     }
 
@@ -177,7 +183,8 @@ impl Source {
 
     /// An event came for the connection.
     pub(crate) fn wake(&mut self)
-        ensures { SameSource self.old self.new }
+        ensures same { SameSource self.old self.new }
+        ensures epoch { self.new.epoch ≡ self.old.epoch }
     {
         self.has_more = self.reach != Reach::Away;
     }

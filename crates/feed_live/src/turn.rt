@@ -1,16 +1,18 @@
 //! The turn.
 
-ghost use Rattle.std.specs.Prelude.{◌≡◌, ◌≢◌, ◌≤◌, [], ℕ, false, true};
+ghost use Rattle.std.specs.Prelude.{◌≡◌, ◌≢◌, ◌≤◌, ◌+◌, ◌-◌, ◌^◌, [], List, ℕ, min, Some, Contains, IfSome, false, true};
 ghost use Rattle.feed_settings.specs.Limits.{Limits};
 ghost use Rattle.feed_node.specs.States.{NodeState};
 ghost use Rattle.feed_world.specs.Log.{Log};
 ghost use Rattle.feed_hub.specs.Laws.{IsInLog};
 ghost use Rattle.feed_device.specs.Links.{Exchanges};
-ghost use Rattle.feed_device.specs.Sockets.{AllSockets, Closed, IsSocket};
+ghost use Rattle.feed_device.specs.Sockets.{AllSockets, IsUnused};
 ghost use Rattle.feed_live.specs.Upstream.{Servers};
+ghost use Rattle.feed_device.specs.Files.{IsKnown};
+ghost use Rattle.feed_live.specs.Saved.{GoesOn, KeepsFiles};
 
 use crate::options::{LiveLimits, Start};
-use crate::saved::{Restored, Saved};
+use crate::saved::{Good, Restored, Saved};
 use crate::screens::{Screens, Shown};
 use crate::source::Source;
 use crate::told::Telling;
@@ -70,6 +72,9 @@ pub struct Live {
 impl Live {
     ghost use Rattle.feed_live.specs.Relaying.{IsRelaying, StillRelaying, OnlyServes};
     ghost use Rattle.feed_live.specs.Taking.{IsTakingInput, StillTaking, bytes_in};
+    ghost use Rattle.feed_live.specs.Saved.{SameSaved};
+    ghost use Rattle.feed_live.specs.Held.{Waits, has_heard};
+    ghost use Rattle.slab.specs.Slab.{get};
 
     /// A relay that starts from what the state files had.
     pub fn new<D: Store>(
@@ -87,15 +92,20 @@ impl Live {
             → start.places.items ≢ []
             → start.restored.mirror.limits ≡ limits
             → IsInLog limits log start.restored.mirror.node → IsInLog limits log start.blank.node
-            → ((at : ℕ) → IsSocket (sockets at) Closed)
+            → ((at : ℕ) → IsUnused (sockets at))
             → IsRelaying limits log servers exchanges result sockets }
 
         // where its feed is the input, and the state files had a state of the log, or nothing
         ensures taking { (limits : Limits) (log : Log) (sockets : AllSockets)
             → start.places.items ≡ [] → start.restored.mirror.limits ≡ limits
             → IsInLog limits log start.restored.mirror.node → IsInLog limits log start.blank.node
-            → ((at : ℕ) → IsSocket (sockets at) Closed)
+            → ((at : ℕ) → IsUnused (sockets at))
             → IsTakingInput limits log start.restored.mirror [] result sockets }
+        // what the state files have, where the good bytes of what was restored are a record's
+        ensures kept { (nodes : List NodeState) (text : List ℕ)
+            → D.written store.old ≡ Some text → IsKnown (D.written_next store.old)
+            → IfSome start.restored.file (GoesOn nodes text start.restored.mirror.node)
+            → KeepsFiles nodes (D.written store.new) (D.written_next store.new) result.saved }
         ensures contest { result.contest ≡ contest }
     {
         let Start {
@@ -105,11 +115,7 @@ impl Live {
             blank,
         } = start;
         let Restored { mirror, file } = restored;
-        let saved = if limits.has_store {
-            Some(Saved::new(store, mirror.node(), file))
-        } else {
-            None
-        };
+        let saved = saved_of(store, mirror.node(), file, limits.has_store);
         let feeds = are_none(&places);
         let mut source = Source::new(alloc, places, identity, mirror, blank, limits, now);
         source.begin_input(feeds, now);
@@ -172,8 +178,26 @@ impl Live {
         ensures taking { StillTaking self.old self.new (bytes_in input.entry)
             (S.socket devices.old.sockets) (S.socket devices.new.sockets) }
 
+        // the state files have what a record wrote of nodes that were shown, one after another
+        ensures kept { (nodes : List NodeState)
+            → Contains nodes self.new.source.answers.shown.mirror.node
+            → KeepsFiles nodes (D.written devices.old.store) (D.written_next devices.old.store)
+            self.old.saved
+            → KeepsFiles nodes (D.written devices.new.store) (D.written_next devices.new.store)
+            self.new.saved }
+
+        // where the feed was published afresh, they have nothing of what was shown before
+        ensures anew { self.new.source.epoch ≢ self.old.epoch → (nodes : List NodeState)
+            → Contains nodes self.new.source.answers.shown.mirror.node
+            → IsKnown (D.written_next devices.old.store)
+            → KeepsFiles nodes (D.written devices.new.store) (D.written_next devices.new.store)
+            self.new.saved }
+
         // where some screen has more to read or to write, the next turn is due at once
         ensures wakes { self.new.screens.has_more ≡ true → result.due ≤ now }
+
+        // a minute after the number of screens was told last, at the latest
+        ensures awake { result.due ≤ min (self.new.reported + 60000) (2 ^ 64 - 1) }
     {
         let had_more = self.screens.begin_turn();
         self.note(events);
@@ -194,6 +218,7 @@ impl Live {
     /// Marks what became ready.
     fn note(&mut self, events: &[Ready])
         ensures serves { (sockets : AllSockets) → OnlyServes self.old self.new sockets sockets }
+        ensures saved { SameSaved self.old self.new }
     {
         for event in events {
             self.note_one(*event);
@@ -203,6 +228,7 @@ impl Live {
     /// Marks one of them.
     fn note_one(&mut self, event: Ready)
         ensures serves { (sockets : AllSockets) → OnlyServes self.old self.new sockets sockets }
+        ensures saved { SameSaved self.old self.new }
     {
         match event {
             Ready::Listener => self.screens.is_waited_for = true,
@@ -218,6 +244,7 @@ impl Live {
     /// Says what had to wait.
     fn say_more(&mut self, alloc: Global, now: u64)
         ensures serves { (sockets : AllSockets) → OnlyServes self.old self.new sockets sockets }
+        ensures saved { SameSaved self.old self.new }
     {
         if self.screens.says_now(now) {
             self.source.say_more(alloc, &mut self.screens, now);
@@ -230,6 +257,7 @@ impl Live {
             → StillRelaying self.old self.new exchanges exchanges sockets sockets }
         ensures taking { (sockets : AllSockets) → StillTaking self.old self.new
             (bytes_in input.entry) sockets sockets }
+        ensures saved { SameSaved self.old self.new }
     {
         match input {
             Input::Nothing => self.feed(alloc, &[], now),
@@ -244,6 +272,7 @@ impl Live {
             → StillRelaying self.old self.new exchanges exchanges sockets sockets }
         ensures taking { (sockets : AllSockets) → StillTaking self.old self.new piece.now
             sockets sockets }
+        ensures saved { SameSaved self.old self.new }
     {
         if self.feeds {
             self.feeds = self
@@ -258,6 +287,7 @@ impl Live {
             → StillRelaying self.old self.new exchanges exchanges sockets sockets }
         ensures taking { (sockets : AllSockets) → StillTaking self.old self.new []
             sockets sockets }
+        ensures saved { SameSaved self.old self.new }
     {
         if self.feeds {
             self.telling.tell(Told::EndOfInput);
@@ -276,6 +306,7 @@ impl Live {
             (L.exchanges link.old) (L.exchanges link.new) sockets sockets }
         // where there is no server
         ensures nothing { self.old.source.places.items ≡ [] → self.new ≡ self.old }
+        ensures saved { SameSaved self.old self.new }
     {
         if self.ends_at.is_some() || !self.source.has_servers() {
             return;
@@ -294,6 +325,7 @@ impl Live {
     fn go_on<L: Link>(&mut self, alloc: Global, link: &mut L, now: u64)
         ensures relaying { (sockets : AllSockets) → StillRelaying self.old self.new
             (L.exchanges link.old) (L.exchanges link.new) sockets sockets }
+        ensures saved { SameSaved self.old self.new }
     {
         if self.source.has_more() && self.screens.says_at().is_none() {
             self.source
@@ -305,6 +337,7 @@ impl Live {
     fn settle<L: Link>(&mut self, alloc: Global, link: &mut L, now: u64)
         ensures relaying { (sockets : AllSockets) → StillRelaying self.old self.new
             (L.exchanges link.old) (L.exchanges link.new) sockets sockets }
+        ensures saved { SameSaved self.old self.new }
     {
         self.source
             .settle_due(alloc, link, &mut self.telling, &mut self.screens, now);
@@ -313,15 +346,22 @@ impl Live {
     /// Writes a slice of the state file.
     fn save<D: Store>(&mut self, alloc: Global, store: &mut D, now: u64)
         ensures serves { (sockets : AllSockets) → OnlyServes self.old self.new sockets sockets }
+        ensures kept { (nodes : List NodeState)
+            → Contains nodes self.old.source.answers.shown.mirror.node
+            → KeepsFiles nodes (D.written store.old) (D.written_next store.old) self.old.saved
+            → KeepsFiles nodes (D.written store.new) (D.written_next store.new) self.new.saved }
+        // where the feed was published afresh, they have nothing of what was shown before
+        ensures anew { self.old.source.epoch ≢ self.old.epoch → (nodes : List NodeState)
+            → Contains nodes self.old.source.answers.shown.mirror.node
+            → IsKnown (D.written_next store.old)
+            → KeepsFiles nodes (D.written store.new) (D.written_next store.new) self.new.saved }
     {
         let Some(saved) = &mut self.saved else {
             return;
         };
         let epoch = self.source.epoch();
-        if epoch != self.epoch {
-            self.epoch = epoch;
-            saved.begin_again();
-        }
+        saved.begin_where(epoch != self.epoch);
+        self.epoch = epoch;
         saved.save(alloc, store, &mut self.telling, self.source.node(), now);
     }
 
@@ -329,6 +369,7 @@ impl Live {
     fn tick<S: Sockets>(&mut self, alloc: Global, sockets: &mut S, now: u64)
         ensures serves { OnlyServes self.old self.new (S.socket sockets.old)
             (S.socket sockets.new) }
+        ensures saved { SameSaved self.old self.new }
     {
         if self.screens.conns.is_empty() {
             self.source.tidy();
@@ -351,6 +392,7 @@ impl Live {
     /// Requests wait: those that waited for long enough are looked at again.
     fn hold(&mut self, now: u64)
         ensures serves { (sockets : AllSockets) → OnlyServes self.old self.new sockets sockets }
+        ensures saved { SameSaved self.old self.new }
     {
         self.screens.has_more = true;
         if now >= self.limits.hold && !self.is_hold_told {
@@ -370,6 +412,7 @@ impl Live {
     )
         ensures serves { OnlyServes self.old self.new (S.socket sockets.old)
             (S.socket sockets.new) }
+        ensures saved { SameSaved self.old self.new }
     {
         self.serve_more(alloc, sockets, had_more, now);
         for event in events {
@@ -383,6 +426,7 @@ impl Live {
     fn serve_more<S: Sockets>(&mut self, alloc: Global, sockets: &mut S, had_more: bool, now: u64)
         ensures serves { OnlyServes self.old self.new (S.socket sockets.old)
             (S.socket sockets.new) }
+        ensures saved { SameSaved self.old self.new }
     {
         if !had_more {
             return;
@@ -399,8 +443,13 @@ impl Live {
 
     /// Reads from and writes to the one at a place.
     fn serve_one<S: Sockets>(&mut self, alloc: Global, sockets: &mut S, at: usize, now: u64)
+        // until a server was heard, or for so long, a request waits
+        ensures waits { has_heard self.old.source ≡ false
+            → Waits (get self.old.screens.conns at) true self.old.limits.hold now
+            → sockets.new ≡ sockets.old }
         ensures serves { OnlyServes self.old self.new (S.socket sockets.old)
             (S.socket sockets.new) }
+        ensures saved { SameSaved self.old self.new }
     {
         let shown = Shown {
             is_held: !self.source.is_heard(),
@@ -414,6 +463,7 @@ impl Live {
     /// Tells how many screens there are, where that has changed.
     fn report(&mut self, now: u64)
         ensures serves { (sockets : AllSockets) → OnlyServes self.old self.new sockets sockets }
+        ensures saved { SameSaved self.old self.new }
     {
         if now.saturating_sub(self.reported) < REPORT {
             return;
@@ -427,7 +477,9 @@ impl Live {
     /// What comes next.
     fn next(&mut self, now: u64) -> Turn
         ensures wakes { self.new.screens.has_more ≡ true → result.due ≤ now }
+        ensures awake { result.due ≤ min (self.new.reported + 60000) (2 ^ 64 - 1) }
         ensures serves { (sockets : AllSockets) → OnlyServes self.old self.new sockets sockets }
+        ensures saved { SameSaved self.old self.new }
     {
         self.report(now);
         Turn {
@@ -458,7 +510,8 @@ impl Live {
 
     /// When the next turn is due at the latest.
     fn due(&self, now: u64) -> u64
-        ensures { self.now.screens.has_more ≡ true → result ≤ now }
+        ensures wakes { self.now.screens.has_more ≡ true → result ≤ now }
+        ensures awake { result ≤ min (self.now.reported + 60000) (2 ^ 64 - 1) }
     {
         let mut due = self.reported.saturating_add(REPORT);
         if !self.screens.conns.is_empty() {
@@ -476,10 +529,28 @@ impl Live {
         if self.source.has_servers() {
             due = due.min(self.source.due(self.limits.idle));
             if self.source.has_more() && self.screens.says_at().is_none() {
-                due = now;
+                due = due.min(now);
             }
         }
         due
+    }
+}
+
+/// The state files, where there are some: they go on with what was restored, where that can be.
+fn saved_of<D: Store>(
+    store: &mut D,
+    node: &Node,
+    file: Option<Good>,
+    has_store: bool,
+) -> Option<Saved>
+    ensures kept { (nodes : List NodeState) (text : List ℕ) → D.written store.old ≡ Some text
+        → IsKnown (D.written_next store.old) → IfSome file (GoesOn nodes text node.now.shown)
+        → KeepsFiles nodes (D.written store.new) (D.written_next store.new) result }
+{
+    if has_store {
+        Some(Saved::new(store, node, file))
+    } else {
+        None
     }
 }
 

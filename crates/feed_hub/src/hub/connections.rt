@@ -84,14 +84,16 @@ fn hear_more(
     ensures heard { (b : Broadcast) → b.framing ≡ framing → IfOk result (λ heard. HearsOf b
         contest.now answering.old.mirror.node now asking
         (asking.head.items ++ take heard.1.taken piece.now) heard.1.status heard.0) }
+    ensures moves { IfOk result (λ heard. IsAskingSeat (Some heard.0) → heard.1.taken ≡ 0
+        → piece.now ≡ []) }
     ensures shared { IfOk result (λ heard.
         IsKept answering.new.opening heard.1.is_shared (Some heard.0)) }
     ensures mirror { answering.new.mirror ≡ answering.old.mirror }
     ensures framing { answering.new.framing ≡ answering.old.framing }
 {
     let mut asking = asking;
-    let taken = asking.hear(piece)?;
-    if !asking.is_enough() {
+    let (taken, is_enough) = asking.hear(piece)?;
+    if !is_enough {
         let heard = Heard {
             taken,
             status: None,
@@ -156,6 +158,9 @@ impl Hub {
             → IfOk result (λ heard. IsAnsweredBy answering.old.mirror.node contest.now
             self.old.broadcast.framing (asking.head.items ++ take heard.taken piece.now)
             (λ answer. IsSeated nodes self.new key answer [])) }
+        // while a request comes, some of the bytes are taken, where there are some
+        ensures moves { IfOk result (λ heard. IsAskingSeat (seat_at self.new.seats.slab key)
+            → heard.taken ≡ 0 → piece.now ≡ []) }
         ensures shared { IfOk result (λ heard. IsKept answering.new.opening heard.is_shared
             (seat_at self.new.seats.slab key)) }
         ensures mirror { answering.new.mirror ≡ answering.old.mirror }

@@ -1,9 +1,10 @@
 //! Who comes: each gets a seat, or is refused.
 
-ghost use Rattle.std.specs.Prelude.{◌≡◌, [], ℕ, List};
+ghost use Rattle.std.specs.Prelude.{◌≡◌, [], ℕ, List, None, Some, IsTrue};
 ghost use Rattle.feed_node.specs.States.{NodeState};
-ghost use Rattle.feed_device.specs.Sockets.{AllSockets, Opened, IsSocket, OtherSockets};
-ghost use Rattle.feed_live.specs.Serving.{StillServing, SameSeating, IsSent, IsGreeted};
+ghost use Rattle.feed_device.specs.Sockets.{AllSockets, opened, former_of, IsSocket, OtherSockets};
+ghost use Rattle.feed_live.specs.Serving.{StillServing, StillServingWith, SameSeating, IsSent};
+ghost use Rattle.feed_live.specs.Serving.{IsGreeted, key_at};
 
 use crate::conn::{Conn, Stage};
 use crate::screens::{FULL, PIECE, Screens};
@@ -165,9 +166,10 @@ impl Screens {
         now: u64,
     ) -> Conn
         ensures greeted { (nodes : List NodeState) (contest : List ℕ)
-            → IsSocket (S.socket sockets.old at) (Opened [])
+            → IsSocket (S.socket sockets.old at) (opened [] [])
             → IsGreeted nodes contest self.old.hub self.new.hub result.key
             (S.socket sockets.new at) }
+        ensures former { former_of (S.socket sockets.new at) ≡ former_of (S.socket sockets.old at) }
         ensures conns { self.new.conns ≡ self.old.conns }
         ensures others { OtherSockets (S.socket sockets.old) (S.socket sockets.new) at }
     {
@@ -186,9 +188,10 @@ impl Screens {
 
     /// One more than there may be is told so.
     fn refuse<S: Sockets>(&mut self, sockets: &mut S, told: &mut Telling, at: usize)
-        ensures sent { (nodes : List NodeState) (contest : List ℕ)
-            → IsSocket (S.socket sockets.old at) (Opened [])
+        ensures sent { (nodes : List NodeState) (contest came : List ℕ)
+            → IsSocket (S.socket sockets.old at) (opened came [])
             → IsSent nodes contest (S.socket sockets.new at) }
+        ensures former { former_of (S.socket sockets.new at) ≡ former_of (S.socket sockets.old at) }
         ensures others { OtherSockets (S.socket sockets.old) (S.socket sockets.new) at }
         ensures hub { self.new.hub ≡ self.old.hub }
         ensures conns { self.new.conns ≡ self.old.conns }
@@ -211,8 +214,8 @@ impl Screens {
         at: usize,
         now: u64,
     )
-        ensures serving { (nodes : List NodeState) (contest : List ℕ)
-            → StillServing nodes contest self.old self.new
+        ensures serving { (nodes : List NodeState) (contest unheard : List ℕ)
+            → StillServingWith nodes contest at unheard self.old self.new
             (S.socket sockets.old) (S.socket sockets.new) }
     {
         self.refuse_at(sockets, told, at, now);
@@ -221,16 +224,13 @@ impl Screens {
 
     /// The connection at a place, whose request comes, is told that there are too many.
     fn refuse_at<S: Sockets>(&mut self, sockets: &mut S, told: &mut Telling, at: usize, now: u64)
-        ensures serving { (nodes : List NodeState) (contest : List ℕ)
-            → StillServing nodes contest self.old self.new
+        ensures serving { (nodes : List NodeState) (contest unheard : List ℕ)
+            → StillServingWith nodes contest at unheard self.old self.new
             (S.socket sockets.old) (S.socket sockets.new) }
     {
         let Some(key) = self.asking(at) else {
             return;
         };
-        if !self.hub.is_asking(key) {
-            return;
-        }
         self.hub.leave(key);
         self.refuse(sockets, told, at);
         self.linger(at, now);
@@ -267,9 +267,11 @@ impl Screens {
     }
 
     /// Whether nothing more is sent to the connection at a place.
-    fn lingers(&self, at: usize) -> bool {
+    fn lingers(&self, at: usize) -> bool
+        ensures { IsTrue result → key_at self.now.conns at ≡ Some None }
+    {
         match self.conns.get(at) {
-            Some(conn) => matches!(conn.stage, Stage::Lingers { .. }),
+            Some(conn) => conn.key.is_none() && matches!(conn.stage, Stage::Lingers { .. }),
             None => false,
         }
     }

@@ -1,8 +1,11 @@
 //! What screens are sent: each writes once when it has its turn.
 
-ghost use Rattle.std.specs.Prelude.{◌≡◌, ◌≢◌, ℕ, List, Some, Contains, IsTrue, IfSome};
+ghost use Rattle.std.specs.Prelude.{◌≡◌, ◌≢◌, ℕ, List, None, Some, Contains, IsTrue, IfSome};
 ghost use Rattle.feed_node.specs.States.{NodeState};
 ghost use Rattle.feed_device.specs.Sockets.{AllSockets};
+ghost use Rattle.slab.specs.Slab.{get};
+ghost use Rattle.feed_live.specs.declared.conn.Stage.TheVariants.{Asks};
+ghost use Rattle.feed_live.specs.Held.{IsAt};
 ghost use Rattle.feed_live.specs.Serving.{StillServing, SameSeating, key_at, keyless};
 
 use crate::conn::Stage;
@@ -23,6 +26,7 @@ impl Screens {
     fn writable(&mut self, at: usize) -> Option<Key>
         ensures key { IfSome result (λ key. key_at self.old.conns at ≡ Some (Some key)) }
         ensures same { SameSeating self.old self.new }
+        ensures asks { IsAt (get self.old.conns at) Asks → result ≡ None }
     {
         let conn = self.conns.get_mut(at)?;
         conn.has_more = false;
@@ -46,6 +50,7 @@ impl Screens {
             → Contains nodes node.now.shown
             → StillServing nodes contest self.old self.new
             (S.socket sockets.old) (S.socket sockets.new) }
+        ensures asks { IsAt (get self.old.conns at) Asks → sockets.new ≡ sockets.old }
     {
         let Some(key) = self.writable(at) else {
             return;

@@ -1,6 +1,6 @@
 //! The input as the feed that is followed.
 
-ghost use Rattle.std.specs.Prelude.{◌≡◌, ◌++◌, [], List, ℕ, false, true, is_ok};
+ghost use Rattle.std.specs.Prelude.{◌≡◌, ◌++◌, [], List, ℕ, OnOk, false, true, is_ok};
 
 use crate::figures::Following;
 use crate::screens::Screens;
@@ -14,6 +14,7 @@ use std::alloc::Global;
 impl Source {
     ghost use Rattle.feed_live.specs.Relaying.{SameSource, servers_of};
     ghost use Rattle.feed_live.specs.Taking.{BeginsInput, StillTakes, StillTakesMore};
+    ghost use Rattle.feed_live.specs.Serving.{SaysAll};
 
     /// The input is a feed from here on, where it feeds.
     pub(crate) fn begin_input(&mut self, feeds: bool, now: u64)
@@ -136,6 +137,7 @@ impl Source {
     ) -> Result<(), FeedFault>
         ensures takes { (next : List ℕ) → StillTakes self.old self.new (line.now ++ next) next
             screens.old screens.new result }
+        ensures says { OnOk result (SaysAll screens.new self.new.answers.shown.mirror.node) }
         ensures servers { servers_of self.new ≡ servers_of self.old }
         ensures rest { self.new.rest.items ≡ self.old.rest.items }
     {

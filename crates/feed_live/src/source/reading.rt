@@ -1,6 +1,6 @@
 //! The response is read, followed and said.
 
-ghost use Rattle.std.specs.Prelude.{◌≡◌, ◌++◌, [], List, ℕ, OnOk, IfOk, IfErr, IfSome, None, Bool, is_some, false, true};
+ghost use Rattle.std.specs.Prelude.{◌≡◌, ◌≢◌, ◌+◌, ◌-◌, ◌^◌, ◌++◌, [], List, ℕ, min, OnOk, IfOk, IfErr, IfSome, IsSome, None, Bool, is_some, false, true};
 ghost use Rattle.feed_node.specs.Mirroring.{MirrorState};
 ghost use Rattle.feed_follow.specs.Following.{Fails};
 ghost use Rattle.feed_follow.specs.Standing.{Standing};
@@ -29,6 +29,7 @@ const LOCATION: &[u8] = b"location:";
 impl Source {
     ghost use Rattle.feed_live.specs.Relaying.{StillFollows, StillServes, SameSource};
     ghost use Rattle.feed_live.specs.Relaying.{IsKeeping, IsLeft, PushesOnly, followed_by};
+    ghost use Rattle.feed_live.specs.Serving.{AllEnd, SaysAll};
     ghost use Rattle.feed_live.specs.declared.source.Reach.TheVariants.{Away, Reads as Read};
 
     /// Reads what came, so many times.
@@ -312,6 +313,13 @@ impl Source {
     pub(crate) fn say(&mut self, alloc: Global, told: &mut Telling, screens: &mut Screens, now: u64)
         ensures same { SameSource self.old self.new }
         ensures serves { StillServes self.old.answers.shown.mirror.node screens.old screens.new }
+        // what was published afresh is counted, and each body ends that had something of before
+        ensures afresh { self.old.coming ≡ None → self.old.is_fresh ≡ true
+            → IsSome self.old.answers.shown.mirror.since
+            → self.new.epoch ≡ min (self.old.epoch + 1) (2 ^ 64 - 1) }
+        ensures ended { self.new.epoch ≢ self.old.epoch → AllEnd screens.new.hub }
+        ensures says { self.old.coming ≡ None
+            → SaysAll screens.new self.new.answers.shown.mirror.node }
     {
         self.tell_twice(told);
         if self.coming.is_some() {
@@ -333,7 +341,9 @@ impl Source {
 
     /// Tells of the first time on a connection that it gives one token to two states.
     pub(crate) fn tell_twice(&mut self, told: &mut Telling)
-        ensures { SameSource self.old self.new }
+        ensures same { SameSource self.old self.new }
+        ensures epoch { self.new.epoch ≡ self.old.epoch }
+        ensures fresh { self.new.is_fresh ≡ self.old.is_fresh }
     {
         if self.has_told_twice {
             return;
@@ -357,7 +367,9 @@ impl Source {
     /// Says what had to wait.
     pub(crate) fn say_more(&mut self, alloc: Global, screens: &mut Screens, now: u64)
         ensures same { SameSource self.old self.new }
+        ensures epoch { self.new.epoch ≡ self.old.epoch }
         ensures serves { StillServes self.old.answers.shown.mirror.node screens.old screens.new }
+        ensures says { SaysAll screens.new self.new.answers.shown.mirror.node }
     {
         screens.relay(alloc, self.answers.shown.node(), now);
     }

@@ -217,6 +217,7 @@ fn alone(alloc: Global, mirror: &Mirror) -> Result<Mirror, AllocError>
 impl Source {
     ghost use Rattle.feed_live.specs.Relaying.{StillFollows, StillShows, SameSource, IsLeft, IsNowShown, ShowsAlone};
     ghost use Rattle.feed_live.specs.declared.source.Reach.TheVariants.{Reads as Read};
+    ghost use Rattle.feed_live.specs.Held.{is_first_start};
 
     /// A mirror that follows the next connection, where that asks for everything and is to settle.
     pub(crate) fn begin_afresh(&self, alloc: Global) -> Result<Option<Mirror>, AllocError>
@@ -233,7 +234,8 @@ impl Source {
 
     /// Compares what comes afresh with what is shown, once, where both are at one token.
     pub(crate) fn compare(&mut self, alloc: Global, told: &mut Telling)
-        ensures { SameSource self.old self.new }
+        ensures same { SameSource self.old self.new }
+        ensures epoch { self.new.epoch ≡ self.old.epoch }
     {
         let Some(coming) = &self.coming else {
             return;
@@ -288,7 +290,9 @@ impl Source {
     }
 
     /// Whether nothing was shown yet, and what comes is to settle: requests wait for it.
-    pub(crate) fn is_first(&self) -> bool {
+    pub(crate) fn is_first(&self) -> bool
+        ensures { result ≡ is_first_start self.now }
+    {
         self.coming.is_some() && self.answers.shown.node().token().is_none()
     }
 

@@ -11,7 +11,7 @@ returns-clause-heard c b same =
     let taken = c.in_ok-taken.ensures.taken
     ∙ ap (λ n. c.args.asking.head.items ++ take n c.args.piece.now) (sym c.in_ok-screen.ensures.taken) in
     record {
-      enough = subst IsEnough taken (c.is_enough.ensures.enough c.if-not-is_enough.false);
+      enough = subst IsEnough taken (c.in_ok-taken.ensures.enough c.if-not-is_enough.false);
       needed = λ r. subst IsReadAsNeeded taken (c.in_ok-taken.ensures.read r);
       answered = subst (λ h. IsAnswered h c.args.contest.now node b.framing c.args.now screen status) (c.head.ensures ∙ taken)
           (subst (λ f. IsAnswered c.head.result.now c.args.contest.now node f c.args.now screen status) (sym same) c.in_ok-screen.ensures.answers);

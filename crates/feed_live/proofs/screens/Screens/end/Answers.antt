@@ -9,7 +9,7 @@ returns-then-self-clause-serving g c =
     (serving_removed c.pay.new.self.hub c.leave.new.hub c.pay.new.self.conns c.try_remove.new.self
     (g.S.Sockets.socket c.args.sockets.now) (g.S.Sockets.socket c.close.new.self) c.args.at c.in-Some.conn
     (sym c.try_remove.ensures.value ∙ c.in-Some.is) c.try_remove.ensures.updates c.leave.ensures
-    c.close.ensures.closed c.close.ensures.others (serving_noted c.pay.ensures serving))
+    c.close.ensures.closed c.close.ensures.others (serving_noted c.pay.ensures.same serving))
 
 pub returns-else-self-clause-serving : goal.returns-else-self-clause-serving
 returns-else-self-clause-serving g c =
@@ -18,4 +18,4 @@ returns-else-self-clause-serving g c =
     (serving_removed c.pay.new.self.hub c.leave.new.hub c.pay.new.self.conns c.try_remove.new.self
     (g.S.Sockets.socket c.args.sockets.now) (g.S.Sockets.socket c.close.new.self) c.args.at c.in-Some.conn
     (sym c.try_remove.ensures.value ∙ c.in-Some.is) c.try_remove.ensures.updates c.leave.ensures
-    c.close.ensures.closed c.close.ensures.others (serving_noted c.pay.ensures serving))
+    c.close.ensures.closed c.close.ensures.others (serving_noted c.pay.ensures.same serving))

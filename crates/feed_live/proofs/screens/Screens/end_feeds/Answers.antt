@@ -1,4 +1,6 @@
-use Rattle.std.proofs.Common.{arith}
+use Rattle.std.proofs.Common.{arith, sym, subst}
+use Rattle.feed_live.specs.Serving.{AllEnd}
+use Rattle.feed_live.proofs.EndingLemmas.{all_ended}
 use Rattle.feed_live.proofs.ServingLemmas.{serving_on, serving_noted, still_sits, ended_stays}
 use Rattle.feed_live.proofs.screens.Screens.end_feeds.Goals as goal
 
@@ -8,4 +10,5 @@ returns c =
       serving = λ nodes contest sockets serving.
           serving_noted c.spoke.ensures
           (serving_on (λ key. still_sits contest (ended_stays nodes _ _ key _ _ _ (c.end_all.ensures.left key) (c.end_all.ensures.served nodes key))) (omega (arith, c.end_all.ensures.next)) serving);
+      ended = subst AllEnd (sym c.spoke.ensures.hub) (all_ended c.args.self.now.hub c.end_all.new.self _ _ _ c.end_all.ensures.left);
     }

@@ -1,4 +1,5 @@
-use Rattle.std.proofs.Common.{◌≡◌, ap, arith, ◌∙◌, Some}
+use Rattle.std.proofs.Common.{◌≡◌, ap, arith, ◌∙◌, sym, subst, Some, []}
+use Rattle.feed_device.specs.Sockets.{IsSocket, opened}
 use Rattle.feed_live.specs.Serving.{asks}
 use Rattle.feed_hub.specs.declared.seats.Key.{Key}
 use Rattle.feed_live.proofs.screens.Screens.greet.Goals as goal
@@ -11,7 +12,7 @@ returns-in-Ok-clause-greeted g c =
     let made = c.in-Ok.ensures.ok in
     λ nodes contest fresh.
     record {
-      stands = asks made.asking made.seat fresh;
+      stands = asks made.asking made.seat (subst (λ h. IsSocket (g.S.Sockets.socket c.args.sockets.now c.args.at) (opened h [])) (sym made.head) fresh);
       is_new = λ key is. ap (λ k. k.generation) (same_key is) ∙ made.generation;
       next = λ key is. let same = ap (λ k. k.generation) (same_key is) in omega (arith, made.generation, made.next);
       kept = omega (arith, made.next);

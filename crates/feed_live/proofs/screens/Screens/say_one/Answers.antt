@@ -1,3 +1,6 @@
+use Rattle.std.proofs.Common.{sym, subst}
+use Rattle.feed_live.specs.Serving.{AllEnd}
+use Rattle.feed_live.proofs.EndingLemmas.{end_same}
 use Rattle.feed_live.proofs.ServingLemmas.{serving_said, serving_noted}
 use Rattle.feed_live.proofs.screens.Screens.say_one.Goals as goal
 
@@ -7,6 +10,7 @@ returns-in-Ok-Looked-More c =
       serving = λ nodes contest sockets among serving.
           serving_noted c.spoke.ensures
           (serving_said c.say_next.ensures.seats (λ key. c.say_next.ensures.served nodes key among) serving);
+      ended = λ all. subst AllEnd (sym c.spoke.ensures.hub) (end_same c.args.self.now.hub c.say_next.new.self c.say_next.ensures.seats all);
     }
 
 pub returns-in-Ok-Looked-UpToDate : goal.returns-in-Ok-Looked-UpToDate
@@ -14,6 +18,7 @@ returns-in-Ok-Looked-UpToDate c =
     record {
       serving = λ nodes contest sockets among serving.
           serving_said c.say_next.ensures.seats (λ key. c.say_next.ensures.served nodes key among) serving;
+      ended = end_same c.args.self.now.hub c.say_next.new.self c.say_next.ensures.seats;
     }
 
 pub returns-in-Ok-Looked-Gone : goal.returns-in-Ok-Looked-Gone
@@ -22,6 +27,7 @@ returns-in-Ok-Looked-Gone c =
       serving = λ nodes contest sockets among serving.
           c.end_feeds.ensures.serving nodes contest sockets
           (serving_said c.say_next.ensures.seats (λ key. c.say_next.ensures.served nodes key among) serving);
+      ended = λ all. c.end_feeds.ensures.ended;
     }
 
 pub returns-in-Ok-Waits : goal.returns-in-Ok-Waits
@@ -29,6 +35,7 @@ returns-in-Ok-Waits c =
     record {
       serving = λ nodes contest sockets among serving.
           serving_said c.say_next.ensures.seats (λ key. c.say_next.ensures.served nodes key among) serving;
+      ended = end_same c.args.self.now.hub c.say_next.new.self c.say_next.ensures.seats;
     }
 
 pub returns-in-Err : goal.returns-in-Err
@@ -36,4 +43,5 @@ returns-in-Err c =
     record {
       serving = λ nodes contest sockets among serving.
           serving_said c.say_next.ensures.seats (λ key. c.say_next.ensures.served nodes key among) serving;
+      ended = end_same c.args.self.now.hub c.say_next.new.self c.say_next.ensures.seats;
     }

@@ -8,6 +8,8 @@ returns-then-says_now c =
         contest = refl;
         feeds = refl;
         source = c.say_more.ensures.same;
+        epoch = c.say_more.ensures.epoch;
         serves = λ nodes shown blank. c.say_more.ensures.serves nodes _ sockets shown;
       };
+      saved = (refl, refl);
     }

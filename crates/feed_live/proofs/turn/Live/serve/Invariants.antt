@@ -1,6 +1,10 @@
 use Rattle.feed_live.specs.Relaying.{OnlyServes}
+use Rattle.feed_live.specs.Saved.{SameSaved}
 use Rattle.feed_live.proofs.turn.Live.serve.Given as goal
 
 abbrev pub invariant-loop-event : goal.invariant-loop-event
 invariant-loop-event g l =
-    OnlyServes l.initial.self l.self (g.S.Sockets.socket l.initial.sockets) (g.S.Sockets.socket l.sockets)
+    record {
+      serves : OnlyServes l.initial.self l.self (g.S.Sockets.socket l.initial.sockets) (g.S.Sockets.socket l.sockets);
+      saved : SameSaved l.initial.self l.self;
+    }

@@ -9,6 +9,8 @@ returns g c =
         contest = refl;
         feeds = refl;
         source = record { servers = refl; shown = c.serve_more.ensures.mirrors.shown; blank = c.serve_more.ensures.mirrors.blank; coming = refl; follower = refl; reach = refl; request = refl; rest = refl };
+        epoch = refl;
         serves = λ nodes shown blank. subst (λ t. StillServing nodes t c.args.self.now.screens c.serve_more.new.self (g.S.Sockets.socket c.args.sockets.now) (g.S.Sockets.socket c.serve_more.new.sockets)) c.as_str.ensures.value (c.serve_more.ensures.serving nodes shown blank);
       };
+      saved = (refl, refl);
     }

@@ -2,13 +2,12 @@ use Rattle.std.proofs.Common.{subst, refl}
 use Rattle.feed_live.specs.Serving.{StillServing}
 use Rattle.feed_live.proofs.turn.Live.serve_one.Goals as goal
 
-pub returns : goal.returns
-returns g c =
+pub returns-clause-serves : goal.returns-clause-serves
+returns-clause-serves g c =
     record {
-      serves = record {
-        contest = refl;
-        feeds = refl;
-        source = record { servers = refl; shown = c.serve.ensures.mirrors.shown; blank = c.serve.ensures.mirrors.blank; coming = refl; follower = refl; reach = refl; request = refl; rest = refl };
-        serves = λ nodes shown blank. subst (λ t. StillServing nodes t c.args.self.now.screens c.serve.new.self (g.S.Sockets.socket c.args.sockets.now) (g.S.Sockets.socket c.serve.new.sockets)) c.as_str.ensures.value (c.serve.ensures.serving nodes shown blank);
-      };
+      contest = refl;
+      feeds = refl;
+      source = record { servers = refl; shown = c.serve.ensures.mirrors.shown; blank = c.serve.ensures.mirrors.blank; coming = refl; follower = refl; reach = refl; request = refl; rest = refl };
+      epoch = refl;
+      serves = λ nodes shown blank. subst (λ t. StillServing nodes t c.args.self.now.screens c.serve.new.self (g.S.Sockets.socket c.args.sockets.now) (g.S.Sockets.socket c.serve.new.sockets)) c.as_str.ensures.value (c.serve.ensures.serving nodes shown blank);
     }

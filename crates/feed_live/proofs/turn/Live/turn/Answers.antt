@@ -1,5 +1,6 @@
-use Rattle.std.proofs.Common.{sym, subst}
+use Rattle.std.proofs.Common.{sym, subst, ◌∙◌}
 use Rattle.std.specs.Prelude.{Contains}
+use Rattle.feed_live.specs.Saved.{KeepsFiles, SameSaved}
 use Rattle.feed_live.proofs.ServingLemmas.{serving_noted}
 use Rattle.feed_live.proofs.TurnLemmas.{serves_then, screens_only, relays_on, takes_only, takes_still}
 use Rattle.feed_live.proofs.turn.Live.turn.Goals as goal
@@ -12,11 +13,28 @@ returns g c =
     (λ nodes shown blank serving. c.drain_due.ensures.serving nodes _ (subst (λ n. Contains nodes n) (sym c.node-node.ensures) shown) serving) in
     let accepted = screens_only c.serve.new.self c.accept.new.self c.accept.new.told (λ nodes shown blank serving. c.accept.ensures.serving nodes _ serving) in
     let served = serves_then (c.next.ensures.serves _) (serves_then accepted (serves_then c.serve.ensures.serves (serves_then drained (serves_then c.tick.ensures.serves (c.save.ensures.serves _))))) in
+    let before : SameSaved c.args.self.now c.follow.new.self = (
+      c.follow.ensures.saved.0 ∙ c.take_input.ensures.saved.0 ∙ c.say_more.ensures.saved.0 ∙ c.note.ensures.saved.0,
+      c.follow.ensures.saved.1 ∙ c.take_input.ensures.saved.1 ∙ c.say_more.ensures.saved.1 ∙ c.note.ensures.saved.1,
+    ) in
+    let after : SameSaved c.save.new.self c.next.new.self = (
+      c.next.ensures.saved.0 ∙ c.serve.ensures.saved.0 ∙ c.tick.ensures.saved.0,
+      c.next.ensures.saved.1 ∙ c.serve.ensures.saved.1 ∙ c.tick.ensures.saved.1,
+    ) in
+    let written = g.D.Store.written in
+    let next = g.D.Store.written_next in
     record {
       relaying = λ limits log servers is.
           relays_on limits log servers _ served (c.follow.ensures.relaying _ limits log servers (c.take_input.ensures.relaying _ _ limits log servers (relays_on limits log servers _ said is)));
       taking = λ limits log begun input is.
           let taken = c.take_input.ensures.taking _ limits log begun input (takes_only limits log said is) in
           takes_only limits log served (takes_still limits log (c.follow.ensures.nothing taken.no_places) taken);
+      kept = λ nodes shown files.
+          subst (KeepsFiles nodes (written c.save.new.store) (next c.save.new.store)) (sym after.0)
+          (c.save.ensures.kept nodes (subst (λ m. Contains nodes m.node) served.source.shown shown) (subst (KeepsFiles nodes (written c.args.devices.now.store) (next c.args.devices.now.store)) (sym before.0) files));
+      anew = λ newer nodes shown known.
+          subst (KeepsFiles nodes (written c.save.new.store) (next c.save.new.store)) (sym after.0)
+          (c.save.ensures.anew (λ same. newer (served.epoch ∙ same ∙ before.1)) nodes (subst (λ m. Contains nodes m.node) served.source.shown shown) known);
       wakes = c.next.ensures.wakes;
+      awake = c.next.ensures.awake;
     }

@@ -1,0 +1,14 @@
+use Rattle.std.proofs.Common.{ℕ, List}
+use Rattle.std.specs.Prelude.{Contains}
+use Rattle.feed_node.specs.States.{NodeState}
+use Rattle.feed_device.specs.Sockets.{AllSockets}
+use Rattle.feed_live.specs.Serving.{StillServing, AllEnd}
+use Rattle.feed_live.proofs.screens.Screens.say_all.Given as goal
+
+abbrev pub invariant-loop : goal.invariant-loop
+invariant-loop l =
+    record {
+      serving : (nodes : List NodeState) (contest : List ℕ) (sockets : AllSockets) → Contains nodes l.node.shown
+          → StillServing nodes contest l.initial.self l.self sockets sockets;
+      ended : AllEnd l.initial.self.hub → AllEnd l.self.hub;
+    }
