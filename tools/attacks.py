@@ -6,6 +6,7 @@ these:
 
 - slow: twelve screens ask for everything, each second one in HTTP/1.0, take 60,000 bytes a second each, and ask
   again once they are refused or cut;
+- late: screens ask with the token 1, and read nothing but what comes first; some forty a second;
 - visits: screens ask, read what comes first, and close; some two hundred a second;
 - crowd: screens come to a relay that is full; some two hundred a second, each of which reads its refusal.
 
@@ -22,10 +23,10 @@ from contextlib import closing, suppress
 sys.dont_write_bytecode = True
 from common import parser_of
 
-REQUEST = "GET /contests/c/event-feed HTTP/1.{}\r\nHost: h\r\n\r\n"
+REQUEST = "GET /contests/c/event-feed{} HTTP/1.{}\r\nHost: h\r\n\r\n"
 
-# How many screens are slow, how many bytes each takes a second, and how many a second come of the others.
-SLOW, RATE, A_SECOND = 12, 60_000, 200
+# How many screens are slow, how many bytes each takes a second, and how many a second come late, or of the others.
+SLOW, RATE, LATE, A_SECOND = 12, 60_000, 40, 200
 
 # As long as one screen waits for its answer, in seconds.
 PATIENCE = 30
@@ -38,9 +39,12 @@ class Attack:
         self.port, self.is_on, self.lock = port, True, threading.Lock()
         self.statuses, self.slowest = {}, 0
 
-    def ask(self, version=1):
-        conn = socket.create_connection(("127.0.0.1", self.port), PATIENCE)
-        conn.sendall(REQUEST.format(version).encode())
+    def ask(self, version=1, query=""):
+        conn = socket.socket()
+        conn.settimeout(PATIENCE)
+        conn.setsockopt(socket.SOL_SOCKET, socket.SO_RCVBUF, 65_536)
+        conn.connect(("127.0.0.1", self.port))
+        conn.sendall(REQUEST.format(query, version).encode())
         return conn
 
     def told(self, head, began):
@@ -75,15 +79,23 @@ class Attack:
                     time.sleep(len(piece) / RATE)
             time.sleep(0.5)
 
+    def late(self):
+        held = []
+        for began in self.beats(LATE):
+            held.append(self.ask(query="?since_token=1"))
+            self.read(held[-1], began)
+        for conn in held:
+            conn.close()
+
     def visits(self):
-        for began in self.beats():
+        for began in self.beats(A_SECOND):
             with suppress(OSError), closing(self.ask()) as conn:
                 self.read(conn, began)
 
     def crowd(self):
         """Nobody waits for who came before."""
         waiting = {}
-        for began in self.beats():
+        for began in self.beats(A_SECOND):
             waiting[self.ask()] = began
             self.hear(waiting, 0)
         until = time.monotonic() + PATIENCE
@@ -97,17 +109,17 @@ class Attack:
             with closing(conn):
                 self.read(conn, waiting.pop(conn))
 
-    def beats(self):
+    def beats(self, rate):
         """The time, so many times a second, until standard input ends."""
         began, count = time.monotonic(), 0
-        while not select.select([sys.stdin], [], [], max(0, began + count / A_SECOND - time.monotonic()))[0]:
+        while not select.select([sys.stdin], [], [], max(0, began + count / rate - time.monotonic()))[0]:
             count += 1
             yield time.monotonic()
 
 
 def main():
     parser = parser_of(__doc__)
-    parser.add_argument("attack", metavar="ATTACK", choices=["slow", "visits", "crowd"])
+    parser.add_argument("attack", metavar="ATTACK", choices=["slow", "late", "visits", "crowd"])
     parser.add_argument("port", metavar="PORT", type=int)
     asked = parser.parse_args()
     attack = Attack(asked.port)
