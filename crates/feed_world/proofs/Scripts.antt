@@ -6,6 +6,7 @@ use Rattle.std.specs.Cmp.Lexicographic.{nat_list_cmp_total}
 use Rattle.std.specs.Ordering.{eq_by_cmp, is_eq}
 use Rattle.std.specs.FinMap.{FinMap, empty, entries, entries_sorted, find, from_sorted, entries-from_sorted, get-from_sorted, get-entries, get-remove, same_map, len-entries, len-empty, insert, remove, put, entries-insert, slice_cmp-IsAntisymmetric, nat_cmp-IsAntisymmetric}
 use Rattle.std.specs.FinMap.Entries.{is_sorted-where_key, find-where_key}
+use Rattle.feed_settings.specs.Limits.{by_count}
 use Rattle.feed_settings.specs.declared.framing.Framing.TheVariants.{Close}
 use Rattle.feed_text.specs.Strings.{written_string}
 use Rattle.feed_tables.specs.Bytes.{byte_order, without}
