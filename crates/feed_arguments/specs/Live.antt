@@ -6,7 +6,7 @@ use Rattle.feed_settings.specs.Limits.{most_commits}
 use Rattle.feed_arguments.specs.Addresses.{most_port}
 use Rattle.feed_arguments.specs.Options as options
 use Rattle.feed_arguments.specs.Options.{flag, number_in, number_between, text_option, with_default, text_at}
-use Rattle.feed_arguments.specs.Options.{IsNumber, IsNumberUpTo, IsNumberIfGiven, IsGiven, IsFramed, AsksLimits}
+use Rattle.feed_arguments.specs.Options.{IsNumber, IsNumberUpTo, IsNumberIfGiven, IsGiven, IsFramed, AsksLimitsOr}
 use Rattle.feed_arguments.specs.declared.request.LiveOptions.{LiveOptions}
 use Rattle.feed_arguments.specs.declared.request.UpstreamOptions.{UpstreamOptions}
 use Rattle.feed_arguments.specs.declared.request.Verbosity.{Verbosity}
@@ -15,6 +15,10 @@ use Rattle.feed_arguments.specs.declared.request.Verbosity.TheVariants as verbos
 -- the most screens, seconds of silence, and bytes that a screen may be late, that may be asked for
 abbrev pub most_screens : ℕ
 most_screens = 10000
+
+-- how many bytes kept commits have at most where memory is not limited
+abbrev pub kept_bytes : ℕ
+kept_bytes = 268435456
 
 abbrev pub most_idle : ℕ
 most_idle = 3600
@@ -235,4 +239,4 @@ pub record AsksLive (rows : List Row) (options : LiveOptions) : Type 0 where
   pub until_eof_is : IsGiven (codes "until-eof") rows options.until_eof
   pub verbose_is : IsGiven (codes "verbose") rows (is_verbose options.verbosity)
   pub quiet_is : IsGiven (codes "quiet") rows (is_quiet options.verbosity)
-  pub limits_are : AsksLimits rows options.limits
+  pub limits_are : AsksLimitsOr (Some kept_bytes) rows options.limits

@@ -2,6 +2,7 @@
 -- command line are the values of an option is as the crate clap reads them.
 use Rattle.std.specs.Prelude.{◌≡◌, ◌≤◌, ℕ, Bool, true, false, List, [], ◌∷◌, Option, Some, None}
 use Rattle.std.specs.Prelude.{IfSome, option_map, codes}
+use Rattle.std.specs.Option.{option_or}
 use Rattle.std.specs.Str.Parse.{IsNumeral, digits_value, without_leading_plus}
 use Rattle.clap.specs.Walk.{first_of, one_of}
 use Rattle.clap.specs.Words.{App, Row, Rule, Text, new_rule, with_rule}
@@ -164,8 +165,14 @@ pub record IsFramed (rows : List Row) (framed : Framing) : Type 0 where
   pub close : one_of (codes "chunked") rows ≡ Some (codes "false") → framed ≡ framing.Close
   pub none : one_of (codes "chunked") rows ≡ None → framed ≡ framing.Close
 
--- the limits of a node
-pub record AsksLimits (rows : List Row) (limits : Limits) : Type 0 where
-  pub history_is : IsNumber (codes "history") most_commits rows limits.history
+-- the limits of a node: without a limit of memory, kept commits have so many bytes, where that is
+-- limited by itself
+pub record AsksLimitsOr (bytes : Option ℕ) (rows : List Row) (limits : Limits) : Type 0 where
+  pub history_is : IsNumber (codes "history") most_commits rows limits.history.commits
+  pub bytes_is : limits.history.bytes ≡ option_or limits.memory bytes
   pub staged_is : IsNumber (codes "staged") most_changes rows limits.staged
   pub memory_is : IsNumberIfGiven (codes "memory") most_memory rows limits.memory
+
+-- the same where kept commits have any bytes then
+abbrev pub AsksLimits : List Row → Limits → Type 0
+AsksLimits rows limits = AsksLimitsOr None rows limits

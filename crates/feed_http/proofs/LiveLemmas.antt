@@ -1,6 +1,6 @@
 -- What a session is sent while its primary takes batches.
 use Rattle.std.proofs.Common.{◌≡◌, refl, sym, ap, ◌∙◌, subst, ℕ, zero, suc, ◌+◌, ◌-◌, ◌<◌, ◌≤◌, Bool, true, false, true≢false, List, [], ◌∷◌, ◌++◌, length, take, drop, get_or, arith, inl, inr, Option, Some, None, append_assoc, append-nil, length-append, length-drop, length-take, map, cond, not, nat_lt}
-use Rattle.std.specs.Prelude.{◌⊎◌, MatchOption, Vec, min, IfSome, slice_get}
+use Rattle.std.specs.Prelude.{◌⊎◌, MatchOption, Vec, min, IfSome, is_some, slice_get}
 use Rattle.std.specs.List.{prefix_len}
 use Rattle.std.specs.Option.{option_and_then}
 use Rattle.std.specs.Str.{bytes_eq}
@@ -12,11 +12,13 @@ use Rattle.std.proofs.lemmas.Option.{slice_get-get_or, slice_get_within}
 use Rattle.std.proofs.lemmas.Bool.{cases_lt, cases_Bool}
 use Rattle.std.proofs.lemmas.Bool.Decides.{nat_tests}
 use Rattle.std.proofs.lemmas.Slice.Eq.{bytes_eq-Decides}
+use Rattle.feed_settings.specs.Limits.{History}
 use Rattle.feed_settings.specs.declared.framing.Framing.{Framing}
 use Rattle.feed_tables.specs.declared.change.Change.{Change}
 use Rattle.feed_note.specs.Publishing.{Published}
 use Rattle.feed_node.specs.declared.commit.Commit.{Commit}
 use Rattle.feed_node.specs.Log.{PrimaryState, token_after}
+use Rattle.feed_node.specs.Kept.{kept_of, most_kept}
 use Rattle.feed_node.specs.States.{NodeState, nothing_published, token_of, place_of, keep_last, HoldsItsTokens, IsConsistent}
 use Rattle.feed_node.specs.Serving.{is_published, token_before, commit_text}
 use Rattle.feed_answer.specs.Answered.{AnswersTo, parts_of, answer_to, answer_opened}
@@ -28,7 +30,7 @@ use Rattle.feed_http.specs.Device.{counted}
 use Rattle.feed_http.specs.Sessions.{Nothing_new, Lost, next}
 use Rattle.feed_http.specs.Serving.{HasAll, commit_frames}
 use Rattle.feed_http.specs.Sending.{Sent, sent_none, sent_one, WroteCommits}
-use Rattle.feed_http.specs.Live.{Intake, intake_of, Accepts, accepts_none, accepts_one, TakesTurn, IsLongTurn, HasSent, commit_sent, IsOver, SendsLive, IsCutShort}
+use Rattle.feed_http.specs.Live.{Intake, intake_of, Accepts, accepts_none, accepts_one, TakesTurn, MayLoseTokens, HasSent, commit_sent, IsOver, SendsLive, IsCutShort}
 use Rattle.feed_http.specs.Taking.{IsHeld}
 use Rattle.feed_http.proofs.ServingLemmas.{next_moves, tokens-length, frames-append}
 use Rattle.feed_http.proofs.RestLemmas.{new_is_published, last_is, never_lost}
@@ -49,13 +51,13 @@ accepts_limits first batches now (accepts_one earlier primary batch run fine) = 
 -- ---- a token stays held
 
 -- the token before the last so many is kept, where so many are
-keeps_one : (history : ℕ) (held : List (List ℕ)) (last token : List ℕ) (place many : ℕ)
-    → place + many + 1 ≡ length held → many + 1 ≤ history → get_or held place [] ≡ token
-    → (p : ℕ) × (p + (many + 1) + 1 ≡ length (keep_last (history + 1) (held ++ last ∷ [])))
-    × (get_or (keep_last (history + 1) (held ++ last ∷ [])) p [] ≡ token)
-keeps_one history held last token place many at few is =
+keeps_one : (many_kept : ℕ) (held : List (List ℕ)) (last token : List ℕ) (place many : ℕ)
+    → place + many + 1 ≡ length held → many + 1 ≤ many_kept → get_or held place [] ≡ token
+    → (p : ℕ) × (p + (many + 1) + 1 ≡ length (keep_last (many_kept + 1) (held ++ last ∷ [])))
+    × (get_or (keep_last (many_kept + 1) (held ++ last ∷ [])) p [] ≡ token)
+keeps_one many_kept held last token place many at few is =
     let grown : length (held ++ last ∷ []) ≡ length held + 1 = length-append held (last ∷ []) in
-    let dropped = length (held ++ last ∷ []) - (history + 1) in
+    let dropped = length (held ++ last ∷ []) - (many_kept + 1) in
     let left : length (drop dropped (held ++ last ∷ [])) ≡ length (held ++ last ∷ []) - dropped = length-drop dropped (held ++ last ∷ []) in
     let same : dropped + (place - dropped) ≡ place = omega arith in
     let there : (place - dropped) + (many + 1) + 1 ≡ length (drop dropped (held ++ last ∷ [])) = omega arith in (
@@ -65,17 +67,24 @@ keeps_one history held last token place many at few is =
           ∙ get_or-append held (last ∷ []) [] place (omega arith) ∙ is,
     )
 
+-- where bytes are not limited the count alone says how many are kept
+by_commits : (history : History) (cs : List Commit) → history.bytes ≡ None → most_kept history cs ≡ history.commits
+by_commits history cs any = ap (λ bytes. kept_of history.commits bytes cs) any
+
 -- the last token is held behind batches of which no more come than are kept
 turn_holds : (first : PrimaryState) (batches : List (List Change)) (now : PrimaryState) (token : List ℕ) (last : ℕ)
     → Accepts first batches now → last + 1 ≡ length first.node.held → get_or first.node.held last [] ≡ token
-    → length batches ≤ first.limits.history
+    → length batches ≤ first.limits.history.commits → first.limits.history.bytes ≡ None
     → (p : ℕ) × (p + length batches + 1 ≡ length now.node.held) × (get_or now.node.held p [] ≡ token)
-turn_holds first batches now token last accepts_none many is few = (last, omega arith, is)
-turn_holds first batches now token last (accepts_one earlier primary batch run fine) many is few =
+turn_holds first batches now token last accepts_none many is few any = (last, omega arith, is)
+turn_holds first batches now token last (accepts_one earlier primary batch run fine) many is few any =
     let grown : length (earlier ++ batch ∷ []) ≡ length earlier + 1 = length-append earlier (batch ∷ []) in
-    let (p, at, here) = turn_holds first earlier primary token last run many is (omega arith) in
+    let (p, at, here) = turn_holds first earlier primary token last run many is (omega arith) any in
     let limits : primary.limits.history ≡ first.limits.history = ap (λ l. l.history) (accepts_limits first earlier primary run) in
-    let (q, there, found) = keeps_one primary.limits.history primary.node.held (token_after (primary.count + 1)) token p (length earlier) at (omega arith) here in
+    let commits = ap (λ h. h.commits) limits in
+    let cs = primary.node.kept ++ record { changes = batch; token = token_after (primary.count + 1) } ∷ [] in
+    let all : most_kept primary.limits.history cs ≡ primary.limits.history.commits = by_commits primary.limits.history cs (ap (λ h. h.bytes) limits ∙ any) in
+    let (q, there, found) = keeps_one (most_kept primary.limits.history cs) primary.node.held (token_after (primary.count + 1)) token p (length earlier) at (omega arith) here in
     (q, omega arith, found)
 
 first_within : (p : List ℕ → Bool) (xs : List (List ℕ)) (k : ℕ) → k < length xs
@@ -121,32 +130,37 @@ sent_held node start to sent consistent (sent_one _ token earlier commit run e) 
     let moves = next_moves node token commit consistent e in
     (moves.place + 1, moves.behind)
 
--- and so it does where a turn is taken, if that isn't long
+-- and so it does where a turn is taken, if that isn't long and bytes are not limited
 pub turn_keeps : (turn : ℕ) (before now : Intake) (token : List ℕ) → IsConsistent before.primary.node
     → next before.primary.node token ≡ Nothing_new → TakesTurn turn before now
-    → IsLongTurn turn before ⊎ IsHeld now.primary.node token
-turn_keeps turn before now token consistent new takes =
-    let (k, last, is) = newest before.primary.node token consistent new in
-    let many : length (take turn before.batches) ≡ min turn (length before.batches) = length-take turn before.batches in
-    elim (cases_lt before.primary.limits.history (length (take turn before.batches))) [
-      | inl long ↦ inl (omega arith, omega arith)
-      | inr few ↦ (let (p, at, here) = turn_holds before.primary (take turn before.batches) now.primary token k takes.accepted last is few in inr (placed now.primary.node token p (omega arith) here))
-    ]
+    → MayLoseTokens turn before ⊎ IsHeld now.primary.node token
+turn_keeps turn before now token consistent new takes = by before.primary.limits.history.bytes refl
+  where
+    by : (bytes : Option ℕ) → before.primary.limits.history.bytes ≡ bytes → MayLoseTokens turn before ⊎ IsHeld now.primary.node token
+    by (Some most) e = inl (inr (ap is_some e))
+    by None e =
+        let (k, last, is) = newest before.primary.node token consistent new in
+        let many : length (take turn before.batches) ≡ min turn (length before.batches) = length-take turn before.batches in
+        elim (cases_lt before.primary.limits.history.commits (length (take turn before.batches))) [
+          | inl long ↦ inl (inl (omega arith, omega arith))
+          | inr few ↦ (let (p, at, here) = turn_holds before.primary (take turn before.batches) now.primary token k takes.accepted last is few e in inr (placed now.primary.node token p (omega arith) here))
+        ]
 
 -- a turn that is long is so for what waited at the start
 long_since : (turn : ℕ) (start before : Intake) → before.primary.limits ≡ start.primary.limits
-    → length before.batches ≤ length start.batches → IsLongTurn turn before → IsLongTurn turn start
-long_since turn start before limits fewer (turn_long, all_long) =
-    let same : before.primary.limits.history ≡ start.primary.limits.history = ap (λ l. l.history) limits in
-    (omega arith, omega arith)
+    → length before.batches ≤ length start.batches → MayLoseTokens turn before → MayLoseTokens turn start
+long_since turn start before limits fewer (inl (turn_long, all_long)) =
+    let same : before.primary.limits.history.commits ≡ start.primary.limits.history.commits = ap (λ l. l.history.commits) limits in
+    inl (omega arith, omega arith)
+long_since turn start before limits fewer (inr some) = inr (sym (ap (λ l. is_some l.history.bytes) limits) ∙ some)
 
 -- what stays true of the session's token from one turn to the next
 pub held_on : (turn : ℕ) (start before now : Intake) (token to : List ℕ) (sent : List Commit)
     → before.primary.limits ≡ start.primary.limits → length before.batches ≤ length start.batches
     → IsConsistent before.primary.node → Sent before.primary.node token sent to
     → next before.primary.node to ≡ Nothing_new → TakesTurn turn before now
-    → IsLongTurn turn start ⊎ IsHeld before.primary.node token
-    → IsLongTurn turn start ⊎ IsHeld now.primary.node to
+    → MayLoseTokens turn start ⊎ IsHeld before.primary.node token
+    → MayLoseTokens turn start ⊎ IsHeld now.primary.node to
 held_on turn start before now token to sent limits fewer consistent run new takes (inl long) = inl long
 held_on turn start before now token to sent limits fewer consistent run new takes (inr held) =
     elim (turn_keeps turn before now to consistent new takes) [
@@ -154,11 +168,11 @@ held_on turn start before now token to sent limits fewer consistent run new take
       | inr kept ↦ inr kept
     ]
 
--- only a long turn loses the token
+-- only a long turn loses the token, or a limit in bytes
 pub lost_late : (turn : ℕ) (start before : Intake) (token to : List ℕ) (sent : List Commit)
     → IsConsistent before.primary.node → Sent before.primary.node token sent to
-    → next before.primary.node to ≡ Lost → IsLongTurn turn start ⊎ IsHeld before.primary.node token
-    → IsLongTurn turn start
+    → next before.primary.node to ≡ Lost → MayLoseTokens turn start ⊎ IsHeld before.primary.node token
+    → MayLoseTokens turn start
 lost_late turn start before token to sent consistent run e (inl long) = long
 lost_late turn start before token to sent consistent run e (inr held) =
     let (k, place) = sent_held before.primary.node token to sent consistent run held in

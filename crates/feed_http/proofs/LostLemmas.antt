@@ -22,7 +22,7 @@ use Rattle.feed_http.proofs.RestLemmas.{new_is_published, at_place}
 -- the session stands at the last token of the start, and more commits than are kept came since
 pub record IsPast (start : Intake) (now : PrimaryState) (session : List ℕ) : Type 0 where
   pub stands : session ≡ token_after start.primary.count
-  pub many : start.primary.count + start.primary.limits.history < now.count
+  pub many : start.primary.count + start.primary.limits.history.commits < now.count
   pub counted : now.count ≤ last_count
 
 -- ---- commits are counted
@@ -104,7 +104,7 @@ not_published published count n named less few =
 
 -- a session whose token is from before those that are held has lost it
 pub lost_since : (primary : PrimaryState) (n : ℕ) → IsPrimary primary → IsConsistent primary.node
-    → n + primary.limits.history < primary.count → primary.count ≤ last_count
+    → n + primary.limits.history.commits < primary.count → primary.count ≤ last_count
     → next primary.node (token_after n) ≡ Lost
 lost_since primary n is consistent more few =
     let node = primary.node in
@@ -134,7 +134,7 @@ pub never_kept : (start before : Intake) (token to : List ℕ) (sent : List Comm
     → IsConsistent before.primary.node → IsPast start before.primary token
     → Sent before.primary.node token sent to → next before.primary.node to ≡ Nothing_new → ⊥
 never_kept start before token to sent limits is consistent past run new =
-    let same : before.primary.limits.history ≡ start.primary.limits.history = ap (λ l. l.history) limits in
+    let same : before.primary.limits.history.commits ≡ start.primary.limits.history.commits = ap (λ l. l.history.commits) limits in
     let many = past.many in
     let lost : next before.primary.node token ≡ Lost =
     ap (next before.primary.node) past.stands
@@ -156,7 +156,7 @@ pub turn_loses : (turn : ℕ) (start before now : Intake) (to : List ℕ) → be
     → IsPast start now.primary to
 turn_loses turn start before now to same few is new takes (turn_long, all_long) =
     let count : before.primary.count ≡ start.primary.count = ap (λ i. i.primary.count) same in
-    let kept : before.primary.limits.history ≡ start.primary.limits.history = ap (λ i. i.primary.limits.history) same in
+    let kept : before.primary.limits.history.commits ≡ start.primary.limits.history.commits = ap (λ i. i.primary.limits.history.commits) same in
     let waiting : length before.batches ≡ length start.batches = ap (λ i. length i.batches) same in
     let grown = accepts_count before.primary (take turn before.batches) now.primary takes.accepted in
     let many : length (take turn before.batches) ≡ min turn (length before.batches) = length-take turn before.batches in

@@ -10,7 +10,7 @@ use Rattle.feed_answer.specs.Answered.{AnswerParts, AnswersTo, answer_to, answer
 use Rattle.feed_answer.specs.Asked.{Asked, refused, feed, framing_for}
 use Rattle.feed_answer.specs.Opening.{Started, opens}
 use Rattle.feed_http.specs.declared.fault.Served.{Served}
-use Rattle.feed_http.specs.Live.{Intake, IsOver, IsLongTurn, LosesItsToken, SendsLiveTo, SendsLive, TakesAll}
+use Rattle.feed_http.specs.Live.{Intake, IsOver, MayLoseTokens, LosesItsToken, SendsLiveTo, SendsLive, TakesAll}
 
 -- with this status a session was opened, or none was
 abbrev pub OpenedAt : ℕ → Option (List ℕ) → Type 0
@@ -62,7 +62,7 @@ loses turn start status (Some opened) gone there lost is = lost
 -- at this end of a connection
 pub takes_all : (turn : ℕ) (start now : Intake) (answer : AnswerParts) (text : List ℕ)
     (served : Served) → OpenedAt answer.status answer.session
-    → SendsLive turn start answer text served now → (served.gone ≡ true → IsLongTurn turn start)
+    → SendsLive turn start answer text served now → (served.gone ≡ true → MayLoseTokens turn start)
     → IfSome answer.session (λ _. LosesItsToken turn start served.gone)
     → TakesAll turn start served now
 takes_all turn start now answer text served opened sends long lost = record {

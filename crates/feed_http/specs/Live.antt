@@ -1,5 +1,5 @@
 -- What a primary that takes batches sends and writes on one connection.
-use Rattle.std.specs.Prelude.{◌≡◌, ◌≢◌, ◌⊎◌, ◌<◌, ◌≤◌, ℕ, Bool, true, false, List, [], ◌∷◌, ◌++◌, length, map, take, drop, Option, Some, None, Result, Ok, Err, Vec}
+use Rattle.std.specs.Prelude.{◌≡◌, ◌≢◌, ◌⊎◌, ◌<◌, ◌≤◌, ℕ, Bool, true, false, IsSome, List, [], ◌∷◌, ◌++◌, length, map, take, drop, Option, Some, None, Result, Ok, Err, Vec}
 use Rattle.std.specs.Io.KnownBytes.{Appends, Consumes, IsAtEnd}
 use Rattle.feed_settings.specs.declared.framing.Framing.{Framing}
 use Rattle.feed_tables.specs.declared.change.Change.{Change}
@@ -54,7 +54,12 @@ pub record RefusesInTurn (turn : ℕ) (before : Intake) (fault : CommitFault) (n
 -- a turn has more batches than the primary keeps commits, and so many wait
 abbrev pub IsLongTurn : ℕ → Intake → Type 0
 IsLongTurn turn start =
-    (start.primary.limits.history < turn) × (start.primary.limits.history < length start.batches)
+    (start.primary.limits.history.commits < turn)
+    × (start.primary.limits.history.commits < length start.batches)
+
+-- a turn is long, or what the primary keeps is limited in bytes, too
+abbrev pub MayLoseTokens : ℕ → Intake → Type 0
+MayLoseTokens turn start = IsLongTurn turn start ⊎ IsSome start.primary.limits.history.bytes
 
 -- A long turn loses the token of a session: a primary has a token for each count that it can reach.
 abbrev pub LosesItsToken : ℕ → Intake → Bool → Type 0
@@ -150,10 +155,11 @@ pub record HasAnswer (contest : List ℕ) (node : NodeState) (framing : Framing)
   pub enough : IsEnough head ⊎ IsAtEnd left
   pub answers : AnswersTo head contest node framing back answer
 
--- what came of the session's token and of the batches: after a 200 the token was lost exactly where
--- a turn was long, and else no batch is left; without a 200 all of them are
+-- what came of the session's token and of the batches: after a 200 the token was lost where a turn
+-- was long, and else only where what is kept is limited in bytes; where it was not lost, no batch is
+-- left; without a 200 all of them are
 pub record TakesAll (turn : ℕ) (start : Intake) (served : Served) (now : Intake) : Type 0 where
-  pub only_long : served.gone ≡ true → IsLongTurn turn start
+  pub only_long : served.gone ≡ true → MayLoseTokens turn start
   pub each_long : served.status ≡ 200 → LosesItsToken turn start served.gone
   pub all_taken : served.status ≡ 200 → served.gone ≡ false → now.batches ≡ []
   pub none_taken : served.status ≢ 200 → now ≡ start

@@ -11,7 +11,7 @@ use Rattle.feed_http.specs.declared.fault.Served.{Served}
 use Rattle.feed_answer.specs.Answered.{AnswerParts}
 use Rattle.feed_http.specs.Device.{AppendsPrefix, counted}
 use Rattle.feed_http.specs.Exchange.{Wrote}
-use Rattle.feed_http.specs.Live.{Intake, HasSent, IsOver, SendsLive, IsLongTurn, LosesItsToken, IsCutShort, IsRefused}
+use Rattle.feed_http.specs.Live.{Intake, HasSent, IsOver, SendsLive, MayLoseTokens, LosesItsToken, IsCutShort, IsRefused}
 use Rattle.feed_answer.specs.Served.{behind_opening}
 use Rattle.feed_http.specs.Serving.{Sends, commit_frames, HasAll, BeginsCommit, SendsAnswer}
 
@@ -68,7 +68,7 @@ WroteAll node answer wrote served =
 -- ---- what was written while batches were taken
 
 -- the frames of the commits that a session was sent, which opened at this token; so many, and whether
--- its token is then lost, which it is exactly where a turn is long
+-- its token is then lost: where a turn is long, and else only where what is kept is limited in bytes
 pub record WroteTurns (turn : ℕ) (start : Intake) (opened : List ℕ) (framing : Framing)
     (wrote : Wrote) (now : Intake) (token : List ℕ) (count : ℕ) (gone : Bool) : Type 0 where
   pub sent : List Commit
@@ -76,7 +76,7 @@ pub record WroteTurns (turn : ℕ) (start : Intake) (opened : List ℕ) (framing
   pub over : IsOver now token gone
   pub count_is : count ≡ counted 0 (length sent)
   pub frames : Appends wrote.old wrote.new (commit_frames framing sent)
-  pub only_long : gone ≡ true → IsLongTurn turn start
+  pub only_long : gone ≡ true → MayLoseTokens turn start
   pub each_long : LosesItsToken turn start gone
 
 -- these frames, and a prefix of what comes next
@@ -97,5 +97,5 @@ pub record WroteAllLive (turn : ℕ) (start : Intake) (answer : AnswerParts) (no
   pub text : List ℕ
   pub sends : SendsLive turn start answer text served now
   pub wrote_it : Appends wrote.old wrote.new text
-  pub only_long : served.gone ≡ true → IsLongTurn turn start
+  pub only_long : served.gone ≡ true → MayLoseTokens turn start
   pub each_long : IfSome answer.session (λ _. LosesItsToken turn start served.gone)

@@ -103,7 +103,7 @@ screens_show sends order read stays limits log nodes k texts token place fresh p
     record {
       notes = r.notes;
       nothing_bad = r.nothing_bad;
-      at = moved_by limits.history place (blocks_within log c.parts (length prefix));
+      at = moved_by limits.history log place (blocks_within log c.parts (length prefix));
       is_place = (stays limits log place c (length prefix) opened).0;
       shows = r.shows;
     }
@@ -119,12 +119,12 @@ screens_reach sends order read stays all limits log nodes k texts token place fr
     record {
       notes = r.notes;
       nothing_bad = r.nothing_bad;
-      at = moved_by limits.history place (blocks_within log c.parts (length prefix));
+      at = moved_by limits.history log place (blocks_within log c.parts (length prefix));
       is_place = (stays limits log place c (length prefix) opened).0;
       shows = r.shows;
       last = s.last;
       token_is = s.token_is;
-      reaches = subst (λ n. HasReached (moved_by limits.history place (blocks_within log c.parts n)) s.last) (ap length text) (all limits log place c opened);
+      reaches = subst (λ n. HasReached (moved_by limits.history log place (blocks_within log c.parts n)) s.last) (ap length text) (all limits log place c opened);
     }
 
 pub screens_follow : NodesSendTheNext → PartsGoOn → PrefixesAreRead → PlacesStay → ResponsesAreFollowed → EndsAreFollowed → ScreensAreFollowed

@@ -4,7 +4,7 @@ use Rattle.std.specs.Prelude.{if◌then◌else◌, slice_get, unwrap_or, is_none
 use Rattle.std.specs.List.{AllByRecursion}
 use Rattle.std.specs.Option.{option_and_then}
 use Rattle.std.proofs.lemmas.List.Sums.{fold-append}
-use Rattle.feed_settings.specs.Limits.{Limits}
+use Rattle.feed_settings.specs.Limits.{Limits, History}
 use Rattle.feed_settings.specs.declared.framing.Framing.TheVariants.{Close}
 use Rattle.std.proofs.lemmas.Bool.{le-ltb}
 use Rattle.feed_tables.specs.Changes.{IsChange}
@@ -33,6 +33,7 @@ use Rattle.feed_world.specs.Laws.{NodesSendTheNext, PartsGoOn}
 use Rattle.feed_world.specs.States.{HasReached}
 use Rattle.feed_world.specs.Log.{Log, IsLog, tokens_of, state_after, all_changes, changes_of_commit}
 use Rattle.feed_world.specs.Position.{Position, IsPosition, IsPlace, node_at, node_where, renewed}
+use Rattle.feed_world.proofs.Commits.{renewed_again, renewed_itself}
 use Rattle.feed_world.specs.Reading.{opening_at, IsOpened, IsRead, PrefixesAreRead, TokensTellStates}
 use Rattle.feed_hub.specs.declared.record.Record.{Record}
 use Rattle.feed_hub.specs.Told.{Told}
@@ -262,40 +263,55 @@ module _ (limits : Limits) (log : Log) (is_log : IsLog limits log) where
 -- ---- which tokens are held then
 
 -- each commit that is new drops the tokens that are older than the history, and no others
-keeps_low : (history : ℕ) (log : Log) (own p : Position) (k last : ℕ) (parts : List Part) (n : ℕ) → GoOn k parts last
-    → p.low ≡ max own.low (p.at - history)
-    → (q : Position) × (moved_by history (Some p) (blocks_within log parts n) ≡ Some q) × (q.low ≡ max own.low (q.at - history))
-keeps_low history log own p k last [] n g e = (p, refl, e)
-keeps_low history log own p k last (Snapshot m ∷ parts) n g e = absurd g
-keeps_low history log own p k last (Line_feed ∷ parts) n g e = by (nat_le (length (part_text log Line_feed)) n) refl (keeps_low history log own p k last parts (n - length (part_text log Line_feed)) g e)
+keeps_low : (history : History) (log : Log) (own p : Position) (k last : ℕ) (parts : List Part) (n : ℕ) → own.low ≤ p.at → k ≤ p.at → GoOn k parts last
+    → p.low ≡ (renewed history log p.at own.low).low
+    → (q : Position) × (moved_by history log (Some p) (blocks_within log parts n) ≡ Some q) × (q.low ≡ (renewed history log q.at own.low).low)
+keeps_low history log own p k last [] n above to g e = (p, refl, e)
+keeps_low history log own p k last (Snapshot m ∷ parts) n above to g e = absurd g
+keeps_low history log own p k last (Line_feed ∷ parts) n above to g e = by (nat_le (length (part_text log Line_feed)) n) refl (keeps_low history log own p k last parts (n - length (part_text log Line_feed)) above to g e)
   where
     by : (b : Bool) → nat_le (length (part_text log Line_feed)) n ≡ b
-        → (q : Position) × (moved_by history (Some p) (blocks_within log parts (n - length (part_text log Line_feed))) ≡ Some q) × (q.low ≡ max own.low (q.at - history))
-        → (q : Position) × (moved_by history (Some p) (blocks_within log (Line_feed ∷ parts) n) ≡ Some q) × (q.low ≡ max own.low (q.at - history))
-    by true is r = (r.0, ap (λ b. moved_by history (Some p) (if b then block_onto Line_feed (blocks_within log parts (n - length (part_text log Line_feed))) else [])) is ∙ r.1, r.2)
-    by false is r = (p, ap (λ b. moved_by history (Some p) (if b then block_onto Line_feed (blocks_within log parts (n - length (part_text log Line_feed))) else [])) is, e)
-keeps_low history log own p k last (Commit m ∷ parts) n g e =
+        → (q : Position) × (moved_by history log (Some p) (blocks_within log parts (n - length (part_text log Line_feed))) ≡ Some q) × (q.low ≡ (renewed history log q.at own.low).low)
+        → (q : Position) × (moved_by history log (Some p) (blocks_within log (Line_feed ∷ parts) n) ≡ Some q) × (q.low ≡ (renewed history log q.at own.low).low)
+    by true is r = (r.0, ap (λ b. moved_by history log (Some p) (if b then block_onto Line_feed (blocks_within log parts (n - length (part_text log Line_feed))) else [])) is ∙ r.1, r.2)
+    by false is r = (p, ap (λ b. moved_by history log (Some p) (if b then block_onto Line_feed (blocks_within log parts (n - length (part_text log Line_feed))) else [])) is, e)
+keeps_low history log own p k last (Commit m ∷ parts) n above to g e =
     by (nat_le (length (part_text log (Commit m))) n) refl
-    (keeps_low history log own next (k + 1) last parts (n - length (part_text log (Commit m))) g.1 (low (nat_lt p.at m) refl))
+    (keeps_low history log own next (k + 1) last parts (n - length (part_text log (Commit m))) (reach (nat_lt p.at m) refl).0 (reach (nat_lt p.at m) refl).1 g.1 (low (nat_lt p.at m) refl))
   where
     next : Position
-    next = if nat_lt p.at m then renewed history m p.low else p
+    next = if nat_lt p.at m then renewed history log m p.low else p
 
-    low : (b : Bool) → nat_lt p.at m ≡ b → next.low ≡ max own.low (next.at - history)
+    reach : (b : Bool) → nat_lt p.at m ≡ b → (own.low ≤ next.at) × (k + 1 ≤ next.at)
+    reach true is =
+        let less = ltb-true p.at m is in
+        let number = g.0 in
+        let at : next.at ≡ m = ap (λ b. (if b then renewed history log m p.low else p).at) is in
+        (omega (arith, above, less, at), omega (arith, number, at))
+    reach false is =
+        let less = ltb-false p.at m is in
+        let number = g.0 in
+        let at : next.at ≡ p.at = ap (λ b. (if b then renewed history log m p.low else p).at) is in
+        (omega (arith, above, at), omega (arith, number, less, at))
+
+    low : (b : Bool) → nat_lt p.at m ≡ b → next.low ≡ (renewed history log next.at own.low).low
     low true is =
         let less = ltb-true p.at m is in
-        let new : max p.low (m - history) ≡ max own.low (m - history) = omega (arith, e, less) in
-        ap (λ b. (if b then renewed history m p.low else p).low) is ∙ new
-        ∙ ap (λ b. max own.low ((if b then renewed history m p.low else p).at - history)) (sym is)
+        let number = g.0 in
+        let one : suc p.at ≡ m = omega (arith, less, to, number) in
+        ap (λ b. (if b then renewed history log m p.low else p).low) is
+        ∙ ap (λ l. (renewed history log m l).low) e
+        ∙ subst (λ j. (renewed history log j (renewed history log p.at own.low).low).low ≡ (renewed history log j own.low).low) one (renewed_again history log own.low p.at above)
+        ∙ ap (λ b. (renewed history log (if b then renewed history log m p.low else p).at own.low).low) (sym is)
     low false is =
-        ap (λ b. (if b then renewed history m p.low else p).low) is ∙ e
-        ∙ ap (λ b. max own.low ((if b then renewed history m p.low else p).at - history)) (sym is)
+        ap (λ b. (if b then renewed history log m p.low else p).low) is ∙ e
+        ∙ ap (λ b. (renewed history log (if b then renewed history log m p.low else p).at own.low).low) (sym is)
 
     by : (b : Bool) → nat_le (length (part_text log (Commit m))) n ≡ b
-        → (q : Position) × (moved_by history (Some next) (blocks_within log parts (n - length (part_text log (Commit m)))) ≡ Some q) × (q.low ≡ max own.low (q.at - history))
-        → (q : Position) × (moved_by history (Some p) (blocks_within log (Commit m ∷ parts) n) ≡ Some q) × (q.low ≡ max own.low (q.at - history))
-    by true is r = (r.0, ap (λ b. moved_by history (Some p) (if b then block_onto (Commit m) (blocks_within log parts (n - length (part_text log (Commit m)))) else [])) is ∙ r.1, r.2)
-    by false is r = (p, ap (λ b. moved_by history (Some p) (if b then block_onto (Commit m) (blocks_within log parts (n - length (part_text log (Commit m)))) else [])) is, e)
+        → (q : Position) × (moved_by history log (Some next) (blocks_within log parts (n - length (part_text log (Commit m)))) ≡ Some q) × (q.low ≡ (renewed history log q.at own.low).low)
+        → (q : Position) × (moved_by history log (Some p) (blocks_within log (Commit m ∷ parts) n) ≡ Some q) × (q.low ≡ (renewed history log q.at own.low).low)
+    by true is r = (r.0, ap (λ b. moved_by history log (Some p) (if b then block_onto (Commit m) (blocks_within log parts (n - length (part_text log (Commit m)))) else [])) is ∙ r.1, r.2)
+    by false is r = (p, ap (λ b. moved_by history log (Some p) (if b then block_onto (Commit m) (blocks_within log parts (n - length (part_text log (Commit m)))) else [])) is, e)
 
 -- ---- the law
 
@@ -400,12 +416,12 @@ module _ (g : Given) (limits : Limits) (log : Log) (nodes : List NodeState) (own
           notes = dropped.notes ++ found.notes;
           nothing_bad = subst (λ b. Reads limits opening b (dropped.notes ++ found.notes)) (sym whole)
               (both_read g.read g.good g.goes_on limits opening text dropped (joined recorded.texts) found.notes found.nothing_bad);
-          at = moved_by limits.history (Some own) (blocks_within log c.parts (length (joined recorded.texts)));
+          at = moved_by limits.history log (Some own) (blocks_within log c.parts (length (joined recorded.texts)));
           is_place = (g.stays limits log (Some own) c (length (joined recorded.texts)) opened).0;
           shows = same_shown g.read g.good g.goes_on limits opening text dropped found.notes ∙ found.shows;
           last = order.last;
           token_is = order.token_is;
-          reaches = subst (λ n. HasReached (moved_by limits.history (Some own) (blocks_within log c.parts n)) order.last) (ap length sent) (g.reached limits log (Some own) c opened);
+          reaches = subst (λ n. HasReached (moved_by limits.history log (Some own) (blocks_within log c.parts n)) order.last) (ap length sent) (g.reached limits log (Some own) c opened);
         };
         place = low.0;
         at = low.1;
@@ -433,11 +449,11 @@ module _ (g : Given) (limits : Limits) (log : Log) (nodes : List NodeState) (own
       found : IsRead limits log (Some own) c (joined recorded.texts)
       found = g.prefixes limits log (Some own) c (joined recorded.texts) [] is_log opened (append-nil (joined recorded.texts) ∙ sym sent)
 
-      low : (q : Position) × (moved_by limits.history (Some own) (blocks_within log c.parts (length (joined recorded.texts))) ≡ Some q)
-          × (q.low ≡ max own.low (q.at - limits.history))
+      low : (q : Position) × (moved_by limits.history log (Some own) (blocks_within log c.parts (length (joined recorded.texts))) ≡ Some q)
+          × (q.low ≡ (renewed limits.history log q.at own.low).low)
       low =
-          let kept = is_position.kept in
-          keeps_low limits.history log own own begins.0 order.last order.parts (length (joined recorded.texts)) order.go_on (omega (arith, kept))
+          keeps_low limits.history log own own begins.0 order.last order.parts (length (joined recorded.texts)) is_position.order within.1 order.go_on
+          (renewed_itself limits log own is_position)
 
 -- ---- one after the other
 

@@ -18,6 +18,7 @@ use Rattle.feed_follow.specs.Following.{Fails}
 use Rattle.feed_follow.specs.Standing.{Standing, in_head, token_refused, in_body, done, failed}
 use Rattle.feed_world.specs.Log.{Log, state_after, tokens_of}
 use Rattle.feed_world.specs.Position.{Position, node_at, commits_after}
+use Rattle.feed_world.proofs.Commits.{light_here}
 use Rattle.feed_hub.specs.declared.hub.Hub.{Hub}
 use Rattle.feed_hub.specs.Laws.{IsInLog}
 use Rattle.feed_hub.specs.Upstream.{IsFollowing, IsPushed}
@@ -825,7 +826,7 @@ module _ (limits : Limits) (log : Log) (servers : Servers) where
       let alone : Position = record { at = k; low = k } in
       let there : IsInLog limits log (restored_from bounds (node_at log alone).published).node = (
         Some alone,
-        record { order = omega arith; kept = omega arith; in_log = within },
+        record { order = omega arith; kept = omega arith; light = light_here bounds log k; in_log = within },
         ap (λ n. record {
           published = Some (record { tables = state_after log k; token = log.token k });
           held = tokens_of log k (suc n);

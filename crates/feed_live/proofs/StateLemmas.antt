@@ -1,16 +1,17 @@
 -- The states of a log are all that nodes at its places show, and nothing else.
-use Rattle.std.proofs.Common.{◌≡◌, ◌≢◌, refl, sym, subst, ℕ, zero, suc, ◌+◌, ◌-◌, ◌≤◌, ◌⊎◌, inl, inr, arith, List, [], ◌∷◌, ◌++◌, length, length-append, Some, None}
+use Rattle.std.proofs.Common.{◌≡◌, ◌≢◌, refl, sym, subst, ℕ, zero, suc, ◌+◌, ◌-◌, ◌≤◌, ◌⊎◌, inl, inr, arith, List, [], ◌∷◌, ◌++◌, length, length-append, Option, Some, None}
 use Rattle.std.specs.Prelude.{Bool, true, false, if◌then◌else◌, Contains}
 use Rattle.std.proofs.lemmas.List.Elements.{Contains-append_left, Contains-append_right, Contains-append_cases, Contains-push, Contains-push_cases}
-use Rattle.feed_settings.specs.Limits.{Limits}
+use Rattle.feed_settings.specs.Limits.{Limits, History}
+use Rattle.feed_node.specs.Kept.{are_heavy}
 use Rattle.feed_node.specs.States.{NodeState, nothing_published}
 use Rattle.feed_follow.specs.declared.fault.FollowFault.{FollowFault}
 use Rattle.feed_world.specs.Log.{Log}
-use Rattle.feed_world.specs.Position.{Position, node_at}
+use Rattle.feed_world.specs.Position.{Position, commits_after, node_at}
 use Rattle.feed_hub.specs.Laws.{IsInLog, AreInLog}
 use Rattle.feed_node.specs.Mirroring.{MirrorState}
 use Rattle.feed_device.specs.Links.{Shown, nothing_shown, once_at, all_from}
-use Rattle.feed_live.specs.States.{states_at, states_to, states_of}
+use Rattle.feed_live.specs.States.{unless_heavy, states_at, states_to, states_of}
 use Rattle.feed_live.specs.Upstream.{IsOfLog, wants_memory, surely_read, StaysInLog, IsHonestAs}
 use Rattle.feed_live.proofs.ServingLemmas.{number_tells}
 
@@ -41,27 +42,38 @@ among_cases x xs y there = by (Contains-append_cases (x ∷ []) xs y there)
 abbrev place_at : ℕ → ℕ → Position
 place_at at low = record { at = at; low = low }
 
-at_states : (log : Log) (at kept most : ℕ) → kept ≤ most → Contains (states_at log at most) (node_at log (place_at at (at - kept)))
-at_states log at kept zero few =
-    let none : at - kept ≡ at = omega arith in
-    subst (λ low. Contains (states_at log at zero) (node_at log (place_at at low))) (sym none) (among_first _ [])
-at_states log at kept (suc most) few = by (at_states log at kept most) (number_tells kept (suc most))
-  where
-    by : (kept ≤ most → Contains (states_at log at most) (node_at log (place_at at (at - kept)))) → (kept ≡ suc most) ⊎ (kept ≢ suc most) → Contains (states_at log at (suc most)) (node_at log (place_at at (at - kept)))
-    by rest (inl all) = subst (λ k. Contains (states_at log at (suc most)) (node_at log (place_at at (at - k)))) (sym all) (among_first _ _)
-    by rest (inr fewer) = among_rest _ _ _ (rest (omega arith))
+light_one : (limit : Option ℕ) (node : NodeState) → are_heavy limit node.kept ≡ false → Contains (unless_heavy limit node) node
+light_one limit node light = subst (λ b. Contains (if b then [] else node ∷ []) node) (sym light) (among_first node [])
 
-to_states : (history : ℕ) (log : Log) (at kept last : ℕ) → at ≤ last → kept ≤ history → Contains (states_to history log last) (node_at log (place_at at (at - kept)))
-to_states history log at kept zero within few =
-    let first : at ≡ zero = omega arith in
-    subst (λ n. Contains (states_to history log zero) (node_at log (place_at n (n - kept)))) (sym first) (at_states log zero kept history few)
-to_states history log at kept (suc last) within few = by (λ before. to_states history log at kept last before few) (number_tells at (suc last))
+at_states : (limit : Option ℕ) (log : Log) (at kept most : ℕ) → kept ≤ most → are_heavy limit (node_at log (place_at at (at - kept))).kept ≡ false
+    → Contains (states_at limit log at most) (node_at log (place_at at (at - kept)))
+at_states limit log at kept zero few light =
+    let none : at - kept ≡ at = omega (arith, few) in
+    subst (λ low. Contains (states_at limit log at zero) (node_at log (place_at at low))) (sym none)
+    (light_one limit (node_at log (place_at at at)) (subst (λ low. are_heavy limit (node_at log (place_at at low)).kept ≡ false) none light))
+at_states limit log at kept (suc most) few light = by (λ fewer. at_states limit log at kept most fewer light) (number_tells kept (suc most))
+  where
+    by : (kept ≤ most → Contains (states_at limit log at most) (node_at log (place_at at (at - kept)))) → (kept ≡ suc most) ⊎ (kept ≢ suc most) → Contains (states_at limit log at (suc most)) (node_at log (place_at at (at - kept)))
+    by rest (inl all) =
+        subst (λ k. Contains (states_at limit log at (suc most)) (node_at log (place_at at (at - k)))) (sym all)
+        (Contains-append_left (unless_heavy limit (node_at log (place_at at (at - suc most)))) (states_at limit log at most) _
+        (light_one limit (node_at log (place_at at (at - suc most))) (subst (λ k. are_heavy limit (node_at log (place_at at (at - k))).kept ≡ false) all light)))
+    by rest (inr fewer) = Contains-append_right (unless_heavy limit (node_at log (place_at at (at - suc most)))) (states_at limit log at most) _ (rest (omega (arith, few, fewer)))
+
+to_states : (history : History) (log : Log) (at kept last : ℕ) → at ≤ last → kept ≤ history.commits → are_heavy history.bytes (node_at log (place_at at (at - kept))).kept ≡ false
+    → Contains (states_to history log last) (node_at log (place_at at (at - kept)))
+to_states history log at kept zero within few light =
+    let first : at ≡ zero = omega (arith, within) in
+    subst (λ n. Contains (states_to history log zero) (node_at log (place_at n (n - kept)))) (sym first)
+    (at_states history.bytes log zero kept history.commits few (subst (λ n. are_heavy history.bytes (node_at log (place_at n (n - kept))).kept ≡ false) first light))
+to_states history log at kept (suc last) within few light = by (λ before. to_states history log at kept last before few light) (number_tells at (suc last))
   where
     by : (at ≤ last → Contains (states_to history log last) (node_at log (place_at at (at - kept)))) → (at ≡ suc last) ⊎ (at ≢ suc last) → Contains (states_to history log (suc last)) (node_at log (place_at at (at - kept)))
     by rest (inl is) =
         subst (λ n. Contains (states_to history log (suc last)) (node_at log (place_at n (n - kept)))) (sym is)
-        (Contains-append_left (states_at log (suc last) history) (states_to history log last) _ (at_states log (suc last) kept history few))
-    by rest (inr before) = Contains-append_right (states_at log (suc last) history) (states_to history log last) _ (rest (omega arith))
+        (Contains-append_left (states_at history.bytes log (suc last) history.commits) (states_to history log last) _
+        (at_states history.bytes log (suc last) kept history.commits few (subst (λ n. are_heavy history.bytes (node_at log (place_at n (n - kept))).kept ≡ false) is light)))
+    by rest (inr before) = Contains-append_right (states_at history.bytes log (suc last) history.commits) (states_to history log last) _ (rest (omega (arith, within, before)))
 
 pub among_states : (limits : Limits) (log : Log) (node : NodeState) → IsInLog limits log node → Contains (states_of limits log) node
 unfolding states_of
@@ -69,52 +81,68 @@ among_states limits log node (None, within, is) = subst (λ n. Contains (states_
 among_states limits log node (Some p, within, is) =
     let order = within.order in
     let kept = within.kept in
-    let low : p.at - (p.at - p.low) ≡ p.low = omega arith in
-    let few : p.at - p.low ≤ limits.history = omega arith in
-    let there : Contains (states_of limits log) (node_at log (place_at p.at (p.at - (p.at - p.low)))) = among_rest _ _ _ (to_states limits.history log p.at (p.at - p.low) (length log.commits) within.in_log few) in
+    let low : p.at - (p.at - p.low) ≡ p.low = omega (arith, order) in
+    let few : p.at - p.low ≤ limits.history.commits = omega (arith, kept) in
+    let light = subst (λ l. are_heavy limits.history.bytes (node_at log (place_at p.at l)).kept ≡ false) (sym low) within.light in
+    let there : Contains (states_of limits log) (node_at log (place_at p.at (p.at - (p.at - p.low)))) = among_rest _ _ _ (to_states limits.history log p.at (p.at - p.low) (length log.commits) within.in_log few light) in
     subst (λ n. Contains (states_of limits log) n) (sym is)
     (subst (λ l. Contains (states_of limits log) (node_at log (place_at p.at l))) low there)
 
--- a place of the log up to this number, with no more commits kept than these
-record IsWithin (history : ℕ) (log : Log) (last : ℕ) (node : NodeState) : Type 0 where
+-- a place of the log up to this number, with no more commits kept than these, and within a limit in bytes
+record IsWithin (limit : Option ℕ) (history : ℕ) (log : Log) (last : ℕ) (node : NodeState) : Type 0 where
   pub place : Position
   pub order : place.low ≤ place.at
   pub kept : place.at ≤ place.low + history
+  pub light : are_heavy limit (commits_after log place.low (place.at - place.low)) ≡ false
   pub in_log : place.at ≤ last
   pub shows : node ≡ node_at log place
 
-in_states_at : (log : Log) (at most : ℕ) (node : NodeState) → Contains (states_at log at most) node → IsWithin most log at node
-in_states_at log at zero node there = by (among_cases _ [] _ there)
+one_light : (limit : Option ℕ) (one node : NodeState) → Contains (unless_heavy limit one) node → (one ≡ node) × (are_heavy limit one.kept ≡ false)
+one_light limit one node there = by (are_heavy limit one.kept) refl there
   where
-    by : (node_at log (place_at at at) ≡ node) ⊎ Contains [] node → IsWithin zero log at node
-    by (inl is) = record { place = place_at at at; order = omega arith; kept = omega arith; in_log = omega arith; shows = sym is }
-    by (inr none) = absurd (among_none node none)
-in_states_at log at (suc most) node there = by (in_states_at log at most node) (among_cases _ (states_at log at most) _ there)
-  where
-    more : IsWithin most log at node → IsWithin (suc most) log at node
-    more w = record { place = w.place; order = w.order; kept = (let kept = w.kept in omega arith); in_log = w.in_log; shows = w.shows }
+    first : (one ≡ node) ⊎ Contains [] node → one ≡ node
+    first (inl is) = is
+    first (inr none) = absurd (among_none node none)
 
-    by : (Contains (states_at log at most) node → IsWithin most log at node) → (node_at log (place_at at (at - suc most)) ≡ node) ⊎ Contains (states_at log at most) node → IsWithin (suc most) log at node
-    by rest (inl is) = record { place = place_at at (at - suc most); order = omega arith; kept = omega arith; in_log = omega arith; shows = sym is }
+    by : (b : Bool) → are_heavy limit one.kept ≡ b → Contains (if b then [] else one ∷ []) node → (one ≡ node) × (are_heavy limit one.kept ≡ false)
+    by true e h = absurd (among_none node h)
+    by false e h = (first (among_cases one [] node h), e)
+
+in_states_at : (limit : Option ℕ) (log : Log) (at most : ℕ) (node : NodeState) → Contains (states_at limit log at most) node → IsWithin limit most log at node
+in_states_at limit log at zero node there =
+    let one = one_light limit (node_at log (place_at at at)) node there in
+    record { place = place_at at at; order = omega arith; kept = omega arith; light = one.1; in_log = omega arith; shows = sym one.0 }
+in_states_at limit log at (suc most) node there =
+    by (in_states_at limit log at most node) (Contains-append_cases (unless_heavy limit (node_at log (place_at at (at - suc most)))) (states_at limit log at most) node there)
+  where
+    more : IsWithin limit most log at node → IsWithin limit (suc most) log at node
+    more w = record { place = w.place; order = w.order; kept = (let kept = w.kept in omega (arith, kept)); light = w.light; in_log = w.in_log; shows = w.shows }
+
+    by : (Contains (states_at limit log at most) node → IsWithin limit most log at node) → Contains (unless_heavy limit (node_at log (place_at at (at - suc most)))) node ⊎ Contains (states_at limit log at most) node → IsWithin limit (suc most) log at node
+    by rest (inl here) =
+        let one = one_light limit (node_at log (place_at at (at - suc most))) node here in
+        record { place = place_at at (at - suc most); order = omega arith; kept = omega arith; light = one.1; in_log = omega arith; shows = sym one.0 }
     by rest (inr later) = more (rest later)
 
-in_states_to : (history : ℕ) (log : Log) (last : ℕ) (node : NodeState) → Contains (states_to history log last) node → IsWithin history log last node
-in_states_to history log zero node there = in_states_at log zero history node there
-in_states_to history log (suc last) node there = by (in_states_to history log last node) (Contains-append_cases (states_at log (suc last) history) (states_to history log last) node there)
+in_states_to : (history : History) (log : Log) (last : ℕ) (node : NodeState) → Contains (states_to history log last) node → IsWithin history.bytes history.commits log last node
+in_states_to history log zero node there = in_states_at history.bytes log zero history.commits node there
+in_states_to history log (suc last) node there =
+    by (in_states_to history log last node) (Contains-append_cases (states_at history.bytes log (suc last) history.commits) (states_to history log last) node there)
   where
-    more : IsWithin history log last node → IsWithin history log (suc last) node
-    more w = record { place = w.place; order = w.order; kept = w.kept; in_log = (let in_log = w.in_log in omega arith); shows = w.shows }
+    more : IsWithin history.bytes history.commits log last node → IsWithin history.bytes history.commits log (suc last) node
+    more w = record { place = w.place; order = w.order; kept = w.kept; light = w.light; in_log = (let in_log = w.in_log in omega (arith, in_log)); shows = w.shows }
 
-    by : (Contains (states_to history log last) node → IsWithin history log last node) → Contains (states_at log (suc last) history) node ⊎ Contains (states_to history log last) node → IsWithin history log (suc last) node
-    by rest (inl here) = in_states_at log (suc last) history node here
+    by : (Contains (states_to history log last) node → IsWithin history.bytes history.commits log last node) → Contains (states_at history.bytes log (suc last) history.commits) node ⊎ Contains (states_to history log last) node
+        → IsWithin history.bytes history.commits log (suc last) node
+    by rest (inl here) = in_states_at history.bytes log (suc last) history.commits node here
     by rest (inr before) = more (rest before)
 
 pub states_within : (limits : Limits) (log : Log) (node : NodeState) → Contains (states_of limits log) node → IsInLog limits log node
 unfolding states_of
 states_within limits log node there = by (among_cases _ (states_to limits.history log (length log.commits)) _ there)
   where
-    at : IsWithin limits.history log (length log.commits) node → IsInLog limits log node
-    at w = (Some w.place, record { order = w.order; kept = w.kept; in_log = w.in_log }, w.shows)
+    at : IsWithin limits.history.bytes limits.history.commits log (length log.commits) node → IsInLog limits log node
+    at w = (Some w.place, record { order = w.order; kept = w.kept; light = w.light; in_log = w.in_log }, w.shows)
 
     by : (nothing_published ≡ node) ⊎ Contains (states_to limits.history log (length log.commits)) node → IsInLog limits log node
     by (inl is) = (None, tt, sym is)

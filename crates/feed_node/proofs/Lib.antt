@@ -4,6 +4,7 @@ pub mod Cuts
 pub mod FeedBatches
 pub mod Going
 pub mod Keeping
+pub mod Kept
 pub mod Latest
 pub mod Mirrored
 pub mod Numbered
@@ -11,6 +12,7 @@ pub mod Numbering
 pub mod OneReading
 pub mod Onward
 pub mod Placing
+pub mod Pushing
 pub mod Restored
 pub mod Saving
 pub mod Sending

@@ -15,6 +15,7 @@ use Rattle.feed_node.specs.Sent.{TakesText, PublishesAtEnd, fresh_on, renewed_on
 use Rattle.feed_node.specs.Staging.{Standing, steps, AllTaken}
 use Rattle.feed_node.specs.States.{NodeState, Node, nothing_published, published_token}
 use Rattle.feed_node.specs.Steps.{StepsRead, TakenAreGood, ReadingIsOne, standing_after}
+use Rattle.feed_node.specs.Kept.{most_kept}
 use Rattle.feed_node.proofs.Latest.{keep_last_all}
 
 -- the mirror that is cut off where this stands
@@ -36,8 +37,8 @@ module _ (read : StepsRead) (good : TakenAreGood) (one : ReadingIsOne) (limits :
     node = record {
       shown = record {
         published = None;
-        held = sym (keep_last_all (limits.history + 1) [] (omega arith)) i;
-        kept = sym (keep_last_all limits.history [] (omega arith)) i;
+        held = sym (keep_last_all (most_kept limits.history [] + 1) [] (omega arith)) i;
+        kept = sym (keep_last_all (most_kept limits.history []) [] (omega arith)) i;
       };
       history = limits.history;
     };

@@ -1,7 +1,7 @@
 -- The codes of what nodes and mirrors show, which their models need.
 use Rattle.std.specs.Prelude.{refl, ℕ, Bool, List, Option}
 use Rattle.std.specs.Coded.{Coded, code_by, coded×, coded_list, coded_option, coded_ℕ, coded_bool}
-use Rattle.feed_settings.specs.Limits.{Limits}
+use Rattle.feed_settings.specs.Limits.{Limits, History}
 use Rattle.feed_tables.specs.declared.change.Change.{Change}
 use Rattle.feed_tables.specs.Tables.{Contents}
 use Rattle.feed_tables.specs.Codes.{text_code, change_code, contents_code}
@@ -9,6 +9,7 @@ use Rattle.feed_note.specs.Publishing.{Published}
 use Rattle.feed_node.specs.declared.commit.Commit.{Commit}
 use Rattle.feed_node.specs.Log.{PrimaryState}
 use Rattle.feed_node.specs.States.{NodeState, Node}
+use Rattle.feed_node.specs.Shown.{Latest}
 use Rattle.feed_node.specs.Staging.{Standing}
 use Rattle.feed_node.specs.Mirroring.{Connection, MirrorState}
 
@@ -23,12 +24,18 @@ state_code =
     code_by (Option Published × (List (List ℕ) × List Commit)) (coded× (coded_option published_code) (coded× (coded_list text_code) (coded_list commit_code)))
     (λ n. (n.published, (n.held, n.kept))) (λ p. record { published = p.0; held = p.1.0; kept = p.1.1 }) (λ _. refl)
 
+abbrev pub history_code : Coded History
+history_code = code_by (ℕ × Option ℕ) (coded× coded_ℕ (coded_option coded_ℕ)) (λ h. (h.commits, h.bytes)) (λ p. record { commits = p.0; bytes = p.1 }) (λ _. refl)
+
+abbrev pub latest_code : Coded Latest
+latest_code = code_by (List Commit × History) (coded× (coded_list commit_code) history_code) (λ l. (l.items, l.history)) (λ p. record { items = p.0; history = p.1 }) (λ _. refl)
+
 abbrev pub node_code : Coded Node
-node_code = code_by (NodeState × ℕ) (coded× state_code coded_ℕ) (λ n. (n.shown, n.history)) (λ p. record { shown = p.0; history = p.1 }) (λ _. refl)
+node_code = code_by (NodeState × History) (coded× state_code history_code) (λ n. (n.shown, n.history)) (λ p. record { shown = p.0; history = p.1 }) (λ _. refl)
 
 abbrev pub limits_code : Coded Limits
 limits_code =
-    code_by (ℕ × (ℕ × Option ℕ)) (coded× coded_ℕ (coded× coded_ℕ (coded_option coded_ℕ)))
+    code_by (History × (ℕ × Option ℕ)) (coded× history_code (coded× coded_ℕ (coded_option coded_ℕ)))
     (λ l. (l.history, (l.staged, l.memory))) (λ p. record { history = p.0; staged = p.1.0; memory = p.1.1 }) (λ _. refl)
 
 abbrev pub standing_code : Coded Standing

@@ -1,6 +1,7 @@
 pub mod Bounds
 pub mod Codes
 pub mod Followed
+pub mod Kept
 pub mod Log
 pub mod Mirroring
 pub mod Numbered

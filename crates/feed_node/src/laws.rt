@@ -3,6 +3,7 @@
 ghost use Rattle.feed_node.specs.Saved.{SavedTextsRestore};
 ghost use Rattle.feed_node.specs.Sent.{TextsGoOn, BatchesPublishAtEnd, SnapshotsPublishAtEnd};
 ghost use Rattle.feed_node.specs.Serving.{HeldTokensStand};
+ghost use Rattle.feed_node.specs.States.{BytesLeaveFewer};
 ghost use Rattle.feed_node.specs.Steps.{StepsRead, StepsCount, TakenAreGood, ReadingIsOne, BatchesAreOfFeed};
 
 use feed_note::{line_laws, written_lines_law};
@@ -10,12 +11,14 @@ use feed_tables::table_laws;
 
 /// What stands on an open connection after lines is what one line after the other leaves, they
 /// publish as often as one after the other does, and lines that are taken one after the other are
-/// good. A held token stands at its own place.
+/// good. A held token stands at its own place. What a limit in bytes leaves of a history is what a
+/// smaller count would leave.
 pub fn node_laws()
     ensures read { StepsRead }
     ensures counted { StepsCount }
     ensures good { TakenAreGood }
     ensures held { HeldTokensStand }
+    ensures fewer { BytesLeaveFewer }
 {}
 
 /// Where nothing is bad, a text has one reading, and no fault stands. A text after whole lines is

@@ -1,7 +1,7 @@
 -- A script played: what its lines do in a world, one after another, what is printed of that, and
 -- why it stops.
 use Rattle.std.specs.Prelude.{◌≡◌, ◌≢◌, ℕ, ◌+◌, ◌≤◌, ◌<◌, ◌⊎◌, List, [], ◌∷◌, ◌++◌, length, slice_get, Option, Some, None}
-use Rattle.feed_settings.specs.Limits.{IsInRange}
+use Rattle.feed_settings.specs.Limits.{IsInRange, by_count}
 use Rattle.feed_tables.specs.declared.change.Change.{Change}
 use Rattle.feed_note.specs.Lines.{lines as lines_of}
 use Rattle.feed_node.specs.States.{NodeState, published_token}
@@ -37,13 +37,13 @@ pub record IsShaped (asked : Asked) : Type 0 where
   pub nodes : HasShape asked.nodes
   pub ordered : IsOrdered asked.upstreams
 
--- the line says this of a world that there is: its limits are in range, memory is not limited, and
+-- the line says this of a world that there is: its limits are in range, bytes are not limited, and
 -- it has a shape
 pub record Makes (line : List ℕ) (asked : Asked) (w : World) : Type 0 where
   pub says : shape_in line ≡ Some asked
   pub limits : IsInRange asked.history asked.staged
   pub shape : IsShaped asked
-  pub is : w ≡ new_world (record { history = asked.history; staged = asked.staged; memory = None })
+  pub is : w ≡ new_world (record { history = by_count asked.history; staged = asked.staged; memory = None })
       asked.framing asked.nodes
 
 -- the line says limits that are out of range

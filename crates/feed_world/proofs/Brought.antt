@@ -1,7 +1,7 @@
 -- A mirror that has followed a prefix of the response on its connection is where the whole blocks of that prefix bring it.
 use Rattle.std.proofs.Common.{◌≡◌, refl, sym, ap, ◌∙◌, subst, ℕ, zero, suc, ◌+◌, ◌-◌, ◌<◌, ◌≤◌, ◌^◌, min, Bool, true, false, ◌&&◌, arith, List, [], ◌∷◌, ◌++◌, length, take, drop, append_assoc, length-append, length-take-le, take-take, take-append-drop, Option, Some, None, Ok, Err, inl, inr, nat_le, nat_lt, eqb-true, ltb-true, ltb-false}
 use Rattle.std.specs.Prelude.{if◌then◌else◌, ◌==◌, ◌≢◌, Result}
-use Rattle.feed_settings.specs.Limits.{Limits}
+use Rattle.feed_settings.specs.Limits.{Limits, History}
 use Rattle.feed_note.specs.Lines.{rest}
 use Rattle.feed_note.specs.declared.line.Line.{Line}
 use Rattle.feed_node.specs.declared.fault.FeedFault.{FeedFault}
@@ -30,7 +30,7 @@ use Rattle.feed_world.specs.Reading.{opening_at, IsOpened, PrefixesAreRead}
 use Rattle.feed_world.specs.States.{ConnectionState, FollowerState, IsConnection, HasAsked, IsReading, AreLinked, IsMirror, asks_with, Moves, BreaksMirror, IsBrought, Brings, next_bytes, delivered_after, published_between}
 use Rattle.feed_world.specs.Step.{reached, delivers, with_connection, mirror_delivers, brought_to, IsMemory}
 use Rattle.feed_world.specs.World.{Mirror}
-use Rattle.feed_world.proofs.Commits.{renewed_is_position}
+use Rattle.feed_world.proofs.Commits.{light_here, renewed_is_position}
 use Rattle.feed_world.proofs.Prefixes.{not_zero}
 use Rattle.feed_world.proofs.Growth.{goes_up, fewer_blocks, deliveries_compose, news_compose}
 use Rattle.feed_world.proofs.Linked.{parts_have_text, none_at_first}
@@ -39,49 +39,49 @@ use Rattle.feed_world.proofs.Responses.{joined_parts, are_texts, come_none, come
 -- ---- places
 
 module _ (limits : Limits) (log : Log) where
-  choose_place : (place : Option Position) (b : Bool) (bs : List Part) → IsPlace limits log place → IsPlace limits log (moved_by limits.history place bs)
-      → IsPlace limits log (moved_by limits.history place (if b then bs else []))
+  choose_place : (place : Option Position) (b : Bool) (bs : List Part) → IsPlace limits log place → IsPlace limits log (moved_by limits.history log place bs)
+      → IsPlace limits log (moved_by limits.history log place (if b then bs else []))
   choose_place place true bs h k = k
   choose_place place false bs h k = h
 
   place_since : (parts : List Part) (p : Position) (k last n : ℕ) → IsPosition limits log p → k ≤ p.at → GoOn k parts last → last ≤ length log.commits
-      → IsPlace limits log (moved_by limits.history (Some p) (blocks_within log parts n))
+      → IsPlace limits log (moved_by limits.history log (Some p) (blocks_within log parts n))
   place_since [] p k last n h to g within = h
   place_since (Line_feed ∷ parts) p k last n h to g within =
       choose_place (Some p) (nat_le 1 n) (blocks_within log parts (n - 1)) h (place_since parts p k last (n - 1) h to g within)
   place_since (Commit j ∷ parts) p k last n h to g within =
       let m = n - length (part_text log (Commit j)) in
       choose_place (Some p) (nat_le (length (part_text log (Commit j))) n) (Commit j ∷ blocks_within log parts m) h
-      (place_since parts (if nat_lt p.at j then renewed limits.history j p.low else p) (k + 1) last m (by (nat_lt p.at j) refl).0 (by (nat_lt p.at j) refl).1 g.1 within)
+      (place_since parts (if nat_lt p.at j then renewed limits.history log j p.low else p) (k + 1) last m (by (nat_lt p.at j) refl).0 (by (nat_lt p.at j) refl).1 g.1 within)
     where
-      by : (b : Bool) → nat_lt p.at j ≡ b → IsPosition limits log (if b then renewed limits.history j p.low else p) × (k + 1 ≤ (if b then renewed limits.history j p.low else p).at)
+      by : (b : Bool) → nat_lt p.at j ≡ b → IsPosition limits log (if b then renewed limits.history log j p.low else p) × (k + 1 ≤ (if b then renewed limits.history log j p.low else p).at)
       by true is =
           let less = ltb-true p.at j is in
           let up = goes_up (k + 1) parts last g.1 in
           let next : suc p.at ≤ length log.commits = omega (arith, g.0) in
           let same : suc p.at ≡ j = omega (arith, g.0) in
-          (subst (λ i. IsPosition limits log (renewed limits.history i p.low)) same (renewed_is_position limits log p h next), omega (arith, g.0))
+          (subst (λ i. IsPosition limits log (renewed limits.history log i p.low)) same (renewed_is_position limits log p h next), omega (arith, g.0))
       by false is = let less = ltb-false p.at j is in (h, omega (arith, g.0))
   place_since (Snapshot j ∷ parts) p k last n h to g within = absurd g
 
   place_either : (fresh : Bool) (place : Option Position) (start : ℕ) (more : List Part) (last n : ℕ) → IsPlace limits log place
       → (fresh ≡ false → (own : Position) × (place ≡ Some own) × (own.low ≤ start) × (start ≤ own.at))
-      → GoOn start more last → last ≤ length log.commits → IsPlace limits log (moved_by limits.history place (blocks_within log (first_parts fresh start ++ more) n))
+      → GoOn start more last → last ≤ length log.commits → IsPlace limits log (moved_by limits.history log place (blocks_within log (first_parts fresh start ++ more) n))
   place_either true place start more last n h at g within =
       let up = goes_up start more last g in
       let p : Position = record { at = start; low = start } in
-      let here : IsPosition limits log p = record { order = omega arith; kept = omega arith; in_log = omega arith } in
+      let here : IsPosition limits log p = record { order = omega arith; kept = omega arith; light = light_here limits log start; in_log = omega arith } in
       let l = length (part_text log (Snapshot start)) in
       choose_place place (nat_le l n) (Snapshot start ∷ blocks_within log more (n - l)) h (place_since more p start last (n - l) here (omega arith) g within)
   place_either false place start more last n h at g within =
       let own = at refl in
-      subst (λ q. IsPlace limits log (moved_by limits.history q (blocks_within log more n))) (sym own.1)
+      subst (λ q. IsPlace limits log (moved_by limits.history log q (blocks_within log more n))) (sym own.1)
       (place_since more own.0 start last n (subst (IsPlace limits log) own.1 h) own.3 g within)
 
   -- the blocks of a connection lead from one position to another
-  pub place_after : (place : Option Position) (c : Connection) (n : ℕ) → IsOpened limits log place c → IsPlace limits log (moved_by limits.history place (blocks_within log c.parts n))
+  pub place_after : (place : Option Position) (c : Connection) (n : ℕ) → IsOpened limits log place c → IsPlace limits log (moved_by limits.history log place (blocks_within log c.parts n))
   place_after place c n o =
-      subst (λ ps. IsPlace limits log (moved_by limits.history place (blocks_within log ps n))) (sym o.order.parts)
+      subst (λ ps. IsPlace limits log (moved_by limits.history log place (blocks_within log ps n))) (sym o.order.parts)
       (place_either c.fresh place c.start o.order.more c.last n o.mirror o.start o.order.go_on o.sent)
 
 -- ---- the token that is asked with
@@ -122,14 +122,14 @@ asks_after token true false xs (y ∷ ys) less h old = let k = h refl in let f :
 
 -- what these lines leave, which are those of the first n bytes of the text
 record ReadsTo (limits : Limits) (log : Log) (place : Option Position) (c : Connection) (notes : List Line) (n : ℕ) : Type 0 where
-  shows : keep_latest limits.history (reads limits.history (opening_at log place c.fresh) notes) ≡ node_where log (moved_by limits.history place (blocks_within log c.parts n))
+  shows : keep_latest limits.history (reads limits.history (opening_at log place c.fresh) notes) ≡ node_where log (moved_by limits.history log place (blocks_within log c.parts n))
   awaits : awaits_reset (opening_at log place c.fresh) notes ≡ (c.fresh && (length (blocks_within log c.parts n) == 0))
 
 -- a mirror that has followed the first n bytes of the response: what it shows, and asks with
 pub record FollowsTo (limits : Limits) (log : Log) (place : Option Position) (c : Connection) (n : ℕ) (mirror : MirrorState) : Type 0 where
   pub bounds : mirror.limits ≡ limits
-  pub shows : mirror.node ≡ node_where log (moved_by limits.history place (blocks_come log c n))
-  pub since : mirror.since ≡ (if c.fresh && (length (blocks_come log c n) == 0) then None else published_token (node_where log (moved_by limits.history place (blocks_come log c n))))
+  pub shows : mirror.node ≡ node_where log (moved_by limits.history log place (blocks_come log c n))
+  pub since : mirror.since ≡ (if c.fresh && (length (blocks_come log c n) == 0) then None else published_token (node_where log (moved_by limits.history log place (blocks_come log c n))))
 
 -- where the mirror of the world is then
 record IsBroughtTo (limits : Limits) (log : Log) (m : Mirror) (place : Option Position) (c : Connection) (n : ℕ) (mirror : MirrorState) : Type 0 where
@@ -138,7 +138,7 @@ record IsBroughtTo (limits : Limits) (log : Log) (m : Mirror) (place : Option Po
   node : mirror.node ≡ node_where log (brought_to limits.history log m c n None).place
   since : mirror.since ≡ asks_with log (brought_to limits.history log m c n None)
   afresh : (brought_to limits.history log m c n None).afresh ≡ true → (c.fresh ≡ true) × (blocks_come log c n ≡ [])
-  moves : (brought_to limits.history log m c n None).place ≡ moved_by limits.history place (blocks_come log c n)
+  moves : (brought_to limits.history log m c n None).place ≡ moved_by limits.history log place (blocks_come log c n)
 
 and_true : (b : Bool) → (b && true) ≡ b
 and_true true = refl
@@ -184,7 +184,7 @@ prefix_is prefix behind text e = ap (take (length prefix)) (sym e) ∙ take_pref
 module _ (prefixes : PrefixesAreRead) (one : ReadingIsOne) (responses : ResponsesAreFollowed) (carry : PrefixesCarryMore) (limits : Limits) (log : Log) (is_log : IsLog limits log) where
   -- the token of a mirror that was here, after these blocks
   abbrev token_at : Option Position → List Part → Option (List ℕ)
-  token_at place blocks = published_token (node_where log (moved_by limits.history place blocks))
+  token_at place blocks = published_token (node_where log (moved_by limits.history log place blocks))
 
   -- the first n bytes of the response stand in one way
   only_at : (c : Connection) (n : ℕ) (had : Bool) (s : Standing) → length (sent_bytes log c) < 2 ^ 64 → Stands had (take n (sent_bytes log c)) s
@@ -209,7 +209,7 @@ module _ (prefixes : PrefixesAreRead) (one : ReadingIsOne) (responses : Response
       let none = none_come place c n o h in
       record {
         bounds = ap (λ s. s.limits) same ∙ asked.limits_are;
-        shows = ap (λ s. s.node) same ∙ ap (λ p. p.before) asked.opening ∙ ap (λ bs. node_where log (moved_by limits.history place bs)) (sym none);
+        shows = ap (λ s. s.node) same ∙ ap (λ p. p.before) asked.opening ∙ ap (λ bs. node_where log (moved_by limits.history log place bs)) (sym none);
         since = ap (λ s. s.since) same ∙ asked.since
             ∙ ap (λ b. if b then None else published_token (node_where log place)) (sym (and_true c.fresh))
             ∙ ap (λ bs. if c.fresh && (length bs == 0) then None else token_at place bs) (sym none);
@@ -266,7 +266,7 @@ module _ (prefixes : PrefixesAreRead) (one : ReadingIsOne) (responses : Response
         let ys = blocks_come log c n in
         let between = blocks_between log c c.delivered n in
         let less = come_more n further in
-        let moves = ap (λ q. moved_by limits.history q between) r.place ∙ deliveries_compose log limits.history r.before c.parts (come_by log c c.delivered) (come_by log c n) less in
+        let moves = ap (λ q. moved_by limits.history log q between) r.place ∙ deliveries_compose log limits.history r.before c.parts (come_by log c c.delivered) (come_by log c n) less in
         record {
           within = subst (IsPlace limits log) (sym moves) (place_after limits log r.before c (come_by log c n) r.opened);
           bounds = new.bounds;
@@ -308,28 +308,28 @@ told_between start own fresh before after more old new (came_since a e) (came_si
     let l : more ≡ (own + after) - (own + before) = omega (arith, s) in l ∙ (λ i. published_between start (sym e i) (sym g i))
 
 -- each block that is new is the next number
-counts_since : (log : Log) (history : ℕ) (parts : List Part) (p : Position) (k last n : ℕ) → k ≤ p.at → GoOn k parts last
-    → (q : Position) × (moved_by history (Some p) (blocks_within log parts n) ≡ Some q) × (q.at ≡ p.at + count_new history (Some p) (blocks_within log parts n))
+counts_since : (log : Log) (history : History) (parts : List Part) (p : Position) (k last n : ℕ) → k ≤ p.at → GoOn k parts last
+    → (q : Position) × (moved_by history log (Some p) (blocks_within log parts n) ≡ Some q) × (q.at ≡ p.at + count_new history log (Some p) (blocks_within log parts n))
 counts_since log history [] p k last n to g = (p, refl, omega arith)
 counts_since log history (Line_feed ∷ parts) p k last n to g = by (counts_since log history parts p k last (n - 1) to g) (nat_le 1 n)
   where
-    by : (q : Position) × (moved_by history (Some p) (blocks_within log parts (n - 1)) ≡ Some q) × (q.at ≡ p.at + count_new history (Some p) (blocks_within log parts (n - 1)))
-        → (b : Bool) → (q : Position) × (moved_by history (Some p) (if b then blocks_within log parts (n - 1) else []) ≡ Some q)
-        × (q.at ≡ p.at + count_new history (Some p) (if b then blocks_within log parts (n - 1) else []))
+    by : (q : Position) × (moved_by history log (Some p) (blocks_within log parts (n - 1)) ≡ Some q) × (q.at ≡ p.at + count_new history log (Some p) (blocks_within log parts (n - 1)))
+        → (b : Bool) → (q : Position) × (moved_by history log (Some p) (if b then blocks_within log parts (n - 1) else []) ≡ Some q)
+        × (q.at ≡ p.at + count_new history log (Some p) (if b then blocks_within log parts (n - 1) else []))
     by later true = later
     by later false = (p, refl, omega arith)
 counts_since log history (Commit j ∷ parts) p k last n to g =
     by (next (λ q up. counts_since log history parts q (k + 1) last (n - length (part_text log (Commit j))) up g.1) (nat_lt p.at j) refl) (nat_le (length (part_text log (Commit j))) n)
   where
-    next : ((from : Position) → k + 1 ≤ from.at → (q : Position) × (moved_by history (Some from) (blocks_within log parts (n - length (part_text log (Commit j)))) ≡ Some q)
-        × (q.at ≡ from.at + count_new history (Some from) (blocks_within log parts (n - length (part_text log (Commit j))))))
+    next : ((from : Position) → k + 1 ≤ from.at → (q : Position) × (moved_by history log (Some from) (blocks_within log parts (n - length (part_text log (Commit j)))) ≡ Some q)
+        × (q.at ≡ from.at + count_new history log (Some from) (blocks_within log parts (n - length (part_text log (Commit j))))))
         → (b : Bool) → nat_lt p.at j ≡ b
-        → (q : Position) × (moved_by history (Some (if b then renewed history j p.low else p)) (blocks_within log parts (n - length (part_text log (Commit j)))) ≡ Some q)
-        × (q.at ≡ p.at + ((if b then 1 else 0) + count_new history (Some (if b then renewed history j p.low else p)) (blocks_within log parts (n - length (part_text log (Commit j))))))
+        → (q : Position) × (moved_by history log (Some (if b then renewed history log j p.low else p)) (blocks_within log parts (n - length (part_text log (Commit j)))) ≡ Some q)
+        × (q.at ≡ p.at + ((if b then 1 else 0) + count_new history log (Some (if b then renewed history log j p.low else p)) (blocks_within log parts (n - length (part_text log (Commit j))))))
     next go true e =
         let less = ltb-true p.at j e in
         let number = g.0 in
-        let later = go (renewed history j p.low) (omega (arith, number)) in
+        let later = go (renewed history log j p.low) (omega (arith, number)) in
         let at = later.2 in
         (later.0, later.1, omega (arith, at, less, to, number))
     next go false e =
@@ -339,10 +339,10 @@ counts_since log history (Commit j ∷ parts) p k last n to g =
         let at = later.2 in
         (later.0, later.1, omega (arith, at))
 
-    by : (q : Position) × (moved_by history (Some (if nat_lt p.at j then renewed history j p.low else p)) (blocks_within log parts (n - length (part_text log (Commit j)))) ≡ Some q)
-        × (q.at ≡ p.at + ((if nat_lt p.at j then 1 else 0) + count_new history (Some (if nat_lt p.at j then renewed history j p.low else p)) (blocks_within log parts (n - length (part_text log (Commit j))))))
-        → (b : Bool) → (q : Position) × (moved_by history (Some p) (if b then Commit j ∷ blocks_within log parts (n - length (part_text log (Commit j))) else []) ≡ Some q)
-        × (q.at ≡ p.at + count_new history (Some p) (if b then Commit j ∷ blocks_within log parts (n - length (part_text log (Commit j))) else []))
+    by : (q : Position) × (moved_by history log (Some (if nat_lt p.at j then renewed history log j p.low else p)) (blocks_within log parts (n - length (part_text log (Commit j)))) ≡ Some q)
+        × (q.at ≡ p.at + ((if nat_lt p.at j then 1 else 0) + count_new history log (Some (if nat_lt p.at j then renewed history log j p.low else p)) (blocks_within log parts (n - length (part_text log (Commit j))))))
+        → (b : Bool) → (q : Position) × (moved_by history log (Some p) (if b then Commit j ∷ blocks_within log parts (n - length (part_text log (Commit j))) else []) ≡ Some q)
+        × (q.at ≡ p.at + count_new history log (Some p) (if b then Commit j ∷ blocks_within log parts (n - length (part_text log (Commit j))) else []))
     by moves true = moves
     by moves false = (p, refl, omega arith)
 counts_since log history (Snapshot j ∷ parts) p k last n to g = absurd g
@@ -353,21 +353,21 @@ module _ (limits : Limits) (log : Log) (is_log : IsLog limits log) (decimal : Is
   number_here mirror number q numbered is e = let few = is_log.count in let within = is.in_log in numbered.some q.at (omega (arith, few, within)) (e ∙ ap Some (decimal q.at))
 
   told_parts : (fresh : Bool) (place : Option Position) (start : ℕ) (more : List Part) (last n : ℕ) (mirror : MirrorState) (number : Option ℕ) → IsNumbered mirror number
-      → IsPlace limits log (moved_by limits.history place (blocks_within log (first_parts fresh start ++ more) n))
+      → IsPlace limits log (moved_by limits.history log place (blocks_within log (first_parts fresh start ++ more) n))
       → mirror.since ≡ (if fresh && (length (blocks_within log (first_parts fresh start ++ more) n) == 0) then None
-      else published_token (node_where log (moved_by limits.history place (blocks_within log (first_parts fresh start ++ more) n))))
+      else published_token (node_where log (moved_by limits.history log place (blocks_within log (first_parts fresh start ++ more) n))))
       → (fresh ≡ false → (own : Position) × (place ≡ Some own) × (own.low ≤ start) × (start ≤ own.at)) → GoOn start more last
       → (own : ℕ) → ((p : Position) → place ≡ Some p → own ≡ p.at)
-      → IsTold start own fresh (count_new limits.history place (blocks_within log (first_parts fresh start ++ more) n)) number
+      → IsTold start own fresh (count_new limits.history log place (blocks_within log (first_parts fresh start ++ more) n)) number
   told_parts false place start more last n mirror number numbered is since at g own named =
       let o = at refl in
       let c = counts_since log limits.history more o.0 start last n o.3 g in
-      let place_is : moved_by limits.history place (blocks_within log more n) ≡ Some c.0 = ap (λ q. moved_by limits.history q (blocks_within log more n)) o.1 ∙ c.1 in
-      let count : count_new limits.history place (blocks_within log more n) ≡ count_new limits.history (Some o.0) (blocks_within log more n) = ap (λ q. count_new limits.history q (blocks_within log more n)) o.1 in
+      let place_is : moved_by limits.history log place (blocks_within log more n) ≡ Some c.0 = ap (λ q. moved_by limits.history log q (blocks_within log more n)) o.1 ∙ c.1 in
+      let count : count_new limits.history log place (blocks_within log more n) ≡ count_new limits.history log (Some o.0) (blocks_within log more n) = ap (λ q. count_new limits.history log q (blocks_within log more n)) o.1 in
       let here = number_here mirror number c.0 numbered (subst (IsPlace limits log) place_is is) (since ∙ ap (λ q. published_token (node_where log q)) place_is) in
       let same : own ≡ o.0.at = named o.0 o.1 in
       let at_is = c.2 in
-      let total : c.0.at ≡ own + count_new limits.history place (blocks_within log more n) = omega (arith, at_is, count, same) in
+      let total : c.0.at ≡ own + count_new limits.history log place (blocks_within log more n) = omega (arith, at_is, count, same) in
       came_since refl (here ∙ ap Some total)
   told_parts true place start more last n mirror number numbered is since at g own named =
       by (nat_le (length (part_text log (Snapshot start))) n) is since
@@ -378,19 +378,19 @@ module _ (limits : Limits) (log : Log) (is_log : IsLog limits log) (decimal : Is
       left : ℕ
       left = n - length (part_text log (Snapshot start))
 
-      by : (b : Bool) → IsPlace limits log (moved_by limits.history place (if b then Snapshot start ∷ blocks_within log more (n - length (part_text log (Snapshot start))) else []))
+      by : (b : Bool) → IsPlace limits log (moved_by limits.history log place (if b then Snapshot start ∷ blocks_within log more (n - length (part_text log (Snapshot start))) else []))
           → mirror.since ≡ (if true && (length (if b then Snapshot start ∷ blocks_within log more (n - length (part_text log (Snapshot start))) else []) == 0) then None
-          else published_token (node_where log (moved_by limits.history place (if b then Snapshot start ∷ blocks_within log more (n - length (part_text log (Snapshot start))) else []))))
-          → IsTold start own true (count_new limits.history place (if b then Snapshot start ∷ blocks_within log more (n - length (part_text log (Snapshot start))) else [])) number
+          else published_token (node_where log (moved_by limits.history log place (if b then Snapshot start ∷ blocks_within log more (n - length (part_text log (Snapshot start))) else []))))
+          → IsTold start own true (count_new limits.history log place (if b then Snapshot start ∷ blocks_within log more (n - length (part_text log (Snapshot start))) else [])) number
       by false is since = none_yet refl refl (numbered.none since)
       by true is since =
           let bs = blocks_within log more (n - length (part_text log (Snapshot start))) in
           let c = counts_since log limits.history more (record { at = start; low = start }) start last (n - length (part_text log (Snapshot start))) (omega arith) g in
-          let shown : mirror.since ≡ published_token (node_where log (moved_by limits.history (Some (record { at = start; low = start })) bs)) =
-          since ∙ ap (λ b. if b then None else published_token (node_where log (moved_by limits.history (Some (record { at = start; low = start })) bs))) (not_zero (length bs)) in
+          let shown : mirror.since ≡ published_token (node_where log (moved_by limits.history log (Some (record { at = start; low = start })) bs)) =
+          since ∙ ap (λ b. if b then None else published_token (node_where log (moved_by limits.history log (Some (record { at = start; low = start })) bs))) (not_zero (length bs)) in
           let here = number_here mirror number c.0 numbered (subst (IsPlace limits log) c.1 is) (shown ∙ ap (λ q. published_token (node_where log q)) c.1) in
           let at_is = c.2 in
-          came_fresh (count_new limits.history (Some (record { at = start; low = start })) bs) refl (omega arith) (here ∙ ap Some at_is)
+          came_fresh (count_new limits.history log (Some (record { at = start; low = start })) bs) refl (omega arith) (here ∙ ap Some at_is)
 
   abbrev own_number : Option Position → ℕ
   own_number None = 0
@@ -400,21 +400,21 @@ module _ (limits : Limits) (log : Log) (is_log : IsLog limits log) (decimal : Is
   named place p e = ap own_number e
 
   told : (place : Option Position) (c : Connection) (n : ℕ) (mirror : MirrorState) (number : Option ℕ) → IsOpened limits log place c → IsNumbered mirror number → FollowsTo limits log place c n mirror
-      → IsTold c.start (own_number place) c.fresh (count_new limits.history place (blocks_come log c n)) number
+      → IsTold c.start (own_number place) c.fresh (count_new limits.history log place (blocks_come log c n)) number
   told place c n mirror number o numbered to =
       let k = come_by log c n in
       let parts = o.order.parts in
-      subst (λ ps. IsTold c.start (own_number place) c.fresh (count_new limits.history place (blocks_within log ps k)) number) (sym parts)
+      subst (λ ps. IsTold c.start (own_number place) c.fresh (count_new limits.history log place (blocks_within log ps k)) number) (sym parts)
       (told_parts c.fresh place c.start o.order.more c.last k mirror number numbered
-      (subst (λ ps. IsPlace limits log (moved_by limits.history place (blocks_within log ps k))) parts (place_after limits log place c k o))
-      (subst (λ ps. mirror.since ≡ (if c.fresh && (length (blocks_within log ps k) == 0) then None else published_token (node_where log (moved_by limits.history place (blocks_within log ps k))))) parts to.since)
+      (subst (λ ps. IsPlace limits log (moved_by limits.history log place (blocks_within log ps k))) parts (place_after limits log place c k o))
+      (subst (λ ps. mirror.since ≡ (if c.fresh && (length (blocks_within log ps k) == 0) then None else published_token (node_where log (moved_by limits.history log place (blocks_within log ps k))))) parts to.since)
       o.start o.order.go_on (own_number place) (named place))
 
-  few_news : (history : ℕ) (place : Option Position) (blocks : List Part) → count_new history place blocks ≤ length blocks
+  few_news : (history : History) (place : Option Position) (blocks : List Part) → count_new history log place blocks ≤ length blocks
   few_news history place [] = omega arith
-  few_news history place (b ∷ bs) = by (is_new place b) (few_news history (moved history place b) bs)
+  few_news history place (b ∷ bs) = by (is_new place b) (few_news history (moved history log place b) bs)
     where
-      by : (t : Bool) → count_new history (moved history place b) bs ≤ length bs → (if t then 1 else 0) + count_new history (moved history place b) bs ≤ suc (length bs)
+      by : (t : Bool) → count_new history log (moved history log place b) bs ≤ length bs → (if t then 1 else 0) + count_new history log (moved history log place b) bs ≤ suc (length bs)
       by true h = omega (arith, h)
       by false h = omega (arith, h)
 
@@ -538,8 +538,8 @@ module _ (prefixes : PrefixesAreRead) (one : ReadingIsOne) (responses : Response
         let ys = blocks_come log c e in
         let between = blocks_between log c d e in
         let news = news_compose log limits.history r.before c.parts (come_by log c d) (come_by log c e) less in
-        let here : count_new limits.history m.place between ≡ count_new limits.history (moved_by limits.history r.before xs) between = ap (λ place. count_new limits.history place between) r.place in
-        let total : count_new limits.history r.before ys ≡ count_new limits.history r.before xs + count_new limits.history m.place between = omega (arith, news, here) in
+        let here : count_new limits.history log m.place between ≡ count_new limits.history log (moved_by limits.history log r.before xs) between = ap (λ place. count_new limits.history log place between) r.place in
+        let total : count_new limits.history log r.before ys ≡ count_new limits.history log r.before xs + count_new limits.history log m.place between = omega (arith, news, here) in
         let told_is = told_between c.start (own_number limits log is_log decimal r.before) c.fresh _ _ _ old_number new_number
         (told limits log is_log decimal r.before c d f.mirror old_number r.opened was old) (told limits log is_log decimal r.before c e new new_number r.opened now_is to) total in
         let at_start : published_between c.start old_number new_number ≡ published_between s.start old_number new_number = ap (λ n. published_between n old_number new_number) (sym k.start) in
@@ -549,7 +549,7 @@ module _ (prefixes : PrefixesAreRead) (one : ReadingIsOne) (responses : Response
         let most = reaches.1 in
         let bound = fits in
         let small_count : published_between s.start old_number new_number < 2 ^ 64 = subst (λ n. n < 2 ^ 64) (told_is ∙ at_start) (omega (arith, total, few, short, come, most, bound)) in
-        let same : count ≡ count_new limits.history m.place between = counted small_count ∙ sym (told_is ∙ at_start) in (
+        let same : count ≡ count_new limits.history log m.place between = counted small_count ∙ sym (told_is ∙ at_start) in (
           ap Delivered same,
           record {
             place = br.within;

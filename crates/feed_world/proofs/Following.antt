@@ -2,7 +2,7 @@
 use Rattle.std.proofs.Common.{◌≡◌, refl, sym, ap, ◌∙◌, subst, ℕ, suc, ◌+◌, ◌-◌, ◌<◌, ◌≤◌, max, Bool, true, false, ◌&&◌, arith, List, [], ◌∷◌, ◌++◌, length, take, drop, append_assoc, append-nil, length-append, take-append-drop, Option, Some, None, Ok, inl, inr, nat_le, nat_lt, ltb-false, leb-true, leb-false}
 use Rattle.std.specs.Prelude.{if◌then◌else◌, ◌==◌, ◌⊎◌, slice_get}
 use Rattle.std.specs.Option.{option_and_then}
-use Rattle.feed_settings.specs.Limits.{Limits}
+use Rattle.feed_settings.specs.Limits.{Limits, History}
 use Rattle.feed_settings.specs.declared.framing.Framing.{Framing}
 use Rattle.feed_settings.specs.declared.framing.Framing.TheVariants.{Close, Chunked}
 use Rattle.feed_note.specs.Lines.{rest}
@@ -46,36 +46,36 @@ use Rattle.feed_world.proofs.Tokens.{tokens_tell, token_missing}
 
 -- ---- where blocks bring a mirror
 
-choose : (history : ℕ) (P : Option Position → Type 0) (place : Option Position) (b : Bool)
-    (bs : List Part) → P place → P (moved_by history place bs)
-    → P (moved_by history place (if b then bs else []))
-choose history P place true bs h k = k
-choose history P place false bs h k = h
+choose : (history : History) (log : Log) (P : Option Position → Type 0) (place : Option Position) (b : Bool)
+    (bs : List Part) → P place → P (moved_by history log place bs)
+    → P (moved_by history log place (if b then bs else []))
+choose history log P place true bs h k = k
+choose history log P place false bs h k = h
 
-module _ (history : ℕ) (log : Log) where
+module _ (history : History) (log : Log) where
   bound_since : (parts : List Part) (p : Position) (k last n : ℕ) → k ≤ p.at → GoOn k parts last
-      → number_at (moved_by history (Some p) (blocks_within log parts n)) ≤ max p.at last
+      → number_at (moved_by history log (Some p) (blocks_within log parts n)) ≤ max p.at last
   bound_since [] p k last n to g = omega arith
   bound_since (Line_feed ∷ parts) p k last n to g =
-      choose history (λ q. number_at q ≤ max p.at last) (Some p) (nat_le 1 n)
+      choose history log (λ q. number_at q ≤ max p.at last) (Some p) (nat_le 1 n)
       (blocks_within log parts (n - 1)) (omega arith) (bound_since parts p k last (n - 1) to g)
   bound_since (Commit j ∷ parts) p k last n to g =
       let m = n - length (part_text log (Commit j)) in
-      choose history (λ q. number_at q ≤ max p.at last) (Some p)
+      choose history log (λ q. number_at q ≤ max p.at last) (Some p)
       (nat_le (length (part_text log (Commit j))) n) (Commit j ∷ blocks_within log parts m)
       (omega arith)
       (by (λ q to. bound_since parts q (k + 1) last m to g.1) (goes_up (k + 1) parts last g.1)
       (nat_lt p.at j) refl)
     where
       by : ((q : Position) → k + 1 ≤ q.at
-          → number_at (moved_by history (Some q)
+          → number_at (moved_by history log (Some q)
           (blocks_within log parts (n - length (part_text log (Commit j))))) ≤ max q.at last)
           → k + 1 ≤ last → (b : Bool) → nat_lt p.at j ≡ b
-          → number_at (moved_by history (Some (if b then renewed history j p.low else p))
+          → number_at (moved_by history log (Some (if b then renewed history log j p.low else p))
           (blocks_within log parts (n - length (part_text log (Commit j))))) ≤ max p.at last
       by later up true is =
           let here : j ≡ k + 1 = g.0 in
-          let l = later (renewed history j p.low) (omega (arith, here)) in
+          let l = later (renewed history log j p.low) (omega (arith, here)) in
           omega (arith, l, up, here)
       by later up false is =
           let less = ltb-false p.at j is in
@@ -86,24 +86,24 @@ module _ (history : ℕ) (log : Log) where
       (last n : ℕ)
       → (fresh ≡ false → (own : Position) × (place ≡ Some own) × (own.low ≤ start)
       × (start ≤ own.at)) → GoOn start more last
-      → number_at (moved_by history place
+      → number_at (moved_by history log place
       (blocks_within log (first_parts fresh start ++ more) n)) ≤ max (number_at place) last
   bound_either true place start more last n at g =
       let up = goes_up start more last g in
       let l = length (part_text log (Snapshot start)) in
       let later = bound_since more (record { at = start; low = start }) start last (n - l)
       (omega arith) g in
-      choose history (λ q. number_at q ≤ max (number_at place) last) place (nat_le l n)
+      choose history log (λ q. number_at q ≤ max (number_at place) last) place (nat_le l n)
       (Snapshot start ∷ blocks_within log more (n - l)) (omega arith) (omega (arith, later, up))
   bound_either false place start more last n at g =
       let own = at refl in
-      subst (λ q. number_at (moved_by history q (blocks_within log more n))
+      subst (λ q. number_at (moved_by history log q (blocks_within log more n))
       ≤ max (number_at q) last) (sym own.1) (bound_since more own.0 start last n own.3 g)
 
 pub places_stay : PlacesStay
 places_stay limits log place c n o = (
   place_after limits log place c n o,
-  subst (λ ps. number_at (moved_by limits.history place (blocks_within log ps n))
+  subst (λ ps. number_at (moved_by limits.history log place (blocks_within log ps n))
       ≤ max (number_at place) c.last) (sym o.order.parts)
       (bound_either limits.history log c.fresh place c.start o.order.more c.last n o.start
       o.order.go_on),
@@ -115,8 +115,8 @@ all_is_reached limits log place c o =
     let blocks : blocks_within log c.parts (length (sent_text log c))
     ≡ blocks_of (first_parts c.fresh c.start ++ order.more) =
     all_blocks log c.parts (length (sent_text log c)) refl ∙ ap blocks_of order.parts in
-    subst (λ bs. HasReached (moved_by limits.history place bs) c.last) (sym blocks)
-    (comes_to limits.history place c.fresh c.start c.last order.more o.start order.go_on)
+    subst (λ bs. HasReached (moved_by limits.history log place bs) c.last) (sym blocks)
+    (comes_to limits.history log place c.fresh c.start c.last order.more o.start order.go_on)
 
 -- ---- a session that is asked for
 

@@ -147,7 +147,7 @@ module _ (limits : Limits) (log : Log) (m : Mirror) (c : Connection) (reader : R
       record {
         before = reading.before;
         opened = record { mirror = opened.mirror; start = opened.start; order = order; sent = sent };
-        place = reading.place ∙ ap (moved_by limits.history reading.before) (sym blocks);
+        place = reading.place ∙ ap (moved_by limits.history log reading.before) (sym blocks);
         begun = reading.begun;
         asked = reading.asked;
         standing = reading.standing;

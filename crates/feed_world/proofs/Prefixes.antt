@@ -3,7 +3,7 @@ use Rattle.std.proofs.Common.{◌≡◌, refl, sym, ap, ◌∙◌, subst, ℕ, s
 use Rattle.std.specs.Prelude.{if◌then◌else◌, ◌==◌, ◌≢◌}
 use Rattle.std.proofs.lemmas.Bool.{le-leb}
 use Rattle.std.proofs.lemmas.List.Sums.{fold-append}
-use Rattle.feed_settings.specs.Limits.{Limits}
+use Rattle.feed_settings.specs.Limits.{Limits, History}
 use Rattle.feed_tables.specs.Listings.{ListingIsWithin}
 use Rattle.feed_note.specs.declared.line.Line.{Line}
 use Rattle.feed_note.specs.declared.line.Line.TheVariants.{Note, KeepAlive}
@@ -18,14 +18,14 @@ use Rattle.feed_world.specs.Connection.{Part, Snapshot, Commit, Line_feed, part_
 use Rattle.feed_world.specs.Log.{Log, changes_of_commit, IsLog, tokens_of}
 use Rattle.feed_world.specs.Position.{Position, commits_after, node_where, renewed, node_at, IsPosition, IsPlace}
 use Rattle.feed_world.specs.Reading.{opening_at, PrefixesAreRead}
-use Rattle.feed_world.proofs.Commits.{state_one_more, next_not_held, next_position, renewed_is_position, latest_at, state_at, state_is_small, state_is_sendable}
+use Rattle.feed_world.proofs.Commits.{light_here, state_one_more, next_not_held, next_position, renewed_is_position, latest_at, state_at, state_is_small, state_is_sendable}
 use Rattle.feed_world.proofs.Growth.{goes_up}
 use Rattle.feed_world.proofs.Listings.{full_none}
 use Rattle.feed_world.proofs.Lists.{cuts_of_one}
 use Rattle.feed_world.proofs.Served.{holds}
 
 -- a mirror at a place, with nothing staged
-abbrev standing : ℕ → Log → Option Position → Bool → Standing
+abbrev standing : History → Log → Option Position → Bool → Standing
 standing history log place afresh = record { node = record { shown = node_where log place; history = history }; afresh = afresh; changes = [] }
 
 and_true : (b : Bool) → (b && true) ≡ b
@@ -58,15 +58,15 @@ record IsTakenPart (limits : Limits) (log : Log) (s : Standing) (part : Part) (t
 record IsTakenPrefix (limits : Limits) (log : Log) (place : Option Position) (afresh : Bool) (parts : List Part) (prefix : List ℕ) : Type 0 where
   notes : List Line
   takes : TakesText limits (standing limits.history log place afresh) prefix notes
-  shown : (steps (standing limits.history log place afresh) notes).node.shown ≡ node_where log (moved_by limits.history place (blocks_within log parts (length prefix)))
+  shown : (steps (standing limits.history log place afresh) notes).node.shown ≡ node_where log (moved_by limits.history log place (blocks_within log parts (length prefix)))
   anew : (steps (standing limits.history log place afresh) notes).afresh ≡ (afresh && (length (blocks_within log parts (length prefix)) == 0))
-  count : times_published (standing limits.history log place afresh) notes ≡ count_new limits.history place (blocks_within log parts (length prefix))
+  count : times_published (standing limits.history log place afresh) notes ≡ count_new limits.history log place (blocks_within log parts (length prefix))
 
 -- what a part and those after it have in common with those after it
-record Moves (history : ℕ) (from : Option Position) (afresh : Bool) (part : Part) (next : Option Position) (next_afresh : Bool) (many : ℕ) : Type 0 where
-  place : (bs : List Part) → moved_by history next bs ≡ moved_by history from (block_onto part bs)
+record Moves (history : History) (log : Log) (from : Option Position) (afresh : Bool) (part : Part) (next : Option Position) (next_afresh : Bool) (many : ℕ) : Type 0 where
+  place : (bs : List Part) → moved_by history log next bs ≡ moved_by history log from (block_onto part bs)
   anew : (bs : List Part) → (next_afresh && (length bs == 0)) ≡ (afresh && (length (block_onto part bs) == 0))
-  count : (bs : List Part) → many + count_new history next bs ≡ count_new history from (block_onto part bs)
+  count : (bs : List Part) → many + count_new history log next bs ≡ count_new history log from (block_onto part bs)
 
 -- no bytes have no lines
 no_lines : (limits : Limits) (s : Standing) → TakesText limits s [] []
@@ -76,7 +76,7 @@ no_lines limits s = record { taken = tt; short = omega arith }
 module _ (goes_on : TextsGoOn) (limits : Limits) (log : Log) where
   whole_part : (place next : Option Position) (afresh next_afresh : Bool) (many : ℕ) (part : Part) (parts : List Part) (prefix : List ℕ)
       → IsTakenPart limits log (standing limits.history log place afresh) part (standing limits.history log next next_afresh) many
-      → Moves limits.history place afresh part next next_afresh many
+      → Moves limits.history log place afresh part next next_afresh many
       → nat_le (length (part_text log part)) (length prefix) ≡ true
       → (m : List ℕ) → prefix ≡ part_text log part ++ m → IsTakenPrefix limits log next next_afresh parts m → IsTakenPrefix limits log place afresh (part ∷ parts) prefix
   whole_part place next afresh next_afresh many part parts prefix t moves is m prefix_is g =
@@ -92,10 +92,10 @@ module _ (goes_on : TextsGoOn) (limits : Limits) (log : Log) where
         notes = t.notes ++ g.notes;
         takes = subst (λ text. TakesText limits s text (t.notes ++ g.notes)) (sym prefix_is)
             (goes_on limits s (part_text log part) m t.notes g.notes t.ended t.takes (subst (λ z. TakesText limits z m g.notes) (sym t.leads_to) g.takes));
-        shown = ap (λ z. z.node.shown) stepped ∙ g.shown ∙ ap (node_where log) (moves.place bs ∙ ap (moved_by limits.history place) (sym blocks));
+        shown = ap (λ z. z.node.shown) stepped ∙ g.shown ∙ ap (node_where log) (moves.place bs ∙ ap (moved_by limits.history log place) (sym blocks));
         anew = ap (λ z. z.afresh) stepped ∙ g.anew ∙ moves.anew bs ∙ ap (λ ps. afresh && (length ps == 0)) (sym blocks);
         count = times-append s t.notes g.notes ∙ ap (λ z. times_published s t.notes + times_published z g.notes) t.leads_to
-            ∙ (λ i. t.count i + g.count i) ∙ moves.count bs ∙ ap (count_new limits.history place) (sym blocks);
+            ∙ (λ i. t.count i + g.count i) ∙ moves.count bs ∙ ap (count_new limits.history log place) (sym blocks);
       }
 
   part_of_part : (place next : Option Position) (afresh next_afresh : Bool) (many : ℕ) (part : Part) (parts : List Part) (prefix : List ℕ)
@@ -112,15 +112,15 @@ module _ (goes_on : TextsGoOn) (limits : Limits) (log : Log) where
       record {
         notes = f.0;
         takes = f.1;
-        shown = ap (λ n. n.shown) none.node ∙ ap (λ ps. node_where log (moved_by limits.history place ps)) (sym blocks);
+        shown = ap (λ n. n.shown) none.node ∙ ap (λ ps. node_where log (moved_by limits.history log place ps)) (sym blocks);
         anew = none.afresh ∙ sym (and_true afresh) ∙ ap (λ ps. afresh && (length ps == 0)) (sym blocks);
-        count = none.count ∙ ap (count_new limits.history place) (sym blocks);
+        count = none.count ∙ ap (count_new limits.history log place) (sym blocks);
       }
 
   -- one part, and then those after it
   one_part : (place next : Option Position) (afresh next_afresh : Bool) (many : ℕ) (part : Part) (parts : List Part)
       → IsTakenPart limits log (standing limits.history log place afresh) part (standing limits.history log next next_afresh) many
-      → Moves limits.history place afresh part next next_afresh many
+      → Moves limits.history log place afresh part next next_afresh many
       → ((prefix behind : List ℕ) → prefix ++ behind ≡ parts_text log parts → IsTakenPrefix limits log next next_afresh parts prefix)
       → (prefix behind : List ℕ) → prefix ++ behind ≡ parts_text log (part ∷ parts) → IsTakenPrefix limits log place afresh (part ∷ parts) prefix
   one_part place next afresh next_afresh many part parts t moves go prefix behind e = by (nat_le (length (part_text log part)) (length prefix)) refl
@@ -161,7 +161,7 @@ module _ (goes_on : TextsGoOn) (batches : BatchesPublishAtEnd) (snapshots : Snap
   at_end s t part many end count p e same = record { notes = p.notes; takes = p.takes; ended = p.ended; leads_to = p.leads_to ∙ e; count = p.counted ∙ same; before = p.before }
 
   taken_commit : (p : Position) → IsPosition limits log p → suc p.at ≤ length log.commits
-      → IsTakenPart limits log (standing limits.history log (Some p) false) (Commit (suc p.at)) (standing limits.history log (Some (renewed limits.history (suc p.at) p.low)) false) 1
+      → IsTakenPart limits log (standing limits.history log (Some p) false) (Commit (suc p.at)) (standing limits.history log (Some (renewed limits.history log (suc p.at) p.low)) false) 1
   taken_commit p h within =
       let s = standing limits.history log (Some p) false in
       let cs = changes_of_commit log (suc p.at) in
@@ -171,7 +171,7 @@ module _ (goes_on : TextsGoOn) (batches : BatchesPublishAtEnd) (snapshots : Snap
       let held = next_not_held log is_log.named p h.order within in
       let leads : step s (Note cs (Some token)) ≡ publishing (staging s cs) token = ap (λ b. if b then s else publishing (staging s cs) token) held in
       let many : times_published s (Note cs (Some token) ∷ []) ≡ 1 = ap (λ b. (if not b then 1 else 0) + 0) held in
-      at_end s (standing limits.history log (Some (renewed limits.history (suc p.at) p.low)) false) (Commit (suc p.at)) 1 (step s (Note cs (Some token)))
+      at_end s (standing limits.history log (Some (renewed limits.history log (suc p.at) p.low)) false) (Commit (suc p.at)) 1 (step s (Note cs (Some token)))
       (times_published s (Note cs (Some token) ∷ []))
       (batches limits s cs token (record {
         some = accepted.some;
@@ -222,15 +222,15 @@ module _ (goes_on : TextsGoOn) (batches : BatchesPublishAtEnd) (snapshots : Snap
       refl
 
   -- a commit is new, or it is not
-  moves_on : (p q : Position) (n many : ℕ) (b : Bool) → nat_lt p.at n ≡ b → (if b then renewed limits.history n p.low else p) ≡ q → (if b then 1 else 0) ≡ many
-      → Moves limits.history (Some p) false (Commit n) (Some q) false many
+  moves_on : (p q : Position) (n many : ℕ) (b : Bool) → nat_lt p.at n ≡ b → (if b then renewed limits.history log n p.low else p) ≡ q → (if b then 1 else 0) ≡ many
+      → Moves limits.history log (Some p) false (Commit n) (Some q) false many
   moves_on p q n many b is next counts =
-      let place : Some q ≡ moved limits.history (Some p) (Commit n) = sym (ap (λ a. Some (if a then renewed limits.history n p.low else p)) is ∙ ap Some next) in
+      let place : Some q ≡ moved limits.history log (Some p) (Commit n) = sym (ap (λ a. Some (if a then renewed limits.history log n p.low else p)) is ∙ ap Some next) in
       let news : many ≡ (if nat_lt p.at n then 1 else 0) = sym (ap (λ a. if a then 1 else 0) is ∙ counts) in
       record {
-        place = λ bs. ap (λ z. moved_by limits.history z bs) place;
+        place = λ bs. ap (λ z. moved_by limits.history log z bs) place;
         anew = λ bs. refl;
-        count = λ bs i. news i + count_new limits.history (place i) bs;
+        count = λ bs i. news i + count_new limits.history log (place i) bs;
       }
 
   -- from a number on of which the mirror holds the token
@@ -253,7 +253,7 @@ module _ (goes_on : TextsGoOn) (batches : BatchesPublishAtEnd) (snapshots : Snap
           let up = goes_up (k + 1) more last g.1 in
           let next : suc p.at ≤ length log.commits = omega (arith, g.0) in
           let same : suc p.at ≡ n = omega (arith, g.0) in
-          let q = renewed limits.history (suc p.at) p.low in
+          let q = renewed limits.history log (suc p.at) p.low in
           let there = renewed_is_position limits log p h next in
           let order = there.order in
           subst (λ m. (prefix behind : List ℕ) → prefix ++ behind ≡ parts_text log (Commit m ∷ more) → IsTakenPrefix limits log (Some p) false (Commit m ∷ more) prefix) same
@@ -272,7 +272,7 @@ module _ (goes_on : TextsGoOn) (batches : BatchesPublishAtEnd) (snapshots : Snap
   fresh place start more last g within prefix behind e =
       let up = goes_up start more last g in
       let here : start ≤ length log.commits = omega arith in
-      let h : IsPosition limits log (record { at = start; low = start }) = record { order = omega arith; kept = omega arith; in_log = here } in
+      let h : IsPosition limits log (record { at = start; low = start }) = record { order = omega arith; kept = omega arith; light = light_here limits log start; in_log = here } in
       one_part goes_on limits log place (Some (record { at = start; low = start })) true false 1 (Snapshot start) more (taken_snapshot place start here)
       (record { place = λ bs. refl; anew = λ bs. sym (not_zero (length bs)); count = λ bs. omega arith })
       (since more (record { at = start; low = start }) start last h (omega arith) (omega arith) g within) prefix behind e

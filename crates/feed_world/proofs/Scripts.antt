@@ -6,6 +6,7 @@ use Rattle.std.specs.Cmp.Lexicographic.{nat_list_cmp_total}
 use Rattle.std.specs.Ordering.{eq_by_cmp, is_eq}
 use Rattle.std.specs.FinMap.{FinMap, empty, entries, entries_sorted, find, from_sorted, entries-from_sorted, get-from_sorted, get-entries, get-remove, same_map, len-entries, len-empty, insert, remove, put, entries-insert, slice_cmp-IsAntisymmetric, nat_cmp-IsAntisymmetric}
 use Rattle.std.specs.FinMap.Entries.{is_sorted-where_key, find-where_key}
+use Rattle.feed_settings.specs.Limits.{by_count}
 use Rattle.feed_settings.specs.declared.framing.Framing.TheVariants.{Close}
 use Rattle.feed_text.specs.Strings.{written_string}
 use Rattle.feed_tables.specs.Bytes.{byte_order, without}
@@ -75,7 +76,7 @@ abbrev shown : World → ℕ → List ℕ
 shown w i = published_text (node_of w i).published
 
 abbrev world : ℕ → ℕ → ℕ → World
-world h s nodes = new_world (record { history = h; staged = s; memory = None }) Close nodes
+world h s nodes = new_world (record { history = by_count h; staged = s; memory = None }) Close nodes
 
 abbrev teams : List ℕ
 teams = codes "teams"
@@ -108,7 +109,7 @@ a_log = (set_team (codes "1") ∷ []) ∷ (Single state (codes "{}") ∷ []) ∷
     ∷ (Set groups (codes "1") (obj (codes "1")) ∷ []) ∷ (Set groups (codes "2") (obj (codes "2")) ∷ []) ∷ []
 
 abbrev a_world : List Mirror → World
-a_world mirrors = record { limits = record { history = 2; staged = 100; memory = None }; framing = Close; log = a_log; primary = record { at = 5; low = 3 }; mirrors = mirrors }
+a_world mirrors = record { limits = record { history = by_count 2; staged = 100; memory = None }; framing = Close; log = a_log; primary = record { at = 5; low = 3 }; mirrors = mirrors }
 
 abbrev a_behind : World
 a_behind = a_world (mirror (position 1 1) 0 false (Some (opened_at 1 167 false)) ∷ [])
@@ -147,7 +148,7 @@ abbrev b_log : List (List Change)
 b_log = (set_team (codes "1") ∷ []) ∷ (set_team (codes "2") ∷ []) ∷ (Remove teams (codes "1") ∷ []) ∷ (Single state (codes "{}") ∷ []) ∷ []
 
 abbrev b_world : List Mirror → World
-b_world mirrors = record { limits = record { history = 1; staged = 100; memory = None }; framing = Close; log = b_log; primary = record { at = 4; low = 3 }; mirrors = mirrors }
+b_world mirrors = record { limits = record { history = by_count 1; staged = 100; memory = None }; framing = Close; log = b_log; primary = record { at = 4; low = 3 }; mirrors = mirrors }
 
 abbrev b_behind : World
 b_behind = b_world (mirror (position 1 1) 0 false (Some (opened_at 1 167 false)) ∷ mirror None 1 false (Some (opened_at 1 0 false)) ∷ [])
@@ -199,7 +200,7 @@ abbrev e_log : List (List Change)
 e_log = (Set (codes "t") (codes "1") (codes "{}") ∷ []) ∷ (Remove (codes "t") (codes "1") ∷ []) ∷ []
 
 abbrev e_cut : World
-e_cut = record { limits = record { history = 4; staged = 100; memory = None }; framing = Close; log = e_log; primary = record { at = 2; low = 0 }; mirrors = mirror (position 2 0) 0 false None ∷ [] }
+e_cut = record { limits = record { history = by_count 4; staged = 100; memory = None }; framing = Close; log = e_log; primary = record { at = 2; low = 0 }; mirrors = mirror (position 2 0) 0 false None ∷ [] }
 
 -- its next connection begins at 0
 abbrev sent_again : List Event
@@ -230,7 +231,7 @@ c_log = (set_team (codes "1") ∷ set_team (codes "2") ∷ []) ∷ []
 abbrev c_at : Option Position → World
 c_at place =
     record {
-      limits = record { history = 1; staged = 100; memory = None };
+      limits = record { history = by_count 1; staged = 100; memory = None };
       framing = Close;
       log = c_log;
       primary = record { at = 1; low = 0 };

@@ -2,7 +2,7 @@
 use Rattle.std.proofs.Common.{◌≡◌, refl, sym, ap, ◌∙◌, subst, ℕ, suc, ◌-◌, ◌≤◌, Bool, true, false, ◌&&◌, arith, List, [], ◌∷◌, ◌++◌, length, Option, Some, None, nat_lt, ltb-true, ltb-false}
 use Rattle.std.specs.Prelude.{if◌then◌else◌}
 use Rattle.std.proofs.lemmas.Bool.{le-leb}
-use Rattle.feed_settings.specs.Limits.{Limits}
+use Rattle.feed_settings.specs.Limits.{Limits, History}
 use Rattle.feed_tables.specs.declared.change.Change.{Change}
 use Rattle.feed_tables.specs.Tables.{no_tables, after_all}
 use Rattle.feed_note.specs.declared.line.Line.{Line}
@@ -14,11 +14,11 @@ use Rattle.feed_world.specs.Log.{Log, IsNamed, changes_of_commit, tokens_of}
 use Rattle.feed_world.specs.Position.{Position, IsPosition, IsPlace, commits_after, node_at, node_where, renewed}
 use Rattle.feed_world.specs.Reading.{opening_at}
 use Rattle.feed_world.specs.Telling.{Tells, TellsShow}
-use Rattle.feed_world.proofs.Commits.{next_not_held, next_position, renewed_is_position, latest_at}
+use Rattle.feed_world.proofs.Commits.{light_here, next_not_held, next_position, renewed_is_position, latest_at}
 use Rattle.feed_world.proofs.Served.{holds}
 
 -- a mirror that shows this, for which these changes wait
-abbrev waits : ℕ → NodeState → Bool → List Change → Standing
+abbrev waits : History → NodeState → Bool → List Change → Standing
 waits history shown fresh changes = record { node = record { shown = shown; history = history }; afresh = fresh; changes = changes }
 
 both : {a b : Bool} → a ≡ true → b ≡ true → (a && b) ≡ true
@@ -42,11 +42,11 @@ module _ (limits : Limits) (log : Log) (named : IsNamed log) where
   -- the next one is published
   onward : (own : Position) (waiting changes : List Change) (token : List ℕ) → IsPosition limits log own → suc own.at ≤ length log.commits → token ≡ log.token (suc own.at)
       → waiting ++ changes ≡ changes_of_commit log (suc own.at)
-      → step (waits limits.history (node_at log own) false waiting) (Note changes (Some token)) ≡ waits limits.history (node_at log (renewed limits.history (suc own.at) own.low)) false []
+      → step (waits limits.history (node_at log own) false waiting) (Note changes (Some token)) ≡ waits limits.history (node_at log (renewed limits.history log (suc own.at) own.low)) false []
   onward own waiting changes token h within is_token is_commit =
       let s = waits limits.history (node_at log own) false waiting in
       let held : holds_token (node_at log own) token ≡ false = ap (holds_token (node_at log own)) is_token ∙ next_not_held log named own h.order within in
-      let shown : with_commit limits.history (node_at log own) (record { changes = waiting ++ changes; token = token }) ≡ node_at log (renewed limits.history (suc own.at) own.low) =
+      let shown : with_commit limits.history (node_at log own) (record { changes = waiting ++ changes; token = token }) ≡ node_at log (renewed limits.history log (suc own.at) own.low) =
       (λ i. with_commit limits.history (node_at log own) (record { changes = is_commit i; token = is_token i })) ∙ next_position limits.history log own h.order within in
       ap (λ b. if b then without_changes (staging s changes) else publishing (staging s changes) token) held
       ∙ (λ i. waits limits.history (shown i) false [])
@@ -73,7 +73,7 @@ module _ (limits : Limits) (log : Log) (named : IsNamed log) where
           let within : suc own.at ≤ length log.commits = omega (arith, same, in_log) in
           let there = renewed_is_position limits log own h within in
           let order = there.order in
-          let r = go (renewed limits.history (suc own.at) own.low) there (omega (arith, same, order)) (omega (arith, same)) t.1 in
+          let r = go (renewed limits.history log (suc own.at) own.low) there (omega (arith, same, order)) (omega (arith, same)) t.1 in
           (r.0, r.1, ap (λ z. (steps z notes).node.shown) (onward own waiting changes token h within (t.0.1 ∙ ap (λ n. log.token (suc n)) same) (t.0.2 ∙ ap (λ n. changes_of_commit log (suc n)) same)) ∙ r.2)
 
   anew : (notes : List Line) (place : Option Position) (k : ℕ) (waiting : List Change) → IsPlace limits log place → Tells log true k waiting notes
@@ -89,7 +89,7 @@ module _ (limits : Limits) (log : Log) (named : IsNamed log) where
       let kept = ap (commits_after log k) z in
       let shown : reset_to (after_all no_tables (waiting ++ changes)) token ≡ node_at log (record { at = k; low = k }) =
       (λ i. record { published = Some (record { tables = tables i; token = name i }); held = held i; kept = kept i }) in
-      let r = since notes (record { at = k; low = k }) k [] (record { order = omega arith; kept = omega arith; in_log = t.0.0 }) (omega arith) (omega arith) t.1 in
+      let r = since notes (record { at = k; low = k }) k [] (record { order = omega arith; kept = omega arith; light = light_here limits log k; in_log = t.0.0 }) (omega arith) (omega arith) t.1 in
       (Some r.0, r.1, ap (λ n. (steps (waits limits.history n false []) notes).node.shown) shown ∙ r.2)
 
   either : (fresh : Bool) (place : Option Position) (k : ℕ) (notes : List Line) → IsPlace limits log place

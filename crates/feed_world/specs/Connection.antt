@@ -1,6 +1,7 @@
 -- A connection between a node and a mirror behind it: what was sent on it, and how much of that
 -- came (CLICS Contest API 2023-06, event feed and reconnection; RFC 9112).
 use Rattle.std.specs.Prelude.{◌≡◌, ℕ, ◌+◌, ◌-◌, Bool, true, false, List, [], ◌∷◌, ◌++◌, length, map, drop, flat_map, fold, Option, Some, None, if◌then◌else◌, nat_le, nat_lt}
+use Rattle.feed_settings.specs.Limits.{History}
 use Rattle.feed_settings.specs.declared.framing.Framing.{Framing}
 use Rattle.feed_text.specs.Ascii.{line_feed}
 use Rattle.feed_answer.specs.Carried.{response_text, carried_by}
@@ -86,22 +87,22 @@ is_new None (Commit k) = false
 is_new place Line_feed = false
 
 -- where a mirror is after a block came whole: where it was, if the block is not new
-abbrev pub moved : ℕ → Option Position → Part → Option Position
-moved history place (Snapshot k) = Some (record { at = k; low = k })
-moved history (Some own) (Commit k) =
-    Some (if nat_lt own.at k then renewed history k own.low else own)
-moved history None (Commit k) = None
-moved history place Line_feed = place
+abbrev pub moved : History → Log → Option Position → Part → Option Position
+moved history log place (Snapshot k) = Some (record { at = k; low = k })
+moved history log (Some own) (Commit k) =
+    Some (if nat_lt own.at k then renewed history log k own.low else own)
+moved history log None (Commit k) = None
+moved history log place Line_feed = place
 
 -- where it is after these blocks
-abbrev pub moved_by : ℕ → Option Position → List Part → Option Position
-moved_by history place blocks = fold (moved history) place blocks
+abbrev pub moved_by : History → Log → Option Position → List Part → Option Position
+moved_by history log place blocks = fold (moved history log) place blocks
 
 -- how many of these blocks are new, each when it came
-abbrev pub count_new : ℕ → Option Position → List Part → ℕ
-count_new history place [] = 0
-count_new history place (block ∷ blocks) =
-    (if is_new place block then 1 else 0) + count_new history (moved history place block) blocks
+abbrev pub count_new : History → Log → Option Position → List Part → ℕ
+count_new history log place [] = 0
+count_new history log place (block ∷ blocks) =
+    (if is_new place block then 1 else 0) + count_new history log (moved history log place block) blocks
 
 -- these parts go on from a number: each commit is the next one, up to the last, with any number of
 -- line feeds before, between and after them

@@ -61,7 +61,7 @@ number_at (Some p) = p.at
 
 -- where whole blocks bring a mirror
 abbrev pub brought_by : Limits → Log → Option Position → Connection → ℕ → Option Position
-brought_by limits log place c n = moved_by limits.history place (blocks_within log c.parts n)
+brought_by limits log place c n = moved_by limits.history log place (blocks_within log c.parts n)
 
 -- that is a place of the log, and no further than where it was or the last commit that was sent
 abbrev pub PlacesStay : Type 0

@@ -1,7 +1,7 @@
 -- What stays when a log grows; what deliveries have in common however the text is cut; and what
 -- a node at a place of a log sends (CLICS Contest API 2023-06, reconnection).
 use Rattle.std.specs.Prelude.{◌≡◌, ℕ, ◌+◌, ◌-◌, ◌<◌, ◌≤◌, max, Bool, List, [], ◌∷◌, ◌++◌, length, drop, Option, Some, if◌then◌else◌}
-use Rattle.feed_settings.specs.Limits.{Limits}
+use Rattle.feed_settings.specs.Limits.{Limits, History}
 use Rattle.feed_settings.specs.declared.framing.Framing.{Framing}
 use Rattle.feed_tables.specs.declared.change.Change.{Change}
 use Rattle.feed_node.specs.declared.commit.Commit.{Commit as Batch}
@@ -31,10 +31,10 @@ pub record SendingKeepsOrder : Type 0 where
 -- a delivery of d bytes and then of those up to e is one of e bytes
 abbrev pub DeliveriesCompose : Type 0
 DeliveriesCompose =
-    (log : Log) (history : ℕ) (place : Option Position) (parts : List Part) (d e : ℕ) → d ≤ e
-    → moved_by history (moved_by history place (blocks_within log parts d)) (drop (length
+    (log : Log) (history : History) (place : Option Position) (parts : List Part) (d e : ℕ) → d ≤ e
+    → moved_by history log (moved_by history log place (blocks_within log parts d)) (drop (length
     (blocks_within log parts d)) (blocks_within log parts e))
-    ≡ moved_by history place (blocks_within log parts e)
+    ≡ moved_by history log place (blocks_within log parts e)
 
 -- ---- what a node at a place of a log sends
 

@@ -29,11 +29,11 @@ pub record IsRead (limits : Limits) (log : Log) (place : Option Position) (c : C
   pub notes : List Line
   pub nothing_bad : Reads limits (opening_at log place c.fresh) prefix notes
   pub shows : keep_latest limits.history (reads limits.history (opening_at log place c.fresh) notes)
-      ≡ node_where log (moved_by limits.history place (blocks_within log c.parts (length prefix)))
+      ≡ node_where log (moved_by limits.history log place (blocks_within log c.parts (length prefix)))
   pub awaits : awaits_reset (opening_at log place c.fresh) notes ≡ (c.fresh
       && (length (blocks_within log c.parts (length prefix)) == 0))
   pub published : publications limits.history (opening_at log place c.fresh) notes
-      ≡ count_new limits.history place (blocks_within log c.parts (length prefix))
+      ≡ count_new limits.history log place (blocks_within log c.parts (length prefix))
 
 -- whatever prefix of what was sent came
 abbrev pub PrefixesAreRead : Type 0

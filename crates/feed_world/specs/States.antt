@@ -145,7 +145,7 @@ pub record IsReading (limits : Limits) (log : Log) (m : Mirror) (c : Connection)
     (reader : ReaderState) (mirror : MirrorState) : Type 0 where
   pub before : Option Position
   pub opened : IsOpened limits log before c
-  pub place : m.place ≡ moved_by limits.history before (blocks_come log c c.delivered)
+  pub place : m.place ≡ moved_by limits.history log before (blocks_come log c c.delivered)
   pub begun : MirrorState
   pub asked : HasAsked limits log before c.fresh begun
   pub standing : Standing

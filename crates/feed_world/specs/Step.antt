@@ -1,5 +1,6 @@
 -- What each event does to a world, and the reply. An event has one reply, but where memory ran out.
 use Rattle.std.specs.Prelude.{◌≡◌, ◌≢◌, ◌⊎◌, ℕ, ◌+◌, ◌-◌, ◌<◌, ◌≤◌, Bool, true, false, ◌&&◌, List, [], ◌∷◌, ◌++◌, length, Option, Some, None, option_map, is_some, Result, Ok, Err, min, if◌then◌else◌, nat_lt, nat_le, ◌==◌, IsSome, IsTrue}
+use Rattle.feed_settings.specs.Limits.{History}
 use Rattle.feed_settings.specs.declared.framing.Framing.{Framing}
 use Rattle.feed_tables.specs.declared.change.Change.{Change}
 use Rattle.feed_node.specs.declared.primary.CommitFault.{CommitFault}
@@ -45,7 +46,8 @@ committed world changes =
       limits = world.limits;
       framing = world.framing;
       log = world.log ++ changes ∷ [];
-      primary = renewed world.limits.history (world.primary.at + 1) world.primary.low;
+      primary = renewed world.limits.history (numbered (world.log ++ changes ∷ [])) (world.primary.at + 1)
+          world.primary.low;
       mirrors = world.mirrors;
     }
 
@@ -161,27 +163,27 @@ abbrev pub delivered_to : Connection → ℕ → Connection
 delivered_to c e = record c { delivered = e }
 
 -- the mirror to which its connection brought these blocks
-abbrev pub brought : ℕ → Mirror → List Part → Option Connection → Mirror
-brought history mirror blocks connection =
+abbrev pub brought : History → Log → Mirror → List Part → Option Connection → Mirror
+brought history log mirror blocks connection =
     record mirror {
-      place = moved_by history mirror.place blocks;
+      place = moved_by history log mirror.place blocks;
       afresh = mirror.afresh && (length blocks == 0);
       connection = connection;
     }
 
 -- the mirror after e of the bytes sent were delivered
-abbrev pub brought_to : ℕ → Log → Mirror → Connection → ℕ → Option Connection → Mirror
+abbrev pub brought_to : History → Log → Mirror → Connection → ℕ → Option Connection → Mirror
 brought_to history log mirror c e connection =
-    brought history mirror (blocks_between log c c.delivered e) connection
+    brought history log mirror (blocks_between log c c.delivered e) connection
 
-abbrev pub delivers_up_to : ℕ → Log → Mirror → Connection → ℕ → Move
+abbrev pub delivers_up_to : History → Log → Mirror → Connection → ℕ → Move
 delivers_up_to history log mirror c e = (
-  Delivered (count_new history mirror.place (blocks_between log c c.delivered e)),
+  Delivered (count_new history log mirror.place (blocks_between log c c.delivered e)),
   brought_to history log mirror c e
       (Some (delivered_to c e)),
 )
 
-abbrev pub delivers : ℕ → Log → Mirror → Connection → ℕ → Move
+abbrev pub delivers : History → Log → Mirror → Connection → ℕ → Move
 delivers history log mirror c n = delivers_up_to history log mirror c (reached log c n)
 
 -- ---- Save: the mirror's saved text becomes the snapshot of what it shows, and empty where it
@@ -241,7 +243,7 @@ mirror_idles mirror =
           (Some idled.1),
     ))
 
-abbrev pub mirror_delivers : ℕ → Log → ℕ → Mirror → Result Move WorldFault
+abbrev pub mirror_delivers : History → Log → ℕ → Mirror → Result Move WorldFault
 mirror_delivers history log n mirror =
     with_connection mirror.connection (λ c. delivers history log mirror c n)
 

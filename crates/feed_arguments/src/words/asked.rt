@@ -4,10 +4,10 @@ ghost use Rattle.clap.specs.Matches.{found_of};
 ghost use Rattle.clap.specs.Words.{rows_of, subcommand_rows_of};
 ghost use Rattle.feed_settings.specs.Limits.{Limits as LimitsOf, most_changes, most_commits};
 ghost use Rattle.feed_arguments.specs.Addresses.{most_port};
-ghost use Rattle.feed_arguments.specs.Live.{AreBothGiven};
+ghost use Rattle.feed_arguments.specs.Live.{AreBothGiven, kept_bytes};
 ghost use Rattle.feed_arguments.specs.Options.{most_rounds, most_silence};
 ghost use Rattle.feed_arguments.specs.Options.{text_at, IsNumber, IsNumberUpTo, IsNumberIfGiven};
-ghost use Rattle.feed_arguments.specs.Options.{IsGiven, IsFramed, AsksLimits};
+ghost use Rattle.feed_arguments.specs.Options.{IsGiven, IsFramed, AsksLimits, AsksLimitsOr};
 ghost use Rattle.feed_arguments.specs.Words.{AsksTables, AsksCheck, AsksAudit, AsksServe, AsksPull, AsksRelay, AsksBy, AsksAt};
 ghost use Rattle.feed_arguments.specs.declared.request.AuditOptions.{AuditOptions as Audit};
 ghost use Rattle.feed_arguments.specs.declared.request.PullOptions.{PullOptions as Pull};
@@ -17,6 +17,7 @@ ghost use Rattle.feed_arguments.specs.declared.request.ServeOptions.{ServeOption
 ghost use Rattle.feed_arguments.specs.declared.request.TablesOptions.{TablesOptions as Tables};
 
 use super::asked_live::live_options;
+use super::live::KEPT_BYTES;
 use super::options::{MOST_PORT, MOST_ROUNDS, MOST_SILENCE};
 use crate::request::{
     AuditOptions, CheckOptions, Local, PullOptions, RelayOptions, Request, ServeOptions,
@@ -116,15 +117,31 @@ pub(super) fn limits(matches: &ArgMatches<'_>) -> Option<Limits>
     }
 }
 
-/// The same without the limit of memory.
+/// The limits of the node of `live`: the commits that it keeps have so many bytes, too, where memory
+/// is not limited.
+pub(super) fn live_limits(matches: &ArgMatches<'_>) -> Option<Limits>
+    ensures some { IfSome result
+        (λ limits. AsksLimitsOr (Some kept_bytes) (rows_of (found_of matches.now)) limits) }
+    ensures none { result ≡ None → (limits : LimitsOf)
+        → ¬ (AsksLimitsOr (Some kept_bytes) (rows_of (found_of matches.now)) limits) }
+{
+    let limits = limits_of_counts(matches)?;
+    match number_if_given(matches, "memory", MOST_MEMORY as u64)? {
+        None => limits.with_history_bytes(KEPT_BYTES).ok(),
+        Some(bytes) => limits.with_memory(bytes as usize).ok(),
+    }
+}
+
+/// The same without a limit in bytes.
 fn limits_of_counts(matches: &ArgMatches<'_>) -> Option<Limits>
-    ensures history { IfSome result (λ limits.
-        IsNumber (codes "history") most_commits (rows_of (found_of matches.now)) limits.history) }
+    ensures history { IfSome result (λ limits. IsNumber (codes "history") most_commits
+        (rows_of (found_of matches.now)) limits.history.commits) }
+    ensures bytes { IfSome result (λ limits. limits.history.bytes ≡ None) }
     ensures staged { IfSome result (λ limits.
         IsNumber (codes "staged") most_changes (rows_of (found_of matches.now)) limits.staged) }
     ensures memory { IfSome result (λ limits. limits.memory ≡ None) }
-    ensures none { result ≡ None → (limits : LimitsOf)
-        → ¬ (AsksLimits (rows_of (found_of matches.now)) limits) }
+    ensures none { result ≡ None → (bytes : Option ℕ) (limits : LimitsOf)
+        → ¬ (AsksLimitsOr bytes (rows_of (found_of matches.now)) limits) }
 {
     let history = number(matches, "history", MOST_COMMITS as u64)?;
     let staged = number(matches, "staged", MOST_CHANGES as u64)?;

@@ -10,7 +10,7 @@ ghost use Rattle.feed_arguments.specs.declared.request.LiveOptions.{LiveOptions 
 ghost use Rattle.feed_arguments.specs.declared.request.UpstreamOptions.{UpstreamOptions as Upstream};
 
 use super::asked::{
-    framing, identity, is_given, limits, number, number_if_given, number_up_to, port, text,
+    framing, identity, is_given, live_limits, number, number_if_given, number_up_to, port, text,
 };
 use super::live::{MOST_HOLD, MOST_IDLE, MOST_RETURN, MOST_SCREENS, MOST_SETTLE, MOST_WINDOW};
 use super::options::MOST_PORT;
@@ -107,7 +107,7 @@ pub(super) fn live_options<'a>(matches: &ArgMatches<'a>) -> Option<LiveOptions<'
     let return_after = number_up_to(matches, "return", MOST_RETURN)?;
     let hold = number_up_to(matches, "hold", MOST_HOLD)?;
     let verbosity = verbosity(matches)?;
-    let limits = limits(matches)?;
+    let limits = live_limits(matches)?;
     Some(LiveOptions {
         contest,
         upstream,

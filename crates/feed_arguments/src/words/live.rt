@@ -10,6 +10,9 @@ use clap::{Arg, Command};
 use feed_settings::MOST_COMMITS;
 use std::alloc::{AllocError, Global};
 
+/// How many bytes the commits that are kept have at most where `--memory` is not given.
+pub(super) const KEPT_BYTES: usize = 268_435_456;
+
 /// The most screens that may be served at once.
 pub(super) const MOST_SCREENS: u64 = 10_000;
 

@@ -6,7 +6,7 @@ use Rattle.feed_node.specs.declared.commit.Commit.{Commit}
 use Rattle.feed_node.specs.Log.{last_count}
 use Rattle.feed_http.specs.Device.{counted}
 use Rattle.feed_http.specs.Serving.{commit_frames}
-use Rattle.feed_http.specs.Live.{intake_of, HasSent, IsLongTurn}
+use Rattle.feed_http.specs.Live.{intake_of, HasSent, IsLongTurn, MayLoseTokens}
 use Rattle.feed_http.specs.Taking.{IsHeld}
 use Rattle.feed_http.proofs.LostLemmas.{IsPast}
 use Rattle.feed_http.proofs.live.send_live.Given as goal
@@ -20,7 +20,7 @@ invariant-turns g l =
       run : (sent : List Commit) × HasSent l.turn start l.initial.session sent now l.session × (l.count ≡ counted 0 (length sent))
           × Appends (writer.contents l.initial.writer) (writer.contents l.writer) (commit_frames l.framing sent);
       quiet : writer.failures l.writer ≡ writer.failures l.initial.writer;
-      held : IsHeld start.primary.node l.initial.session → IsLongTurn l.turn start ⊎ IsHeld now.primary.node l.session;
+      held : IsHeld start.primary.node l.initial.session → MayLoseTokens l.turn start ⊎ IsHeld now.primary.node l.session;
       lost : start.primary.count ≤ last_count → IsLongTurn l.turn start → (now ≡ start) ⊎ IsPast start now.primary l.session;
       limits : now.primary.limits ≡ start.primary.limits;
       fewer : length now.batches ≤ length start.batches;
