@@ -34,6 +34,7 @@ complete -c tunygarop -n '__fish_seen_subcommand_from serve relay' -l count -x -
 complete -c tunygarop -n '__fish_seen_subcommand_from serve' -l turn -x -d 'Batches committed each time that a reader is up to date, 1 to 1000000'
 complete -c tunygarop -n '__fish_seen_subcommand_from serve' -l back -x -d 'Commits sent before a reader\'s token, 0 to 65536'
 complete -c tunygarop -n '__fish_seen_subcommand_from serve relay live' -l chunked -d 'Send chunks, to readers of HTTP/1.1'
+complete -c tunygarop -n '__fish_seen_subcommand_from tables' -l at -x -d 'The token whose state is printed'
 complete -c tunygarop -n '__fish_seen_subcommand_from tables audit serve pull relay live' -l history -x -d 'How many commits are kept, 1 to 65536'
 complete -c tunygarop -n '__fish_seen_subcommand_from tables audit serve pull relay live' -l staged -x -d 'How many changes may wait for a token, 1 to 1000000'
 complete -c tunygarop -n '__fish_seen_subcommand_from tables audit serve pull relay live' -l memory -x -d 'How many bytes may wait, and be published, 1 to 1000000000000'

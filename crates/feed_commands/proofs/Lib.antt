@@ -10,5 +10,6 @@ mod PullLemmas
 pub mod RelayLemmas
 pub mod RepeatsLemmas
 pub mod ServeLemmas
+mod StateAtLemmas
 mod TablesLemmas
 mod TellingLemmas

@@ -10,6 +10,7 @@ pub mod Pull
 pub mod Relay
 pub mod Repeats
 pub mod Serve
+pub mod StateAt
 pub mod Streams
 pub mod Tables
 pub mod Telling
