@@ -16,7 +16,7 @@ pub struct TablesOptions<'a> {
 /// What `check` tells.
 #[derive(Clone, Copy)]
 pub struct CheckOptions {
-    /// Whether tokens that come again are told, too.
+    /// Whether what servers of the field get wrong is told, too.
     pub verbose: bool,
 }
 

@@ -8,10 +8,10 @@ ghost use Rattle.feed_http.specs.Exchange.{wrote_by};
 
 pub mod audit;
 mod check;
+mod findings;
 mod play;
 pub mod pull;
 pub mod relay;
-mod repeats;
 pub mod serve;
 mod state_at;
 mod tables;

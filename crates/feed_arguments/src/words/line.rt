@@ -71,7 +71,7 @@ fn check<'a>(alloc: Global) -> Result<Command<'a>, AllocError>
 {
     let about =
         "Counts the lines of the event feed on standard input, or names the first that can't be read";
-    let help = "Count the tokens that come again, too";
+    let help = "Count what servers get wrong, too: tokens that come again, and more";
     let check = Ok(command(alloc, "check", about));
     add_option(check, options::verbose(alloc, help))
 }
