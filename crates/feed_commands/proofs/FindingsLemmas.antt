@@ -2,13 +2,16 @@
 use Rattle.std.proofs.Common.{◌≡◌, refl, sym, ap, ap₂, ◌∙◌, ℕ, suc, ◌+◌, ◌≤◌, ◌<◌, Bool, true, false, not, cond, ◌||◌, ◌&&◌, List, [], ◌∷◌, ◌++◌, length, append_assoc, append-nil, length-append, subst, inl, Option, None, Some, codes, decimal, arith}
 use Rattle.std.specs.Prelude.{count_by, bytes_eq, is_some}
 use Rattle.std.specs.List.{AllZip, list_any, position_from}
-use Rattle.std.specs.Option.{option_map_or}
+use Rattle.std.specs.Option.{option_eq, option_map_or}
 use Rattle.std.specs.BTreeSet.{contains_text}
 use Rattle.std.proofs.lemmas.List.Folds.{list_any-append}
 use Rattle.std.proofs.lemmas.List.Sums.{sum_by_push, count_by-le-length}
 use Rattle.std.proofs.lemmas.Slice.Zip.{AllZip-long}
 use Rattle.feed_text.specs.Ascii.{line_feed}
-use Rattle.feed_note.proofs.LinesCut.{no_lines}
+use Rattle.feed_text.specs.Members.{MemberSpelling}
+use Rattle.feed_text.specs.Scan.{HoldsLast}
+use Rattle.feed_text.specs.Strings.{decoded, says}
+use Rattle.feed_note.proofs.LinesCut.{no_lines, one_line}
 use Rattle.feed_note.proofs.ReadSoFar.{ReadSoFar, starts, more, stops}
 use Rattle.feed_note.specs.Counts.{IsRead, Stops, StopsAt, is_note, has_token}
 use Rattle.feed_note.specs.Lines.{HasNoLineFeed, lines}
@@ -16,7 +19,7 @@ use Rattle.feed_note.specs.Notes.{token_in}
 use Rattle.feed_note.specs.Steps.{TakesNote}
 use Rattle.feed_note.specs.declared.line.Line.{Line}
 use Rattle.feed_note.specs.declared.stop.LineStop.{LineStop}
-use Rattle.feed_commands.specs.Findings.{has_this, comes_again, is_tokenless, of_each, is_true, is_in, is_with, first_or, IsOlder, IsMisnamed, IsFound, AreFound, TellsNothing, FindsOn, IsSaid, TakesSaid, ReadsOn, finding_text}
+use Rattle.feed_commands.specs.Findings.{has_this, comes_again, is_tokenless, of_each, is_true, is_in, is_with, first_or, IsOlder, IsMisnamed, OwnsId, IsFound, AreFound, TellsNothing, FindsOn, IsSaid, TakesSaid, ReadsOn, finding_text}
 use Rattle.feed_commands.specs.declared.commands.findings.Finding.{Finding}
 use Rattle.feed_commands.specs.declared.commands.findings.Findings.{Findings}
 use Rattle.feed_commands.specs.declared.commands.findings.Reader.{Reader}
@@ -80,6 +83,24 @@ has_more set new notes note all is =
     ∙ with_one (token_in note) other (list_any (has_this other) notes)
     ∙ sym (list_any-append (has_this other) notes (note ∷ []))
 
+-- ---- the id of an object
+
+pub owns_some : (object id : List ℕ) (found : Option MemberSpelling) (member : MemberSpelling) (text : List ℕ) (b : Bool) → HoldsLast (codes "id") object found
+    → found ≡ Some member → decoded member.1.0 ≡ Some text → b ≡ bytes_eq text id → OwnsId object id b
+owns_some object id found member text b holds is says_text same = (
+  found,
+  holds,
+  same ∙ sym (ap (λ f. option_map_or (λ (m : MemberSpelling). says m.1.0 id) f false) is ∙ ap (λ d. option_eq bytes_eq d (Some id)) says_text),
+)
+
+pub owns_none : (object id : List ℕ) (found : Option MemberSpelling) (member : MemberSpelling) → HoldsLast (codes "id") object found
+    → found ≡ Some member → decoded member.1.0 ≡ None → OwnsId object id false
+owns_none object id found member holds is says_nothing = (
+  found,
+  holds,
+  sym (ap (λ f. option_map_or (λ (m : MemberSpelling). says m.1.0 id) f false) is ∙ ap (λ d. option_eq bytes_eq d (Some id)) says_nothing),
+)
+
 -- ---- one finding
 
 found_first : (finding : Finding) → TellsNothing finding → IsFound [] finding
@@ -121,10 +142,13 @@ pub record Stands (text left : List ℕ) (reader : Reader) : Type 0 where
   pub notes : List Line
   pub older : List Bool
   pub misnamed : List Bool
+  pub passed : List (List ℕ)
   pub so_far : ReadSoFar text left notes
-  pub are_older : AllZip IsOlder so_far.seen older
-  pub are_misnamed : AllZip IsMisnamed so_far.seen misnamed
-  pub lines : reader.lines ≡ length notes
+  pub lines_are : lines text ≡ passed ++ lines left
+  pub size : length passed ≡ length notes
+  pub are_older : AllZip IsOlder passed older
+  pub are_misnamed : AllZip IsMisnamed passed misnamed
+  pub count : reader.lines ≡ length notes
   pub seen : HasAll (contains_text reader.seen) notes
   pub has_token : reader.has_token ≡ list_any has_token notes
   pub repeats_is : IsFound (of_each comes_again [] notes) reader.findings.repeats
@@ -140,10 +164,13 @@ starts_with_none text reader no_lines_yet none no_token repeats tokenless older 
   notes = [];
   older = [];
   misnamed = [];
+  passed = [];
   so_far = starts text;
+  lines_are = refl;
+  size = refl;
   are_older = tt;
   are_misnamed = tt;
-  lines = no_lines_yet;
+  count = no_lines_yet;
   seen = none;
   has_token = no_token;
   repeats_is = found_first reader.findings.repeats repeats;
@@ -171,18 +198,21 @@ one_more text left line behind old new h whole is (said, s, takes) =
     let again = is_again (contains_text old.seen) h.notes said.token h.seen
     ∙ ap (λ t. option_map_or (λ u. list_any (has_this u) h.notes) t false) s.token_is in
     let taken : TakesNote left note behind = record { line = line; first = record { whole = whole; is = is }; read = s.read } in
-    let number : old.lines + 1 ≡ length h.notes + 1 = ap (λ n. n + 1) h.lines in
-    let size = AllZip-long IsRead h.so_far.seen h.notes h.so_far.read in
-    let size_older = AllZip-long IsOlder h.so_far.seen h.older h.are_older in
-    let size_misnamed = AllZip-long IsMisnamed h.so_far.seen h.misnamed h.are_misnamed in
+    let number : old.lines + 1 ≡ length h.notes + 1 = ap (λ n. n + 1) h.count in
+    let size : length h.passed ≡ length h.notes = h.size in
+    let size_older = AllZip-long IsOlder h.passed h.older h.are_older in
+    let size_misnamed = AllZip-long IsMisnamed h.passed h.misnamed h.are_misnamed in
     record {
       notes = h.notes ++ note ∷ [];
       older = h.older ++ said.is_older ∷ [];
       misnamed = h.misnamed ++ said.is_misnamed ∷ [];
+      passed = h.passed ++ line ∷ [];
       so_far = more text left behind h.notes note h.so_far taken;
-      are_older = zip_push IsOlder h.so_far.seen h.older line said.is_older h.are_older (note, s.read, s.older_is);
-      are_misnamed = zip_push IsMisnamed h.so_far.seen h.misnamed line said.is_misnamed h.are_misnamed (note, s.read, s.misnamed_is);
-      lines = takes.lines ∙ number ∙ sym (length-append h.notes (note ∷ []));
+      lines_are = h.lines_are ∙ ap (λ l. h.passed ++ l) (ap lines is ∙ one_line line behind whole) ∙ sym (append_assoc h.passed (line ∷ []) (lines behind));
+      size = length-append h.passed (line ∷ []) ∙ ap (λ n. n + 1) h.size ∙ sym (length-append h.notes (note ∷ []));
+      are_older = zip_push IsOlder h.passed h.older line said.is_older h.are_older (note, s.read, s.older_is);
+      are_misnamed = zip_push IsMisnamed h.passed h.misnamed line said.is_misnamed h.are_misnamed (note, s.read, s.misnamed_is);
+      count = takes.lines ∙ number ∙ sym (length-append h.notes (note ∷ []));
       seen = has_more (contains_text old.seen) (contains_text new.seen) h.notes note h.seen
           (λ other. takes.seen other ∙ ap (λ t. is_with t other (contains_text old.seen other)) s.token_is);
       has_token = token_more old.has_token new.has_token said.token h.notes note h.has_token s.token_is takes.has_token;
@@ -196,13 +226,14 @@ one_more text left line behind old new h whole is (said, s, takes) =
 pub all_taken : (text left : List ℕ) (reader : Reader) → Stands text left reader → HasNoLineFeed left → AreFound text reader.findings
 all_taken text left reader h part =
     let all : lines text ≡ h.so_far.seen = h.so_far.lines_are ∙ ap (λ l. h.so_far.seen ++ l) (no_lines left part) ∙ append-nil h.so_far.seen in
+    let passed : lines text ≡ h.passed = h.lines_are ∙ ap (λ l. h.passed ++ l) (no_lines left part) ∙ append-nil h.passed in
     record {
       notes = h.notes;
       older = h.older;
       misnamed = h.misnamed;
       read = subst (λ l. AllZip IsRead l h.notes) (sym all) h.so_far.read;
-      are_older = subst (λ l. AllZip IsOlder l h.older) (sym all) h.are_older;
-      are_misnamed = subst (λ l. AllZip IsMisnamed l h.misnamed) (sym all) h.are_misnamed;
+      are_older = subst (λ l. AllZip IsOlder l h.older) (sym passed) h.are_older;
+      are_misnamed = subst (λ l. AllZip IsMisnamed l h.misnamed) (sym passed) h.are_misnamed;
       repeats_is = h.repeats_is;
       tokenless_is = h.tokenless_is;
       older_is = h.older_is;
@@ -212,30 +243,30 @@ all_taken text left reader h part =
 -- what was found is on no more lines than there are
 module _ (text left : List ℕ) (reader : Reader) (h : Stands text left reader) where
   pub repeats_fit : reader.findings.repeats.count ≤ reader.lines
-  repeats_fit = found_fit _ _ reader.lines h.repeats_is (of_each_length comes_again [] h.notes ∙ sym h.lines)
+  repeats_fit = found_fit _ _ reader.lines h.repeats_is (of_each_length comes_again [] h.notes ∙ sym h.count)
 
   pub tokenless_fit : reader.findings.tokenless.count ≤ reader.lines
-  tokenless_fit = found_fit _ _ reader.lines h.tokenless_is (of_each_length is_tokenless [] h.notes ∙ sym h.lines)
+  tokenless_fit = found_fit _ _ reader.lines h.tokenless_is (of_each_length is_tokenless [] h.notes ∙ sym h.count)
 
   pub older_fit : reader.findings.older.count ≤ reader.lines
   older_fit =
-      let size = AllZip-long IsRead h.so_far.seen h.notes h.so_far.read in
-      let own = AllZip-long IsOlder h.so_far.seen h.older h.are_older in
-      let known : reader.lines ≡ length h.notes = h.lines in
+      let size : length h.passed ≡ length h.notes = h.size in
+      let own = AllZip-long IsOlder h.passed h.older h.are_older in
+      let known : reader.lines ≡ length h.notes = h.count in
       found_fit h.older _ reader.lines h.older_is (omega arith)
 
   pub misnamed_fit : reader.findings.misnamed.count ≤ reader.lines
   misnamed_fit =
-      let size = AllZip-long IsRead h.so_far.seen h.notes h.so_far.read in
-      let own = AllZip-long IsMisnamed h.so_far.seen h.misnamed h.are_misnamed in
-      let known : reader.lines ≡ length h.notes = h.lines in
+      let size : length h.passed ≡ length h.notes = h.size in
+      let own = AllZip-long IsMisnamed h.passed h.misnamed h.are_misnamed in
+      let known : reader.lines ≡ length h.notes = h.count in
       found_fit h.misnamed _ reader.lines h.misnamed_is (omega arith)
 
 -- the next line stops the reading
 pub stops_at : (text left line behind : List ℕ) (reader : Reader) (why : LineStop) → Stands text left reader → HasNoLineFeed line
     → left ≡ line ++ line_feed ∷ behind → Stops line why → StopsAt text (reader.lines + 1) why
 stops_at text left line behind reader why h whole is so =
-    stops text left h.notes (reader.lines + 1) why h.so_far (ap (λ n. n + 1) h.lines)
+    stops text left h.notes (reader.lines + 1) why h.so_far (ap (λ n. n + 1) h.count)
     (inl (record { line = line; behind = behind; first = record { whole = whole; is = is }; stops = so }))
 
 -- ---- what is told
