@@ -102,12 +102,12 @@ fn run_local<R: FeedRead, W: FeedWrite, E: FeedWrite>(
 }
 
 /// The command that opens no connection, where one is asked for.
-fn local_of<'a>(request: &Request<'a>) -> Option<Local<'a>>
-    ensures some { IfSome result (λ local. request.now ≡ asked.Local local) }
+fn local_of<'r, 'a>(request: &'r Request<'a>) -> Option<&'r Local<'a>>
+    ensures some { IfSome result (λ local. request.now ≡ asked.Local local.now) }
     ensures none { result ≡ None → is_local request.now ≡ false }
 {
     match request {
-        Request::Local(local) => Some(*local),
+        Request::Local(local) => Some(local),
         _ => None,
     }
 }
@@ -133,7 +133,7 @@ pub fn run<'a, R: FeedRead, W: FeedWrite, E: FeedWrite>(
 {
     match parse_words(alloc, words) {
         Ok(request) => match local_of(&request) {
-            Some(local) => run_local(alloc, &local, input, out, err),
+            Some(local) => run_local(alloc, local, input, out, err),
             None => REFUSED,
         },
         Err(reply) => answer_words(&reply, out, err),

@@ -5,7 +5,8 @@ use Rattle.feed_commands.proofs.commands.findings.owns_id.Goals as goal
 
 pub returns-in-Some-2 : goal.returns-in-Some-2
 returns-in-Some-2 c =
-    owns_some _ _ _ (member_view c.in-Some.member) (string_bytes c.in-Some-2.text) _ c.in_ok-member.ensures.member (search rules) (search rules) (search rules)
+    owns_some c.args.object.now c.args.id.now _ (member_view c.in-Some.member) (string_bytes c.in-Some-2.text) c.eq.result c.in_ok-member.ensures.member (search rules) (search rules) (search rules)
 
 pub returns-in-None : goal.returns-in-None
-returns-in-None c = owns_none _ _ _ (member_view c.in-Some.member) c.in_ok-member.ensures.member (search rules) (search rules)
+returns-in-None c =
+    owns_none c.args.object.now c.args.id.now _ (member_view c.in-Some.member) c.in_ok-member.ensures.member (search rules) (search rules)
