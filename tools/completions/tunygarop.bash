@@ -34,7 +34,7 @@ _tunygarop() {
         --contest | --from | --base | --address | --screens | --idle | --window | --silence | --settle | --return | --hold)
             return
             ;;
-        --host-header | --allow | --per-address | --status-address)
+        --at | --host-header | --allow | --per-address | --status-address)
             return
             ;;
     esac
@@ -45,7 +45,7 @@ _tunygarop() {
     fi
 
     case $command in
-        tables) names="history staged memory verbose" ;;
+        tables) names="at history staged memory verbose" ;;
         check) names="verbose" ;;
         audit) names="primary json verbose history staged memory" ;;
         play) names="" ;;

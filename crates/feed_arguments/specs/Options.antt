@@ -60,6 +60,9 @@ staged = with_default (codes "1000000") (number_in (codes "staged") most_changes
 abbrev pub memory : Rule
 memory = number_in (codes "memory") most_memory
 
+abbrev pub at : Rule
+at = text_option (codes "at")
+
 abbrev pub verbose : Rule
 verbose = flag (codes "verbose")
 

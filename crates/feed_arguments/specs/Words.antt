@@ -7,7 +7,7 @@ use Rattle.clap.specs.Words.{App, Row, Text, new_app, subcommand_of, takes, with
 use Rattle.feed_settings.specs.Limits.{most_commits}
 use Rattle.feed_arguments.specs.Addresses.{most_port}
 use Rattle.feed_arguments.specs.Live.{live, AsksLive}
-use Rattle.feed_arguments.specs.Options.{most_rounds, most_silence, verbose, primary, json, port, listen, contest, count, turn, chunked, back, host, from, base, host_header, user_file, turns, silence, resume, with_limits}
+use Rattle.feed_arguments.specs.Options.{most_rounds, most_silence, at, verbose, primary, json, port, listen, contest, count, turn, chunked, back, host, from, base, host_header, user_file, turns, silence, resume, with_limits}
 use Rattle.feed_arguments.specs.Options.{text_at, IsNumber, IsNumberUpTo, IsNumberIfGiven, IsGiven, IsFramed, AsksLimits}
 use Rattle.feed_arguments.specs.declared.request.Local.TheVariants as local
 use Rattle.clap.specs.declared.error.kind.ErrorKind.{ErrorKind}
@@ -51,7 +51,7 @@ abbrev pub with_sent : App → App
 with_sent command = with_rule (with_rule (with_rule command turn) chunked) back
 
 abbrev pub tables : App
-tables = with_rule (with_limits (new_app (codes "tables"))) verbose
+tables = with_rule (with_rule (with_limits (new_app (codes "tables"))) at) verbose
 
 abbrev pub check : App
 check = with_rule (new_app (codes "check")) verbose
@@ -96,6 +96,7 @@ command_line = with_subcommand program_for_trying live.top
 
 -- the values of the options of `tables`
 pub record AsksTables (rows : List Row) (options : TablesOptions) : Type 0 where
+  pub at_is : text_at (codes "at") rows ≡ option_map (λ text. text.now) options.at
   pub limits_are : AsksLimits rows options.limits
   pub verbose_is : IsGiven (codes "verbose") rows options.verbose
 

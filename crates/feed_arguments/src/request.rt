@@ -4,7 +4,9 @@ use feed_settings::{Framing, Limits};
 
 /// How `tables` feeds its mirror, and what it tells.
 #[derive(Clone, Copy)]
-pub struct TablesOptions {
+pub struct TablesOptions<'a> {
+    /// The token whose state is printed; without it what is published last is. Any text will do.
+    pub at: Option<&'a str>,
     /// The mirror's limits.
     pub limits: Limits,
     /// Whether a fault of the feed is told with the number of its line.
@@ -14,7 +16,7 @@ pub struct TablesOptions {
 /// What `check` tells.
 #[derive(Clone, Copy)]
 pub struct CheckOptions {
-    /// Whether tokens that come again are told, too.
+    /// Whether what servers of the field get wrong is told, too.
     pub verbose: bool,
 }
 
@@ -181,16 +183,17 @@ pub struct LiveOptions<'a> {
 
 /// A command that reads standard input alone.
 #[derive(Clone, Copy)]
-pub enum Local {
-    /// The snapshot of what the feed on standard input publishes to a mirror.
-    Tables(TablesOptions),
+pub enum Local<'a> {
+    /// The snapshot of what the feed on standard input publishes to a mirror, at its end or at a
+    /// token.
+    Tables(TablesOptions<'a>),
     /// What the lines of the feed on standard input are, counted.
     Check(CheckOptions),
     /// What happens in a world by the script on standard input.
     Play,
 }
 
-impl Local {
+impl Local<'_> {
     /// The name of the command.
     pub fn name(&self) -> &'static str {
         match self {
@@ -205,7 +208,7 @@ impl Local {
 #[derive(Clone, Copy)]
 pub enum Request<'a> {
     /// A command that reads standard input alone.
-    Local(Local),
+    Local(Local<'a>),
     /// Whether each state of the screen's record on standard input is one of the primary's.
     Audit(AuditOptions<'a>),
     /// The feed on standard input, served by a primary.

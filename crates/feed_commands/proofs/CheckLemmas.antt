@@ -3,8 +3,8 @@ use Rattle.std.proofs.Common.{◌≡◌, refl, sym, subst, ◌∙◌, true, fals
 use Rattle.feed_note.specs.Counts.{Counted}
 use Rattle.feed_note.specs.declared.counts.Counts.{Counts}
 use Rattle.feed_commands.specs.Check.{counts_text, TellsMore, TellsCounts}
-use Rattle.feed_commands.specs.Repeats.{Repeated, repeats_text}
-use Rattle.feed_commands.specs.declared.commands.repeats.Repeats.{Repeats}
+use Rattle.feed_commands.specs.Findings.{AreFound, findings_text}
+use Rattle.feed_commands.specs.declared.commands.findings.Findings.{Findings}
 use Rattle.feed_arguments.specs.declared.request.CheckOptions.{CheckOptions}
 
 -- twelve texts and one behind them, however they are joined
@@ -23,13 +23,13 @@ tells_counts options bytes text counts quiet counted is = record {
   is = is ∙ sym (append-nil (counts_text counts));
 }
 
--- the tokens that come again are told, too
-pub tells_repeats : (options : CheckOptions) (bytes text : List ℕ) (counts : Counts) (repeats : Repeats) → options.verbose ≡ true
-    → Counted bytes counts → Repeated bytes repeats → text ≡ counts_text counts ++ repeats_text repeats → TellsCounts options bytes text
-tells_repeats options bytes text counts repeats verbose counted again is = record {
+-- what is found is told, too
+pub tells_findings : (options : CheckOptions) (bytes text : List ℕ) (counts : Counts) (findings : Findings) → options.verbose ≡ true
+    → Counted bytes counts → AreFound bytes findings → text ≡ counts_text counts ++ findings_text findings → TellsCounts options bytes text
+tells_findings options bytes text counts findings verbose counted found is = record {
   counts = counts;
   counted = counted;
-  more = repeats_text repeats;
-  told = subst (λ v. TellsMore v bytes (repeats_text repeats)) (sym verbose) (repeats, again, refl);
+  more = findings_text findings;
+  told = subst (λ v. TellsMore v bytes (findings_text findings)) (sym verbose) (findings, found, refl);
   is = is;
 }

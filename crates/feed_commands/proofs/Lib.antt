@@ -1,6 +1,7 @@
 mod AuditLemmas
 mod CheckLemmas
 mod CommandLemmas
+pub mod FindingsLemmas
 mod InputLemmas
 mod InTurnLemmas
 mod MappedLemmas
@@ -8,7 +9,7 @@ mod PlayLemmas
 pub mod PrintingLemmas
 mod PullLemmas
 pub mod RelayLemmas
-pub mod RepeatsLemmas
 pub mod ServeLemmas
+mod StateAtLemmas
 mod TablesLemmas
 mod TellingLemmas

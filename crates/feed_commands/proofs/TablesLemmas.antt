@@ -26,16 +26,16 @@ pub positive : (n : ℕ) (buf : List ℕ) → n ≢ 0 → n ≤ length buf → 0
 positive n buf some fits = let long : length (take n buf) ≡ n = length-take-le n buf fits in omega arith
 
 -- nothing was read yet
-pub stands_first : (a : Option (List ℕ)) (mirror : MirrorState) → StandsAt first_opening [] [] mirror → Stands mirror.limits 0 a a [] mirror
+unfoldable pub stands_first : (a : Option (List ℕ)) (mirror : MirrorState) → StandsAt first_opening [] [] mirror → Stands mirror.limits 0 a a [] mirror
 stands_first a mirror s = record { bytes = []; notes = []; many = omega arith; read = Consumes-nil a; stands = s; limits_are = refl }
 
 -- a read that gave nothing more
-pub stands_kept : (limits : Limits) (least : ℕ) (a b c : Option (List ℕ)) (mirror : MirrorState) → Keeps b c → Stands limits least a b [] mirror → Stands limits least a c [] mirror
+unfoldable pub stands_kept : (limits : Limits) (least : ℕ) (a b c : Option (List ℕ)) (mirror : MirrorState) → Keeps b c → Stands limits least a b [] mirror → Stands limits least a c [] mirror
 stands_kept limits least a b c mirror k s =
     record { bytes = s.bytes; notes = s.notes; many = s.many; read = Consumes-kept a b c (s.bytes ++ []) s.read k; stands = s.stands; limits_are = s.limits_are }
 
 -- a read that gave this piece, which is not fed yet
-pub stands_read : (limits : Limits) (least : ℕ) (a b c : Option (List ℕ)) (piece : List ℕ) (mirror : MirrorState) → 0 < length piece → Consumes b c piece
+unfoldable pub stands_read : (limits : Limits) (least : ℕ) (a b c : Option (List ℕ)) (piece : List ℕ) (mirror : MirrorState) → 0 < length piece → Consumes b c piece
     → Stands limits least a b [] mirror → Stands limits (least + 1) a c piece mirror
 stands_read limits least a b c piece mirror some r s =
     let bytes_are : s.bytes ++ [] ≡ s.bytes = append-nil s.bytes in
@@ -50,7 +50,7 @@ stands_read limits least a b c piece mirror some r s =
     }
 
 -- some of the bytes behind are fed
-pub stands_on : (limits : Limits) (least : ℕ) (a b : Option (List ℕ)) (rest fed behind : List ℕ) (old new : MirrorState) (count : ℕ) (s : Stands limits least a b rest old)
+unfoldable pub stands_on : (limits : Limits) (least : ℕ) (a b : Option (List ℕ)) (rest fed behind : List ℕ) (old new : MirrorState) (count : ℕ) (s : Stands limits least a b rest old)
     → fed ++ behind ≡ rest → Fed first_opening s.bytes fed s.notes old new count → Stands limits least a b behind new
 stands_on limits least a b rest fed behind old new count s cut f =
     let whole : s.bytes ++ rest ≡ (s.bytes ++ fed) ++ behind = ap (λ l. s.bytes ++ l) (sym cut) ∙ sym (append_assoc s.bytes fed behind) in
@@ -183,6 +183,7 @@ err_by limits s (Err (fault.Play why)) d = absurd d.whole.fed
 err_by limits s (Err (fault.Audit why)) d = absurd d.whole.fed
 err_by limits s (Err fault.Differs) d = absurd d.whole.fed
 err_by limits s (Err fault.Unpublished) d = absurd d.whole.fed
+err_by limits s (Err fault.NoToken) d = absurd d.whole.fed
 err_by limits s (Err (fault.Place why)) d = absurd d.whole.fed
 err_by limits s (Err (fault.Address why)) d = absurd d.whole.fed
 err_by limits s (Err (fault.Commit why)) d = absurd d.whole.fed

@@ -6,9 +6,9 @@ use Rattle.feed_note.specs.Counts.{Counted, StopsAt}
 use Rattle.feed_note.specs.declared.counts.Counts.{Counts}
 use Rattle.feed_note.specs.declared.counts.SurveyFault.{SurveyFault}
 use Rattle.feed_http.specs.Device.{AppendsPrefix}
-use Rattle.feed_commands.specs.Repeats.{Repeated, repeats_text}
+use Rattle.feed_commands.specs.Findings.{AreFound, findings_text}
 use Rattle.feed_commands.specs.Streams.{Streams}
-use Rattle.feed_commands.specs.declared.commands.repeats.Repeats.{Repeats}
+use Rattle.feed_commands.specs.declared.commands.findings.Findings.{Findings}
 use Rattle.feed_arguments.specs.declared.request.CheckOptions.{CheckOptions}
 use Rattle.feed_commands.specs.declared.fault.Fault.{Fault}
 use Rattle.feed_commands.specs.declared.fault.Fault.TheVariants as fault
@@ -37,10 +37,11 @@ pub record IsWholeWithin (most : ℕ) (old new : Option (List ℕ)) (bytes : Lis
 abbrev pub IsWhole : Option (List ℕ) → Option (List ℕ) → List ℕ → Type 0
 IsWhole old new bytes = IsWholeWithin input_bytes old new bytes
 
--- these lines tell what comes to it besides: which tokens come again, if that was asked for
+-- these lines tell what is found besides, if that was asked for
 abbrev pub TellsMore : Bool → List ℕ → List ℕ → Type 0
 TellsMore false bytes lines = lines ≡ []
-TellsMore true bytes lines = (repeats : Repeats) × Repeated bytes repeats × (lines ≡ repeats_text repeats)
+TellsMore true bytes lines =
+    (findings : Findings) × AreFound bytes findings × (lines ≡ findings_text findings)
 
 -- the text tells what the lines of the feed are
 pub record TellsCounts (options : CheckOptions) (bytes text : List ℕ) : Type 0 where

@@ -1,9 +1,11 @@
 -- What the commands do, by what a command line asks for.
-use Rattle.std.specs.Prelude.{◌≡◌, ◌≢◌, ◌⊎◌, ◌≤◌, ℕ, Bool, true, false, List, string_bytes}
+use Rattle.std.specs.Prelude.{◌≡◌, ◌≢◌, ◌⊎◌, ◌≤◌, ℕ, Bool, true, false, List, Option, None, Some, option_map, string_bytes}
 use Rattle.std.specs.Io.KnownBytes.{Appends, Keeps}
 use Rattle.feed_http.specs.Device.{AppendsPrefix, HasFailed as HasDeviceFailed}
 use Rattle.feed_commands.specs.Check.{CountsPrinted, CheckFails}
 use Rattle.feed_commands.specs.Play.{Played, PlayFails}
+use Rattle.feed_settings.specs.Limits.{Limits}
+use Rattle.feed_commands.specs.StateAt.{PrintedAt, FailsAt}
 use Rattle.feed_commands.specs.Streams.{Streams}
 use Rattle.feed_http.specs.Exchange.{Wrote}
 use Rattle.feed_commands.specs.Tables.{PrintedSome, TablesFail}
@@ -18,15 +20,27 @@ use Rattle.feed_arguments.specs.declared.request.Request.TheVariants as request
 use Rattle.feed_arguments.specs.declared.request.NoCommand.{NoCommand}
 use Rattle.feed_arguments.specs.declared.request.NoCommand.TheVariants as reply
 
+-- the tables were printed that are shown at the end of the input, or at this token
+abbrev pub TablesPrinted : Limits → Option (List ℕ) → Streams → Type 0
+TablesPrinted limits None s = PrintedSome limits s
+TablesPrinted limits (Some token) s = PrintedAt limits token s
+
+-- the same where they were not printed
+abbrev pub NotPrinted : Limits → Option (List ℕ) → Fault → Streams → Type 0
+NotPrinted limits None why s = TablesFail limits why s
+NotPrinted limits (Some token) why s = FailsAt limits token why s
+
 -- the command did what was asked for
 abbrev pub Succeeds : Local → Streams → Type 0
-Succeeds (local.Tables options) s = PrintedSome options.limits s
+Succeeds (local.Tables options) s =
+    TablesPrinted options.limits (option_map (λ text. text.now) options.at) s
 Succeeds (local.Check options) s = CountsPrinted options s
 Succeeds local.Play s = Played s
 
 -- the command failed like this
 abbrev pub Fails : Local → Fault → Streams → Type 0
-Fails (local.Tables options) why s = TablesFail options.limits why s
+Fails (local.Tables options) why s =
+    NotPrinted options.limits (option_map (λ text. text.now) options.at) why s
 Fails (local.Check options) why s = CheckFails options why s
 Fails local.Play why s = PlayFails why s
 

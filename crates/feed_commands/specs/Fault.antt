@@ -90,7 +90,7 @@ goes_on (Ok served) = true
 goes_on (Err why) = is_one_connections (fault_of_network why)
 
 -- 5 for want of memory, 4 for a device's fault, 2 for a faulty input or response and for records that
--- differ, 3 where nothing is published, 1 for servers that can't be named so
+-- differ, 3 where nothing is published or no state has the token, 1 for servers that can't be named so
 abbrev pub status_of : Fault → ℕ
 status_of fault.Memory = 5
 status_of fault.Read = 4
@@ -104,6 +104,7 @@ status_of (fault.Play why) = if is_memory why.cause then 5 else 2
 status_of (fault.Audit why) = 2
 status_of fault.Differs = 2
 status_of fault.Unpublished = 3
+status_of fault.NoToken = 3
 status_of (fault.Place why) = 1
 status_of (fault.Address why) = 1
 status_of (fault.Commit why) = 2

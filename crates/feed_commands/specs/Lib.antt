@@ -2,14 +2,15 @@ pub mod Audit
 pub mod Check
 pub mod Commands
 pub mod Fault
+pub mod Findings
 pub mod InTurn
 pub mod Openings
 pub mod Play
 pub mod Printing
 pub mod Pull
 pub mod Relay
-pub mod Repeats
 pub mod Serve
+pub mod StateAt
 pub mod Streams
 pub mod Tables
 pub mod Telling

@@ -8,11 +8,12 @@ ghost use Rattle.feed_http.specs.Exchange.{wrote_by};
 
 pub mod audit;
 mod check;
+mod findings;
 mod play;
 pub mod pull;
 pub mod relay;
-mod repeats;
 pub mod serve;
+mod state_at;
 mod tables;
 
 use crate::fault::{Fault, REFUSED};
@@ -21,6 +22,7 @@ use check::print_counts;
 use feed_arguments::{Local, NoCommand, PROGRAM, Request, parse_words};
 use feed_http::device::{Failed, FeedRead, FeedWrite, write_all};
 use play::print_played;
+use state_at::print_state_at;
 use std::alloc::Global;
 use tables::print_tables;
 
@@ -50,24 +52,27 @@ fn answer_words<W: FeedWrite, E: FeedWrite>(reply: &NoCommand, out: &mut W, err:
 /// failures tells so.
 pub fn perform<R: FeedRead, W: FeedWrite>(
     alloc: Global,
-    request: Local,
+    request: &Local<'_>,
     input: &mut R,
     out: &mut W,
 ) -> Result<(), Fault>
     ensures ok { let streams = streams_of R.remaining R.failures W.contents W.failures
         input.old input.new out.old out.new in
-        OnOk result (Succeeds request streams) }
+        OnOk result (Succeeds request.now streams) }
     ensures err { let streams = streams_of R.remaining R.failures W.contents W.failures
         input.old input.new out.old out.new in
-        IfErr result (λ why. Fails request why streams) }
+        IfErr result (λ why. Fails request.now why streams) }
 
     ensures device { let streams = streams_of R.remaining R.failures W.contents W.failures
         input.old input.new out.old out.new in
         IfErr result (λ why. IsDeviceFault why streams) }
 {
     match request {
-        Local::Tables(options) => print_tables(alloc, options, input, out),
-        Local::Check(options) => print_counts(alloc, options, input, out),
+        Local::Tables(options) => match options.at {
+            Some(token) => print_state_at(alloc, options, token, input, out),
+            None => print_tables(alloc, options, input, out),
+        },
+        Local::Check(options) => print_counts(alloc, *options, input, out),
         Local::Play => print_played(alloc, input, out),
     }
 }
@@ -75,18 +80,18 @@ pub fn perform<R: FeedRead, W: FeedWrite>(
 /// Does that, tells its fault, and answers the status for it.
 fn run_local<R: FeedRead, W: FeedWrite, E: FeedWrite>(
     alloc: Global,
-    request: Local,
+    request: &Local<'_>,
     input: &mut R,
     out: &mut W,
     err: &mut E,
 ) -> u8
     ensures ok { let streams = streams_of R.remaining R.failures W.contents W.failures
         input.old input.new out.old out.new in
-        result ≡ 0 → Succeeds request streams }
+        result ≡ 0 → Succeeds request.now streams }
     ensures err { let streams = streams_of R.remaining R.failures W.contents W.failures
         input.old input.new out.old out.new in
         let told = wrote_by E.contents E.failures err.old err.new in
-        result ≢ 0 → EndsBy request result streams told }
+        result ≢ 0 → EndsBy request.now result streams told }
     ensures untold { result ≡ 0 → err.new ≡ err.old }
     ensures statuses { (result ≢ 1) × (result ≤ 5) }
 {
@@ -97,12 +102,12 @@ fn run_local<R: FeedRead, W: FeedWrite, E: FeedWrite>(
 }
 
 /// The command that opens no connection, where one is asked for.
-fn local_of(request: &Request<'_>) -> Option<Local>
-    ensures some { IfSome result (λ local. request.now ≡ asked.Local local) }
+fn local_of<'r, 'a>(request: &'r Request<'a>) -> Option<&'r Local<'a>>
+    ensures some { IfSome result (λ local. request.now ≡ asked.Local local.now) }
     ensures none { result ≡ None → is_local request.now ≡ false }
 {
     match request {
-        Request::Local(local) => Some(*local),
+        Request::Local(local) => Some(local),
         _ => None,
     }
 }

@@ -63,6 +63,9 @@ pub enum Fault {
     /// The input, or what was followed, has ended, and nothing was published.
     #[error("nothing published")]
     Unpublished,
+    /// The input has ended, and none of its lines publishes a state at the token that is asked for.
+    #[error("the feed has no such token")]
+    NoToken,
     /// The server that is to be followed can't be named like this.
     #[error("{0}")]
     Place(PlaceFault),
@@ -91,7 +94,7 @@ impl Fault {
             Fault::Play(fault) if fault.is_want_of_memory() => 5,
             Fault::TooLong | Fault::Feed(_) | Fault::Survey(_) | Fault::Batches(_) => 2,
             Fault::Play(_) | Fault::Audit(_) | Fault::Differs => 2,
-            Fault::Unpublished => 3,
+            Fault::Unpublished | Fault::NoToken => 3,
             Fault::Place(_) | Fault::Address(_) => REFUSED,
             Fault::Commit(_) => 2,
             Fault::Network(NetworkFault::Engine(EngineFault::Commit(_) | EngineFault::Follow(_))) =>

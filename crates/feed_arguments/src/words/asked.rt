@@ -150,13 +150,15 @@ fn limits_of_counts(matches: &ArgMatches<'_>) -> Option<Limits>
 }
 
 /// What the options of `tables` ask for.
-fn tables_options(matches: &ArgMatches<'_>) -> Option<TablesOptions>
+fn tables_options<'a>(matches: &ArgMatches<'a>) -> Option<TablesOptions<'a>>
     ensures some { IfSome result (λ options. AsksTables (rows_of (found_of matches.now)) options) }
     ensures none { result ≡ None → (options : Tables)
         → ¬ (AsksTables (rows_of (found_of matches.now)) options) }
 {
+    let limits = limits(matches)?;
     Some(TablesOptions {
-        limits: limits(matches)?,
+        at: text(matches, "at"),
+        limits,
         verbose: is_given(matches, "verbose"),
     })
 }
@@ -293,7 +295,10 @@ fn request_named<'a>(name: &str, matches: &ArgMatches<'a>) -> Option<Request<'a>
         → (name.now ≡ codes "live") × AreBothGiven (rows_of (found_of matches.now)) }
 {
     match name {
-        "tables" => Some(Request::Local(Local::Tables(tables_options(matches)?))),
+        "tables" => match tables_options(matches) {
+            Some(options) => Some(Request::Local(Local::Tables(options))),
+            None => None,
+        },
         "check" => Some(Request::Local(Local::Check(check_options(matches)))),
         "play" => Some(Request::Local(Local::Play)),
         "audit" => match audit_options(matches) {

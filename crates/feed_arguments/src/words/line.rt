@@ -60,8 +60,9 @@ fn tables<'a>(alloc: Global) -> Result<Command<'a>, AllocError>
 {
     let about = "Prints the tables that the event feed on standard input has published";
     let limited = with_limits(alloc, Ok(command(alloc, "tables", about)));
+    let tables = add_option(limited, options::at(alloc));
     let help = "Tell the number of the faulty line, too";
-    add_option(limited, options::verbose(alloc, help))
+    add_option(tables, options::verbose(alloc, help))
 }
 
 /// `check`.
@@ -70,7 +71,7 @@ fn check<'a>(alloc: Global) -> Result<Command<'a>, AllocError>
 {
     let about =
         "Counts the lines of the event feed on standard input, or names the first that can't be read";
-    let help = "Count the tokens that come again, too";
+    let help = "Count what servers get wrong, too: tokens that come again, and more";
     let check = Ok(command(alloc, "check", about));
     add_option(check, options::verbose(alloc, help))
 }

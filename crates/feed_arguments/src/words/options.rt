@@ -93,6 +93,15 @@ pub(crate) fn memory<'a>(alloc: Global) -> Arg<'a>
     )
 }
 
+/// `--at TOKEN`.
+pub(crate) fn at<'a>(alloc: Global) -> Arg<'a>
+    ensures rule { rule_of result ≡ words.at }
+    ensures local { result.global ≡ false }
+{
+    text(alloc, "at", "TOKEN")
+        .help("Print the tables at the first line that publishes under this token")
+}
+
 /// `--verbose`.
 pub(crate) fn verbose<'a>(alloc: Global, help: &'a str) -> Arg<'a>
     ensures rule { rule_of result ≡ words.verbose }

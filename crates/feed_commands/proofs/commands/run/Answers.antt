@@ -6,7 +6,7 @@ pub returns-in-Some : goal.returns-in-Some
 returns-in-Some g c =
     let words = map (λ word. word.now) c.args.words.now in
     inl (record {
-      asked = c.in-Some.local;
+      asked = c.in-Some.local.now;
       asks = subst (Asks words) c.in-Some.ensures.some c.in-Ok.ensures.ok;
       done = λ e. (c.run_local.ensures.ok e, c.run_local.ensures.untold e);
       failed = c.run_local.ensures.err;
