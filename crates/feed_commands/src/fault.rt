@@ -1,13 +1,13 @@
 //! Why a command fails: the texts that tell it, and the statuses that it ends with.
 ghost use Rattle.std.specs.Prelude.{◌≡◌};
 
+use feed_arguments::AddressFault;
 use feed_audit::AuditFault;
 use feed_http::{EngineFault, PlaceFault};
 use feed_node::{CommitFault, FeedFault};
 use feed_note::{LineStop, SurveyFault};
 use feed_play::PlayFault;
 use feed_relay::NetworkFault;
-use feed_arguments::AddressFault;
 use std::alloc::{AllocError, AllocFailed};
 use thiserror::Error;
 

@@ -16,12 +16,12 @@ pub use commands::relay::print_relayed;
 pub use commands::serve::{Source, serve_all, start_source};
 pub use commands::{perform, run};
 pub use fault::{Fault, FeedStop, REFUSED};
-pub use feed_http::{device, memory, stream};
-pub use feed_play::{PlayCause, PlayFault, play};
-pub use feed_relay::{Accept, Dial, NetworkFault, Server};
 pub use feed_arguments::{
     AddressFault, AuditOptions, LiveOptions, Local, NoCommand, PROGRAM, PullOptions, RelayOptions,
     Request, ServeOptions, TablesOptions, UpstreamOptions, VERSION, Verbosity, addresses,
     parse_words,
 };
+pub use feed_http::{device, memory, stream};
+pub use feed_play::{PlayCause, PlayFault, play};
+pub use feed_relay::{Accept, Dial, NetworkFault, Server};
 pub use telling::{tell, tell_about};

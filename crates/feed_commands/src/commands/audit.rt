@@ -7,12 +7,12 @@ ghost use Rattle.feed_http.specs.Device.{AppendsPrefix, HasFailed};
 
 use crate::fault::Fault;
 use crate::input::read_within;
+use feed_arguments::AuditOptions;
 use feed_audit::{
     Stray, Verdict, audit, count_states, print_agreement, print_agreement_json, print_stray,
     print_stray_json,
 };
 use feed_http::device::{FeedRead, FeedWrite, write_all};
-use feed_arguments::AuditOptions;
 use std::alloc::{AllocError, Global};
 
 /// The most bytes of a record.

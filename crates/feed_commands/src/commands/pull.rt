@@ -13,11 +13,11 @@ use crate::fault::Fault;
 use crate::input::read_input;
 use crate::snapshot::{outcome, print_snapshot};
 use crate::telling::Teller;
+use feed_arguments::{PullOptions, addresses};
 use feed_http::device::{FeedRead, FeedWrite};
 use feed_http::{EngineFault, FollowFault, Followed, Identity, Place};
 use feed_node::Mirror;
 use feed_relay::{Attempt, AttemptEnd, Dial, NetworkFault, Server, follow_first};
-use feed_arguments::{PullOptions, addresses};
 use std::alloc::{AllocError, Global};
 
 /// The server's host, with its port.

@@ -11,11 +11,11 @@ ghost use Rattle.feed_commands.specs.Telling.{HasTold};
 use crate::fault::Fault;
 use crate::snapshot::print_snapshot;
 use crate::telling::Teller;
+use feed_arguments::RelayOptions;
 use feed_http::Service;
 use feed_http::device::FeedWrite;
 use feed_node::Mirror;
 use feed_relay::{Accept, Dial, MOST_READS, Server, follow_first, has_run_out, serve_next};
-use feed_arguments::RelayOptions;
 use std::alloc::Global;
 
 /// How each round serves.

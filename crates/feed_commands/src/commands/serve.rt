@@ -19,12 +19,12 @@ ghost use Rattle.feed_relay.specs.declared.fault.NetworkFault.{NetworkFault as F
 use crate::fault::Fault;
 use crate::input::read_input;
 use crate::telling::Teller;
+use feed_arguments::ServeOptions;
 use feed_http::Service;
 use feed_http::device::{FeedRead, FeedWrite};
 use feed_node::Primary;
 use feed_relay::{Accept, MOST_READS, commit_all, feed_batches, serve_live_next};
 use feed_tables::Change;
-use feed_arguments::ServeOptions;
 use std::alloc::Global;
 use std::collections::VecDeque;
 
