@@ -209,6 +209,7 @@ ends_later (fault.Play why) start mid now before after = absurd after
 ends_later (fault.Audit why) start mid now before after = absurd after
 ends_later fault.Differs start mid now before after = absurd after
 ends_later fault.Unpublished start mid now before after = absurd after
+ends_later fault.NoToken start mid now before after = absurd after
 ends_later (fault.Place why) start mid now before after = absurd after
 ends_later (fault.Address why) start mid now before after = absurd after
 ends_later (fault.Commit why) start mid now before after = absurd after

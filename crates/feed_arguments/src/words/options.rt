@@ -98,8 +98,9 @@ pub(crate) fn at<'a>(alloc: Global) -> Arg<'a>
     ensures rule { rule_of result ≡ words.at }
     ensures local { result.global ≡ false }
 {
-    text(alloc, "at", "TOKEN")
-        .help("Print the tables at the first line that publishes under this token")
+    text(alloc, "at", "TOKEN").help(
+        "Print the tables at the first line that publishes under this token",
+    )
 }
 
 /// `--verbose`.

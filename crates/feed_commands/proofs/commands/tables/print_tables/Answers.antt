@@ -8,15 +8,15 @@ use Rattle.feed_commands.proofs.commands.tables.print_tables.Goals as goal
 pub returns-clause-ok : goal.returns-clause-ok
 returns-clause-ok g c =
     let shown = c.feed_all-fed.new.mirror.node.published in
-    let limits : c.begin.new.self.limits ≡ c.args.options.limits = c.begin.ensures.limits ∙ ap (λ m. m.limits) c.in_ok-mirror.ensures in
-    printed_ok c.args.options.limits _ _ (published_text shown) _ c.feed_all-fed.result c.outcome.result shown c.is_some-is_published.result
+    let limits : c.begin.new.self.limits ≡ c.args.options.now.limits = c.begin.ensures.limits ∙ ap (λ m. m.limits) c.in_ok-mirror.ensures in
+    printed_ok c.args.options.now.limits _ _ (published_text shown) _ c.feed_all-fed.result c.outcome.result shown c.is_some-is_published.result
     (c.feed_all-fed.ensures.fed (search rules)) limits refl refl c.in_ok-print_snapshot.ensures.ok (c.is_some-is_published.ensures ∙ is_some_kept _ c.token.result ∙ ap is_some (c.token.ensures ∙ ap published_token c.node.ensures.node)) c.outcome.ensures
 
 pub returns-clause-err : goal.returns-clause-err
 returns-clause-err g c =
     let shown = c.feed_all-fed.new.mirror.node.published in
-    let limits : c.begin.new.self.limits ≡ c.args.options.limits = c.begin.ensures.limits ∙ ap (λ m. m.limits) c.in_ok-mirror.ensures in
-    printed_err c.args.options.limits _ _ (published_text shown) _ c.feed_all-fed.result c.outcome.result shown c.is_some-is_published.result
+    let limits : c.begin.new.self.limits ≡ c.args.options.now.limits = c.begin.ensures.limits ∙ ap (λ m. m.limits) c.in_ok-mirror.ensures in
+    printed_err c.args.options.now.limits _ _ (published_text shown) _ c.feed_all-fed.result c.outcome.result shown c.is_some-is_published.result
     (c.feed_all-fed.ensures.fed (search rules)) limits refl refl c.in_ok-print_snapshot.ensures.ok (c.is_some-is_published.ensures ∙ is_some_kept _ c.token.result ∙ ap is_some (c.token.ensures ∙ ap published_token c.node.ensures.node)) c.outcome.ensures
 
 pub returns-clause-turns : goal.returns-clause-turns
