@@ -826,7 +826,7 @@ module _ (limits : Limits) (log : Log) (servers : Servers) where
       let alone : Position = record { at = k; low = k } in
       let there : IsInLog limits log (restored_from bounds (node_at log alone).published).node = (
         Some alone,
-        record { order = omega arith; kept = omega arith; light = light_here bounds log k; in_log = within },
+        record { order = omega arith; kept = omega arith; light = light_here limits log k; in_log = within },
         ap (λ n. record {
           published = Some (record { tables = state_after log k; token = log.token k });
           held = tokens_of log k (suc n);

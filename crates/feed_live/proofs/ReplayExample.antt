@@ -3,11 +3,12 @@ use Rattle.std.proofs.Common.{◌≡◌, refl, sym, ap, ◌∙◌, subst, ℕ, �
 use Rattle.std.specs.Prelude.{codes, is_some, position, if◌then◌else◌}
 use Rattle.std.specs.Str.{bytes_eq}
 use Rattle.std.proofs.lemmas.List.{length-drop}
-use Rattle.feed_settings.specs.Limits.{Limits}
+use Rattle.feed_settings.specs.Limits.{Limits, History}
 use Rattle.feed_text.specs.Limits.{line_bytes}
 use Rattle.feed_note.specs.declared.line.Line.{Line}
 use Rattle.feed_note.specs.Lines.{lines, rest, ended}
 use Rattle.feed_node.specs.declared.commit.Commit.{Commit}
+use Rattle.feed_node.specs.Kept.{most_kept}
 use Rattle.feed_node.specs.Mirroring.{first_opening}
 use Rattle.feed_node.specs.Reading.{Opening, AllGood, AllGoodAfter, reads, shows}
 use Rattle.feed_node.specs.Steps.{ReadingIsOne}
@@ -32,10 +33,10 @@ not_held h =
     let none : 0 ≡ 1 - (h + 1) = omega arith in
     subst (λ d. holds d ≡ false) none refl
 
-published : (h : ℕ) → IsOfLog replayed (reads h first_opening notes).published
+published : (h : History) → IsOfLog replayed (reads h first_opening notes).published
 published h =
     let is : (reads h first_opening notes).published ≡ (shows first_opening (first ∷ second ∷ [])).published =
-    ap (λ c. (shows first_opening (if c then first ∷ [] else first ∷ second ∷ [])).published) (not_held h) in
+    ap (λ c. (shows first_opening (if c then first ∷ [] else first ∷ second ∷ [])).published) (not_held (most_kept h [])) in
     subst (IsOfLog replayed) (sym is) (0, omega arith, refl)
 
 -- ---- nothing is wrong with any prefix
