@@ -26,6 +26,10 @@ most_idle = 3600
 abbrev pub most_window : ℕ
 most_window = 1073741824
 
+-- how many bytes of long texts may wait to be taken by screens
+abbrev pub most_pending : ℕ
+most_pending = 1099511627776
+
 -- the most milliseconds that a feed which was asked for from the start may be quiet before it is shown
 abbrev pub most_settle : ℕ
 most_settle = 60000
@@ -88,6 +92,9 @@ idle = with_default (codes "120") (number_in (codes "idle") most_idle)
 
 abbrev pub window : Rule
 window = with_default (codes "1048576") (number_in (codes "window") most_window)
+
+abbrev pub pending : Rule
+pending = with_default (codes "67108864") (number_in (codes "pending") most_pending)
 
 abbrev pub state : Rule
 state = text_option (codes "state")
@@ -154,8 +161,8 @@ with_guard command = with_rule (with_rule command allow) per_address
 
 -- a command with the options that say to whom it is served, and how
 abbrev pub with_screens : App → App
-with_screens command = with_rule (with_rule (with_rule (with_guard (with_listener command)) idle)
-    window) options.chunked
+with_screens command = with_rule (with_rule (with_rule (with_rule
+    (with_guard (with_listener command)) idle) window) pending) options.chunked
 
 -- a command with the limits of the node that is served
 abbrev pub with_limits : App → App
@@ -227,6 +234,7 @@ pub record AsksLive (rows : List Row) (options : LiveOptions) : Type 0 where
   pub screens_are : IsNumber (codes "screens") most_screens rows options.screens
   pub idle_is : IsNumber (codes "idle") most_idle rows options.idle
   pub window_is : IsNumber (codes "window") most_window rows options.window
+  pub pending_is : IsNumber (codes "pending") most_pending rows options.pending
   pub framing_is : IsFramed rows options.framing
   pub state_is : text_at (codes "state") rows ≡ option_map (λ text. text.now) options.state
   pub new_is : IsGiven (codes "new") rows options.is_new

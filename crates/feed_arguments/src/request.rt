@@ -154,6 +154,9 @@ pub struct LiveOptions<'a> {
     pub idle: u64,
     /// How many bytes a screen may be late before it is cut off, 1 to 1,073,741,824.
     pub window: u64,
+    /// How many bytes of long texts screens may have yet to take before no further one is made, 1 to
+    /// 1,099,511,627,776.
+    pub pending: usize,
     /// How the answers are framed.
     pub framing: Framing,
     /// The name of the file that keeps what was published. Any text will do.

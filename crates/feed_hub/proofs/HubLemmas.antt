@@ -1,6 +1,6 @@
 -- A hub, seat by seat.
 use Rattle.std.proofs.Common.{◌≡◌, ◌≢◌, refl, sym, ap, ◌∙◌, subst, ℕ, ◌⊎◌, true, false, true≢false, List, [], ◌∷◌, ◌++◌, Option, Some, None, inl, inr, ◌<◌, ◌≤◌, ◌^◌, ◌+◌, ◌-◌, max, length, length-append, length-drop, arith, take}
-use Rattle.std.specs.Prelude.{◌==◌, IsSome, Result, Ok, Err, IfOk, OnOk}
+use Rattle.std.specs.Prelude.{◌==◌, Bool, IsSome, Result, Ok, Err, IfOk, OnOk}
 use Rattle.std.proofs.lemmas.Bool.Decides.{eqb_tells}
 use Rattle.slab.specs.Slab.{Slab, get, Updates}
 use Rattle.feed_settings.specs.declared.framing.Framing.{Framing}
@@ -12,6 +12,8 @@ use Rattle.feed_answer.specs.Answered.{AnswerParts, AnswersTo}
 use Rattle.feed_hub.specs.declared.asking.Asking.{Asking}
 use Rattle.feed_hub.specs.declared.broadcast.Broadcast.{Broadcast}
 use Rattle.feed_hub.specs.declared.hub.Heard.{Heard}
+use Rattle.feed_hub.specs.declared.screen.Refill.{Refill}
+use Rattle.feed_hub.specs.declared.screen.Refill.TheVariants.{Goes, Waits}
 use Rattle.feed_hub.specs.declared.screen.Screen.{Screen}
 use Rattle.feed_hub.specs.declared.screen.Way.{Way}
 use Rattle.feed_hub.specs.declared.screen.Way.TheVariants.{CatchesUp, OnLog, Stops, Over}
@@ -20,11 +22,11 @@ use Rattle.feed_hub.specs.declared.seats.Seat.{Seat}
 use Rattle.feed_hub.specs.declared.seats.Seat.TheVariants.{Asks, Watches}
 use Rattle.feed_hub.specs.declared.seats.Seated.{Seated}
 use Rattle.feed_hub.specs.Broadcast.{IsServedBy, Gains, SaysNext}
-use Rattle.feed_hub.specs.Hub.{Takes, HearsOf, HearsAt}
+use Rattle.feed_hub.specs.Hub.{Takes, HearsOf, HearsAt, HoldsAt}
 use Rattle.feed_hub.specs.Log.{Log, Has, behind, end_of, oldest_in}
 use Rattle.feed_hub.specs.Screen.{IsOnLog, IsFollowed, IsNotBehind, IsServed}
 use Rattle.feed_hub.specs.Seats.{seat_at, AreOnLog, HasAll, ChangesSeat, KeepsThose, IsSeatNotBehind, IsLeastPlace, Watched, Ends, IsCutAt}
-use Rattle.feed_hub.specs.Steps.{opened, way_after, with_next, refilled, refilled_at, idled, idled_at, taken, way_from, FollowsLog, ended}
+use Rattle.feed_hub.specs.Steps.{opened, Gets, way_after, with_next, refilled, refilled_at, idled, idled_at, taken, way_from, FollowsLog, ended}
 use Rattle.feed_hub.proofs.LoopLemmas.{left_off}
 use Rattle.feed_hub.proofs.SeatLemmas.{seat_found, removed_at}
 use Rattle.feed_hub.proofs.ServedLemmas.{served_opens, served_refused, ended_served}
@@ -173,18 +175,24 @@ module _ (common : Framing) (told : Option (List ℕ)) (log : Log) (s : Screen)
       subst (λ f. IsFollowed common told log f at) (sym same_framing ∙ ap (λ x. x.framing) same)
       (fine at (sym same_way ∙ ap (λ x. x.way) same ∙ way))
 
-  pub joined_fine : (node : NodeState) (now : ℕ) (t : Screen)
-      → ((at : ℕ) → t.way ≡ OnLog at → (t ≡ refilled node now s) ⊎ IsFollowed common told log t.framing at) → IsFine common told log (Watches t)
-  joined_fine node now t joins u at is way = by (joins at (ap (λ x. x.way) same ∙ way))
+  -- one that got what comes next, or stays, is on the log only where it was there, or joined it
+  got_on_log : (node : NodeState) (room : Bool) (now : ℕ) (got : Refill) (r : Screen) (at : ℕ)
+      → Gets node room now got s r → r.way ≡ OnLog at → r ≡ s
+  got_on_log node room now (Goes number) r at is way = is ∙ refilled_way node now s at (ap (λ x. x.way) (sym is) ∙ way)
+  got_on_log node room now (Waits count) r at is way = is.0
+
+  pub joined_fine : (node : NodeState) (room : Bool) (now : ℕ) (got : Refill) (r t : Screen) → Gets node room now got s r
+      → ((at : ℕ) → t.way ≡ OnLog at → (t ≡ r) ⊎ IsFollowed common told log t.framing at) → IsFine common told log (Watches t)
+  joined_fine node room now got r t gets joins u at is way = by (joins at (ap (λ x. x.way) same ∙ way))
     where
       same : t ≡ u
       same = cc
 
-      by : (t ≡ refilled node now s) ⊎ IsFollowed common told log t.framing at → IsFollowed common told log u.framing at
+      by : (t ≡ r) ⊎ IsFollowed common told log t.framing at → IsFollowed common told log u.framing at
       by (inr followed) = subst (λ x. IsFollowed common told log x.framing at) same followed
       by (inl e) =
-          let is : u ≡ refilled node now s = sym same ∙ e in
-          let kept : refilled node now s ≡ s = refilled_way node now s at (ap (λ x. x.way) (sym is) ∙ way) in
+          let is : u ≡ r = sym same ∙ e in
+          let kept : r ≡ s = got_on_log node room now got r at gets (ap (λ x. x.way) (sym is) ∙ way) in
           subst (λ x. IsFollowed common told log x.framing at) (sym (is ∙ kept)) (fine at (ap (λ x. x.way) (sym (is ∙ kept)) ∙ way))
 
   pub taken_fine : (count now : ℕ) (t : Screen) → t ≡ taken count now s → IsOnLog log t.way → IsFine common told log (Watches t)
@@ -377,6 +385,13 @@ pub heard_at : (b : Broadcast) (contest : List ℕ) (node : NodeState) (now : �
     → HearsAt b contest node now piece heard old new
 heard_at b contest node now piece heard asking old new seat was is takes hears =
     subst (λ o. HearsAt b contest node now piece heard o new) (sym was) (takes, (seat, is, hears))
+
+-- a request that is held
+pub held_at : (until : ℕ) (piece : List ℕ) (count : ℕ) (asking held : Asking) (old new : Option Seat)
+    → old ≡ Some (Asks asking) → new ≡ Some (Asks held) → Takes asking.head.items piece count
+    → held.head.items ≡ asking.head.items ++ take count piece → held.until ≡ until → HoldsAt until piece count old new
+held_at until piece count asking held old new was is takes head until_is =
+    subst (λ o. HoldsAt until piece count o new) (sym was) (takes, (held, is, head, until_is))
 
 -- ---- what is said
 

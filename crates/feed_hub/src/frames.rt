@@ -1,18 +1,34 @@
 //! Long texts that several screens are sent, each kept once.
 
-ghost use Rattle.std.specs.Prelude.{◌≡◌, IfSome};
+ghost use Rattle.std.specs.Prelude.{◌≡◌, None, false, IfSome};
 
 use bytes::Bytes;
 use std::alloc::Global;
 
-/// How many bytes a text has at least that is looked for among those that are kept. With a thousand
-/// screens shorter ones take less than 64 MiB.
-const LONG: usize = 65_536;
+/// How many bytes a text has at least that is long: it is looked for among those that are kept, and
+/// it waits for room. With a thousand screens shorter ones take less than 64 MiB.
+pub const LONG: usize = 65_536;
+
+/// A long text, with a number that no other has.
+#[derive(Drop)]
+struct Frame {
+    number: u64,
+    text: Bytes,
+}
+
+/// A text that a screen is sent. A long one has a number where it is kept: those who share it have
+/// the same.
+#[derive(Drop)]
+pub(crate) struct Shared {
+    pub(crate) text: Bytes,
+    pub(crate) number: Option<u64>,
+}
 
 /// The long texts that some screen has yet to take.
 #[derive(Drop)]
 pub(crate) struct Frames {
-    kept: Vec<Bytes>,
+    kept: Vec<Frame>,
+    next: u64,
 }
 
 impl Frames {
@@ -20,45 +36,60 @@ impl Frames {
     pub(crate) fn new(alloc: Global) -> Frames {
         Frames {
             kept: Vec::new(alloc),
+            next: 0,
         }
     }
 
     /// Forgets the texts that no screen has any more.
-    fn tidy(&mut self) {
-        self.kept.retain(|text| !text.is_unique());
+    pub(crate) fn tidy(&mut self) {
+        self.kept.retain(|frame| !frame.text.is_unique());
     }
 
     /// The text that is kept with these bytes.
-    fn find(&self, bytes: &[u8]) -> Option<Bytes>
-        ensures { IfSome result (λ text. text ≡ bytes.now) }
+    fn find(&self, bytes: &[u8]) -> Option<Shared>
+        ensures { IfSome result (λ shared. shared.text ≡ bytes.now) }
     {
-        for text in &self.kept {
-            if text.as_slice() == bytes {
-                return text.clone().ok();
+        for frame in &self.kept {
+            if frame.text.as_slice() == bytes {
+                let text = frame.text.clone().ok()?;
+                let number = Some(frame.number);
+                return Some(Shared { text, number });
             }
         }
         None
     }
 
-    /// Keeps a text, where there is memory for that.
-    fn keep(&mut self, text: &Bytes) {
-        if let Ok(text) = text.clone() {
-            let _ = self.kept.push(text);
-        }
+    /// Keeps a text, where there is memory for that. Its number then.
+    fn keep(&mut self, text: &Bytes) -> Option<u64> {
+        let text = text.clone().ok()?;
+        let number = self.next;
+        self.kept.push(Frame { number, text }).ok()?;
+        self.next = number.wrapping_add(1);
+        Some(number)
     }
 
-    /// The same text: where another screen has a long one with the same bytes, they share that.
-    pub(crate) fn share(&mut self, text: Bytes) -> Bytes
-        ensures { result ≡ text }
+    /// Whether a text of so many bytes is kept.
+    pub(crate) fn has_of(&self, length: usize) -> bool {
+        self.kept.iter().any(|frame| frame.text.len() == length)
+    }
+
+    /// The same text: where another screen has a long one with the same bytes, they share that. A
+    /// long one that nobody has yet needs room.
+    pub(crate) fn share(&mut self, text: Bytes, has_room: bool) -> Option<Shared>
+        ensures text { IfSome result (λ shared. shared.text ≡ text) }
+        ensures none { result ≡ None → has_room ≡ false }
     {
         if text.len() < LONG {
-            return text;
+            return Some(Shared { text, number: None });
         }
         self.tidy();
-        if let Some(kept) = self.find(text.as_slice()) {
-            return kept;
+        if let Some(shared) = self.find(text.as_slice()) {
+            return Some(shared);
         }
-        self.keep(&text);
-        text
+        if !has_room {
+            return None;
+        }
+        let number = self.keep(&text);
+        Some(Shared { text, number })
     }
 }

@@ -2,6 +2,7 @@
 
 ghost use Rattle.std.specs.Prelude.{◌≡◌, None};
 
+use crate::screens::TextId;
 use feed_hub::Key;
 use std::net::SocketAddr;
 
@@ -28,6 +29,15 @@ pub(crate) enum Stage {
     Lingers { until: u64, left: usize },
 }
 
+/// For what a connection waits while there is no room for a text.
+#[derive(Clone, Copy, PartialEq, Eq)]
+pub(crate) enum Wait {
+    /// Its request came whole: for its answer, until a time at most.
+    Answer(u64),
+    /// For a commit of so many bytes.
+    Commit(usize),
+}
+
 /// A connection. Its socket is at the same place.
 #[derive(Clone, Copy)]
 pub(crate) struct Conn {
@@ -39,12 +49,15 @@ pub(crate) struct Conn {
     /// There may be more to read, and more to write, of which no event will tell.
     pub(crate) has_input: bool,
     pub(crate) has_more: bool,
-    /// How many bytes of its answer are kept, until it took them all; and the number of the text
-    /// that they are of, where others share it.
+    /// How many bytes the text has that it has yet to take; since when it has that, and how much it
+    /// took since.
     pub(crate) owes: usize,
-    pub(crate) text: Option<u64>,
-    /// When it was answered.
-    pub(crate) answered: u64,
+    pub(crate) owed_since: u64,
+    pub(crate) took: u64,
+    /// Which text that is, where it counts as pending.
+    pub(crate) text: Option<TextId>,
+    /// For what it waits.
+    pub(crate) wait: Option<Wait>,
     /// When a screen sent its end: mostly it went away.
     pub(crate) ended: Option<u64>,
     pub(crate) peer: SocketAddr,
@@ -65,8 +78,10 @@ impl Conn {
             has_input: false,
             has_more: false,
             owes: 0,
+            owed_since: 0,
+            took: 0,
             text: None,
-            answered: 0,
+            wait: None,
             ended: None,
             peer,
             since: now,
@@ -90,9 +105,60 @@ impl Conn {
     /// Whether it has yet to take a text, and takes it so slowly that it would need more than
     /// `SHARE` for all of it.
     pub(crate) fn is_slow(&self, now: u64) -> bool {
-        let time = now.saturating_sub(self.answered);
+        let time = now.saturating_sub(self.owed_since);
         let share = (self.owes as u64).saturating_mul(time);
-        self.owes > 0 && time >= PATIENCE && self.bytes.saturating_mul(SHARE) < share
+        self.owes > 0 && time >= PATIENCE && self.took.saturating_mul(SHARE) < share
+    }
+
+    /// It has yet to take a text of so many bytes, from now on.
+    pub(crate) fn owe(&mut self, length: usize, text: Option<TextId>, now: u64)
+        ensures { self.new.key ≡ self.old.key }
+    {
+        self.owes = length;
+        self.owed_since = now;
+        self.took = 0;
+        self.text = text;
+    }
+
+    /// It took all of its text. Which that was, where it counted.
+    pub(crate) fn pay(&mut self) -> Option<TextId>
+        ensures key { self.new.key ≡ self.old.key }
+        ensures text { result ≡ self.old.text }
+    {
+        self.owes = 0;
+        self.text.take()
+    }
+
+    /// It took so many bytes.
+    pub(crate) fn take(&mut self, count: usize)
+        ensures { self.new.key ≡ self.old.key }
+    {
+        self.bytes = self.bytes.saturating_add(count as u64);
+        self.took = self.took.saturating_add(count as u64);
+    }
+
+    /// Whether its request waits for room, and has for long enough.
+    pub(crate) fn is_overdue(&self, now: u64) -> bool {
+        match self.wait {
+            Some(Wait::Answer(until)) => until <= now,
+            _ => false,
+        }
+    }
+
+    /// The one of two connections whose request has waited for longer for room, and until when it
+    /// may: that at another place, and this one.
+    pub(crate) fn waits_longer(
+        &self,
+        other: Option<(u64, usize)>,
+        at: usize,
+    ) -> Option<(u64, usize)> {
+        let Some(Wait::Answer(until)) = self.wait else {
+            return other;
+        };
+        match other {
+            Some((earlier, _)) if earlier <= until => other,
+            _ => Some((until, at)),
+        }
     }
 
     /// A screen sends no more.
@@ -110,6 +176,7 @@ impl Conn {
     {
         self.key = None;
         self.has_more = false;
+        self.wait = None;
         self.stage = Stage::Lingers {
             until: now.saturating_add(LINGER),
             left: LINGER_BYTES,

@@ -11,6 +11,9 @@ pub struct LiveLimits {
     pub screens: usize,
     /// How many bytes a screen may be behind.
     pub window: u64,
+    /// How many bytes of long texts there may be that screens have yet to take, before no further
+    /// one is made: whoever needs one waits. A text for many counts once.
+    pub pending: usize,
     /// After how many milliseconds of silence a line feed is sent; a server that is silent for
     /// twice that is left.
     pub idle: u64,

@@ -10,7 +10,9 @@ ghost use Rattle.feed_live.specs.Serving.{Leaves, ServesBut, HearsSome, HearsAll
 ghost use Rattle.feed_live.specs.Held.{answerer, is_over, SameMirrors, Waits};
 
 mod coming;
+mod pending;
 mod sending;
+mod waiting;
 
 use crate::conn::{Conn, Stage};
 use crate::figures::ScreenTotals;
@@ -19,6 +21,8 @@ use crate::relay::Saying;
 use crate::told::Telling;
 use feed_device::{How, Sockets, Stop, Told};
 use feed_hub::{Answering, Hub, Key};
+pub(crate) use crate::screens::pending::TextId;
+use crate::screens::pending::Pending;
 use slab::Slab;
 use std::alloc::{AllocError, Global};
 use std::mem;
@@ -26,12 +30,6 @@ use std::net::SocketAddr;
 
 /// How many bytes one read takes.
 pub(crate) const PIECE: usize = 4096;
-
-/// While so many bytes are kept for screens that have yet to take their answers, no further text is
-/// made: who asks for everything is told that there are too many, where no text can be shared. A
-/// text that many share counts once: that of a large snapshot is made again only once it has
-/// changed.
-const MOST_OWED: usize = 67_108_864;
 
 /// What is sent where there are as many screens as there may be.
 pub(crate) const FULL: &[u8] = b"HTTP/1.1 503 Service Unavailable\r\n\
@@ -43,7 +41,7 @@ Content-Type: application/json\r\nContent-Length: 41\r\nConnection: close\r\n\r\
 pub(crate) enum Hearing {
     /// They were heard.
     Goes,
-    /// A text would have to be made, and too much is owed.
+    /// There is no room for the text that it asks for, and it can't wait.
     TooMuch,
 }
 
@@ -113,8 +111,8 @@ pub(crate) struct Screens {
     pub(crate) saying: Saying,
     pub(crate) counts: Counts,
     pub(crate) totals: ScreenTotals,
-    /// How many bytes of answers are kept for screens that have not taken them yet.
-    pub(crate) owed: usize,
+    /// The long texts that screens have yet to take.
+    pub(crate) pending: Pending,
     /// How many bytes were made in this turn for those who catch up.
     pub(crate) made: usize,
     /// Some connection has more to read or to write, of which no event will tell.
@@ -141,7 +139,7 @@ impl Screens {
             saying: Saying::new(),
             counts: Counts::none(),
             totals: ScreenTotals::none(),
-            owed: 0,
+            pending: Pending::new(alloc),
             made: 0,
             has_more: false,
             is_waited_for: false,
@@ -303,55 +301,11 @@ impl Screens {
         conn.has_input
     }
 
-    /// So many bytes are kept for the connection at a place, of a text with a number where others
-    /// share it: that counts once.
-    fn owe(&mut self, at: usize, bytes: usize, text: Option<u64>)
-        ensures { SameSeating self.old self.new }
-    {
-        let is_counted = self.is_kept(text);
-        if let Some(conn) = self.conns.get_mut(at) {
-            conn.owes = bytes;
-            conn.text = text;
-            if !is_counted {
-                self.owed = self.owed.saturating_add(bytes);
-            }
-        }
-    }
-
-    /// Whether a shared text is kept for some connection.
-    fn is_kept(&self, text: Option<u64>) -> bool
-        ensures { text ≡ None → result ≡ false }
-    {
-        if text.is_none() {
-            return false;
-        }
-        for at in 0..self.conns.capacity() {
-            if self.conns.get(at).is_some_and(|conn| conn.text == text) {
-                return true;
-            }
-        }
-        false
-    }
-
-    /// Nothing is kept for it any more.
-    fn pay(&mut self, at: usize)
-        ensures same { SameSeating self.old self.new }
-        ensures owed { IfSome (get self.old.conns at)
-            (λ conn. conn.text ≡ None → self.new.owed ≡ self.old.owed - conn.owes) }
-    {
-        let Some(conn) = self.conns.get_mut(at) else {
-            return;
-        };
-        let bytes = mem::replace(&mut conn.owes, 0);
-        let text = conn.text.take();
-        if !self.is_kept(text) {
-            self.owed = self.owed.saturating_sub(bytes);
-        }
-    }
-
     /// Whether the connection at a place has more to read or to write.
     fn has_more_at(&self, shown: &Shown<'_>, at: usize, now: u64) -> bool {
-        self.may_read(shown, at, now) || self.conns.get(at).is_some_and(|conn| conn.has_more)
+        self.may_read(shown, at, now)
+            || self.may_go_on(at)
+            || self.conns.get(at).is_some_and(|conn| conn.has_more)
     }
 
     /// Reads once, where there may be something to read that is to be read now. Of a request that
@@ -519,7 +473,7 @@ impl Screens {
         }
     }
 
-    /// Hands bytes of a request to the hub.
+    /// Hands bytes of a request to the hub; of no bytes, it is answered where it has come whole.
     fn hear(
         &mut self,
         alloc: Global,
@@ -538,29 +492,15 @@ impl Screens {
         ensures mirror { answering.new.mirror ≡ answering.old.mirror }
     {
         let mut rest = piece;
-        'parts: while !rest.is_empty() {
+        'parts: loop {
             if self.has_no_room(alloc, answering, contest, key, rest) {
-                return Ok(Hearing::TooMuch);
+                return self.hold(key, at, rest, now);
             }
             match self.hear_once(alloc, answering, contest, key, at, rest, now)? {
                 0 => return Ok(Hearing::Goes),
                 taken => rest = &rest[taken..],
             }
         }
-        Ok(Hearing::Goes)
-    }
-
-    /// Whether these bytes end a request for which there is no room: a text has to be made for it,
-    /// and too much is owed already.
-    fn has_no_room(
-        &self,
-        alloc: Global,
-        answering: &Answering,
-        contest: &str,
-        key: Key,
-        piece: &[u8],
-    ) -> bool {
-        self.owed >= MOST_OWED && self.hub.makes_text(alloc, answering, contest, key, piece)
     }
 
     /// Hands some bytes of a request to the hub. How many it took, and none where it takes no more.
@@ -587,20 +527,22 @@ impl Screens {
         let Some(status) = heard.status else {
             return Ok(heard.taken);
         };
-        self.is_answered(at, status, now);
-        let kept = self.hub.prefix(key).len();
-        let text = heard.is_shared.then_some(answering.made());
-        self.owe(at, kept, text);
+        self.is_answered(at, status);
+        let id = match heard.is_shared {
+            true => TextId::Opening(answering.made()),
+            false => TextId::Own(at),
+        };
+        self.owe(at, self.hub.prefix(key).len(), id, now);
         Ok(0)
     }
 
-    fn is_answered(&mut self, at: usize, status: u16, now: u64)
+    fn is_answered(&mut self, at: usize, status: u16)
         ensures { SameSeating self.old self.new }
     {
         self.totals.answer(status);
         if let Some(conn) = self.conns.get_mut(at) {
             conn.stage = Stage::Watches;
-            conn.answered = now;
+            conn.wait = None;
             conn.status = status;
         }
     }
@@ -622,6 +564,7 @@ impl Screens {
             (S.socket sockets.old) (S.socket sockets.new) }
         ensures mirrors { SameMirrors answers.old answers.new }
     {
+        self.answer_waiting(alloc, sockets, told, answers, shown, now);
         for at in 0..self.conns.capacity() {
             if self.has_more_at(shown, at, now) {
                 self.serve(alloc, sockets, told, answers, shown, at, now);

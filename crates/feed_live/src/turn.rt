@@ -372,7 +372,7 @@ impl Live {
         ensures saved { SameSaved self.old self.new }
     {
         if self.screens.conns.is_empty() {
-            self.source.tidy();
+            self.tidy();
             return;
         }
         self.screens.idle(alloc, now);
@@ -380,13 +380,24 @@ impl Live {
             return;
         }
         self.ticked = now;
-        self.source.tidy();
+        self.tidy();
+        self.screens
+            .refuse_overdue(sockets, &mut self.telling, now);
         self.screens.cut_late(now);
         self.screens.sweep(sockets, &mut self.telling, now);
         self.screens.close_past(sockets, &mut self.telling, now);
         if !self.source.is_heard() {
             self.hold(now);
         }
+    }
+
+    /// Forgets the texts that no screen has any more.
+    fn tidy(&mut self)
+        ensures serves { (sockets : AllSockets) → OnlyServes self.old self.new sockets sockets }
+        ensures saved { SameSaved self.old self.new }
+    {
+        self.source.tidy();
+        self.screens.tidy();
     }
 
     /// Requests wait: those that waited for long enough are looked at again.

@@ -12,7 +12,9 @@ ghost use Rattle.feed_arguments.specs.declared.request.UpstreamOptions.{Upstream
 use super::asked::{
     framing, identity, is_given, live_limits, number, number_if_given, number_up_to, port, text,
 };
-use super::live::{MOST_HOLD, MOST_IDLE, MOST_RETURN, MOST_SCREENS, MOST_SETTLE, MOST_WINDOW};
+use super::live::{
+    MOST_HOLD, MOST_IDLE, MOST_PENDING, MOST_RETURN, MOST_SCREENS, MOST_SETTLE, MOST_WINDOW,
+};
 use super::options::MOST_PORT;
 use crate::request::{LiveOptions, UpstreamOptions, Verbosity};
 use clap::ArgMatches;
@@ -103,6 +105,7 @@ pub(super) fn live_options<'a>(matches: &ArgMatches<'a>) -> Option<LiveOptions<'
     let screens = number(matches, "screens", MOST_SCREENS)?;
     let idle = number(matches, "idle", MOST_IDLE)?;
     let window = number(matches, "window", MOST_WINDOW)?;
+    let pending = number(matches, "pending", MOST_PENDING)?;
     let settle = number_up_to(matches, "settle", MOST_SETTLE)?;
     let return_after = number_up_to(matches, "return", MOST_RETURN)?;
     let hold = number_up_to(matches, "hold", MOST_HOLD)?;
@@ -120,6 +123,7 @@ pub(super) fn live_options<'a>(matches: &ArgMatches<'a>) -> Option<LiveOptions<'
         screens: screens as usize,
         idle,
         window,
+        pending: pending as usize,
         framing: framing(matches),
         state,
         is_new: is_given(matches, "new"),

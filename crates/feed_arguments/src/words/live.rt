@@ -22,6 +22,8 @@ pub(super) const MOST_IDLE: u64 = 3_600;
 /// The most bytes that a screen may be late.
 pub(super) const MOST_WINDOW: u64 = 1_073_741_824;
 
+pub(super) const MOST_PENDING: u64 = 1_099_511_627_776;
+
 /// The most milliseconds that a feed which was asked for from the start may be quiet before it is
 /// shown.
 pub(super) const MOST_SETTLE: u64 = 60_000;
@@ -182,6 +184,19 @@ fn window<'a>(alloc: Global) -> Arg<'a>
     number(alloc, "window", "BYTES", MOST_WINDOW)
         .help("How many bytes a screen may be late before it is cut off, 1 to 1073741824")
         .default_value("1048576")
+}
+
+/// `--pending BYTES`.
+fn pending<'a>(alloc: Global) -> Arg<'a>
+    ensures rule { rule_of result ≡ live.pending }
+    ensures local { result.global ≡ false }
+{
+    number(alloc, "pending", "BYTES", MOST_PENDING)
+        .help(
+            "How many bytes of long texts may wait to be taken by screens before whoever needs \
+              another one waits, 1 to 1099511627776",
+        )
+        .default_value("67108864")
 }
 
 /// `--state FILE`.
@@ -424,6 +439,7 @@ fn with_screens<'a>(
     let served = with_guard(alloc, served);
     let served = add_option(served, idle(alloc));
     let served = add_option(served, window(alloc));
+    let served = add_option(served, pending(alloc));
     add_option(served, options::chunked(alloc))
 }
 

@@ -6,14 +6,14 @@ ghost use Rattle.feed_node.specs.States.{NodeState};
 ghost use Rattle.feed_answer.specs.Answered.{AnswerParts};
 ghost use Rattle.feed_hub.specs.Steps.{idled, taken, HasNext, IsWaiting, IsQuiet, Probes};
 ghost use Rattle.feed_hub.specs.Seats.{seat_at, Others, SameSeats, KeepsThose, IsOnTime, Watched, IsWatcher, IsAskingSeat, IsOverSeat};
-ghost use Rattle.feed_hub.specs.Hub.{IsSeated, IsStillSeated, IsAnsweredBy, prefix_at, SameLimits, ChangesOnly, IsNew, Takes, IsAnswered, IsKept, HearsOf, HearsAt, Refills};
+ghost use Rattle.feed_hub.specs.Hub.{IsSeated, IsStillSeated, IsAnsweredBy, prefix_at, SameLimits, ChangesOnly, IsNew, Takes, IsAnswered, IsKept, HearsOf, HearsAt, HoldsAt, Refills};
 
 use crate::answering::Answering;
 use crate::asking::Asking;
 use crate::broadcast::Broadcast;
 use crate::hub::{Heard, Hub};
 use crate::log::Full;
-use crate::screen::{Screen, bytes_of};
+use crate::screen::{Refill, Screen, bytes_of};
 use crate::seats::{Key, Seat};
 use feed_answer::{Framing, Reply, reply_to};
 use feed_node::Node;
@@ -182,6 +182,26 @@ impl Hub {
         Ok(heard)
     }
 
+    /// Bytes came on a connection whose request is to wait: they are taken as `hear` does, and
+    /// nothing is answered. There is time until then; `hear` answers it, of no further bytes. How
+    /// many it took: none where no request comes. Where memory runs out the connection is cut.
+    pub fn hold(&mut self, key: Key, piece: &[u8], until: u64) -> Result<usize, AllocError>
+        ensures held { IfOk result (λ taken. HoldsAt until piece.now taken
+            (seat_at self.old.seats.slab key) (seat_at self.new.seats.slab key)) }
+        ensures err { OnErr result (IsAskingSeat (seat_at self.old.seats.slab key)
+            × (seat_at self.new.seats.slab key ≡ None)) }
+        ensures rest { ChangesOnly self.old self.new key }
+    {
+        let Some(asking) = self.seats.take_asking(key) else {
+            return Ok(0);
+        };
+        let mut asking = asking;
+        let (taken, _) = asking.hear(piece)?;
+        asking.wait_until(until);
+        self.seats.put_back(key, Seat::Asks(asking));
+        Ok(taken)
+    }
+
     /// Whether the next bytes of a connection end a request for which a text of the snapshot has to
     /// be made, since there is none that it can share.
     pub fn makes_text(
@@ -206,15 +226,18 @@ impl Hub {
     }
 
     /// Gets what comes next for a screen that has been handed all of its own; one that is as far as
-    /// the log follows that from then on. Where memory runs out the connection is cut.
+    /// the log follows that from then on. A long text that no screen has yet needs room. Where
+    /// memory runs out the connection is cut.
     pub fn refill(
         &mut self,
         alloc: Global,
         node: &Node,
         key: Key,
+        has_room: bool,
         now: u64,
-    ) -> Result<(), AllocError>
-        ensures ok { OnOk result (Watched (Refills self.old.broadcast node.now.shown now)
+    ) -> Result<Refill, AllocError>
+        ensures ok { IfOk result (λ got. Watched
+            (Refills self.old.broadcast node.now.shown has_room now got)
             (seat_at self.old.seats.slab key) (seat_at self.new.seats.slab key)) }
         ensures served { (nodes : List NodeState) → Contains nodes node.now.shown
             → OnOk result (IsStillSeated nodes self.old self.new key) }
@@ -222,17 +245,33 @@ impl Hub {
             × IsWatcher (HasNext node.now.shown) (seat_at self.old.seats.slab key)) }
         ensures rest { ChangesOnly self.old self.new key }
     {
-        if let Some(screen) = self.seats.take_screen(key) {
-            let mut screen = screen;
-            screen.refill(alloc, node, &mut self.frames, now)?;
-            screen.join(
-                self.broadcast.log(),
-                self.broadcast.told(),
-                self.broadcast.framing(),
-            );
-            self.seats.put_back(key, Seat::Watches(screen));
-        }
-        Ok(())
+        let Some(screen) = self.seats.take_screen(key) else {
+            return Ok(Refill::Goes(None));
+        };
+        let mut screen = screen;
+        let got = screen.refill(alloc, node, &mut self.frames, has_room, now)?;
+        screen.join(
+            self.broadcast.log(),
+            self.broadcast.told(),
+            self.broadcast.framing(),
+        );
+        self.seats.put_back(key, Seat::Watches(screen));
+        Ok(got)
+    }
+
+    /// Forgets the long texts that no screen has any more.
+    pub fn tidy(&mut self)
+        ensures seats { self.new.seats ≡ self.old.seats }
+        ensures broadcast { self.new.broadcast ≡ self.old.broadcast }
+        ensures limits { SameLimits self.old self.new }
+        ensures turn { self.new.turn ≡ self.old.turn }
+    {
+        self.frames.tidy();
+    }
+
+    /// Whether some screen has yet to take a long text of so many bytes, or had it lately.
+    pub fn has_text_of(&self, length: usize) -> bool {
+        self.frames.has_of(length)
     }
 
     /// Keeps a screen alive that catches up and has nothing of its own: it gets a line feed. To be

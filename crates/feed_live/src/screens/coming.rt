@@ -14,7 +14,8 @@ use feed_hub::Key;
 use std::alloc::Global;
 use std::net::SocketAddr;
 
-/// How long a request's head may take, in milliseconds.
+/// How long a request's head may take, in milliseconds, beside the time for which requests may have
+/// to wait until a server was heard.
 const HEAD_TIME: u64 = 30_000;
 
 /// How many connections are taken in one turn: so screens have their turns, however many come.
@@ -175,7 +176,8 @@ impl Screens {
     {
         self.counts.came = self.counts.came.saturating_add(1);
         let mut conn = Conn::new(peer, now);
-        match self.hub.open(alloc, now.saturating_add(HEAD_TIME)) {
+        let until = now.saturating_add(HEAD_TIME).saturating_add(self.limits.hold);
+        match self.hub.open(alloc, until) {
             Ok(key) => conn.key = Some(key),
             Err(_) => {
                 self.refuse(sockets, told, at);
@@ -223,7 +225,7 @@ impl Screens {
     }
 
     /// The connection at a place, whose request comes, is told that there are too many.
-    fn refuse_at<S: Sockets>(&mut self, sockets: &mut S, told: &mut Telling, at: usize, now: u64)
+    pub(crate) fn refuse_at<S: Sockets>(&mut self, sockets: &mut S, told: &mut Telling, at: usize, now: u64)
         ensures serving { (nodes : List NodeState) (contest unheard : List ℕ)
             → StillServingWith nodes contest at unheard self.old self.new
             (S.socket sockets.old) (S.socket sockets.new) }
@@ -237,7 +239,7 @@ impl Screens {
     }
 
     /// Cuts those who take their texts too slowly.
-    fn cut_slow<S: Sockets>(&mut self, sockets: &mut S, told: &mut Telling, now: u64)
+    pub(crate) fn cut_slow<S: Sockets>(&mut self, sockets: &mut S, told: &mut Telling, now: u64)
         ensures serving { (nodes : List NodeState) (contest : List ℕ)
             → StillServing nodes contest self.old self.new
             (S.socket sockets.old) (S.socket sockets.new) }

@@ -6,14 +6,14 @@ ghost use Rattle.feed_device.specs.Sockets.{AllSockets};
 ghost use Rattle.slab.specs.Slab.{get};
 ghost use Rattle.feed_live.specs.declared.conn.Stage.TheVariants.{Asks};
 ghost use Rattle.feed_live.specs.Held.{IsAt};
-ghost use Rattle.feed_live.specs.Serving.{StillServing, SameSeating, key_at, keyless};
+ghost use Rattle.feed_live.specs.Serving.{StillServing, SameSeating, SameKeys, key_at, keyless};
 
-use crate::conn::Stage;
+use crate::conn::{Stage, Wait};
 use crate::hand::hand;
-use crate::screens::Screens;
+use crate::screens::{Screens, TextId};
 use crate::told::Telling;
 use feed_device::{How, Sockets, Stop};
-use feed_hub::Key;
+use feed_hub::{Key, Refill};
 use feed_node::Node;
 use std::alloc::{AllocError, Global};
 
@@ -86,7 +86,7 @@ impl Screens {
         }
     }
 
-    fn has_more_to_write(&mut self, at: usize, has_more: bool)
+    pub(crate) fn has_more_to_write(&mut self, at: usize, has_more: bool)
         ensures { SameSeating self.old self.new }
     {
         if let Some(conn) = self.conns.get_mut(at) {
@@ -121,11 +121,14 @@ impl Screens {
             return true;
         }
         self.pay(at);
+        if self.waits_for_room(at) {
+            return false;
+        }
         if self.has_made_most() {
             self.has_more_to_write(at, true);
             return false;
         }
-        if self.refill(alloc, node, key, now).is_err() {
+        if self.refill(alloc, node, at, key, now).is_err() {
             self.end(sockets, told, at, How::Memory, now);
             return false;
         }
@@ -138,16 +141,46 @@ impl Screens {
         false
     }
 
-    /// Gets what comes next for a screen.
-    fn refill(&mut self, alloc: Global, node: &Node, key: Key, now: u64) -> Result<(), AllocError>
+    /// Gets what comes next for a screen. A long commit that no screen has yet waits for room.
+    fn refill(
+        &mut self,
+        alloc: Global,
+        node: &Node,
+        at: usize,
+        key: Key,
+        now: u64,
+    ) -> Result<(), AllocError>
         ensures serving { (nodes : List NodeState) (contest : List ℕ) (sockets : AllSockets)
             → Contains nodes node.now.shown
             → StillServing nodes contest self.old self.new sockets sockets }
-        ensures keys { self.new.conns ≡ self.old.conns }
+        ensures keys { SameKeys self.old.conns self.new.conns }
     {
-        self.hub.refill(alloc, node, key, now)?;
-        self.made = self.made.saturating_add(self.hub.prefix(key).len());
+        let has_room = self.has_room();
+        match self.hub.refill(alloc, node, key, has_room, now)? {
+            Refill::Goes(number) => self.is_refilled(at, key, number, now),
+            Refill::Waits(length) => self.waits_for(at, length),
+        }
         Ok(())
+    }
+
+    /// The screen at a place has what came next: a text with a number counts as pending.
+    fn is_refilled(&mut self, at: usize, key: Key, number: Option<u64>, now: u64)
+        ensures { SameSeating self.old self.new }
+    {
+        let length = self.hub.prefix(key).len();
+        self.made = self.made.saturating_add(length);
+        self.set_wait(at, None);
+        if let Some(number) = number {
+            self.owe(at, length, TextId::Commit(number), now);
+        }
+    }
+
+    /// The screen at a place waits for a commit of so many bytes, which were made in vain.
+    fn waits_for(&mut self, at: usize, length: usize)
+        ensures { SameSeating self.old self.new }
+    {
+        self.made = self.made.saturating_add(length);
+        self.set_wait(at, Some(Wait::Commit(length)));
     }
 
     /// All was sent: what still comes is read for a while.
@@ -205,7 +238,7 @@ impl Screens {
     {
         if let Some(conn) = self.conns.get_mut(at) {
             conn.is_blocked = is_blocked;
-            conn.bytes = conn.bytes.saturating_add(count as u64);
+            conn.take(count);
         }
         self.totals.hand(count);
     }

@@ -212,6 +212,7 @@ fn limits_of(options: &LiveOptions<'_>) -> LiveLimits {
     LiveLimits {
         screens: options.screens,
         window: options.window,
+        pending: options.pending,
         idle: options.idle.saturating_mul(1_000),
         framing: options.framing,
         settle: options.settle,

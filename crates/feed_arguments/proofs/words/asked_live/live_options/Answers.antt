@@ -18,3 +18,6 @@ returns-in_err-return_after-clause-none c = λ e options asks. absurd (c.number_
 
 pub returns-in_err-hold-clause-none : goal.returns-in_err-hold-clause-none
 returns-in_err-hold-clause-none c = λ e options asks. absurd (c.number_up_to-3.ensures.none (search rules) options.hold asks.hold_is)
+
+pub returns-in_err-pending-clause-none : goal.returns-in_err-pending-clause-none
+returns-in_err-pending-clause-none c = λ e options asks. absurd (c.number-4.ensures.none (search rules) options.pending asks.pending_is)

@@ -1,0 +1,67 @@
+-- The long texts that screens have yet to take: each counts once, for however many it is.
+use Rattle.std.specs.Prelude.{◌≡◌, ◌≢◌, ◌⊎◌, ℕ, ◌+◌, ◌<◌, ◌≤◌, ◌-◌, ◌^◌, min, List, [], ◌∷◌, ◌++◌, length, Option, Some, None, remove, sum_by, slice_set}
+use Rattle.std.specs.List.{AllByRecursion}
+use Rattle.core.specs.List.{HoldsAt}
+use Rattle.feed_live.specs.declared.conn.Conn.{Conn}
+use Rattle.feed_live.specs.declared.screens.pending.Pending.{Pending}
+use Rattle.feed_live.specs.declared.screens.pending.Text.{Text}
+use Rattle.feed_live.specs.declared.screens.pending.TextId.{TextId}
+
+-- how many bytes they have together
+abbrev pub total : List Text → ℕ
+total texts = sum_by (λ text. text.length) texts
+
+-- each has a reader
+abbrev pub AreRead : List Text → Type 0
+AreRead texts = AllByRecursion (λ text. text.readers ≢ 0) texts
+
+-- none of them is this one
+abbrev pub HasNone : List Text → TextId → Type 0
+HasNone texts id = AllByRecursion (λ text. text.id ≢ id) texts
+
+-- this text is at this place
+pub record IsTextAt (texts : List Text) (text : Text) (at : ℕ) : Type 0 where
+  pub within : at < length texts
+  pub is : HoldsAt (λ t. t ≡ text) texts at
+
+-- one of so many bytes, with so many readers
+abbrev pub text_of : TextId → ℕ → ℕ → Text
+text_of id bytes readers = record { id = id; length = bytes; readers = readers }
+
+-- one that is there has so many readers now, as many more than so many
+pub record Counts (id : TextId) (Becomes : ℕ → ℕ → Type 0) (old new : List Text) : Type 0 where
+  pub text : Text
+  pub at : ℕ
+  pub there : IsTextAt old text at
+  pub id_is : text.id ≡ id
+  pub readers : ℕ
+  pub becomes : Becomes text.readers readers
+  pub is : new ≡ slice_set old at (text_of id text.length readers)
+
+-- A screen has yet to take a text of so many bytes: it is new, or has one reader more.
+abbrev pub Adds : TextId → ℕ → List Text → List Text → Type 0
+Adds id bytes old new = (HasNone old id × (new ≡ old ++ text_of id bytes 1 ∷ []))
+    ⊎ Counts id (λ before after. after ≡ min (before + 1) (2 ^ 64 - 1)) old new
+
+-- the last reader of a text went, and so it did
+pub record Goes (id : TextId) (old new : List Text) : Type 0 where
+  pub text : Text
+  pub at : ℕ
+  pub there : IsTextAt old text at
+  pub id_is : text.id ≡ id
+  pub last : text.readers ≡ 1
+  pub is : new ≡ remove old at
+
+-- A screen took a text, or left: it goes, or has one reader less; or it isn't there.
+abbrev pub Removes : TextId → List Text → List Text → Type 0
+Removes id old new = Goes id old new
+    ⊎ (Counts id (λ before after. before ≡ after + 1) old new ⊎ (HasNone old id × (new ≡ old)))
+
+-- so it is with the text that a connection has yet to take
+abbrev pub PaysText : Option TextId → Pending → Pending → Type 0
+PaysText None old new = new ≡ old
+PaysText (Some id) old new = Removes id old.texts.items new.texts.items
+
+abbrev pub Pays : Option Conn → Pending → Pending → Type 0
+Pays None old new = new ≡ old
+Pays (Some conn) old new = PaysText conn.text old new
