@@ -15,16 +15,17 @@ use Rattle.feed_hub.specs.declared.seats.Seat.{Seat}
 use Rattle.feed_hub.specs.declared.seats.Seat.TheVariants.{Asks, Watches}
 use Rattle.feed_hub.specs.Broadcast.{IsServedBy}
 use Rattle.feed_hub.specs.declared.hub.Heard.{Heard}
-use Rattle.feed_hub.specs.Hub.{IsSeated, IsStillSeated, ChangesOnly, prefix_of, prefix_at, IsAnsweredBy, HearsAt, HearsOf}
+use Rattle.feed_hub.specs.Hub.{IsSeated, IsStillSeated, ChangesOnly, prefix_of, prefix_at, IsAnsweredBy, HearsAt, HearsOf, HoldsAt}
 use Rattle.feed_hub.specs.Log.{Log}
 use Rattle.feed_hub.specs.Seats.{seat_at, Watched, KeepsThose, Ends, IsAskingSeat}
 use Rattle.feed_hub.specs.Steps.{taken}
 use Rattle.feed_live.specs.declared.conn.Conn.{Conn}
 use Rattle.feed_live.specs.declared.screens.Screens.{Screens}
+use Rattle.feed_live.specs.declared.screens.Hearing.{Hearing}
 use Rattle.feed_device.specs.Sockets.{Socket, Traffic, AllSockets, IsSocket, IsUnused, opened, closed, traffic_of, with_current, former_of, goes_on_with, came_to, written_to, on_current, IsRead, IsWrite, SameSockets, OtherSockets}
 use Rattle.feed_live.specs.Held.{answerer}
 use Rattle.feed_live.specs.Laws.{SocketsAreFaithful}
-use Rattle.feed_live.specs.Serving.{IsGiven, WasServed, IsFaithful, WasFaithful, WereFaithful, nothing, refused, served, IsSent, Sits, asks, watches, cut, key_of, key_at, Stands, Serving, SameKeys, Leaves, keyless, IsGreeted, SameSeating, full_text, ServesBut, HearsSo, HearsSome}
+use Rattle.feed_live.specs.Serving.{IsGiven, WasServed, IsFaithful, WasFaithful, WereFaithful, nothing, refused, served, IsSent, Sits, asks, watches, cut, key_of, key_at, Stands, Serving, SameKeys, Leaves, keyless, IsGreeted, SameSeating, full_text, ServesBut, HearsSo, HearsSome, HearsAll}
 
 -- ---- numbers and keys
 
@@ -649,6 +650,42 @@ pub is_unasked : (seat : Option Seat) (piece : List ℕ) → (IsAskingSeat seat 
 is_unasked None piece moves = inl (λ asked. asked)
 is_unasked (Some (Asks asking)) piece moves = inr (moves tt)
 is_unasked (Some (Watches s)) piece moves = inl (λ asked. asked)
+
+-- ---- a request is held
+
+holds_from : (until : ℕ) (piece : List ℕ) (count : ℕ) (old new seat : Option Seat) → HoldsAt until piece count old new → old ≡ seat → HoldsAt until piece count seat new
+holds_from until piece count old new seat held is = subst (λ s. HoldsAt until piece count s new) is held
+
+module _ {nodes : List NodeState} {contest : List ℕ} (until : ℕ) (piece : List ℕ) (count : ℕ) (old new : Hub) (key : Key)
+    (held : HoldsAt until piece count (seat_at old.seats.slab key) (seat_at new.seats.slab key)) (broadcast : new.broadcast ≡ old.broadcast) where
+  -- what sits there was heard, as far as it is heard
+  pub held_sits : (socket : Option Socket) → Sits nodes contest old key socket → Sits nodes contest new key (on_current (came_to (take count piece)) socket)
+  held_sits socket (asks asking sits is) =
+      let h = holds_from until piece count _ _ (Some (Asks asking)) held sits in
+      asks h.1.0 h.1.1 (subst (λ head. IsSocket (on_current (came_to (take count piece)) socket) (opened head [])) (sym h.1.2)
+      (more_came socket asking.head.items [] (take count piece) is))
+  held_sits socket (watches came answer handed given seated is) =
+      let h = holds_from until piece count _ _ (Some (Watches seated.0)) held seated.1 in
+      further_sits (take count piece) socket (λ asked. subst IsAskingSeat (h.0) asked)
+      (still_sits contest (same_stays nodes old new key (h.0 ∙ sym seated.1) broadcast) socket (watches came answer handed given seated is))
+  held_sits socket (cut none sent) =
+      let h = holds_from until piece count _ _ None held none in cut h.0 (sent_further socket (take count piece) sent)
+
+-- nothing came
+pub but_nothing : {nodes : List NodeState} {contest : List ℕ} {hub : Hub} {conns : Slab Conn} {sockets : AllSockets} (at : ℕ)
+    → Serving nodes contest hub conns sockets → ServesBut nodes contest hub conns sockets at []
+but_nothing {sockets = sockets} at serving =
+    record {
+      before = sockets;
+      came = record { more = sym (came_nothing (sockets at)); others = λ _ _. refl };
+      serving = serving;
+    }
+
+-- memory ran out
+pub hears_nothing_more : {nodes : List NodeState} {contest : List ℕ} {E : Type 0} (new : Screens) (sockets : AllSockets) (at : ℕ) (Q : E → Type 0) (result : Result Hearing E) → IsErrAnd result Q
+    → Serving nodes contest new.hub new.conns sockets → HearsAll nodes contest new sockets at result
+hears_nothing_more new sockets at Q (Ok hearing) failed serving = absurd failed
+hears_nothing_more new sockets at Q (Err why) failed serving = serving
 
 -- one socket is another now
 abbrev update : AllSockets → ℕ → Option Socket → AllSockets

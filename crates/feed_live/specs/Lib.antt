@@ -8,3 +8,4 @@ pub mod Taking
 pub mod Telling
 pub mod Examples
 pub mod Saved
+pub mod Pending

@@ -1,9 +1,6 @@
 -- The long texts that screens have yet to take: each counts once, for however many it is.
-use Rattle.std.specs.Prelude.{◌≡◌, ◌≢◌, ◌⊎◌, ℕ, ◌+◌, ◌<◌, ◌≤◌, ◌-◌, ◌^◌, min, List, [], ◌∷◌, ◌++◌, length, Option, Some, None, remove, sum_by, slice_set}
-use Rattle.std.specs.List.{AllByRecursion}
-use Rattle.core.specs.List.{HoldsAt}
+use Rattle.std.specs.Prelude.{◌≡◌, ◌≢◌, ◌⊎◌, ℕ, ◌+◌, ◌<◌, ◌≤◌, ◌-◌, ◌^◌, min, List, [], ◌∷◌, ◌++◌, length, Option, Some, None, HoldsAt, remove, sum_by, slice_set}
 use Rattle.feed_live.specs.declared.conn.Conn.{Conn}
-use Rattle.feed_live.specs.declared.screens.pending.Pending.{Pending}
 use Rattle.feed_live.specs.declared.screens.pending.Text.{Text}
 use Rattle.feed_live.specs.declared.screens.pending.TextId.{TextId}
 
@@ -13,11 +10,11 @@ total texts = sum_by (λ text. text.length) texts
 
 -- each has a reader
 abbrev pub AreRead : List Text → Type 0
-AreRead texts = AllByRecursion (λ text. text.readers ≢ 0) texts
+AreRead texts = (at : ℕ) → at < length texts → HoldsAt (λ text. text.readers ≢ 0) texts at
 
 -- none of them is this one
 abbrev pub HasNone : List Text → TextId → Type 0
-HasNone texts id = AllByRecursion (λ text. text.id ≢ id) texts
+HasNone texts id = (at : ℕ) → at < length texts → HoldsAt (λ text. text.id ≢ id) texts at
 
 -- this text is at this place
 pub record IsTextAt (texts : List Text) (text : Text) (at : ℕ) : Type 0 where
@@ -58,10 +55,10 @@ Removes id old new = Goes id old new
     ⊎ (Counts id (λ before after. before ≡ after + 1) old new ⊎ (HasNone old id × (new ≡ old)))
 
 -- so it is with the text that a connection has yet to take
-abbrev pub PaysText : Option TextId → Pending → Pending → Type 0
+abbrev pub PaysText : Option TextId → List Text → List Text → Type 0
 PaysText None old new = new ≡ old
-PaysText (Some id) old new = Removes id old.texts.items new.texts.items
+PaysText (Some id) old new = Removes id old new
 
-abbrev pub Pays : Option Conn → Pending → Pending → Type 0
+abbrev pub Pays : Option Conn → List Text → List Text → Type 0
 Pays None old new = new ≡ old
 Pays (Some conn) old new = PaysText conn.text old new

@@ -18,11 +18,11 @@ use crate::conn::{Conn, Stage};
 use crate::figures::ScreenTotals;
 use crate::options::LiveLimits;
 use crate::relay::Saying;
+use crate::screens::pending::Pending;
+pub(crate) use crate::screens::pending::TextId;
 use crate::told::Telling;
 use feed_device::{How, Sockets, Stop, Told};
 use feed_hub::{Answering, Hub, Key};
-pub(crate) use crate::screens::pending::TextId;
-use crate::screens::pending::Pending;
 use slab::Slab;
 use std::alloc::{AllocError, Global};
 use std::mem;
@@ -532,7 +532,8 @@ impl Screens {
             true => TextId::Opening(answering.made()),
             false => TextId::Own(at),
         };
-        self.owe(at, self.hub.prefix(key).len(), id, now);
+        let length = self.hub.prefix(key).len();
+        self.owe(at, length, id, now);
         Ok(0)
     }
 

@@ -375,20 +375,37 @@ impl Live {
             self.tidy();
             return;
         }
-        self.screens.idle(alloc, now);
+        self.keep_alive(alloc, now);
         if now.saturating_sub(self.ticked) < TICK {
             return;
         }
-        self.ticked = now;
+        self.look_for_late(sockets, now);
         self.tidy();
-        self.screens
-            .refuse_overdue(sockets, &mut self.telling, now);
-        self.screens.cut_late(now);
-        self.screens.sweep(sockets, &mut self.telling, now);
-        self.screens.close_past(sockets, &mut self.telling, now);
         if !self.source.is_heard() {
             self.hold(now);
         }
+    }
+
+    /// Says a line feed after silence.
+    fn keep_alive(&mut self, alloc: Global, now: u64)
+        ensures serves { (sockets : AllSockets) → OnlyServes self.old self.new sockets sockets }
+        ensures saved { SameSaved self.old self.new }
+    {
+        self.screens.idle(alloc, now);
+    }
+
+    /// Looks for who is late: requests that have waited for room for long enough are refused, others
+    /// cut, and so are screens that take nothing.
+    fn look_for_late<S: Sockets>(&mut self, sockets: &mut S, now: u64)
+        ensures serves { OnlyServes self.old self.new (S.socket sockets.old)
+            (S.socket sockets.new) }
+        ensures saved { SameSaved self.old self.new }
+    {
+        self.ticked = now;
+        self.screens.refuse_overdue(sockets, &mut self.telling, now);
+        self.screens.cut_late(now);
+        self.screens.sweep(sockets, &mut self.telling, now);
+        self.screens.close_past(sockets, &mut self.telling, now);
     }
 
     /// Forgets the texts that no screen has any more.

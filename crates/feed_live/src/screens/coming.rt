@@ -176,7 +176,9 @@ impl Screens {
     {
         self.counts.came = self.counts.came.saturating_add(1);
         let mut conn = Conn::new(peer, now);
-        let until = now.saturating_add(HEAD_TIME).saturating_add(self.limits.hold);
+        let until = now
+            .saturating_add(HEAD_TIME)
+            .saturating_add(self.limits.hold);
         match self.hub.open(alloc, until) {
             Ok(key) => conn.key = Some(key),
             Err(_) => {
@@ -225,7 +227,13 @@ impl Screens {
     }
 
     /// The connection at a place, whose request comes, is told that there are too many.
-    pub(crate) fn refuse_at<S: Sockets>(&mut self, sockets: &mut S, told: &mut Telling, at: usize, now: u64)
+    pub(crate) fn refuse_at<S: Sockets>(
+        &mut self,
+        sockets: &mut S,
+        told: &mut Telling,
+        at: usize,
+        now: u64,
+    )
         ensures serving { (nodes : List NodeState) (contest unheard : List ℕ)
             → StillServingWith nodes contest at unheard self.old self.new
             (S.socket sockets.old) (S.socket sockets.new) }

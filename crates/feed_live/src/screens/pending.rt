@@ -1,7 +1,6 @@
 //! The long texts that screens have yet to take, each counted once.
 
-ghost use Rattle.std.specs.Prelude.{◌≡◌, ◌<◌, ◌^◌, ◌-◌, [], None, IfSome, OnOk, OnErr, length, min};
-ghost use Rattle.core.specs.List.{HoldsAt};
+ghost use Rattle.std.specs.Prelude.{◌≡◌, ◌<◌, ◌^◌, ◌-◌, [], None, HoldsAt, IfSome, OnOk, OnErr, length, min};
 ghost use Rattle.feed_live.specs.Pending.{total, HasNone, Adds, Removes, AreRead};
 
 use std::alloc::{AllocError, Global};
@@ -70,19 +69,22 @@ impl Pending {
     /// One more screen has yet to take a text.
     pub(crate) fn add(&mut self, id: TextId, length: usize) -> Result<(), AllocError>
         ensures ok { OnOk result (Adds id length self.old.texts.items self.new.texts.items) }
-        ensures err { OnErr result (self.new.texts ≡ self.old.texts) }
+        ensures err { OnErr result (self.new.texts.items ≡ self.old.texts.items) }
     {
         if let Some(at) = self.find(id) {
             let text = &mut self.texts[at];
             text.readers = text.readers.saturating_add(1);
             return Ok(());
         }
-        self.texts.push(Text {
+        let text = Text {
             id,
             length,
             readers: 1,
-        })?;
-        Ok(())
+        };
+        match self.texts.push(text) {
+            Ok(()) => Ok(()),
+            Err(_) => Err(AllocError),
+        }
     }
 
     /// A screen took a text, or left. Nobody has yet to take it once the last one has.

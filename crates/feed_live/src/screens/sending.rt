@@ -156,7 +156,8 @@ impl Screens {
         ensures keys { SameKeys self.old.conns self.new.conns }
     {
         let has_room = self.has_room();
-        match self.hub.refill(alloc, node, key, has_room, now)? {
+        let got = self.hub.refill(alloc, node, key, has_room, now)?;
+        match got {
             Refill::Goes(number) => self.is_refilled(at, key, number, now),
             Refill::Waits(length) => self.waits_for(at, length),
         }

@@ -6,7 +6,7 @@ ghost use Rattle.feed_device.specs.Sockets.{AllSockets};
 ghost use Rattle.slab.specs.Slab.{get};
 ghost use Rattle.feed_live.specs.Pending.{total, Pays};
 ghost use Rattle.feed_live.specs.Serving.{StillServing, SameSeating, ServesBut, HearsAll, key_at};
-ghost use Rattle.feed_live.specs.Held.{answerer, SameMirrors};
+ghost use Rattle.feed_live.specs.Held.{SameMirrors};
 
 use crate::conn::Wait;
 use crate::screens::{Answers, Hearing, Screens, Shown, TextId};
@@ -58,7 +58,8 @@ impl Screens {
     /// then.
     pub(crate) fn pay(&mut self, at: usize)
         ensures same { SameSeating self.old self.new }
-        ensures paid { Pays (get self.old.conns at) self.old.pending self.new.pending }
+        ensures paid { Pays (get self.old.conns at) self.old.pending.texts.items
+            self.new.pending.texts.items }
     {
         let Some(conn) = self.conns.get_mut(at) else {
             return;
@@ -131,9 +132,7 @@ impl Screens {
             → HearsAll nodes contest self.new sockets at result }
     {
         let until = now.saturating_add(ROOM_TIME);
-        let taken = self
-            .hub
-            .hold(key, piece, until.saturating_add(ROOM_TIME))?;
+        let taken = self.hub.hold(key, piece, until.saturating_add(ROOM_TIME))?;
         if taken < piece.len() {
             return Ok(Hearing::TooMuch);
         }
@@ -196,8 +195,8 @@ impl Screens {
         now: u64,
     ) -> bool
         ensures serving { (nodes : List NodeState)
-            → Contains nodes (answerer shown.now.is_held answers.old.shown.mirror.node
-            answers.old.blank.mirror.node)
+            → Contains nodes answers.old.shown.mirror.node
+            → Contains nodes answers.old.blank.mirror.node
             → StillServing nodes shown.now.contest.now self.old self.new
             (S.socket sockets.old) (S.socket sockets.new) }
         ensures mirrors { SameMirrors answers.old answers.new }
@@ -208,7 +207,10 @@ impl Screens {
         };
         match self.hear_of(alloc, answers, shown, key, at, &[], now) {
             Ok(Hearing::Goes) => self.goes_on(at),
-            Ok(Hearing::TooMuch) => false,
+            Ok(Hearing::TooMuch) => {
+                self.turn_away(sockets, told, at, now);
+                true
+            }
             Err(_) => {
                 self.end(sockets, told, at, How::Memory, now);
                 true
@@ -248,10 +250,25 @@ impl Screens {
         }
         for at in 0..self.conns.capacity() {
             if self.is_overdue(at, now) {
-                self.refuse_at(sockets, told, at, now);
+                self.refuse_waiting(sockets, told, at, now);
             }
         }
         self.cut_slow(sockets, told, now);
+    }
+
+    /// Tells the connection at a place, whose request waits, that there are too many.
+    fn refuse_waiting<S: Sockets>(
+        &mut self,
+        sockets: &mut S,
+        told: &mut Telling,
+        at: usize,
+        now: u64,
+    )
+        ensures serving { (nodes : List NodeState) (contest : List ℕ)
+            → StillServing nodes contest self.old self.new
+            (S.socket sockets.old) (S.socket sockets.new) }
+    {
+        self.refuse_at(sockets, told, at, now);
     }
 
     /// Whether somebody waits for room.

@@ -17,7 +17,7 @@ returns-then-not-is_empty-2-clause-serving g c =
 pub returns-then-is_over-clause-serving : goal.returns-then-is_over-clause-serving
 returns-then-is_over-clause-serving g c =
     λ nodes contest among keyed serving.
-    c.finish.ensures.serving nodes contest (ap (λ s. key_at s c.args.at) c.refill.ensures.keys ∙ c.pay.ensures.same.keys c.args.at ∙ keyed)
+    c.finish.ensures.serving nodes contest (c.refill.ensures.keys c.args.at ∙ c.pay.ensures.same.keys c.args.at ∙ keyed)
     (c.refill.ensures.serving nodes contest (g.S.Sockets.socket c.args.sockets.now) among (serving_noted c.pay.ensures.same serving))
 
 pub returns-else-is_over-clause-serving : goal.returns-else-is_over-clause-serving
@@ -29,3 +29,6 @@ pub returns-then-has_made_most-clause-serving : goal.returns-then-has_made_most-
 returns-then-has_made_most-clause-serving g c =
     λ nodes contest among keyed serving.
     serving_noted c.has_more_to_write.ensures (serving_noted c.pay.ensures.same serving)
+
+pub returns-then-waits_for_room-clause-serving : goal.returns-then-waits_for_room-clause-serving
+returns-then-waits_for_room-clause-serving g c = λ nodes contest among keyed serving. serving_noted c.pay.ensures.same serving

@@ -12,16 +12,8 @@ none_of bytes is = by (eqb_tells (length bytes) 0)
     by (inl (_, none)) = nil_from_length bytes none
     by (inr (wrong, _)) = absurd (true≢false (sym is ∙ wrong))
 
-pub returns-then-has_no_room-clause-serving : goal.returns-then-has_no_room-clause-serving
-returns-then-has_no_room-clause-serving c = λ nodes sockets among keyed serves. (c.parts.rest.now, c.parts.invariant.serving nodes sockets among keyed serves)
-
 pub returns-in-0-clause-serving : goal.returns-in-0-clause-serving
 returns-in-0-clause-serving c =
     λ nodes sockets among keyed serves.
     hears_none c.hear_once.new.self sockets c.args.at c.parts.rest.now c.in_ok-taken.taken c.in-0.is
     (c.in_ok-taken.ensures.serving nodes sockets (subst (λ m. Contains nodes m.node) (sym c.parts.invariant.mirror) among) (c.parts.invariant.keys c.args.at ∙ keyed) (c.parts.invariant.serving nodes sockets among keyed serves))
-
-pub returns-clause-serving : goal.returns-clause-serving
-returns-clause-serving c =
-    λ nodes sockets among keyed serves.
-    serving_nothing _ _ sockets c.args.at c.parts.rest.now (none_of c.parts.rest.now (sym c.parts-test.ensures)) (c.parts.invariant.serving nodes sockets among keyed serves)

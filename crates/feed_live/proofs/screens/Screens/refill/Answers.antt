@@ -1,13 +1,21 @@
-use Rattle.feed_live.proofs.ServingLemmas.{serving_changed, still_sits, idled_stays, cut_stays}
+use Rattle.feed_live.proofs.ServingLemmas.{serving_changed, serving_noted, still_sits, watched_stays, cut_stays}
 use Rattle.feed_live.proofs.screens.Screens.refill.Goals as goal
 
-pub returns-clause-serving : goal.returns-clause-serving
-returns-clause-serving c =
+pub returns-in-Goes-clause-serving : goal.returns-in-Goes-clause-serving
+returns-in-Goes-clause-serving c =
     λ nodes contest sockets among serving.
-    serving_changed c.args.key c.refill.ensures.rest
-    (still_sits contest (idled_stays nodes _ _ _ _ _ c.refill.result c.refill.ensures.ok (c.refill.ensures.served nodes among) c.refill.ensures.err)) serving
+    serving_noted c.is_refilled.ensures
+    (serving_changed c.args.key c.refill.ensures.rest
+    (still_sits contest (watched_stays nodes _ _ _ _ c.in_ok-got.ensures.ok (c.in_ok-got.ensures.served nodes among))) serving)
 
-pub returns-in_err-refill-clause-serving : goal.returns-in_err-refill-clause-serving
-returns-in_err-refill-clause-serving c =
+pub returns-in-Waits-clause-serving : goal.returns-in-Waits-clause-serving
+returns-in-Waits-clause-serving c =
     λ nodes contest sockets among serving.
-    serving_changed c.args.key c.refill.ensures.rest (still_sits contest (cut_stays nodes _ _ c.args.key c.in_err-refill.ensures.err.0)) serving
+    serving_noted c.waits_for.ensures
+    (serving_changed c.args.key c.refill.ensures.rest
+    (still_sits contest (watched_stays nodes _ _ _ _ c.in_ok-got.ensures.ok (c.in_ok-got.ensures.served nodes among))) serving)
+
+pub returns-in_err-got-clause-serving : goal.returns-in_err-got-clause-serving
+returns-in_err-got-clause-serving c =
+    λ nodes contest sockets among serving.
+    serving_changed c.args.key c.refill.ensures.rest (still_sits contest (cut_stays nodes _ _ c.args.key c.in_err-got.ensures.err.0)) serving

@@ -1,17 +1,17 @@
-use Rattle.std.proofs.Common.{refl}
+use Rattle.std.proofs.Common.{◌∙◌}
 use Rattle.feed_live.proofs.TurnLemmas.{serves_then}
 use Rattle.feed_live.proofs.turn.Live.tick.Goals as goal
 
-pub returns-then-not-is_heard : goal.returns-then-not-is_heard
-returns-then-not-is_heard g c =
-    record {
-      serves = serves_then (c.hold.ensures.serves _) (record {
-        contest = refl;
-        feeds = refl;
-        source = c.tidy-2.ensures.same;
-        epoch = c.tidy-2.ensures.epoch;
-        serves = λ nodes shown blank serving.
-            c.close_past.ensures.serving nodes _ (c.sweep.ensures.serving nodes _ (c.cut_late.ensures.serving nodes _ _ (c.idle.ensures.serving nodes _ _ serving)));
-      });
-      saved = c.hold.ensures.saved;
-    }
+pub returns-then-is_empty-clause-serves : goal.returns-then-is_empty-clause-serves
+returns-then-is_empty-clause-serves g c = c.tidy.ensures.serves _
+
+pub returns-then-not-is_heard-clause-serves : goal.returns-then-not-is_heard-clause-serves
+returns-then-not-is_heard-clause-serves g c =
+    serves_then (c.hold.ensures.serves _) (serves_then (c.tidy-2.ensures.serves _) (serves_then c.look_for_late.ensures.serves (c.keep_alive.ensures.serves _)))
+
+pub returns-else-not-is_heard-clause-serves : goal.returns-else-not-is_heard-clause-serves
+returns-else-not-is_heard-clause-serves g c =
+    serves_then (c.tidy-2.ensures.serves _) (serves_then c.look_for_late.ensures.serves (c.keep_alive.ensures.serves _))
+
+pub returns-then-saturating_sub-lt-TICK-clause-serves : goal.returns-then-saturating_sub-lt-TICK-clause-serves
+returns-then-saturating_sub-lt-TICK-clause-serves g c = c.keep_alive.ensures.serves _
