@@ -51,6 +51,7 @@ complete -c tunygarop -n '__fish_seen_subcommand_from live' -l idle -x -d 'Secon
 complete -c tunygarop -n '__fish_seen_subcommand_from live' -l status -x -d 'Port of a page, JSON and metrics on the relay'
 complete -c tunygarop -n '__fish_seen_subcommand_from live' -l status-address -x -d 'Address that the page is at'
 complete -c tunygarop -n '__fish_seen_subcommand_from live' -l window -x -d 'Bytes that a screen may be late, 1 to 1073741824'
+complete -c tunygarop -n '__fish_seen_subcommand_from live' -l pending -x -d 'Bytes of long texts that screens may have yet to take, 1 to 1099511627776'
 complete -c tunygarop -n '__fish_seen_subcommand_from live' -l state -x -a '(__fish_complete_path)' -d 'File that keeps what was published'
 complete -c tunygarop -n '__fish_seen_subcommand_from live' -l new -d 'Begin without what the state file has'
 complete -c tunygarop -n '__fish_seen_subcommand_from live' -l settle -x -d 'Milliseconds in which 1/64 of what was asked for from the start may come before it is shown, 0 to 60000'
