@@ -380,6 +380,8 @@ pub struct ScreenFigures {
     pub asking: usize,
     /// Those whose socket did not take all that there is for them.
     pub behind: usize,
+    /// Those that wait for room: a request for everything, or one that needs a long commit.
+    pub waiting: usize,
     /// Whether one more would be answered 503, since there are as many as there may be.
     pub are_full: bool,
     pub totals: ScreenTotals,
@@ -401,6 +403,22 @@ pub struct ScreenRow {
     pub bytes: u64,
 }
 
+impl ScreenFigures {
+    /// One of them is at this.
+    fn count(&mut self, conn: &Conn) {
+        match conn.stage {
+            Stage::Asks => self.asking = self.asking.saturating_add(1),
+            _ if conn.is_blocked || conn.has_more => {
+                self.behind = self.behind.saturating_add(1);
+            }
+            _ => {}
+        }
+        if conn.wait.is_some() {
+            self.waiting = self.waiting.saturating_add(1);
+        }
+    }
+}
+
 impl Screens {
     /// How many there are, and what they are at.
     fn figures(&self) -> ScreenFigures {
@@ -408,18 +426,13 @@ impl Screens {
             open: self.conns.len(),
             asking: 0,
             behind: 0,
+            waiting: 0,
             are_full: self.seated() >= self.limits.screens,
             totals: self.totals,
         };
         for at in 0..self.conns.capacity() {
             if let Some(conn) = self.conns.get(at) {
-                match conn.stage {
-                    Stage::Asks => figures.asking = figures.asking.saturating_add(1),
-                    _ if conn.is_blocked || conn.has_more => {
-                        figures.behind = figures.behind.saturating_add(1);
-                    }
-                    _ => {}
-                }
+                figures.count(conn);
             }
         }
         figures

@@ -372,6 +372,15 @@ impl fmt::Display for OfScreens<'_> {
         write!(
             f,
             "{}",
+            gauge(
+                "screens_waiting",
+                "Those that wait for room.",
+                screens.waiting
+            )
+        )?;
+        write!(
+            f,
+            "{}",
             gauge("screens_most", "The most at once.", screens.most)
         )?;
         write!(

@@ -162,6 +162,7 @@ fn of_screens(alloc: Global, status: &Status<'_>, to: &mut Vec<Row>) -> Result<(
     to.push(number(alloc, "Screens", screens.open)?)?;
     to.push(number(alloc, "Not answered yet", screens.asking)?)?;
     to.push(number(alloc, "Behind", screens.behind)?)?;
+    to.push(number(alloc, "Waiting for room", screens.waiting)?)?;
     to.push(number(alloc, "Most at once", screens.most)?)?;
     to.push(number(alloc, "Opened", screens.opened)?)?;
     to.push(row_of("Refused", refused(alloc, screens))?)?;

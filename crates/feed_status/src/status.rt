@@ -109,6 +109,8 @@ pub struct Screens {
     pub asking: u64,
     /// Of those open: who lacks bytes of what was published.
     pub behind: u64,
+    /// Of those open: who waits until screens have taken some of their long texts.
+    pub waiting: u64,
     /// The most that were open at once.
     pub most: u64,
     /// How many were opened since the start.

@@ -46,9 +46,7 @@ impl Screens {
         }
         self.sweep(sockets, told, now);
         for _ in 0..ACCEPTS {
-            if self.has_no_place() {
-                self.make_place(sockets, told, now);
-            }
+            self.make_place(sockets, told, now);
             match self.accept_one(alloc, sockets, told, now) {
                 Ok(()) | Err(Stop::Gone) => {}
                 Err(Stop::Waits) => {
@@ -68,13 +66,16 @@ impl Screens {
         self.conns.len() >= self.limits.screens.saturating_add(FURTHER)
     }
 
-    /// Makes place for a connection: those that lost their seats are closed, and the one that has
-    /// lingered for longest.
+    /// Makes place for a connection, where there is none: those that lost their seats are closed, and
+    /// the one that has lingered for longest.
     fn make_place<S: Sockets>(&mut self, sockets: &mut S, told: &mut Telling, now: u64)
         ensures serving { (nodes : List NodeState) (contest : List ℕ)
             → StillServing nodes contest self.old self.new
             (S.socket sockets.old) (S.socket sockets.new) }
     {
+        if !self.has_no_place() {
+            return;
+        }
         self.sweep(sockets, told, now);
         if let Some(at) = self.longest_lingering() {
             self.end(sockets, told, at, How::Done, now);

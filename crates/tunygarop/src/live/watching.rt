@@ -201,6 +201,7 @@ fn screens_of(screens: &ScreenFigures) -> Screens {
         open: screens.open as u64,
         asking: screens.asking as u64,
         behind: screens.behind as u64,
+        waiting: screens.waiting as u64,
         most: totals.most as u64,
         opened: totals.opened,
         refused: totals.refused,
