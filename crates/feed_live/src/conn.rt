@@ -3,20 +3,12 @@
 ghost use Rattle.std.specs.Prelude.{◌≡◌, None};
 
 use crate::screens::TextId;
+use crate::times::{LINGER, PATIENCE, SHARE_TIME};
 use feed_hub::Key;
 use std::net::SocketAddr;
 
-/// For how long, in milliseconds, what still comes is read after the last byte was sent, and how
-/// much of it. Closed with bytes unread, a connection may lose the end of its answer.
-const LINGER: u64 = 2_000;
-
+/// How much of what still comes is read after the last byte was sent, in bytes.
 const LINGER_BYTES: usize = 65_536;
-
-/// In how many milliseconds a screen has to take the whole text of its answer where others want
-/// room for theirs; and for how long nobody is called slow.
-const SHARE: u64 = 60_000;
-
-const PATIENCE: u64 = 2_000;
 
 /// How far a connection has come.
 #[derive(Clone, Copy, PartialEq, Eq)]
@@ -103,11 +95,11 @@ impl Conn {
     }
 
     /// Whether it has yet to take a text, and takes it so slowly that it would need more than
-    /// `SHARE` for all of it.
+    /// `SHARE_TIME` for all of it.
     pub(crate) fn is_slow(&self, now: u64) -> bool {
         let time = now.saturating_sub(self.owed_since);
         let share = (self.owes as u64).saturating_mul(time);
-        self.owes > 0 && time >= PATIENCE && self.took.saturating_mul(SHARE) < share
+        self.owes > 0 && time >= PATIENCE && self.took.saturating_mul(SHARE_TIME) < share
     }
 
     /// It has yet to take a text of so many bytes, from now on.

@@ -20,6 +20,7 @@ mod relay;
 mod saved;
 mod screens;
 mod source;
+mod times;
 mod told;
 mod turn;
 

@@ -7,21 +7,12 @@ ghost use Rattle.feed_device.specs.Sockets.{AllSockets};
 ghost use Rattle.feed_live.specs.Serving.{StillServing, SameSeating, AllEnd, SaysAll};
 
 use crate::screens::{Counts, Screens};
+use crate::times::{MEMORY_PAUSE, SAY_PAUSE, STALL};
 use crate::told::Telling;
 use feed_device::{Sockets, Told};
 use feed_hub::Said;
 use feed_node::{Node, Pulled};
 use std::alloc::Global;
-
-/// For how long nothing more is said after a window was, where a socket has yet to take it, in
-/// milliseconds.
-const SAY_PAUSE: u64 = 50;
-
-/// How many milliseconds after a failure for lack of memory the same is tried again.
-const MEMORY_PAUSE: u64 = 1_000;
-
-/// After how many milliseconds a screen is cut that took none of its own bytes.
-const STALL: u64 = 60_000;
 
 /// What was said, and what is still to be done for it.
 #[derive(Clone, Copy)]

@@ -14,6 +14,7 @@ use crate::options::LiveLimits;
 use crate::screens::{Answers, Screens};
 use crate::source::returning::Returning;
 use crate::source::settling::{Settling, begin_shown, followed_of};
+use crate::times::{CONNECT_TIME, QUIET, RESPONSE_TIME};
 use crate::told::Telling;
 use feed_answer::{Identity, Place, request_text_as};
 use feed_device::{Excerpt, Link, Stop, Told, Why};
@@ -21,15 +22,6 @@ use feed_hub::{Answering, FIRST_PAUSE, Upstream};
 use feed_node::{Mirror, Node};
 use feed_tables::Name;
 use std::alloc::{AllocError, Global};
-
-/// How long a server may take to take a connection, in milliseconds.
-const CONNECT_TIME: u64 = 10_000;
-
-/// How long a server may take until the head of its answer has come whole, in milliseconds.
-const HEAD_TIME: u64 = 20_000;
-
-/// After so many milliseconds without a publication behind a good head, a server has nothing newer.
-const QUIET: u64 = 1_000;
 
 /// How far the connection has come.
 #[derive(Clone, Copy, PartialEq, Eq)]
@@ -220,7 +212,7 @@ impl Source {
             Reach::Connects(since) => Some(since.saturating_add(self.connect_time())),
             _ => match self.body_since {
                 Some(_) => None,
-                None => Some(self.opened.saturating_add(HEAD_TIME)),
+                None => Some(self.opened.saturating_add(RESPONSE_TIME)),
             },
         }
     }

@@ -15,20 +15,12 @@ use crate::options::{LiveLimits, Start};
 use crate::saved::{Good, Restored, Saved};
 use crate::screens::{Screens, Shown};
 use crate::source::Source;
+use crate::times::{END_TIME, REPORT, TICK};
 use crate::told::Telling;
 use feed_answer::Place;
 use feed_device::{Devices, Link, Ready, Sockets, Store, Told};
 use feed_node::Node;
 use std::alloc::Global;
-
-/// How often late requests and screens that take nothing are looked for, in milliseconds.
-const TICK: u64 = 1_000;
-
-/// How often the number of screens is told, where it has changed, in milliseconds.
-const REPORT: u64 = 60_000;
-
-/// For how long a relay that ends sends on what is left, in milliseconds.
-const END_TIME: u64 = 2_000;
 
 /// What the input gave.
 #[derive(Clone, Copy)]

@@ -372,11 +372,7 @@ impl fmt::Display for OfScreens<'_> {
         write!(
             f,
             "{}",
-            gauge(
-                "screens_waiting",
-                "Those that wait for room.",
-                screens.waiting
-            )
+            gauge("screens_waiting", "Who wait for room.", screens.waiting)
         )?;
         write!(
             f,

@@ -8,21 +8,15 @@ ghost use Rattle.feed_live.specs.Serving.{IsGreeted, key_at};
 
 use crate::conn::{Conn, Stage};
 use crate::screens::{FULL, PIECE, Screens};
+use crate::times::{ACCEPT_PAUSE, REQUEST_TIME};
 use crate::told::Telling;
 use feed_device::{How, Sockets, Stop, Told};
 use feed_hub::Key;
 use std::alloc::Global;
 use std::net::SocketAddr;
 
-/// How long a request's head may take, in milliseconds, beside the time for which requests may have
-/// to wait until a server was heard.
-const HEAD_TIME: u64 = 30_000;
-
 /// How many connections are taken in one turn: so screens have their turns, however many come.
 const ACCEPTS: usize = 64;
-
-/// For how long none is taken after that failed, in milliseconds.
-const ACCEPT_PAUSE: u64 = 1_000;
 
 /// How many connections there may be beside those that have a seat: refused, and lingering. With a
 /// thousand screens all stay below the 1,024 descriptors that a process mostly may have.
@@ -178,7 +172,7 @@ impl Screens {
         self.counts.came = self.counts.came.saturating_add(1);
         let mut conn = Conn::new(peer, now);
         let until = now
-            .saturating_add(HEAD_TIME)
+            .saturating_add(REQUEST_TIME)
             .saturating_add(self.limits.hold);
         match self.hub.open(alloc, until) {
             Ok(key) => conn.key = Some(key),

@@ -10,14 +10,11 @@ ghost use Rattle.feed_live.specs.Held.{SameMirrors};
 
 use crate::conn::Wait;
 use crate::screens::{Answers, Hearing, Screens, Shown, TextId};
+use crate::times::ROOM_TIME;
 use crate::told::Telling;
 use feed_device::{How, Sockets};
 use feed_hub::{Answering, Key, LONG};
 use std::alloc::{AllocError, Global};
-
-/// For how long a request for everything waits for room, in milliseconds: then it is told that there
-/// are too many.
-const ROOM_TIME: u64 = 30_000;
 
 /// How many of those who wait are answered in one turn.
 const ANSWERS: usize = 64;

@@ -7,13 +7,10 @@ ghost use Rattle.std.specs.Prelude.{◌≡◌, ◌+◌, ◌%◌, min};
 
 use crate::figures::Following;
 use crate::source::{Reach, Source};
+use crate::times::TURN_TIME;
 use crate::told::Telling;
 use feed_device::{Link, Told};
 use std::mem;
-
-/// How long each of those has that are asked in turn, in milliseconds, or as long as the one before
-/// them where that is less.
-const TURN_TIME: u64 = 10_000;
 
 /// For how many times as long the first one is followed, once each had its turn, until they have
 /// their turns again.

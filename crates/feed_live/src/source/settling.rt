@@ -13,18 +13,12 @@ use crate::screens::Screens;
 use crate::source::rate::Rate;
 use crate::source::reading::split_line;
 use crate::source::{Reach, Source};
+use crate::times::{LONGEST_REPLAY, REPLAY_REPORT};
 use crate::told::Telling;
 use feed_audit::{Difference, difference_of};
 use feed_device::{Excerpt, Link, Told, Why};
 use feed_node::{Mirror, Node};
 use std::alloc::{AllocError, Global};
-
-/// After so many milliseconds what comes afresh is shown as far as it has come, also where more
-/// comes all the time.
-const LONGEST: u64 = 600_000;
-
-/// How often it is told that it has not settled yet, in milliseconds.
-const REPORT: u64 = 30_000;
 
 /// How long a first line may be to be noted, in bytes.
 const LONGEST_LINE: usize = 4_096;
@@ -134,7 +128,7 @@ impl Settling {
 
     /// When it is shown as far as it has come.
     fn late_at(&self) -> u64 {
-        self.began.saturating_add(LONGEST)
+        self.began.saturating_add(LONGEST_REPLAY)
     }
 }
 
@@ -278,7 +272,7 @@ impl Source {
         if self.is_at_shown() {
             return None;
         }
-        Some(self.settling.told.saturating_add(REPORT))
+        Some(self.settling.told.saturating_add(REPLAY_REPORT))
     }
 
     /// How many lines and bytes came of what has not settled yet.
