@@ -15,7 +15,7 @@ mod telling;
 mod watchers;
 
 pub use descriptors::{Placeholders, hold_standard};
-pub use hosts::{Host, without_brackets};
+pub use hosts::Host;
 pub use link::Servers;
 pub use opening::{OpenFault, open};
 pub use procfs::{process, since_1970};

@@ -1,12 +1,13 @@
 //! Ports are listened at, before a relay's first turn.
 
 use crate::guard::Guard;
-use crate::hosts::{Host, without_brackets};
+use crate::hosts::Host;
 use crate::link::Servers;
 use crate::sockets::Port;
 use crate::standard::{ErrorStream, InputStream};
 use crate::system::System;
 use crate::watchers::{WATCHERS, Watchers};
+use feed_answer::without_brackets;
 use feed_arguments::{AddressFault, LiveOptions, Network, networks};
 use feed_device::{Devices, Ready};
 use feed_state::{StateFile, StateStore};
