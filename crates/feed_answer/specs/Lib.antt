@@ -2,6 +2,7 @@ pub mod Answer
 pub mod Answered
 pub mod Asked
 pub mod AskedFor
+pub mod Brackets
 pub mod Carried
 pub mod FollowLaws
 pub mod FrameLaws

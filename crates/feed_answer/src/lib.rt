@@ -4,6 +4,7 @@
 
 mod answering;
 mod asked;
+mod brackets;
 mod framing;
 mod heads;
 mod identity;
@@ -14,6 +15,7 @@ mod request;
 mod request_target;
 
 pub use answering::{Answered, Reply, answer, reply_to, snapshot_opening};
+pub use brackets::without_brackets;
 pub use feed_follow::{HEAD_BYTES, HEAD_FIELDS, HEAD_LINES};
 pub use feed_settings::{Framing, Place, PlaceFault};
 pub use framing::{frame, frame_end};

@@ -3,8 +3,8 @@ ghost use Rattle.std.specs.Prelude.{◌≡◌};
 
 use crate::connection::{Incoming, Outgoing, both_ways, linger, text_of_asked, text_of_served};
 use crate::errors::Reporter;
+use feed_answer::without_brackets;
 use feed_commands::{Accept, Dial, Fault, NetworkFault, PullOptions, Server};
-use feed_system::without_brackets;
 use std::io;
 use std::net::{Ipv4Addr, SocketAddr, TcpListener, TcpStream, ToSocketAddrs};
 use std::time::{Duration, Instant};

@@ -1,5 +1,6 @@
 //! The servers that a relay may connect to: their names, and the addresses that these have.
 
+use feed_answer::without_brackets;
 use std::alloc::{AllocError, Global};
 use std::net::{IpAddr, SocketAddr, ToSocketAddrs};
 use std::time::Instant;
@@ -10,14 +11,6 @@ const MOST_ADDRESSES: usize = 8;
 /// The system waits while it asks for addresses, and the relay with it. So after that they are not
 /// asked for again for so many times as long as it took.
 const REST: u32 = 10;
-
-/// An address without the brackets around it, where it has both.
-pub fn without_brackets(host: &str) -> &str {
-    match host.strip_prefix('[') {
-        Some(rest) => rest.strip_suffix(']').unwrap_or(host),
-        None => host,
-    }
-}
 
 /// The addresses that a host has, in the system's order: none where its name is not known.
 fn addresses_of(rt: &HostRuntime, host: &str, port: u16) -> Result<Vec<SocketAddr>, AllocError> {

@@ -1,19 +1,20 @@
 //! Ports are listened at, before a relay's first turn.
 
 use crate::guard::Guard;
-use crate::hosts::{Host, without_brackets};
+use crate::hosts::Host;
 use crate::link::Servers;
 use crate::sockets::Port;
 use crate::standard::{ErrorStream, InputStream};
-use crate::state::StateFile;
-use crate::store::Files;
 use crate::system::System;
 use crate::watchers::{WATCHERS, Watchers};
+use feed_answer::without_brackets;
 use feed_arguments::{AddressFault, LiveOptions, Network, networks};
 use feed_device::{Devices, Ready};
+use feed_state::{StateFile, StateStore};
 use mio::net::TcpListener;
 use mio::{Events, Interest, Poll, Token};
 use std::alloc::{AllocError, Global};
+use std::fs::File;
 use std::io;
 use std::io::ErrorKind;
 use std::net::{IpAddr, SocketAddr};
@@ -176,11 +177,11 @@ fn open_ends(rt: &HostRuntime, options: &LiveOptions<'_>) -> Result<Ends, OpenFa
 pub fn open<'r>(
     rt: &'r HostRuntime,
     options: &LiveOptions<'_>,
-    state: Option<StateFile>,
+    state: Option<StateFile<File>>,
     hosts: Vec<Host>,
     start: Instant,
 ) -> Result<System<'r>, OpenFault> {
-    let files = Files::new(rt, state);
+    let files = StateStore::new(rt, state);
     let buffers = make_buffers(rt.alloc())?;
     let ends = open_ends(rt, options)?;
     let registry = ends.poll.registry().try_clone()?;
@@ -192,7 +193,7 @@ fn joined<'r>(
     rt: &'r HostRuntime,
     ends: Ends,
     servers: Servers<'r>,
-    files: Files<'r>,
+    files: StateStore<&'r HostRuntime>,
     buffers: Buffers,
     start: Instant,
 ) -> System<'r> {

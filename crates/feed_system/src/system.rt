@@ -4,11 +4,11 @@ use crate::link::{LINK, Servers};
 use crate::opening::LISTENER;
 use crate::sockets::{FIRST_SCREEN, Port};
 use crate::standard::{ERRORS, ErrorStream, INPUT, InputStream};
-use crate::store::Files;
 use crate::telling::{is_told, stamp, text_of};
 use crate::watchers::{FIRST_WATCHER, WATCHERS, Watchers};
 use feed_arguments::Verbosity;
 use feed_device::{Devices, Ready, Told};
+use feed_state::StateStore;
 use feed_status::Watch;
 use mio::event::Event;
 use mio::{Events, Poll, Token};
@@ -25,7 +25,7 @@ pub struct System<'r> {
     pub ready: Vec<Ready>,
     /// What the input gave is read into this.
     pub piece: Vec<u8>,
-    pub devices: Devices<Port, Servers<'r>, Files<'r>>,
+    pub devices: Devices<Port, Servers<'r>, StateStore<&'r HostRuntime>>,
     pub(crate) input: InputStream,
     pub(crate) errors: ErrorStream,
     pub(crate) watchers: Watchers,

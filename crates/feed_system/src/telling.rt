@@ -2,7 +2,7 @@
 
 use crate::link::Servers;
 use feed_arguments::Verbosity;
-use feed_device::Told;
+use feed_device::{Excerpt, Told};
 use jiff::Timestamp;
 use std::alloc::{AllocError, Global};
 use std::time::{SystemTime, UNIX_EPOCH};
@@ -20,6 +20,24 @@ pub(crate) fn stamp(rt: &HostRuntime) -> Timestamp {
         Ok(time) => time,
         Err(_) => Timestamp::UNIX_EPOCH,
     }
+}
+
+/// What is told where a state file was written last at a time, in seconds since 1970, this token was
+/// restored, and so many bytes were left away.
+pub fn restored_text(
+    alloc: Global,
+    written: i64,
+    token: &str,
+    left: u64,
+) -> Result<String, AllocError> {
+    let token = Excerpt::of(token);
+    let (token, time) = (token.text(), time_of(written));
+    format!(in alloc; "state: restored token {token:?}, written at {time}, {left} bytes left away")
+}
+
+/// A time in seconds since 1970.
+fn time_of(seconds: i64) -> Timestamp {
+    Timestamp::from_second(seconds).unwrap_or(Timestamp::UNIX_EPOCH)
 }
 
 /// Whether a thing is told of at all.

@@ -5,14 +5,16 @@ use crate::live::restoring::told_of;
 use crate::live::watching::Watched;
 use feed_answer::{Identity, Place};
 use feed_commands::{
-    AddressFault, Fault, LiveOptions, NetworkFault, PullOptions, Server, UpstreamOptions,
+    AddressFault, Fault, LiveOptions, NetworkFault, PullOptions, Server, UpstreamOptions, VERSION,
     Verbosity, servers_of,
 };
 use feed_host::{Failure, Hosts, identity_of};
 use feed_live::{Live, LiveLimits, Restored, Start, restore};
 use feed_node::{Limits, Mirror};
-use feed_system::{Host, Kept, OpenFault, StateFault, StateFile, System, open, take_state};
+use feed_state::{Kept, StateFault, StateFile, take_state};
+use feed_system::{Host, OpenFault, System, open};
 use std::alloc::{AllocError, Global};
+use std::fs::File;
 use std::io;
 use std::io::ErrorKind;
 use std::time::Instant;
@@ -154,7 +156,7 @@ fn restored(
     rt: &HostRuntime,
     options: &LiveOptions<'_>,
     limits: Limits,
-    kept: Option<&Kept>,
+    kept: Option<&Kept<File>>,
 ) -> Result<Restored, Fault> {
     let (Some(kept), Some(_)) = (kept, &options.upstream) else {
         return needs_memory(restore(rt.alloc(), limits, &[], &[]));
@@ -232,7 +234,7 @@ fn limits_of(options: &LiveOptions<'_>) -> LiveLimits {
 struct Plan {
     start: Start,
     contest: String,
-    state: Option<StateFile>,
+    state: Option<StateFile<File>>,
     /// What is told of the state file.
     told: Option<String>,
     hosts: Vec<Host>,
@@ -247,11 +249,11 @@ fn of_state(alloc: Global, path: &str, fault: &StateFault) -> Failure {
 }
 
 /// Takes the state file, where there is to be one.
-fn kept(rt: &HostRuntime, options: &LiveOptions<'_>) -> Result<Option<Kept>, Failure> {
+fn kept(rt: &HostRuntime, options: &LiveOptions<'_>) -> Result<Option<Kept<File>>, Failure> {
     let Some(path) = options.state else {
         return Ok(None);
     };
-    match take_state(rt, path, options.contest, options.is_new) {
+    match take_state(rt, path, options.contest, VERSION, options.is_new) {
         Ok(kept) => Ok(Some(kept)),
         Err(fault) => Err(of_state(rt.alloc(), path, &fault)),
     }
@@ -261,7 +263,7 @@ fn kept(rt: &HostRuntime, options: &LiveOptions<'_>) -> Result<Option<Kept>, Fai
 fn start_of(
     rt: &HostRuntime,
     options: &LiveOptions<'_>,
-    kept: Option<&Kept>,
+    kept: Option<&Kept<File>>,
     places: Vec<Place>,
     identity: Identity,
 ) -> Result<Start, Fault> {
@@ -312,7 +314,7 @@ fn make_plan(rt: &HostRuntime, options: &LiveOptions<'_>) -> Result<Plan, Failur
 fn system_of<'r>(
     rt: &'r HostRuntime,
     options: &LiveOptions<'_>,
-    state: Option<StateFile>,
+    state: Option<StateFile<File>>,
     hosts: Vec<Host>,
     start: Instant,
 ) -> Result<System<'r>, Failure> {

@@ -2,11 +2,13 @@
 
 use feed_commands::LiveOptions;
 use feed_live::Restored;
-use feed_system::Kept;
+use feed_state::Kept;
+use feed_system::restored_text;
 use std::alloc::{AllocError, Global};
+use std::fs::File;
 
 /// Why a relay begins with nothing, where its files had nothing that counts.
-fn reason(options: &LiveOptions<'_>, kept: &Kept) -> &'static str {
+fn reason(options: &LiveOptions<'_>, kept: &Kept<File>) -> &'static str {
     if options.upstream.is_none() {
         "standard input begins anew"
     } else if options.is_new {
@@ -24,14 +26,19 @@ fn reason(options: &LiveOptions<'_>, kept: &Kept) -> &'static str {
 pub(super) fn told_of(
     alloc: Global,
     options: &LiveOptions<'_>,
-    kept: Option<&Kept>,
+    kept: Option<&Kept<File>>,
     restored: &Restored,
 ) -> Result<Option<String>, AllocError> {
     let Some(kept) = kept else {
         return Ok(None);
     };
     let text = match restored.mirror.node().token() {
-        Some(token) => kept.told(alloc, token.text(), restored.length())?,
+        Some(token) => restored_text(
+            alloc,
+            kept.written,
+            token.text(),
+            kept.left(restored.length()),
+        )?,
         None => {
             let why = reason(options, kept);
             format!(in alloc; "state: nothing restored: {why}")?
