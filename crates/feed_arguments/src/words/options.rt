@@ -117,8 +117,9 @@ pub(crate) fn primary<'a>(alloc: Global) -> Arg<'a>
     ensures rule { rule_of result ≡ words.primary }
     ensures local { result.global ≡ false }
 {
-    text(alloc, "primary", "FILE")
-        .help("The file with the primary's record: its feed, as one connection carried it")
+    text(alloc, "primary", "FILE").help(
+        "The file with the primary's record: its feed, as one connection carried it",
+    )
 }
 
 /// `--of HOST:PORT`.
@@ -126,8 +127,9 @@ pub(crate) fn of<'a>(alloc: Global) -> Arg<'a>
     ensures rule { rule_of result ≡ words.of }
     ensures local { result.global ≡ false }
 {
-    text(alloc, "of", "HOST:PORT")
-        .help("In place of records: the server that is compared with another one")
+    text(alloc, "of", "HOST:PORT").help(
+        "In place of records: the server that is compared with another one",
+    )
 }
 
 /// `--against HOST:PORT`.
