@@ -15,7 +15,8 @@ use Rattle.feed_arguments.specs.Addresses.{most_port}
 
 -- ---- the options
 
--- the greatest number of connections, rounds, reads and batches that may be asked for
+-- the greatest number of connections, rounds, reads and batches that may be asked for, and of seconds
+-- that servers are compared for
 abbrev pub most_rounds : ℕ
 most_rounds = 1000000
 
@@ -67,7 +68,20 @@ abbrev pub verbose : Rule
 verbose = flag (codes "verbose")
 
 abbrev pub primary : Rule
-primary = needed (text_option (codes "primary"))
+primary = text_option (codes "primary")
+
+abbrev pub of : Rule
+of = text_option (codes "of")
+
+abbrev pub against : Rule
+against = text_option (codes "against")
+
+-- `--contest`, which may be left out
+abbrev pub compared_contest : Rule
+compared_contest = text_option (codes "contest")
+
+abbrev pub for_seconds : Rule
+for_seconds = number_in (codes "for") most_rounds
 
 abbrev pub json : Rule
 json = flag (codes "json")

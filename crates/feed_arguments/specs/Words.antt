@@ -1,13 +1,13 @@
 -- What the words of a command line ask for. Which of them name a command, and which are the values
 -- of its options, is as the crate clap reads them (`subcommand_of`), for the command line defined
 -- here.
-use Rattle.std.specs.Prelude.{◌≡◌, ◌≢◌, ◌⊎◌, List, Option, Some, codes, option_map, true, false}
+use Rattle.std.specs.Prelude.{◌≡◌, ◌≢◌, ◌⊎◌, List, Option, None, Some, codes, option_map, true, false}
 use Rattle.clap.specs.Simple.{on_top}
 use Rattle.clap.specs.Words.{App, Row, Text, new_app, subcommand_of, takes, with_rule, with_subcommand}
 use Rattle.feed_settings.specs.Limits.{most_commits}
 use Rattle.feed_arguments.specs.Addresses.{most_port}
 use Rattle.feed_arguments.specs.Live.{live, AsksLive}
-use Rattle.feed_arguments.specs.Options.{most_rounds, most_silence, at, verbose, primary, json, port, listen, contest, count, turn, chunked, back, host, from, base, host_header, user_file, turns, silence, resume, with_limits}
+use Rattle.feed_arguments.specs.Options.{most_rounds, most_silence, at, verbose, primary, of, against, compared_contest, for_seconds, json, port, listen, contest, count, turn, chunked, back, host, from, base, host_header, user_file, turns, silence, resume, with_limits}
 use Rattle.feed_arguments.specs.Options.{text_at, IsNumber, IsNumberUpTo, IsNumberIfGiven, IsGiven, IsFramed, AsksLimits}
 use Rattle.feed_arguments.specs.declared.request.Local.TheVariants as local
 use Rattle.clap.specs.declared.error.kind.ErrorKind.{ErrorKind}
@@ -19,6 +19,7 @@ use Rattle.feed_arguments.specs.declared.request.Request.TheVariants as request
 use Rattle.feed_arguments.specs.declared.request.TablesOptions.{TablesOptions}
 use Rattle.feed_arguments.specs.declared.request.CheckOptions.{CheckOptions}
 use Rattle.feed_arguments.specs.declared.request.AuditOptions.{AuditOptions}
+use Rattle.feed_arguments.specs.declared.request.CompareOptions.{CompareOptions}
 use Rattle.feed_arguments.specs.declared.request.ServeOptions.{ServeOptions}
 use Rattle.feed_arguments.specs.declared.request.PullOptions.{PullOptions}
 use Rattle.feed_arguments.specs.declared.request.RelayOptions.{RelayOptions}
@@ -56,8 +57,14 @@ tables = with_rule (with_rule (with_limits (new_app (codes "tables"))) at) verbo
 abbrev pub check : App
 check = with_rule (new_app (codes "check")) verbose
 
+-- a command with the options that say which servers are compared
+abbrev pub with_compared : App → App
+with_compared command =
+    with_rule (with_rule (with_rule (with_rule command of) against) compared_contest) for_seconds
+
 abbrev pub audit : App
-audit = with_limits (with_rule (with_rule (with_rule (new_app (codes "audit")) primary) json) verbose)
+audit =
+    with_limits (with_rule (with_rule (with_compared (with_rule (new_app (codes "audit")) primary)) json) verbose)
 
 abbrev pub play : App
 play = new_app (codes "play")
@@ -104,9 +111,28 @@ pub record AsksTables (rows : List Row) (options : TablesOptions) : Type 0 where
 pub record AsksCheck (rows : List Row) (options : CheckOptions) : Type 0 where
   pub verbose_is : IsGiven (codes "verbose") rows options.verbose
 
--- the values of the options of `audit`
+-- no option says which servers are compared
+pub record ComparesNone (rows : List Row) : Type 0 where
+  pub of_is : text_at (codes "of") rows ≡ None
+  pub against_is : text_at (codes "against") rows ≡ None
+  pub contest_is : text_at (codes "contest") rows ≡ None
+  pub seconds_are : text_at (codes "for") rows ≡ None
+
+-- the values of the options of `audit` that compares records
 pub record AsksAudit (rows : List Row) (options : AuditOptions) : Type 0 where
+  pub alone : ComparesNone rows
   pub primary_is : text_at (codes "primary") rows ≡ Some options.primary.now
+  pub json_is : IsGiven (codes "json") rows options.json
+  pub verbose_is : IsGiven (codes "verbose") rows options.verbose
+  pub limits_are : AsksLimits rows options.limits
+
+-- the values of the options of `audit` that compares two servers
+pub record AsksCompare (rows : List Row) (options : CompareOptions) : Type 0 where
+  pub alone : text_at (codes "primary") rows ≡ None
+  pub of_is : text_at (codes "of") rows ≡ Some options.of.now
+  pub against_is : text_at (codes "against") rows ≡ Some options.against.now
+  pub contest_is : text_at (codes "contest") rows ≡ Some options.contest.now
+  pub seconds_are : IsNumberIfGiven (codes "for") most_rounds rows options.seconds
   pub json_is : IsGiven (codes "json") rows options.json
   pub verbose_is : IsGiven (codes "verbose") rows options.verbose
   pub limits_are : AsksLimits rows options.limits
@@ -152,6 +178,7 @@ AsksBy name rows (request.Local (local.Check options)) =
     (name ≡ codes "check") × AsksCheck rows options
 AsksBy name rows (request.Local local.Play) = name ≡ codes "play"
 AsksBy name rows (request.Audit options) = (name ≡ codes "audit") × AsksAudit rows options
+AsksBy name rows (request.Compare options) = (name ≡ codes "audit") × AsksCompare rows options
 AsksBy name rows (request.Serve options) = (name ≡ codes "serve") × AsksServe rows options
 AsksBy name rows (request.Pull options) = (name ≡ codes "pull") × AsksPull rows options
 AsksBy name rows (request.Relay options) = (name ≡ codes "relay") × AsksRelay rows options

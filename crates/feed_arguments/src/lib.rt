@@ -9,7 +9,7 @@ mod words;
 pub use address::{AddressFault, addresses};
 pub use network::{Network, Origin, is_in_any, networks};
 pub use request::{
-    AuditOptions, CheckOptions, LiveOptions, Local, NoCommand, PullOptions, RelayOptions, Request,
-    ServeOptions, TablesOptions, UpstreamOptions, Verbosity,
+    AuditOptions, CheckOptions, CompareOptions, LiveOptions, Local, NoCommand, PullOptions,
+    RelayOptions, Request, ServeOptions, TablesOptions, UpstreamOptions, Verbosity,
 };
 pub use words::{PROGRAM, VERSION, parse_words};

@@ -33,6 +33,25 @@ pub struct AuditOptions<'a> {
     pub limits: Limits,
 }
 
+/// Which two servers `audit` compares, for how long, and how it prints what it found.
+#[derive(Clone, Copy)]
+pub struct CompareOptions<'a> {
+    /// The address of the server that is audited, as `host:port`. Any text will do.
+    pub of: &'a str,
+    /// The address of the server that it is compared with, as `host:port`. Any text will do.
+    pub against: &'a str,
+    /// The contest whose feeds are compared. Any text will do.
+    pub contest: &'a str,
+    /// After how many seconds the comparison ends, 1 to 1,000,000; without it there is no such time.
+    pub seconds: Option<u64>,
+    /// Whether what was found is printed as JSON.
+    pub json: bool,
+    /// Whether objects that differ are printed whole, however long they are.
+    pub verbose: bool,
+    /// The limits that both feeds are followed with.
+    pub limits: Limits,
+}
+
 /// What `serve` serves, where, and to how many.
 #[derive(Clone, Copy)]
 pub struct ServeOptions<'a> {
@@ -211,6 +230,8 @@ pub enum Request<'a> {
     Local(Local<'a>),
     /// Whether each state of the screen's record on standard input is one of the primary's.
     Audit(AuditOptions<'a>),
+    /// Whether two servers have the same state at each token that both have.
+    Compare(CompareOptions<'a>),
     /// The feed on standard input, served by a primary.
     Serve(ServeOptions<'a>),
     /// The snapshot of what a server's feed publishes to a mirror.

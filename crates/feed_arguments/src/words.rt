@@ -50,7 +50,8 @@ fn parse<'a>(alloc: Global, words: &'a [&'a str]) -> Result<Request<'a>, clap::E
         Some(request) => Ok(request),
         None => Err(program.error(
             ErrorKind::ValueValidation,
-            "no such command, or a number out of its range",
+            "a number out of its range, or options that do not go together: \
+              audit takes --primary alone, or --of, --against and --contest",
         )?),
     }
 }

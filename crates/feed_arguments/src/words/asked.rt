@@ -1,5 +1,5 @@
 //! What the options of a command ask for.
-ghost use Rattle.std.specs.Prelude.{◌≡◌, ℕ, Option, None, Some, codes, option_map, IfSome};
+ghost use Rattle.std.specs.Prelude.{◌≡◌, ℕ, true, false, Option, None, Some, codes, option_map, IfSome};
 ghost use Rattle.clap.specs.Matches.{found_of};
 ghost use Rattle.clap.specs.Words.{rows_of, subcommand_rows_of};
 ghost use Rattle.feed_settings.specs.Limits.{Limits as LimitsOf, most_changes, most_commits};
@@ -8,8 +8,9 @@ ghost use Rattle.feed_arguments.specs.Live.{AreBothGiven, kept_bytes};
 ghost use Rattle.feed_arguments.specs.Options.{most_rounds, most_silence};
 ghost use Rattle.feed_arguments.specs.Options.{text_at, IsNumber, IsNumberUpTo, IsNumberIfGiven};
 ghost use Rattle.feed_arguments.specs.Options.{IsGiven, IsFramed, AsksLimits, AsksLimitsOr};
-ghost use Rattle.feed_arguments.specs.Words.{AsksTables, AsksCheck, AsksAudit, AsksServe, AsksPull, AsksRelay, AsksBy, AsksAt};
+ghost use Rattle.feed_arguments.specs.Words.{AsksTables, AsksCheck, AsksAudit, AsksCompare, ComparesNone, AsksServe, AsksPull, AsksRelay, AsksBy, AsksAt};
 ghost use Rattle.feed_arguments.specs.declared.request.AuditOptions.{AuditOptions as Audit};
+ghost use Rattle.feed_arguments.specs.declared.request.CompareOptions.{CompareOptions as Compare};
 ghost use Rattle.feed_arguments.specs.declared.request.PullOptions.{PullOptions as Pull};
 ghost use Rattle.feed_arguments.specs.declared.request.RelayOptions.{RelayOptions as Relay};
 ghost use Rattle.feed_arguments.specs.declared.request.Request.{Request as Asked};
@@ -20,8 +21,8 @@ use super::asked_live::live_options;
 use super::live::KEPT_BYTES;
 use super::options::{MOST_PORT, MOST_ROUNDS, MOST_SILENCE};
 use crate::request::{
-    AuditOptions, CheckOptions, Local, PullOptions, RelayOptions, Request, ServeOptions,
-    TablesOptions,
+    AuditOptions, CheckOptions, CompareOptions, Local, PullOptions, RelayOptions, Request,
+    ServeOptions, TablesOptions,
 };
 use clap::ArgMatches;
 use feed_settings::{Framing, Limits, MOST_CHANGES, MOST_COMMITS, MOST_MEMORY};
@@ -172,12 +173,26 @@ fn check_options(matches: &ArgMatches<'_>) -> CheckOptions
     }
 }
 
-/// What the options of `audit` ask for.
+/// Whether no option says which servers are compared.
+fn compares_none(matches: &ArgMatches<'_>) -> bool
+    ensures yes { result ≡ true → ComparesNone (rows_of (found_of matches.now)) }
+    ensures no { result ≡ false → ¬ (ComparesNone (rows_of (found_of matches.now))) }
+{
+    text(matches, "of").is_none()
+        && text(matches, "against").is_none()
+        && text(matches, "contest").is_none()
+        && text(matches, "for").is_none()
+}
+
+/// What the options of `audit` ask for that compares records.
 fn audit_options<'a>(matches: &ArgMatches<'a>) -> Option<AuditOptions<'a>>
     ensures some { IfSome result (λ options. AsksAudit (rows_of (found_of matches.now)) options) }
     ensures none { result ≡ None → (options : Audit)
         → ¬ (AsksAudit (rows_of (found_of matches.now)) options) }
 {
+    if !compares_none(matches) {
+        return None;
+    }
     let primary = text(matches, "primary")?;
     let limits = limits(matches)?;
     Some(AuditOptions {
@@ -186,6 +201,47 @@ fn audit_options<'a>(matches: &ArgMatches<'a>) -> Option<AuditOptions<'a>>
         verbose: is_given(matches, "verbose"),
         limits,
     })
+}
+
+/// What the options of `audit` ask for that compares two servers.
+fn compare_options<'a>(matches: &ArgMatches<'a>) -> Option<CompareOptions<'a>>
+    ensures some { IfSome result (λ options. AsksCompare (rows_of (found_of matches.now)) options) }
+    ensures none { result ≡ None → (options : Compare)
+        → ¬ (AsksCompare (rows_of (found_of matches.now)) options) }
+{
+    if text(matches, "primary").is_some() {
+        return None;
+    }
+    let of = text(matches, "of")?;
+    let against = text(matches, "against")?;
+    let contest = text(matches, "contest")?;
+    let seconds = number_if_given(matches, "for", MOST_ROUNDS)?;
+    let limits = limits(matches)?;
+    Some(CompareOptions {
+        of,
+        against,
+        contest,
+        seconds,
+        json: is_given(matches, "json"),
+        verbose: is_given(matches, "verbose"),
+        limits,
+    })
+}
+
+/// What the options of `audit` ask for.
+fn audit_asked<'a>(matches: &ArgMatches<'a>) -> Option<Request<'a>>
+    ensures some { IfSome result
+        (λ request. AsksBy (codes "audit") (rows_of (found_of matches.now)) request) }
+    ensures none { result ≡ None → (request : Asked)
+        → ¬ (AsksBy (codes "audit") (rows_of (found_of matches.now)) request) }
+{
+    match audit_options(matches) {
+        Some(options) => Some(Request::Audit(options)),
+        None => match compare_options(matches) {
+            Some(options) => Some(Request::Compare(options)),
+            None => None,
+        },
+    }
 }
 
 /// What the options of `serve` ask for.
@@ -301,10 +357,7 @@ fn request_named<'a>(name: &str, matches: &ArgMatches<'a>) -> Option<Request<'a>
         },
         "check" => Some(Request::Local(Local::Check(check_options(matches)))),
         "play" => Some(Request::Local(Local::Play)),
-        "audit" => match audit_options(matches) {
-            Some(options) => Some(Request::Audit(options)),
-            None => None,
-        },
+        "audit" => audit_asked(matches),
         "serve" => match serve_options(matches) {
             Some(options) => Some(Request::Serve(options)),
             None => None,

@@ -76,14 +76,29 @@ fn check<'a>(alloc: Global) -> Result<Command<'a>, AllocError>
     add_option(check, options::verbose(alloc, help))
 }
 
+/// A command with the options that say which servers are compared.
+fn with_compared<'a>(
+    alloc: Global,
+    command: Result<Command<'a>, AllocError>,
+) -> Result<Command<'a>, AllocError>
+    ensures { (app : App) → IfOk command.entry (λ c. app_of c ≡ app)
+        → IfOk result (λ c. app_of c ≡ words.with_compared app) }
+{
+    let compared = add_option(command, options::of(alloc));
+    let compared = add_option(compared, options::against(alloc));
+    let compared = add_option(compared, options::compared_contest(alloc));
+    add_option(compared, options::for_seconds(alloc))
+}
+
 /// `audit`.
 fn audit<'a>(alloc: Global) -> Result<Command<'a>, AllocError>
     ensures { IfOk result (λ c. app_of c ≡ words.audit) }
 {
     let about =
-        "Tells whether each state of the screen's record on standard input is one of the primary's";
+        "Tells whether each state of the screen's record on standard input is one of the primary's, or compares two servers";
     let help = "Print objects that differ whole, however long they are";
     let audit = add_option(Ok(command(alloc, "audit", about)), options::primary(alloc));
+    let audit = with_compared(alloc, audit);
     let audit = add_option(audit, options::json(alloc));
     let audit = add_option(audit, options::verbose(alloc, help));
     with_limits(alloc, audit)

@@ -13,7 +13,8 @@ use std::alloc::Global;
 /// The greatest number of a port.
 pub(crate) const MOST_PORT: u64 = 65_535;
 
-/// The greatest number of connections, rounds, reads and batches that may be asked for.
+/// The greatest number of connections, rounds, reads and batches that may be asked for, and of
+/// seconds that servers are compared for.
 pub(crate) const MOST_ROUNDS: u64 = 1_000_000;
 
 /// The most seconds of silence that may be asked for.
@@ -118,7 +119,41 @@ pub(crate) fn primary<'a>(alloc: Global) -> Arg<'a>
 {
     text(alloc, "primary", "FILE")
         .help("The file with the primary's record: its feed, as one connection carried it")
-        .required(true)
+}
+
+/// `--of HOST:PORT`.
+pub(crate) fn of<'a>(alloc: Global) -> Arg<'a>
+    ensures rule { rule_of result ≡ words.of }
+    ensures local { result.global ≡ false }
+{
+    text(alloc, "of", "HOST:PORT")
+        .help("In place of records: the server that is compared with another one")
+}
+
+/// `--against HOST:PORT`.
+pub(crate) fn against<'a>(alloc: Global) -> Arg<'a>
+    ensures rule { rule_of result ≡ words.against }
+    ensures local { result.global ≡ false }
+{
+    text(alloc, "against", "HOST:PORT").help("The server that it is compared with")
+}
+
+/// `--contest C`, which may be left out.
+pub(crate) fn compared_contest<'a>(alloc: Global) -> Arg<'a>
+    ensures rule { rule_of result ≡ words.compared_contest }
+    ensures local { result.global ≡ false }
+{
+    text(alloc, "contest", "C").help("The id of the contest, as the path of its feeds has it")
+}
+
+/// `--for SECONDS`.
+pub(crate) fn for_seconds<'a>(alloc: Global) -> Arg<'a>
+    ensures rule { rule_of result ≡ words.for_seconds }
+    ensures local { result.global ≡ false }
+{
+    number(alloc, "for", "SECONDS", MOST_ROUNDS).help(
+        "After how many seconds the comparison ends, 1 to 1000000; without it there is no such time",
+    )
 }
 
 /// `--json`.
