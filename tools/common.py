@@ -3,8 +3,10 @@ import argparse
 import importlib.machinery
 import importlib.util
 import os
+import random
 import socket
 import sys
+from contextlib import suppress
 from pathlib import Path
 
 TOP = Path(__file__).resolve().parent.parent
@@ -23,9 +25,13 @@ def loaded(name):
 
 
 def free_port():
-    """A port of 127.0.0.1 where nobody listens."""
-    with socket.create_server(("127.0.0.1", 0)) as server:
-        return server.getsockname()[1]
+    """A port of 127.0.0.1 where nobody listens, of those that the system gives to no connection by itself."""
+    while True:
+        with socket.socket() as it, suppress(OSError):
+            it.setsockopt(socket.SOL_SOCKET, socket.SO_REUSEADDR, 1)
+            port = random.SystemRandom().randrange(20_000, 32_000)
+            it.bind(("127.0.0.1", port))
+            return port
 
 
 def program_of(path, folder):
