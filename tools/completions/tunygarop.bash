@@ -34,6 +34,9 @@ _tunygarop() {
         --contest | --from | --base | --address | --screens | --idle | --window | --pending | --silence | --settle | --return | --hold)
             return
             ;;
+        --of | --against | --for)
+            return
+            ;;
         --at | --host-header | --allow | --per-address | --status-address)
             return
             ;;
@@ -47,7 +50,7 @@ _tunygarop() {
     case $command in
         tables) names="at history staged memory verbose" ;;
         check) names="verbose" ;;
-        audit) names="primary json verbose history staged memory" ;;
+        audit) names="primary of against contest for json verbose history staged memory" ;;
         play) names="" ;;
         serve) names="port contest count turn chunked back verbose history staged memory" ;;
         pull) names="host port from contest base host-header user-file turns silence resume verbose history staged memory" ;;

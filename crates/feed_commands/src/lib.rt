@@ -17,9 +17,9 @@ pub use commands::serve::{Source, serve_all, start_source};
 pub use commands::{perform, run};
 pub use fault::{Fault, FeedStop, REFUSED};
 pub use feed_arguments::{
-    AddressFault, AuditOptions, LiveOptions, Local, NoCommand, PROGRAM, PullOptions, RelayOptions,
-    Request, ServeOptions, TablesOptions, UpstreamOptions, VERSION, Verbosity, addresses,
-    parse_words,
+    AddressFault, AuditOptions, CompareOptions, LiveOptions, Local, NoCommand, PROGRAM,
+    PullOptions, RelayOptions, Request, ServeOptions, TablesOptions, UpstreamOptions, VERSION,
+    Verbosity, addresses, parse_words,
 };
 pub use feed_http::{device, memory, stream};
 pub use feed_play::{PlayCause, PlayFault, play};

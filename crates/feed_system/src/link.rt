@@ -25,6 +25,7 @@ struct Server {
 pub struct Servers<'r> {
     rt: &'r HostRuntime,
     registry: Registry,
+    token: Token,
     hosts: Vec<Host>,
     servers: Vec<Server>,
     stream: Option<TcpStream>,
@@ -46,15 +47,17 @@ fn servers_of(alloc: Global, hosts: &[Host]) -> Result<Vec<Server>, AllocError> 
 }
 
 impl<'r> Servers<'r> {
-    /// There is no connection yet.
+    /// There is no connection yet. Events of one have this token.
     pub(crate) fn new(
         rt: &'r HostRuntime,
         registry: Registry,
+        token: Token,
         hosts: Vec<Host>,
     ) -> Result<Servers<'r>, AllocError> {
         Ok(Servers {
             rt,
             registry,
+            token,
             servers: servers_of(rt.alloc(), &hosts)?,
             hosts,
             stream: None,
@@ -88,7 +91,7 @@ impl<'r> Servers<'r> {
         let interests = Interest::READABLE | Interest::WRITABLE;
         if self
             .registry
-            .register(&mut stream, LINK, interests)
+            .register(&mut stream, self.token, interests)
             .is_err()
         {
             return Err(Why::Refuses);

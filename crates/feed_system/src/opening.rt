@@ -2,7 +2,7 @@
 
 use crate::guard::Guard;
 use crate::hosts::Host;
-use crate::link::Servers;
+use crate::link::{LINK, Servers};
 use crate::sockets::Port;
 use crate::standard::{ErrorStream, InputStream};
 use crate::system::System;
@@ -185,7 +185,7 @@ pub fn open<'r>(
     let buffers = make_buffers(rt.alloc())?;
     let ends = open_ends(rt, options)?;
     let registry = ends.poll.registry().try_clone()?;
-    let servers = Servers::new(rt, registry, hosts)?;
+    let servers = Servers::new(rt, registry, LINK, hosts)?;
     Ok(joined(rt, ends, servers, files, buffers, start))
 }
 

@@ -1,8 +1,10 @@
 //! The program: its arguments, standard streams and sockets, for the commands of `feed_commands`.
 #![tactic(auto)]
 
+mod compare;
 mod live;
 
+use compare::compare_servers;
 use feed_commands::stream::Stream;
 use feed_commands::{Fault, NoCommand, PROGRAM, Request, parse_words, run, tell};
 use feed_host::{audit_records, ended, input_ahead, pull_feed, relay_feed, serve_feed};
@@ -41,6 +43,7 @@ fn run_request<'a>(rt: &HostRuntime, request: &Request<'_>, words: &'a [&'a str]
     match request {
         Request::Local(request) => run_words(rt, request.name(), words),
         Request::Audit(options) => ended(rt, "audit", audit_records(rt, options)),
+        Request::Compare(options) => ended(rt, "audit", compare_servers(rt, options)),
         Request::Serve(options) => ended(rt, "serve", serve_feed(rt, options)),
         Request::Pull(options) => ended(rt, "pull", pull_feed(rt, options)),
         Request::Relay(options) => ended(rt, "relay", relay_feed(rt, options)),

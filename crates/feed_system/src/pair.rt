@@ -1,0 +1,56 @@
+//! Two servers at once, each with a connection that never waits.
+
+use crate::hosts::Host;
+use crate::link::{LINK, Servers};
+use mio::{Events, Poll, Token};
+use std::io;
+use std::time::{Duration, Instant};
+
+/// The token of the connection to the second server.
+const SECOND: Token = Token(2);
+
+/// How many events are taken at once.
+const EVENTS: usize = 16;
+
+/// Two servers, and a clock.
+#[derive(Drop)]
+pub struct Pair<'r> {
+    rt: &'r HostRuntime,
+    poll: Poll,
+    events: Events,
+    pub first: Servers<'r>,
+    pub second: Servers<'r>,
+    start: Instant,
+}
+
+impl<'r> Pair<'r> {
+    /// No connection is open yet. Its time begins now.
+    pub fn new(rt: &'r HostRuntime, first: Host, second: Host) -> io::Result<Pair<'r>> {
+        let poll = Poll::new(rt)?;
+        let mut firsts = Vec::new(rt.alloc());
+        firsts.push(first)?;
+        let mut seconds = Vec::new(rt.alloc());
+        seconds.push(second)?;
+        let (registry, another) = (poll.registry().try_clone()?, poll.registry().try_clone()?);
+        Ok(Pair {
+            rt,
+            events: Events::with_capacity(rt.alloc(), EVENTS)?,
+            first: Servers::new(rt, registry, LINK, firsts)?,
+            second: Servers::new(rt, another, SECOND, seconds)?,
+            poll,
+            start: Instant::now(rt)?,
+        })
+    }
+
+    /// The time since the start, in milliseconds.
+    pub fn now(&self) -> io::Result<u64> {
+        let elapsed = self.start.elapsed(self.rt)?.as_millis();
+        Ok(u64::try_from(elapsed).unwrap_or(u64::MAX))
+    }
+
+    /// Waits until a connection is ready, or for so many milliseconds.
+    pub fn wait(&mut self, pause: u64) -> io::Result<()> {
+        self.poll
+            .poll(&mut self.events, Some(Duration::from_millis(pause)))
+    }
+}
