@@ -9,8 +9,8 @@ use crate::fault::Fault;
 use crate::input::read_within;
 use feed_arguments::AuditOptions;
 use feed_audit::{
-    Stray, Verdict, audit_record, count_states, print_agreement, print_agreement_json,
-    print_stray, print_stray_json,
+    Stray, Verdict, audit_record, count_states, print_agreement, print_agreement_json, print_stray,
+    print_stray_json,
 };
 use feed_http::device::{FeedRead, FeedWrite, write_all};
 use std::alloc::{AllocError, Global};
