@@ -1,7 +1,9 @@
 pub mod Agreeing
 pub mod Appending
 pub mod Explaining
+pub mod Cutting
 pub mod Meeting
+pub mod Parts
 pub mod Prefixes
 pub mod Tallying
 pub mod Verdicts

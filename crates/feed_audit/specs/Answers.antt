@@ -48,6 +48,7 @@ IsVerdict limits primary screen (verdict.Strays stray) = Straying limits primary
 abbrev pub FailsToAudit : Limits → List ℕ → List ℕ → AuditFault → Type 0
 FailsToAudit limits primary screen (fault.Primary line why) = FaultsIn limits primary line why
 FailsToAudit limits primary screen (fault.Screen line why) = FaultsIn limits screen line why
+FailsToAudit limits primary screen (fault.Chunked line) = ⊥
 FailsToAudit limits primary screen fault.Memory = Unit {0}
 
 -- nothing is wrong with the text, and it publishes so many times
@@ -60,6 +61,7 @@ pub record HasStates (limits : Limits) (text : List ℕ) (states : ℕ) : Type 0
 abbrev pub FailsToCount : Limits → List ℕ → AuditFault → Type 0
 FailsToCount limits primary (fault.Primary line why) = FaultsIn limits primary line why
 FailsToCount limits primary (fault.Screen line why) = ⊥
+FailsToCount limits primary (fault.Chunked line) = ⊥
 FailsToCount limits primary fault.Memory = Unit {0}
 
 -- a mirror has read some of the lines of a text

@@ -2,9 +2,11 @@
 #![tactic(auto)]
 
 mod auditing;
+mod connections;
 mod counting;
 mod difference;
 mod laws;
+mod record;
 mod since;
 mod told;
 mod told_json;
@@ -15,6 +17,7 @@ pub use auditing::audit;
 pub use counting::count_states;
 pub use difference::{Difference, Side, difference_of};
 pub use laws::state_laws;
+pub use record::audit_record;
 pub use told::{print_agreement, print_stray};
 pub use told_json::{print_agreement_json, print_stray_json};
 pub use verdict::{AuditFault, Stray, Verdict};

@@ -39,6 +39,9 @@ pub enum AuditFault {
     /// All states before it are the primary's.
     #[error("screen: line {0}: {1}")]
     Screen(usize, FeedFault),
+    /// What a connection of the screen's record carried begins with a chunk's size.
+    #[error("screen: line {0}: chunks of HTTP; record with curl, without --raw")]
+    Chunked(usize),
     #[error("out of memory")]
     Memory,
 }

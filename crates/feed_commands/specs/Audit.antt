@@ -1,7 +1,8 @@
 -- What the command `audit` reads and prints.
 use Rattle.std.specs.Prelude.{◌≡◌, ◌⊎◌, ℕ, ◌≤◌, Bool, true, false, List, Option}
 use Rattle.std.specs.Io.KnownBytes.{Appends, Keeps}
-use Rattle.feed_audit.specs.Answers.{Agreement, Straying, HasStates, FailsToAudit}
+use Rattle.feed_audit.specs.Answers.{HasStates}
+use Rattle.feed_audit.specs.Records.{RecordAgrees, RecordStrays, FailsToAuditRecord}
 use Rattle.feed_audit.specs.Told.{agreement_text, agreement_json, stray_text, stray_json}
 use Rattle.feed_audit.specs.declared.verdict.Stray.{Stray}
 use Rattle.feed_http.specs.Device.{AppendsPrefix}
@@ -29,7 +30,7 @@ module _ (options : AuditOptions) (primary screen : List ℕ) where
   pub record TellsAgreement (text : List ℕ) : Type 0 where
     pub states : ℕ
     pub some : 1 ≤ states
-    pub agrees : Agreement options.limits primary screen states
+    pub agrees : RecordAgrees options.limits primary screen states
     pub all : ℕ
     pub has : HasStates options.limits primary all
     pub told : text ≡ agreement_told options.json states all
@@ -37,7 +38,7 @@ module _ (options : AuditOptions) (primary screen : List ℕ) where
   -- this state of the screen's is the first that is none of the primary's, and the text tells it
   pub record TellsStray (text : List ℕ) : Type 0 where
     pub stray : Stray
-    pub strays : Straying options.limits primary screen stray
+    pub strays : RecordStrays options.limits primary screen stray
     pub told : text ≡ stray_told options.json options.verbose stray
 
   -- the records agree, and that was printed
@@ -47,8 +48,8 @@ module _ (options : AuditOptions) (primary screen : List ℕ) where
   -- what was printed where the command fails
   abbrev pub AuditFails : Fault → Option (List ℕ) → Option (List ℕ) → Type 0
   AuditFails fault.Differs old new = (text : List ℕ) × TellsStray text × Appends old new text
-  AuditFails fault.Unpublished old new = Agreement options.limits primary screen 0 × Keeps old new
-  AuditFails (fault.Audit why) old new = FailsToAudit options.limits primary screen why × Keeps old new
+  AuditFails fault.Unpublished old new = RecordAgrees options.limits primary screen 0 × Keeps old new
+  AuditFails (fault.Audit why) old new = FailsToAuditRecord options.limits primary screen why × Keeps old new
   AuditFails fault.Write old new =
       (text : List ℕ) × (TellsAgreement text ⊎ TellsStray text) × AppendsPrefix old new text
   AuditFails fault.Memory old new = Keeps old new

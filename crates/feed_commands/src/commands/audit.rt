@@ -9,7 +9,7 @@ use crate::fault::Fault;
 use crate::input::read_within;
 use feed_arguments::AuditOptions;
 use feed_audit::{
-    Stray, Verdict, audit, count_states, print_agreement, print_agreement_json, print_stray,
+    Stray, Verdict, audit_record, count_states, print_agreement, print_agreement_json, print_stray,
     print_stray_json,
 };
 use feed_http::device::{FeedRead, FeedWrite, write_all};
@@ -78,9 +78,10 @@ fn print_text<W: FeedWrite>(text: &[u8], out: &mut W) -> Result<(), Fault>
 }
 
 /// Prints whether each state that the screen's record publishes is one that the primary's publishes
-/// under the same token, each read as a fresh connection. Where one is not, the fault is
-/// `Differs`, behind what is printed of the first such state. Where the screen's publishes nothing,
-/// and where a line of a record can't be read, nothing is printed.
+/// under the same token. The screen's may have several connections, each read as a fresh one. Where
+/// a state is not the primary's, the fault is `Differs`, behind what is printed of the first such
+/// state. Where the screen's publishes nothing, and where a line of a record can't be read, nothing
+/// is printed.
 pub fn print_verdict<W: FeedWrite>(
     alloc: Global,
     options: &AuditOptions<'_>,
@@ -97,7 +98,7 @@ pub fn print_verdict<W: FeedWrite>(
     ensures quiet { ¬ (IsErrOf result Fault.Write)
         → W.failures out.new ≡ W.failures out.old }
 {
-    match audit(alloc, options.limits, primary, screen)? {
+    match audit_record(alloc, options.limits, primary, screen)? {
         Verdict::Agrees(0) => Err(Fault::Unpublished),
         Verdict::Agrees(states) => {
             let all = count_states(alloc, options.limits, primary)?;

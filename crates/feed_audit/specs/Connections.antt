@@ -1,0 +1,94 @@
+-- A record of several connections, one after the other, as `curl -i` writes them to one file: the
+-- head of each (RFC 9112, section 2.1), and then what it carried.
+use Rattle.std.specs.Prelude.{◌≡◌, ℕ, ◌+◌, ◌&&◌, ◌||◌, ◌==◌, Bool, true, false, not, List, [], ◌∷◌, ◌++◌, length, drop, slice_index_or, codes, Option, None, Some, if◌then◌else◌}
+use Rattle.std.specs.Char.{is_ascii_hexdigit}
+use Rattle.std.specs.List.{AllByRecursion, list_any, starts_with, ends_with}
+use Rattle.feed_note.specs.Lines.{HasNoLineFeed, lines, ended}
+
+-- ---- where a connection begins
+
+-- whether these bytes end like a status line: `HTTP/` begins them, and behind it stands neither a
+-- quotation mark nor a slash
+abbrev pub is_status_line : List ℕ → Bool
+is_status_line bytes =
+    starts_with (λ x y. x == y) bytes (codes "HTTP/")
+    && not (list_any (λ b. b == 34) (drop 5 bytes) || list_any (λ b. b == 47) (drop 5 bytes))
+
+-- The version and the status of a line that ends like a status line. Before it may stand what came
+-- of a line that was cut off. No line of a feed ends so, since its names and strings do in a
+-- quotation mark.
+unfoldable pub status_in : List ℕ → Option (List ℕ)
+status_in [] = None
+status_in (b ∷ bs) = if is_status_line (b ∷ bs) then Some (drop 5 (b ∷ bs)) else status_in bs
+
+-- whether 200 stands behind the first space, that is, behind the version
+unfoldable pub is_success : List ℕ → Bool
+is_success [] = false
+is_success (b ∷ bs) =
+    if b == 32 then starts_with (λ x y. x == y) bs (codes "200") else is_success bs
+
+-- whether the line ends in `# connection`
+abbrev pub is_marked : List ℕ → Bool
+is_marked line = ends_with (λ x y. x == y) line (codes "# connection")
+
+-- no connection begins on the line
+pub record OpensNone (line : List ℕ) : Type 0 where
+  pub unmarked : is_marked line ≡ false
+  pub headless : status_in line ≡ None
+
+abbrev pub carriage_return : ℕ
+carriage_return = 13
+
+-- whether the line is empty, as the last of a head is, but for a carriage return
+abbrev pub is_blank : List ℕ → Bool
+is_blank line =
+    length line == 0 || (length line == 1 && slice_index_or line 0 0 == carriage_return)
+
+abbrev pub IsFilled : List ℕ → Type 0
+IsFilled line = is_blank line ≡ false
+
+-- these lines stand between two connections, and this is whether a feed follows: behind a line
+-- `# connection`, and behind a head with the status 200
+pub data Opens : List (List ℕ) → Bool → Type 0 where
+  marked : (line : List ℕ) → is_marked line ≡ true → Opens (line ∷ []) true
+  answered : (line : List ℕ) (fields : List (List ℕ)) (blank status : List ℕ) → is_marked line ≡ false
+      → status_in line ≡ Some status → AllByRecursion IsFilled fields → is_blank blank ≡ true
+      → Opens (line ∷ (fields ++ blank ∷ [])) (is_success status)
+
+-- ---- the connections
+
+-- a connection: how many lines stand before it, whether it is a feed, and what it carried
+pub record Part : Type 0 where
+  pub before : ℕ
+  pub is_feed : Bool
+  pub body : List ℕ
+
+abbrev pub part : ℕ → Bool → List ℕ → Part
+part before is_feed body = record { before = before; is_feed = is_feed; body = body }
+
+-- a text is these connections, the first of which has begun
+pub data Cut : ℕ → Bool → List ℕ → List Part → Type 0 where
+  -- no other one begins
+  last : {before : ℕ} {is_feed : Bool} {text : List ℕ} → AllByRecursion OpensNone (lines text) → Cut before is_feed text (part before is_feed text ∷ [])
+  -- another one begins behind these lines
+  opened : {before : ℕ} {is_feed : Bool} {text : List ℕ} (body head : List (List ℕ)) (next : Bool) (behind : List ℕ) (parts : List Part)
+      → text ≡ ended body ++ (ended head ++ behind) → AllByRecursion HasNoLineFeed (body ++ head)
+      → AllByRecursion OpensNone body → Opens head next
+      → Cut (before + length (body ++ head)) next behind parts
+      → Cut before is_feed text (part before is_feed (ended body) ∷ parts)
+  -- another one was cut off within its head
+  headless : {before : ℕ} {is_feed : Bool} {text : List ℕ} (body fields : List (List ℕ)) (line status rest : List ℕ)
+      → text ≡ ended body ++ (ended (line ∷ fields) ++ rest) → AllByRecursion HasNoLineFeed (body ++ line ∷ fields)
+      → HasNoLineFeed rest → AllByRecursion OpensNone body → is_marked line ≡ false
+      → status_in line ≡ Some status → AllByRecursion IsFilled fields
+      → Cut before is_feed text (part before is_feed (ended body) ∷ [])
+
+-- the connections of a record
+abbrev pub IsCutAt : List ℕ → List Part → Type 0
+IsCutAt record_ parts = Cut 0 true record_ parts
+
+-- Whether a connection carried chunks (RFC 9112, section 7.1): it begins with the digits of a size,
+-- with which no line of a feed begins.
+abbrev pub is_chunked : List ℕ → Bool
+is_chunked [] = false
+is_chunked (b ∷ bs) = is_ascii_hexdigit b
