@@ -3,7 +3,7 @@
 use Rattle.std.proofs.Common.{◌≡◌, ◌≢◌, ℕ, Bool, true, false, cond, List, [], ◌∷◌, ◌++◌, length, take, drop, Option, Some, None, refl, sym, ap, subst, ◌∙◌, ◌-◌, ◌<◌, ◌≤◌, arith, eqb-true, eq-eqb, append_assoc}
 use Rattle.std.proofs.lemmas.List.{take-append-drop, reverse-append}
 use Rattle.std.proofs.lemmas.Option.{cond_some}
-use Rattle.std.specs.Prelude.{nat_eq, codes, option_map, map, find, ◌==◌, ◌&&◌, IsTrue, IfSome}
+use Rattle.std.specs.Prelude.{nat_eq, codes, option_map, map, find, ◌==◌, IsTrue}
 use Rattle.std.specs.Str.{bytes_eq}
 use Rattle.std.specs.List.{list_all}
 use Rattle.std.specs.Option.{option_eq}
@@ -15,7 +15,7 @@ use Rattle.feed_text.specs.declared.named.Key.{Key}
 use Rattle.feed_text.specs.declared.named.Key.TheVariants as key
 use Rattle.feed_text.specs.declared.named.NamedMembers.{NamedMembers}
 use Rattle.feed_text.specs.declared.value.Item as items
-use Rattle.feed_text.specs.Members.{Spelling, MemberSpelling, item_view, last_spelt, last_value_spelt, AreLastValues, AreSpeltValues, IsSpeltValue, IsSpelling, IsPlainString, ArePlain, AreMemberSpellings, IsMemberSpelling}
+use Rattle.feed_text.specs.Members.{Spelling, MemberSpelling, item_view, last_spelt, last_value_spelt, AreLastValues, AreSpeltValues, IsSpeltValue, IsSpelling, ArePlain, AreMemberSpellings, IsMemberSpelling}
 use Rattle.feed_text.specs.FourNames.{IsNamed, IsKeyAt, IsPlainFor, with_value, PlainIfSaid, TakesMember, TakesAll, LineTakes}
 use Rattle.feed_text.specs.Reading.{Contents, Pair, is_unescaped, first, prefix_while, rest_while, rest_of, behind, behind_first, string_at, characters_at, value_at, item_at, pair_at, contents_at, line_at, item_and_rest, pair_and_rest, pair_view, parts_of, parts_until, members_and_rest}
 use Rattle.feed_text.specs.Strings.{IsPlain, Says, says}
@@ -24,7 +24,7 @@ use Rattle.feed_text.proofs.Collecting.{pairs_and_rest, onto, collect_some, coll
 use Rattle.feed_text.proofs.Found.{found_member_spelt}
 use Rattle.feed_text.proofs.Loops.{item_found, member_found, members_shorter, prefix_is}
 use Rattle.feed_text.proofs.Parts.{with_first}
-use Rattle.feed_text.proofs.Plain.{plain_tail, Quotes, quotes_says}
+use Rattle.feed_text.proofs.Plain.{plain_tail, quotes_says}
 use Rattle.feed_text.proofs.PrefixReaders.{while_parts, while_passes, while_rest, map_some}
 use Rattle.feed_text.proofs.Rests.{string_rest, value_string}
 use Rattle.feed_text.proofs.Scalars.{same_bytes}

@@ -9,10 +9,11 @@ use Rattle.std.proofs.lemmas.Simd.{trailing_mask_l}
 use native.Mathlib.Nat.{zero-div, div-one, div-div-eq-div-mul}
 use lib.Count.{count_trailing_zeros}
 use lib.Lanes.{mask_l}
-use Rattle.feed_text.specs.Ascii.{quotation_mark, colon, comma, right_brace}
+use Rattle.feed_text.specs.Ascii.{quotation_mark, space, colon, comma, right_brace}
 use Rattle.feed_text.specs.Json.{is_white_space}
 use Rattle.feed_text.specs.Members.{Spelling}
 use Rattle.feed_text.specs.Reading.{Foresees, is_stop, is_unescaped, rest_while, bytes_of, rest_of, or_nothing, first, behind_first, string_at, characters_at, parts_until, behind, item_at, pair_at, value_at}
+use Rattle.feed_text.proofs.Parts.{with_first}
 use Rattle.feed_text.proofs.PrefixReaders.{chosen, map_some}
 use Rattle.feed_text.proofs.Values.{value_text}
 use Rattle.feed_text.proofs.Depths.{reads_value}
@@ -134,11 +135,10 @@ string_first text rest e = by (eqb (first text) quotation_mark) refl
         let none : Some rest ≡ None = e ∙ string_none text (eqb-false (first text) quotation_mark is) in
         absurd cc
 
-pub plain_item : (levels : ℕ) (text rest : List ℕ) → Some rest ≡ rest_of (string_at text) → rest_while is_white_space rest ≡ or_nothing (rest_of (item_at (value_at levels) text))
+pub plain_item : (levels : ℕ) (text rest : List ℕ) → Some rest ≡ rest_of (string_at (rest_while is_white_space text)) → rest_while is_white_space rest ≡ or_nothing (rest_of (item_at (value_at levels) text))
 plain_item levels text rest e =
-    let here = string_first text rest e in
-    let white = no_white text quotation_mark (omega arith) here in
-    sym (item_rest levels text ∙ ap (λ (t : List ℕ). rest_while is_white_space (or_nothing (rest_of (value_at levels t)))) white ∙ ap (λ (f : Option (List ℕ)). rest_while is_white_space (or_nothing f)) (value_string levels text here ∙ sym e))
+    let white = rest_while is_white_space text in
+    sym (item_rest levels text ∙ ap (λ (f : Option (List ℕ)). rest_while is_white_space (or_nothing f)) (value_string levels white (string_first white rest e) ∙ sym e))
 
 end_some : (byte : ℕ) (text more : List ℕ) (f : Option (List ℕ)) → 0 < byte → rest_of (string_at text) ≡ f → Some more ≡ behind_first byte (or_nothing f) → (end : List ℕ) × (Some end ≡ rest_of (string_at text)) × (first end ≡ byte) × (drop 1 end ≡ more)
 end_some byte text more None some e behind = absurd (omega (arith, (behind_some byte [] more behind).0))
@@ -146,22 +146,48 @@ end_some byte text more (Some end) some e behind =
     let there = behind_some byte end more behind in
     (end, sym e, there.0, there.1)
 
-pub plain_member : (levels : ℕ) (text value : List ℕ) → Some value ≡ behind_first colon (or_nothing (rest_of (string_at text))) → or_nothing (rest_of (pair_at (value_at levels) text)) ≡ or_nothing (rest_of (item_at (value_at levels) value))
+pub plain_member : (levels : ℕ) (text value : List ℕ) → Some value ≡ behind_first colon (or_nothing (rest_of (string_at (rest_while is_white_space text)))) → or_nothing (rest_of (pair_at (value_at levels) text)) ≡ or_nothing (rest_of (item_at (value_at levels) value))
 plain_member levels text value e =
-    let k = end_some colon text value (rest_of (string_at text)) (omega arith) refl e in
-    let white = no_white text quotation_mark (omega arith) (string_first text k.0 k.1) in
-    let same : rest_while is_white_space (or_nothing (rest_of (string_at (rest_while is_white_space text)))) ≡ k.0 =
-    ap (λ (t : List ℕ). rest_while is_white_space (or_nothing (rest_of (string_at t)))) white ∙ ap (λ (f : Option (List ℕ)). rest_while is_white_space (or_nothing f)) (sym k.1) ∙ no_white k.0 colon (omega arith) k.2
+    let white = rest_while is_white_space text in
+    let k = end_some colon white value (rest_of (string_at white)) (omega arith) refl e in
+    let same : rest_while is_white_space (or_nothing (rest_of (string_at white))) ≡ k.0 =
+    ap (λ (f : Option (List ℕ)). rest_while is_white_space (or_nothing f)) (sym k.1) ∙ no_white k.0 colon (omega arith) k.2
     in
     member_rest levels text (ap first same ∙ k.2) ∙ ap (λ (t : List ℕ). or_nothing (rest_of (item_at (value_at levels) (drop 1 t)))) same ∙ ap (λ (t : List ℕ). or_nothing (rest_of (item_at (value_at levels) t))) k.3
 
-pub plain_members : (levels : ℕ) (text value more : List ℕ) → Some value ≡ behind_first colon (or_nothing (rest_of (string_at text))) → Some more ≡ behind_first comma (or_nothing (rest_of (string_at value))) → Some more ≡ behind_first comma (or_nothing (rest_of (pair_at (value_at levels) text)))
+pub plain_members : (levels : ℕ) (text value more : List ℕ) → Some value ≡ behind_first colon (or_nothing (rest_of (string_at (rest_while is_white_space text)))) → Some more ≡ behind_first comma (or_nothing (rest_of (string_at (rest_while is_white_space value)))) → Some more ≡ behind_first comma (or_nothing (rest_of (pair_at (value_at levels) text)))
 plain_members levels text value more a b =
-    let k = end_some comma value more (rest_of (string_at value)) (omega arith) refl b in
-    let same : or_nothing (rest_of (pair_at (value_at levels) text)) ≡ or_nothing (rest_of (string_at value)) =
+    let white = rest_while is_white_space value in
+    let k = end_some comma white more (rest_of (string_at white)) (omega arith) refl b in
+    let same : or_nothing (rest_of (pair_at (value_at levels) text)) ≡ or_nothing (rest_of (string_at white)) =
     plain_member levels text value a ∙ sym (plain_item levels value k.0 k.1) ∙ no_white k.0 comma (omega arith) k.2 ∙ ap or_nothing k.1
     in
     b ∙ ap (behind_first comma) (sym same)
+
+-- ---- a space before them
+
+-- none stands before a string
+string_white : (byte : ℕ) (text rest : List ℕ) → 0 < byte → Some rest ≡ behind_first byte (or_nothing (rest_of (string_at text))) → rest_while is_white_space text ≡ text
+string_white byte text rest positive e =
+    let k = end_some byte text rest (rest_of (string_at text)) positive refl e in
+    no_white text quotation_mark (omega arith) (string_first text k.0 k.1)
+
+pub no_space : (byte : ℕ) (text rest : List ℕ) → 0 < byte → Some rest ≡ behind_first byte (or_nothing (rest_of (string_at text))) → Some rest ≡ behind_first byte (or_nothing (rest_of (string_at (rest_while is_white_space text))))
+no_space byte text rest positive e = e ∙ ap (λ (t : List ℕ). behind_first byte (or_nothing (rest_of (string_at t)))) (sym (string_white byte text rest positive e))
+
+pub white_behind : (text inside : List ℕ) → Some inside ≡ behind_first space text → rest_while is_white_space inside ≡ rest_while is_white_space text
+white_behind text inside e =
+    let b = behind_some space text inside e in
+    sym (ap (rest_while is_white_space) (with_first space text (omega arith) b.0 ∙ ap (λ (t : List ℕ). space ∷ t) b.1))
+
+pub one_space : {A : Type 0} (view : A → List ℕ) (o : Option A) (byte : ℕ) (text inside : List ℕ) → 0 < byte → Some inside ≡ behind_first space text → IfSome o (λ r. Some (view r) ≡ behind_first byte (or_nothing (rest_of (string_at inside)))) → IfSome o (λ r. Some (view r) ≡ behind_first byte (or_nothing (rest_of (string_at (rest_while is_white_space text)))))
+one_space view None byte text inside positive e h = tt
+one_space view (Some r) byte text inside positive e h =
+    no_space byte inside (view r) positive h ∙ ap (λ (t : List ℕ). behind_first byte (or_nothing (rest_of (string_at t)))) (white_behind text inside e)
+
+pub same_item : (levels : ℕ) (text other : List ℕ) → rest_while is_white_space text ≡ rest_while is_white_space other → or_nothing (rest_of (item_at (value_at levels) text)) ≡ or_nothing (rest_of (item_at (value_at levels) other))
+same_item levels text other white =
+    item_rest levels text ∙ ap (λ (t : List ℕ). rest_while is_white_space (or_nothing (rest_of (value_at levels t)))) white ∙ sym (item_rest levels other)
 
 -- ---- the members up to the closing brace
 

@@ -1,6 +1,6 @@
 -- One pass over the members of a line, which keeps the last values of four names. Only the clauses
 -- of private functions cite this file.
-use Rattle.std.specs.Prelude.{◌≡◌, ⊤, ℕ, ◌&&◌, Bool, true, false, List, [], ◌∷◌, ◌++◌, Some, option_map, map, codes, IsTrue}
+use Rattle.std.specs.Prelude.{◌≡◌, ⊤, ℕ, ◌&&◌, Bool, false, List, [], ◌∷◌, ◌++◌, Some, option_map, map, codes, IsTrue}
 use Rattle.std.specs.Str.{bytes_eq}
 use Rattle.std.specs.List.{list_all}
 use Rattle.feed_text.specs.Ascii.{quotation_mark, colon, right_brace}

@@ -140,7 +140,7 @@ fn pass_string(seen: Seen<'_>) -> Option<Seen<'_>>
 
 /// What comes after such a string and this byte.
 #[inline(always)]
-pub fn pass_string_and(seen: Seen<'_>, byte: u8) -> Option<Seen<'_>>
+fn pass_string_and(seen: Seen<'_>, byte: u8) -> Option<Seen<'_>>
     requires byte { 0 < byte }
     requires mask { Foresees seen.stops seen.text.now }
     ensures text { IfSome result (λ r. Some r.text.now
@@ -148,6 +148,36 @@ pub fn pass_string_and(seen: Seen<'_>, byte: u8) -> Option<Seen<'_>>
     ensures mask { IfSome result (λ r. Foresees r.stops r.text.now) }
 {
     pass_byte(pass_string(seen)?, byte)
+}
+
+/// The same, where a space may stand before the string.
+#[inline(always)]
+pub fn pass_spaced_and(seen: Seen<'_>, byte: u8) -> Option<Seen<'_>>
+    requires byte { 0 < byte }
+    requires mask { Foresees seen.stops seen.text.now }
+    ensures text { IfSome result (λ r. Some r.text.now ≡ behind_first byte
+        (rest_or_nothing (rest_of (string_at (rest_while is_white_space seen.entry.text.now))))) }
+    ensures mask { IfSome result (λ r. Foresees r.stops r.text.now) }
+{
+    match pass_string_and(seen, byte) {
+        Some(more) => Some(more),
+        None => pass_string_and(pass_byte(seen, b' ')?, byte),
+    }
+}
+
+/// The same text without a space that it begins with. Other white space stays, and what more there
+/// is of it.
+#[inline(always)]
+pub fn pass_space(seen: Seen<'_>) -> Seen<'_>
+    requires { Foresees seen.stops seen.text.now }
+    ensures text { rest_while is_white_space result.text.now
+        ≡ rest_while is_white_space seen.entry.text.now }
+    ensures mask { Foresees result.stops result.text.now }
+{
+    match pass_byte(seen, b' ') {
+        Some(more) => more,
+        None => seen,
+    }
 }
 
 /// The rest that a reader left, or nothing, with what is left of the mask.

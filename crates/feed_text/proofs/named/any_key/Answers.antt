@@ -1,5 +1,5 @@
 use Rattle.std.proofs.Common.{arith, ap, subst}
-use Rattle.std.proofs.Common.{◌≤◌, length}
+use Rattle.std.proofs.Common.{length}
 use Rattle.feed_text.specs.FourNames.{IsNamed}
 use Rattle.feed_text.specs.Reading.{is_unescaped}
 use Rattle.feed_text.proofs.Bounds.{while_shorter}
