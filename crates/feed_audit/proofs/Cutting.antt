@@ -1,7 +1,6 @@
 -- Each text is cut into connections.
 use Rattle.std.proofs.Common.{◌≡◌, ◌⊎◌, inl, inr, refl, sym, ap, ◌∙◌, subst, ℕ, zero, suc, ◌+◌, ◌≤◌, Bool, true, false, List, [], ◌∷◌, ◌++◌, length, length-append, append_assoc, arith, Option, None, Some}
 use Rattle.std.specs.List.{AllByRecursion}
-use Rattle.feed_text.specs.Ascii.{line_feed}
 use Rattle.feed_note.specs.Lines.{HasNoLineFeed, lines, rest, ended}
 use Rattle.feed_note.proofs.LinesCut.{lines_cut, lines_are_the_only_cut}
 use Rattle.feed_note.proofs.LinesInRow.{ended-append}

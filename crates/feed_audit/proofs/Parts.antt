@@ -6,7 +6,7 @@ use Rattle.std.proofs.lemmas.List.{take_at, take_all}
 use Rattle.std.specs.List.{AllByRecursion, starts_with}
 use Rattle.feed_settings.specs.Limits.{Limits}
 use Rattle.feed_note.specs.Lines.{HasNoLineFeed, lines, rest, ended}
-use Rattle.feed_note.proofs.LinesCut.{lines_cut, lines_are_the_only_cut}
+use Rattle.feed_note.proofs.LinesCut.{lines_are_the_only_cut}
 use Rattle.feed_note.proofs.LinesInRow.{ended-append}
 use Rattle.feed_audit.specs.Connections.{Cut, Part, part, Opens, OpensNone, IsFilled, is_blank, IsCutAt, is_marked, is_status_line, is_success, status_in, last, opened, headless, marked, answered}
 use Rattle.feed_audit.specs.Parting.{Passed, PassedFields, PassedTo, IsBody, IsBodyBy, IsHeadRest, IsHeadCutOff, EndsWith, GoesOnWith, Reached, IsPartVerdict, FailsInBody, faults_behind, most}
@@ -19,7 +19,6 @@ use Rattle.feed_audit.specs.declared.connections.Opening.TheVariants.{Marked, He
 use Rattle.feed_audit.specs.declared.verdict.AuditFault.{AuditFault}
 use Rattle.feed_audit.specs.declared.verdict.AuditFault.TheVariants as fault
 use Rattle.feed_audit.specs.declared.verdict.Stray.{Stray}
-use Rattle.feed_audit.specs.declared.verdict.Verdict.{Verdict}
 use Rattle.feed_audit.specs.declared.verdict.Verdict.TheVariants as verdict
 use Rattle.feed_audit.proofs.Cutting.{each_cuts, whole_both}
 
