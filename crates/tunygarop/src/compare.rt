@@ -125,16 +125,18 @@ impl<'r> Comparison<'r> {
             let Some((ours, theirs)) = self.of.common(&self.against) else {
                 break;
             };
+            let are_next = self.of.is_next(ours) && self.against.is_next(theirs);
             needs_memory(self.of.advance(alloc, ours))?;
             needs_memory(self.against.advance(alloc, theirs))?;
-            self.compare()?;
+            self.compare(are_next)?;
         }
         Ok(())
     }
 
-    /// Compares what both show, and prints what was found.
-    fn compare(&mut self) -> Result<(), Fault> {
-        let (text, is_same) = needs_memory(self.verdict())?;
+    /// Compares what both show, and prints what was found. With `are_next` both made one commit since
+    /// they agreed.
+    fn compare(&mut self, are_next: bool) -> Result<(), Fault> {
+        let (text, is_same) = needs_memory(self.verdict(are_next))?;
         if self.rt.stdout().write_all(text.as_slice()).is_err() {
             return Err(Fault::Write);
         }
@@ -142,15 +144,17 @@ impl<'r> Comparison<'r> {
             return Err(Fault::Differs);
         }
         self.has_agreed = true;
+        self.of.agree();
+        self.against.agree();
         Ok(())
     }
 
     /// What is printed of what both show, and whether it is the same.
-    fn verdict(&self) -> Result<(Vec<u8>, bool), AllocError> {
+    fn verdict(&self, are_next: bool) -> Result<(Vec<u8>, bool), AllocError> {
         let alloc = self.rt.alloc();
         let mut text = Vec::new(alloc);
         let (node, other) = (self.of.node(), self.against.node());
-        let is_same = shows_same(node, other);
+        let is_same = (are_next && commits_agree(node, other)) || shows_same(node, other);
         let token = match node.token() {
             Some(token) => token.text(),
             None => "",
@@ -194,6 +198,21 @@ impl<'r> Comparison<'r> {
         };
         Err(Failure::about(Fault::Unpublished, String::from_str(self.rt.alloc(), why)))
     }
+}
+
+/// Whether two nodes that agreed before their last commits publish the same wherever these may have made
+/// a difference.
+fn commits_agree(node: &Node, other: &Node) -> bool {
+    let (Some(tables), Some(others)) = (node.published(), other.published()) else {
+        return false;
+    };
+    let (Some(ours), Some(theirs)) = (node.newest_commit(), other.newest_commit()) else {
+        return false;
+    };
+    let (ours, theirs) = (ours.changes.as_slice(), theirs.changes.as_slice());
+    ours.iter()
+        .chain(theirs.iter())
+        .all(|change| tables.agree_at(others, change))
 }
 
 /// Whether two nodes publish the same tables.
