@@ -88,6 +88,11 @@ impl Answering {
         }
     }
 
+    /// Whether there is a text that many can share.
+    pub fn has_text(&self) -> bool {
+        self.opening.is_some()
+    }
+
     /// The text with which an answer in these frames opens with the snapshot, and whether many
     /// share it.
     pub(crate) fn open(

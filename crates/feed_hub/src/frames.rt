@@ -68,9 +68,16 @@ impl Frames {
         Some(number)
     }
 
-    /// Whether a text of so many bytes is kept.
-    pub(crate) fn has_of(&self, length: usize) -> bool {
-        self.kept.iter().any(|frame| frame.text.len() == length)
+    /// How many texts were kept so far.
+    pub(crate) fn made(&self) -> u64 {
+        self.next
+    }
+
+    /// Whether a text of so many bytes is kept that was made after so many others.
+    pub(crate) fn has_since(&self, made: u64, length: usize) -> bool {
+        self.kept
+            .iter()
+            .any(|frame| frame.number >= made && frame.text.len() == length)
     }
 
     /// The same text: where another screen has a long one with the same bytes, they share that. A

@@ -3,7 +3,7 @@
 ghost use Rattle.std.specs.Prelude.{◌≡◌, None};
 
 use crate::screens::TextId;
-use crate::times::{LINGER, PATIENCE, SHARE_TIME};
+use crate::times::{LINGER, PATIENCE, ROOM_TIME, SHARE_TIME};
 use feed_hub::Key;
 use std::net::SocketAddr;
 
@@ -21,13 +21,20 @@ pub(crate) enum Stage {
     Lingers { until: u64, left: usize },
 }
 
-/// For what a connection waits while there is no room for a text.
+/// What a connection wants for which there was no room.
 #[derive(Clone, Copy, PartialEq, Eq)]
-pub(crate) enum Wait {
-    /// Its request came whole: for its answer, until a time at most.
-    Answer(u64),
-    /// For a commit of so many bytes.
-    Commit(usize),
+pub(crate) enum Wanted {
+    /// The answer to its request, which came whole.
+    Answer,
+    /// A commit of so many bytes: so many long ones had been made until then.
+    Commit { length: usize, made: u64 },
+}
+
+/// That a connection waits for room: since when, and for what.
+#[derive(Clone, Copy, PartialEq, Eq)]
+pub(crate) struct Wait {
+    pub(crate) since: u64,
+    pub(crate) wanted: Wanted,
 }
 
 /// A connection. Its socket is at the same place.
@@ -48,7 +55,6 @@ pub(crate) struct Conn {
     pub(crate) took: u64,
     /// Which text that is, where it counts as pending.
     pub(crate) text: Option<TextId>,
-    /// For what it waits.
     pub(crate) wait: Option<Wait>,
     /// When a screen sent its end: mostly it went away.
     pub(crate) ended: Option<u64>,
@@ -94,12 +100,12 @@ impl Conn {
         }
     }
 
-    /// Whether it has yet to take a text, and takes it so slowly that it would need more than
+    /// Whether it has yet to take a text that counts as pending, and takes it so slowly that it would need more than
     /// `SHARE_TIME` for all of it.
     pub(crate) fn is_slow(&self, now: u64) -> bool {
         let time = now.saturating_sub(self.owed_since);
         let share = (self.owes as u64).saturating_mul(time);
-        self.owes > 0 && time >= PATIENCE && self.took.saturating_mul(SHARE_TIME) < share
+        self.text.is_some() && time >= PATIENCE && self.took.saturating_mul(SHARE_TIME) < share
     }
 
     /// It has yet to take a text of so many bytes, from now on.
@@ -116,6 +122,7 @@ impl Conn {
     pub(crate) fn pay(&mut self) -> Option<TextId>
         ensures key { self.new.key ≡ self.old.key }
         ensures text { result ≡ self.old.text }
+        ensures none { self.new.text ≡ None }
     {
         self.owes = 0;
         self.text.take()
@@ -129,46 +136,82 @@ impl Conn {
         self.took = self.took.saturating_add(count as u64);
     }
 
-    /// Whether its request waits for room, and has for long enough.
-    pub(crate) fn is_overdue(&self, now: u64) -> bool {
-        match self.wait {
-            Some(Wait::Answer(until)) => until <= now,
-            _ => false,
+    /// It waits for this from now on, or for as long as it has waited.
+    pub(crate) fn wait_for(&mut self, wanted: Wanted, now: u64)
+        ensures { self.new.key ≡ self.old.key }
+    {
+        let since = match self.wait {
+            Some(wait) => wait.since,
+            None => now,
+        };
+        self.wait = Some(Wait { since, wanted });
+    }
+
+    /// Whether its request waits for room.
+    pub(crate) fn wants_answer(&self) -> bool {
+        matches!(
+            self.wait,
+            Some(Wait {
+                wanted: Wanted::Answer,
+                ..
+            })
+        )
+    }
+
+    /// For a commit of how many bytes it waits, and how many had been made until then.
+    pub(crate) fn wants_commit(&self) -> Option<(usize, u64)> {
+        match self.wait?.wanted {
+            Wanted::Commit { length, made } => Some((length, made)),
+            Wanted::Answer => None,
         }
     }
 
-    /// The one of two connections whose request has waited for longer for room, and until when it
-    /// may: that at another place, and this one.
+    /// Whether its request has waited for room for long enough.
+    pub(crate) fn is_overdue(&self, now: u64) -> bool {
+        match self.wait {
+            Some(wait) => {
+                wait.wanted == Wanted::Answer && wait.since.saturating_add(ROOM_TIME) <= now
+            }
+            None => false,
+        }
+    }
+
+    /// The one of two connections that has waited for longer for room, and since when: that at
+    /// another place, and this one, unless its socket takes nothing now.
     pub(crate) fn waits_longer(
         &self,
         other: Option<(u64, usize)>,
         at: usize,
     ) -> Option<(u64, usize)> {
-        let Some(Wait::Answer(until)) = self.wait else {
+        let Some(wait) = self.wait else {
             return other;
         };
         match other {
-            Some((earlier, _)) if earlier <= until => other,
-            _ => Some((until, at)),
+            Some((earlier, _)) if earlier <= wait.since => other,
+            _ if self.is_blocked => other,
+            _ => Some((wait.since, at)),
         }
     }
 
-    /// A screen sends no more.
+    /// The peer sends no more.
     pub(crate) fn end_input(&mut self, now: u64)
         ensures { self.new.key ≡ self.old.key }
     {
-        if self.stage == Stage::Watches {
+        if self.stage == Stage::Watches || self.wait.is_some() {
             self.ended = Some(now);
         }
     }
 
-    /// All was sent.
+    /// All was sent; one that had no answer was refused.
     pub(crate) fn linger(&mut self, now: u64)
         ensures { self.new.key ≡ None }
     {
         self.key = None;
         self.has_more = false;
         self.wait = None;
+        if self.status == 0 {
+            self.status = 503;
+        }
         self.stage = Stage::Lingers {
             until: now.saturating_add(LINGER),
             left: LINGER_BYTES,

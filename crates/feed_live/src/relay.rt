@@ -44,9 +44,10 @@ impl Saying {
 
 impl Screens {
     /// A turn begins. Whether somebody had more to read or to write in the last one.
-    pub(crate) fn begin_turn(&mut self) -> bool
+    pub(crate) fn begin_turn(&mut self, held: u64) -> bool
         ensures { SameSeating self.old self.new }
     {
+        self.held = held;
         self.saying.is_trimmed = false;
         self.made = 0;
         let had_more = self.has_more;

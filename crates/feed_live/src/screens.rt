@@ -39,7 +39,7 @@ Content-Type: application/json\r\nContent-Length: 41\r\nConnection: close\r\n\r\
 /// What came of bytes of a request.
 #[derive(Clone, Copy, PartialEq, Eq)]
 pub(crate) enum Hearing {
-    /// They were heard.
+    /// They were heard, or wait for room.
     Goes,
     /// There is no room for the text that it asks for, and it can't wait.
     TooMuch,
@@ -117,6 +117,10 @@ pub(crate) struct Screens {
     pub(crate) made: usize,
     /// Some connection has more to read or to write, of which no event will tell.
     pub(crate) has_more: bool,
+    /// Somebody may wait for room: where not, nobody does.
+    pub(crate) is_waited: bool,
+    /// For how long requests may have to wait until a server is heard, in milliseconds.
+    pub(crate) held: u64,
     /// Somebody waits to be taken; not before this time.
     pub(crate) is_waited_for: bool,
     pub(crate) accept_at: u64,
@@ -142,6 +146,8 @@ impl Screens {
             pending: Pending::new(alloc),
             made: 0,
             has_more: false,
+            is_waited: false,
+            held: 0,
             is_waited_for: false,
             accept_at: 0,
             is_full: false,
@@ -304,7 +310,7 @@ impl Screens {
     /// Whether the connection at a place has more to read or to write.
     fn has_more_at(&self, shown: &Shown<'_>, at: usize, now: u64) -> bool {
         self.may_read(shown, at, now)
-            || self.may_go_on(at)
+            || self.may_share(at)
             || self.conns.get(at).is_some_and(|conn| conn.has_more)
     }
 
@@ -364,6 +370,9 @@ impl Screens {
             (S.socket sockets.old) (S.socket sockets.new) }
     {
         self.has_ended(at, now);
+        if self.wants_answer(at) {
+            return;
+        }
         match self.stage(at) {
             Some(Stage::Asks) => self.end(sockets, told, at, How::Left, now),
             Some(Stage::Lingers { .. }) => self.end(sockets, told, at, How::Done, now),
@@ -493,8 +502,8 @@ impl Screens {
     {
         let mut rest = piece;
         'parts: loop {
-            if self.has_no_room(alloc, answering, contest, key, rest) {
-                return self.hold(key, at, rest, now);
+            if self.has_no_room(alloc, answering, contest, key, at, rest) {
+                return self.wait_for_room(key, at, rest, now);
             }
             match self.hear_once(alloc, answering, contest, key, at, rest, now)? {
                 0 => return Ok(Hearing::Goes),
@@ -528,9 +537,10 @@ impl Screens {
             return Ok(heard.taken);
         };
         self.is_answered(at, status);
-        let id = match heard.is_shared {
-            true => TextId::Opening(answering.made()),
-            false => TextId::Own(at),
+        let id = if heard.is_shared {
+            TextId::Opening(answering.made())
+        } else {
+            TextId::Own(at)
         };
         let length = self.hub.prefix(key).len();
         self.owe(at, length, id, now);
@@ -565,7 +575,7 @@ impl Screens {
             (S.socket sockets.old) (S.socket sockets.new) }
         ensures mirrors { SameMirrors answers.old answers.new }
     {
-        self.answer_waiting(alloc, sockets, told, answers, shown, now);
+        self.serve_waiting(alloc, sockets, told, answers, shown, now);
         for at in 0..self.conns.capacity() {
             if self.has_more_at(shown, at, now) {
                 self.serve(alloc, sockets, told, answers, shown, at, now);

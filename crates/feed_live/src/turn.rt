@@ -191,7 +191,8 @@ impl Live {
         // a minute after the number of screens was told last, at the latest
         ensures awake { result.due ≤ min (self.new.reported + 60000) (2 ^ 64 - 1) }
     {
-        let had_more = self.screens.begin_turn();
+        let held = self.held();
+        let had_more = self.screens.begin_turn(held);
         self.note(events);
         self.say_more(alloc, now);
         self.take_input(alloc, input, now);
@@ -205,6 +206,15 @@ impl Live {
         self.screens
             .accept(alloc, &mut devices.sockets, &mut self.telling, now);
         self.next(now)
+    }
+
+    /// For how long requests may have to wait until a server is heard, in milliseconds.
+    fn held(&self) -> u64 {
+        if self.source.is_heard() {
+            0
+        } else {
+            self.limits.hold
+        }
     }
 
     /// Marks what became ready.

@@ -4,7 +4,7 @@ ghost use Rattle.std.specs.Prelude.{◌≡◌, ◌⊎◌, ◌+◌, ◌-◌, ◌<
 ghost use Rattle.slab.specs.Slab.{slab_len, HasRoomFor};
 ghost use Rattle.feed_node.specs.States.{NodeState};
 ghost use Rattle.feed_answer.specs.Answered.{AnswerParts};
-ghost use Rattle.feed_hub.specs.Steps.{idled, taken, HasNext, IsWaiting, IsQuiet, Probes};
+ghost use Rattle.feed_hub.specs.Steps.{idled, taken, HasNext, IsCatchingUp, IsWaiting, IsQuiet, Probes};
 ghost use Rattle.feed_hub.specs.Seats.{seat_at, Others, SameSeats, KeepsThose, IsOnTime, Watched, IsWatcher, IsAskingSeat, IsOverSeat};
 ghost use Rattle.feed_hub.specs.Hub.{IsSeated, IsStillSeated, IsAnsweredBy, prefix_at, SameLimits, ChangesOnly, IsNew, Takes, IsAnswered, IsKept, HearsOf, HearsAt, HoldsAt, Refills};
 
@@ -269,9 +269,28 @@ impl Hub {
         self.frames.tidy();
     }
 
-    /// Whether some screen has yet to take a long text of so many bytes, or had it lately.
-    pub fn has_text_of(&self, length: usize) -> bool {
-        self.frames.has_of(length)
+    /// How many long commits were made for those who catch up.
+    pub fn commits_made(&self) -> u64 {
+        self.frames.made()
+    }
+
+    /// Whether one of so many bytes was made after so many others, and some screen has yet to take
+    /// it, or had it lately.
+    pub fn has_made(&self, made: u64, length: usize) -> bool {
+        self.frames.has_since(made, length)
+    }
+
+    /// Whether a screen sits at a key that takes what comes next from the commits that the node
+    /// keeps.
+    pub fn catches_up(&self, key: Key) -> bool
+        ensures { IsTrue result ↔ IsWatcher (λ s. IsCatchingUp s.way)
+            (seat_at self.now.seats.slab key) }
+    {
+        match self.seats.get(key) {
+            Some(Seat::Watches(screen)) => screen.catches_up(),
+            Some(Seat::Asks(_)) => false,
+            None => false,
+        }
     }
 
     /// Keeps a screen alive that catches up and has nothing of its own: it gets a line feed. To be

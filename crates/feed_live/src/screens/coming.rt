@@ -171,9 +171,7 @@ impl Screens {
     {
         self.counts.came = self.counts.came.saturating_add(1);
         let mut conn = Conn::new(peer, now);
-        let until = now
-            .saturating_add(REQUEST_TIME)
-            .saturating_add(self.limits.hold);
+        let until = now.saturating_add(REQUEST_TIME).saturating_add(self.held);
         match self.hub.open(alloc, until) {
             Ok(key) => conn.key = Some(key),
             Err(_) => {

@@ -8,7 +8,7 @@ ghost use Rattle.feed_live.specs.declared.conn.Stage.TheVariants.{Asks};
 ghost use Rattle.feed_live.specs.Held.{IsAt};
 ghost use Rattle.feed_live.specs.Serving.{StillServing, SameSeating, SameKeys, key_at, keyless};
 
-use crate::conn::{Stage, Wait};
+use crate::conn::{Stage, Wanted};
 use crate::hand::hand;
 use crate::screens::{Screens, TextId};
 use crate::told::Telling;
@@ -121,7 +121,7 @@ impl Screens {
             return true;
         }
         self.pay(at);
-        if self.waits_for_room(at) {
+        if self.stays_waiting(at, key) {
             return false;
         }
         if self.has_made_most() {
@@ -155,11 +155,11 @@ impl Screens {
             → StillServing nodes contest self.old self.new sockets sockets }
         ensures keys { SameKeys self.old.conns self.new.conns }
     {
-        let has_room = self.has_room();
+        let has_room = self.may_take_room(at);
         let got = self.hub.refill(alloc, node, key, has_room, now)?;
         match got {
             Refill::Goes(number) => self.is_refilled(at, key, number, now),
-            Refill::Waits(length) => self.waits_for(at, length),
+            Refill::Waits(length) => self.wait_for_commit(at, key, length, now),
         }
         Ok(())
     }
@@ -170,18 +170,24 @@ impl Screens {
     {
         let length = self.hub.prefix(key).len();
         self.made = self.made.saturating_add(length);
-        self.set_wait(at, None);
+        self.end_wait(at);
         if let Some(number) = number {
             self.owe(at, length, TextId::Commit(number), now);
         }
     }
 
-    /// The screen at a place waits for a commit of so many bytes, which were made in vain.
-    fn waits_for(&mut self, at: usize, length: usize)
+    /// The screen at a place waits for a commit of so many bytes, which were made in vain; unless it
+    /// follows the log by now.
+    fn wait_for_commit(&mut self, at: usize, key: Key, length: usize, now: u64)
         ensures { SameSeating self.old self.new }
     {
         self.made = self.made.saturating_add(length);
-        self.set_wait(at, Some(Wait::Commit(length)));
+        if !self.hub.catches_up(key) {
+            self.end_wait(at);
+            return;
+        }
+        let made = self.hub.commits_made();
+        self.wait_for(at, Wanted::Commit { length, made }, now);
     }
 
     /// All was sent: what still comes is read for a while.

@@ -1,6 +1,6 @@
 //! Who waits for room: long texts that screens have yet to take have a limit together.
 
-ghost use Rattle.std.specs.Prelude.{◌≡◌, ◌<◌, ◌↔◌, ◌^◌, ◌-◌, [], ℕ, List, Some, Contains, min, IsTrue, IfSome};
+ghost use Rattle.std.specs.Prelude.{◌≡◌, ◌<◌, ◌↔◌, ◌^◌, ◌-◌, [], ℕ, List, None, Some, Contains, min, IsTrue, IfSome};
 ghost use Rattle.feed_node.specs.States.{NodeState};
 ghost use Rattle.feed_device.specs.Sockets.{AllSockets};
 ghost use Rattle.slab.specs.Slab.{get};
@@ -8,7 +8,7 @@ ghost use Rattle.feed_live.specs.Pending.{total, Pays};
 ghost use Rattle.feed_live.specs.Serving.{StillServing, SameSeating, ServesBut, HearsAll, key_at};
 ghost use Rattle.feed_live.specs.Held.{SameMirrors};
 
-use crate::conn::Wait;
+use crate::conn::Wanted;
 use crate::screens::{Answers, Hearing, Screens, Shown, TextId};
 use crate::times::ROOM_TIME;
 use crate::told::Telling;
@@ -16,7 +16,7 @@ use feed_device::{How, Sockets};
 use feed_hub::{Answering, Key, LONG};
 use std::alloc::{AllocError, Global};
 
-/// How many of those who wait are answered in one turn.
+/// How many of those who wait are served in one turn.
 const ANSWERS: usize = 64;
 
 impl Screens {
@@ -57,50 +57,91 @@ impl Screens {
         ensures same { SameSeating self.old self.new }
         ensures paid { Pays (get self.old.conns at) self.old.pending.texts.items
             self.new.pending.texts.items }
+        ensures once { IfSome (get self.new.conns at) (λ conn. conn.text ≡ None) }
     {
         let Some(conn) = self.conns.get_mut(at) else {
             return;
         };
         if let Some(id) = conn.pay() {
             self.pending.remove(id);
-            self.has_more = true;
+            self.has_more |= self.is_waited;
         }
     }
 
-    /// For what the connection at a place waits.
-    pub(crate) fn set_wait(&mut self, at: usize, wait: Option<Wait>)
+    /// The connection at a place waits for room no more.
+    pub(crate) fn end_wait(&mut self, at: usize)
         ensures { SameSeating self.old self.new }
     {
         if let Some(conn) = self.conns.get_mut(at) {
-            conn.wait = wait;
+            conn.wait = None;
         }
     }
 
-    /// Whether the screen at a place waits for a commit for which there is no room still.
-    pub(crate) fn waits_for_room(&self, at: usize) -> bool {
+    /// The connection at a place waits for this from now on, or for as long as it has waited.
+    pub(crate) fn wait_for(&mut self, at: usize, wanted: Wanted, now: u64)
+        ensures { SameSeating self.old self.new }
+    {
+        self.is_waited = true;
+        if let Some(conn) = self.conns.get_mut(at) {
+            conn.wait_for(wanted, now);
+        }
+    }
+
+    /// Whether a long text may be made for the connection at a place: there is room, and nobody else
+    /// has waited for that for longer.
+    pub(crate) fn may_take_room(&self, at: usize) -> bool
+        ensures { IsTrue result → (min (total self.now.pending.texts.items) (2 ^ 64 - 1)
+            < self.now.limits.pending) }
+    {
+        if !self.has_room() {
+            return false;
+        }
+        match self.longest_waiting() {
+            Some(first) => first == at,
+            None => true,
+        }
+    }
+
+    /// The place of the connection that has waited for longest for room, where somebody waits.
+    fn longest_waiting(&self) -> Option<usize> {
+        if !self.is_waited {
+            return None;
+        }
+        let mut longest: Option<(u64, usize)> = None;
+        for at in 0..self.conns.capacity() {
+            if let Some(conn) = self.conns.get(at) {
+                longest = conn.waits_longer(longest, at);
+            }
+        }
+        Some(longest?.1)
+    }
+
+    /// Whether the screen at a place, with this key, waits for a commit still. One that follows the
+    /// log by now, or whose body ends, waits for none.
+    pub(crate) fn stays_waiting(&self, at: usize, key: Key) -> bool {
+        self.wants_commit(at)
+            && self.hub.catches_up(key)
+            && !self.may_take_room(at)
+            && !self.may_share(at)
+    }
+
+    fn wants_commit(&self, at: usize) -> bool {
         match self.conns.get(at) {
-            Some(conn) => match conn.wait {
-                Some(Wait::Commit(length)) => !self.has_room_for(length),
-                _ => false,
-            },
+            Some(conn) => conn.wants_commit().is_some(),
             None => false,
         }
     }
 
-    /// Whether the screen at a place waits for a commit for which there is room now.
-    pub(crate) fn may_go_on(&self, at: usize) -> bool {
-        match self.conns.get(at) {
-            Some(conn) => match conn.wait {
-                Some(Wait::Commit(length)) => self.has_room_for(length),
-                _ => false,
-            },
+    /// Whether the screen at a place waits for a commit that perhaps another one has by now, and its
+    /// socket may take that.
+    pub(crate) fn may_share(&self, at: usize) -> bool {
+        let Some(conn) = self.conns.get(at) else {
+            return false;
+        };
+        match conn.wants_commit() {
+            Some((length, made)) => !conn.is_blocked && self.hub.has_made(made, length),
             None => false,
         }
-    }
-
-    /// Whether there is room for a commit of so many bytes, or perhaps some screen has it already.
-    fn has_room_for(&self, length: usize) -> bool {
-        self.has_room() || self.hub.has_text_of(length)
     }
 
     /// Whether these bytes end a request for which there is no room: a text has to be made for it.
@@ -110,13 +151,14 @@ impl Screens {
         answering: &Answering,
         contest: &str,
         key: Key,
+        at: usize,
         piece: &[u8],
     ) -> bool {
-        !self.has_room() && self.hub.makes_text(alloc, answering, contest, key, piece)
+        !self.may_take_room(at) && self.hub.makes_text(alloc, answering, contest, key, piece)
     }
 
     /// A request waits for room, which these bytes end. One that something comes behind can't wait.
-    pub(crate) fn hold(
+    pub(crate) fn wait_for_room(
         &mut self,
         key: Key,
         at: usize,
@@ -128,20 +170,41 @@ impl Screens {
             → ServesBut nodes contest self.old.hub self.old.conns sockets at piece.now
             → HearsAll nodes contest self.new sockets at result }
     {
-        let until = now.saturating_add(ROOM_TIME);
-        let taken = self.hub.hold(key, piece, until.saturating_add(ROOM_TIME))?;
+        let until = now.saturating_add(2 * ROOM_TIME);
+        let taken = self.hub.hold(key, piece, until)?;
         if taken < piece.len() {
             return Ok(Hearing::TooMuch);
         }
-        if !self.is_waiting(at) {
-            self.set_wait(at, Some(Wait::Answer(until)));
-        }
+        self.wait_for(at, Wanted::Answer, now);
         Ok(Hearing::Goes)
     }
 
-    /// Answers those whose requests wait for room, as long as there is some: first who has waited
-    /// for longest.
-    pub(crate) fn answer_waiting<S: Sockets>(
+    /// Serves those who wait for room, as long as there is some: first who has waited for longest. And
+    /// answers those who can share the text of the snapshot by now.
+    pub(crate) fn serve_waiting<S: Sockets>(
+        &mut self,
+        alloc: Global,
+        sockets: &mut S,
+        told: &mut Telling,
+        answers: &mut Answers,
+        shown: &Shown<'_>,
+        now: u64,
+    )
+        ensures serving { (nodes : List NodeState)
+            → Contains nodes answers.old.shown.mirror.node
+            → Contains nodes answers.old.blank.mirror.node
+            → StillServing nodes shown.now.contest.now self.old self.new
+            (S.socket sockets.old) (S.socket sockets.new) }
+        ensures mirrors { SameMirrors answers.old answers.new }
+    {
+        self.serve_first(alloc, sockets, told, answers, shown, now);
+        if answers.shown.has_text() {
+            self.answer_sharing(alloc, sockets, told, answers, shown, now);
+        }
+    }
+
+    /// Serves those who wait for room, one after another, as long as there is some.
+    fn serve_first<S: Sockets>(
         &mut self,
         alloc: Global,
         sockets: &mut S,
@@ -161,26 +224,72 @@ impl Screens {
             let Some(at) = self.longest_waiting() else {
                 return;
             };
-            if !self.answer_at(alloc, sockets, told, answers, shown, at, now) {
+            self.serve_at(alloc, sockets, told, answers, shown, at, now);
+            if self.waits(at) {
                 return;
             }
         }
         self.has_more = true;
     }
 
-    /// The place of the connection whose request has waited for longest for room.
-    fn longest_waiting(&self) -> Option<usize> {
-        let mut longest: Option<(u64, usize)> = None;
+    /// Answers those whose requests wait for room, where they can share the text of the snapshot.
+    fn answer_sharing<S: Sockets>(
+        &mut self,
+        alloc: Global,
+        sockets: &mut S,
+        told: &mut Telling,
+        answers: &mut Answers,
+        shown: &Shown<'_>,
+        now: u64,
+    )
+        ensures serving { (nodes : List NodeState)
+            → Contains nodes answers.old.shown.mirror.node
+            → Contains nodes answers.old.blank.mirror.node
+            → StillServing nodes shown.now.contest.now self.old self.new
+            (S.socket sockets.old) (S.socket sockets.new) }
+        ensures mirrors { SameMirrors answers.old answers.new }
+    {
         for at in 0..self.conns.capacity() {
-            if let Some(conn) = self.conns.get(at) {
-                longest = conn.waits_longer(longest, at);
+            if self.wants_answer(at) {
+                self.serve_at(alloc, sockets, told, answers, shown, at, now);
             }
         }
-        Some(longest?.1)
     }
 
-    /// Answers the request that waits at a place, where there is room for that. Whether it is
-    /// answered.
+    /// Whether the connection at a place waits for room.
+    fn waits(&self, at: usize) -> bool {
+        self.conns.get(at).is_some_and(|conn| conn.wait.is_some())
+    }
+
+    /// Whether the request of the connection at a place waits for room.
+    pub(crate) fn wants_answer(&self, at: usize) -> bool {
+        self.conns.get(at).is_some_and(|conn| conn.wants_answer())
+    }
+
+    /// Gives the connection at a place what it waits for, where there is room for that or it can be
+    /// shared: its request is answered, or the screen has its commit. Then it is written to.
+    fn serve_at<S: Sockets>(
+        &mut self,
+        alloc: Global,
+        sockets: &mut S,
+        told: &mut Telling,
+        answers: &mut Answers,
+        shown: &Shown<'_>,
+        at: usize,
+        now: u64,
+    )
+        ensures serving { (nodes : List NodeState)
+            → Contains nodes answers.old.shown.mirror.node
+            → Contains nodes answers.old.blank.mirror.node
+            → StillServing nodes shown.now.contest.now self.old self.new
+            (S.socket sockets.old) (S.socket sockets.new) }
+        ensures mirrors { SameMirrors answers.old answers.new }
+    {
+        self.answer_at(alloc, sockets, told, answers, shown, at, now);
+        self.drain(alloc, sockets, told, answers.shown.node(), at, now);
+    }
+
+    /// Answers the request that comes at a place, where it has come whole and there is room for that.
     fn answer_at<S: Sockets>(
         &mut self,
         alloc: Global,
@@ -190,7 +299,7 @@ impl Screens {
         shown: &Shown<'_>,
         at: usize,
         now: u64,
-    ) -> bool
+    )
         ensures serving { (nodes : List NodeState)
             → Contains nodes answers.old.shown.mirror.node
             → Contains nodes answers.old.blank.mirror.node
@@ -199,39 +308,17 @@ impl Screens {
         ensures mirrors { SameMirrors answers.old answers.new }
     {
         let Some(key) = self.asking(at) else {
-            self.set_wait(at, None);
-            return true;
+            return;
         };
         match self.hear_of(alloc, answers, shown, key, at, &[], now) {
-            Ok(Hearing::Goes) => self.goes_on(at),
-            Ok(Hearing::TooMuch) => {
-                self.turn_away(sockets, told, at, now);
-                true
-            }
-            Err(_) => {
-                self.end(sockets, told, at, How::Memory, now);
-                true
-            }
+            Ok(Hearing::Goes) => {}
+            Ok(Hearing::TooMuch) => self.turn_away(sockets, told, at, now),
+            Err(_) => self.end(sockets, told, at, How::Memory, now),
         }
     }
 
-    /// The connection at a place has something to write, unless it still waits for room. Whether it
-    /// has.
-    fn goes_on(&mut self, at: usize) -> bool
-        ensures { SameSeating self.old self.new }
-    {
-        let goes_on = !self.is_waiting(at);
-        self.has_more_to_write(at, goes_on);
-        goes_on
-    }
-
-    /// Whether the connection at a place waits for room.
-    fn is_waiting(&self, at: usize) -> bool {
-        self.conns.get(at).is_some_and(|conn| conn.wait.is_some())
-    }
-
     /// Tells those that there are too many whose requests have waited for long enough, and cuts those
-    /// who take their texts too slowly while somebody waits.
+    /// who take their texts too slowly while somebody waits still.
     pub(crate) fn refuse_overdue<S: Sockets>(
         &mut self,
         sockets: &mut S,
@@ -242,7 +329,7 @@ impl Screens {
             → StillServing nodes contest self.old self.new
             (S.socket sockets.old) (S.socket sockets.new) }
     {
-        if !self.is_waited() {
+        if !self.is_waited {
             return;
         }
         for at in 0..self.conns.capacity() {
@@ -250,7 +337,11 @@ impl Screens {
                 self.refuse_waiting(sockets, told, at, now);
             }
         }
-        self.cut_slow(sockets, told, now);
+        self.is_waited = self.somebody_waits();
+        if self.is_waited {
+            self.has_more = true;
+            self.cut_slow(sockets, told, now);
+        }
     }
 
     /// Tells the connection at a place, whose request waits, that there are too many.
@@ -269,9 +360,9 @@ impl Screens {
     }
 
     /// Whether somebody waits for room.
-    fn is_waited(&self) -> bool {
+    fn somebody_waits(&self) -> bool {
         for at in 0..self.conns.capacity() {
-            if self.is_waiting(at) {
+            if self.waits(at) {
                 return true;
             }
         }

@@ -1,14 +1,13 @@
 use Rattle.std.proofs.Common.{rules, ◌≡◌, [], refl, subst}
 use Rattle.feed_live.specs.declared.screens.Hearing.TheVariants.{Goes, TooMuch}
 use Rattle.feed_live.specs.Serving.{HearsTo}
-use Rattle.feed_live.proofs.ServingLemmas.{answerer_among, serving_noted, but_nothing}
+use Rattle.feed_live.proofs.ServingLemmas.{answerer_among, but_nothing}
 use Rattle.feed_live.proofs.screens.Screens.answer_at.Goals as goal
 
 pub returns-in-Ok-Goes-clause-serving : goal.returns-in-Ok-Goes-clause-serving
 returns-in-Ok-Goes-clause-serving g c =
     λ nodes among blank serving.
     let goes : c.in-Ok-Goes.field-0 ≡ Goes = search rules in
-    serving_noted c.goes_on.ensures
     (subst (HearsTo nodes c.args.shown.now.contest.now c.hear_of.new.self (g.S.Sockets.socket c.args.sockets.now) c.args.at) goes
     (c.in-Ok-Goes.ensures.serving nodes (g.S.Sockets.socket c.args.sockets.now) (answerer_among nodes c.args.shown.now.is_held _ _ among blank) c.in-Some.ensures.some.0
     (but_nothing c.args.at serving)))

@@ -30,5 +30,5 @@ returns-then-has_made_most-clause-serving g c =
     λ nodes contest among keyed serving.
     serving_noted c.has_more_to_write.ensures (serving_noted c.pay.ensures.same serving)
 
-pub returns-then-waits_for_room-clause-serving : goal.returns-then-waits_for_room-clause-serving
-returns-then-waits_for_room-clause-serving g c = λ nodes contest among keyed serving. serving_noted c.pay.ensures.same serving
+pub returns-then-stays_waiting-clause-serving : goal.returns-then-stays_waiting-clause-serving
+returns-then-stays_waiting-clause-serving g c = λ nodes contest among keyed serving. serving_noted c.pay.ensures.same serving

@@ -11,7 +11,7 @@ returns-in-Goes-clause-serving c =
 pub returns-in-Waits-clause-serving : goal.returns-in-Waits-clause-serving
 returns-in-Waits-clause-serving c =
     λ nodes contest sockets among serving.
-    serving_noted c.waits_for.ensures
+    serving_noted c.wait_for_commit.ensures
     (serving_changed c.args.key c.refill.ensures.rest
     (still_sits contest (watched_stays nodes _ _ _ _ c.in_ok-got.ensures.ok (c.in_ok-got.ensures.served nodes among))) serving)
 

@@ -3,10 +3,10 @@ use Rattle.std.specs.Prelude.{Contains}
 use Rattle.feed_node.specs.States.{NodeState}
 use Rattle.feed_live.specs.Held.{SameMirrors}
 use Rattle.feed_live.specs.Serving.{StillServing}
-use Rattle.feed_live.proofs.screens.Screens.answer_waiting.Given as goal
+use Rattle.feed_live.proofs.screens.Screens.answer_sharing.Given as goal
 
-abbrev pub invariant-loop : goal.invariant-loop
-invariant-loop g l =
+abbrev pub invariant-loop-at : goal.invariant-loop-at
+invariant-loop-at g l =
     record {
       mirrors : SameMirrors l.initial.answers l.answers;
       serving : (nodes : List NodeState) → Contains nodes l.initial.answers.shown.mirror.node → Contains nodes l.initial.answers.blank.mirror.node

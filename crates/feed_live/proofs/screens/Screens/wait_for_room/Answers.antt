@@ -2,7 +2,7 @@ use Rattle.std.proofs.Common.{◌≡◌, ◌≤◌, [], sym, subst, inl, length,
 use Rattle.std.proofs.lemmas.List.{drop_all}
 use Rattle.feed_hub.specs.Seats.{IsAskingSeat}
 use Rattle.feed_live.proofs.ServingLemmas.{serving_all, serving_noted, serving_nothing, serving_heard, but_changed, still_sits, cut_stays, held_sits, hears_nothing_more}
-use Rattle.feed_live.proofs.screens.Screens.hold.Goals as goal
+use Rattle.feed_live.proofs.screens.Screens.wait_for_room.Goals as goal
 
 pub returns-in_err-taken : goal.returns-in_err-taken
 returns-in_err-taken c =
@@ -24,23 +24,13 @@ returns-then-taken-piece c =
       );
     }
 
-pub returns-then-not-is_waiting : goal.returns-then-not-is_waiting
-returns-then-not-is_waiting c =
+pub returns-else-taken-piece : goal.returns-else-taken-piece
+returns-else-taken-piece c =
     record {
       serving = λ nodes contest sockets keyed serves.
           let all : length c.args.piece.now ≤ c.in_ok-taken.taken = omega (arith, c.if-taken-piece.false) in
-          serving_noted c.set_wait.ensures
+          serving_noted c.wait_for.ensures
           (serving_nothing c.hold.new.self c.args.self.now.conns sockets c.args.at (drop c.in_ok-taken.taken c.args.piece.now) (drop_all c.in_ok-taken.taken c.args.piece.now all)
           (serving_heard c.args.self.now.hub c.hold.new.self c.args.self.now.conns sockets c.args.at c.args.key c.args.piece.now c.in_ok-taken.taken keyed c.hold.ensures.rest
           (held_sits _ c.args.piece.now c.in_ok-taken.taken c.args.self.now.hub c.hold.new.self c.args.key c.in_ok-taken.ensures.held c.hold.ensures.rest.broadcast) serves));
-    }
-
-pub returns-else-not-is_waiting : goal.returns-else-not-is_waiting
-returns-else-not-is_waiting c =
-    record {
-      serving = λ nodes contest sockets keyed serves.
-          let all : length c.args.piece.now ≤ c.in_ok-taken.taken = omega (arith, c.if-taken-piece.false) in
-          serving_nothing c.hold.new.self c.args.self.now.conns sockets c.args.at (drop c.in_ok-taken.taken c.args.piece.now) (drop_all c.in_ok-taken.taken c.args.piece.now all)
-          (serving_heard c.args.self.now.hub c.hold.new.self c.args.self.now.conns sockets c.args.at c.args.key c.args.piece.now c.in_ok-taken.taken keyed c.hold.ensures.rest
-          (held_sits _ c.args.piece.now c.in_ok-taken.taken c.args.self.now.hub c.hold.new.self c.args.key c.in_ok-taken.ensures.held c.hold.ensures.rest.broadcast) serves);
     }
