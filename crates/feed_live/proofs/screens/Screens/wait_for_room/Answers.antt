@@ -24,8 +24,8 @@ returns-then-taken-piece c =
       );
     }
 
-pub returns-else-taken-piece : goal.returns-else-taken-piece
-returns-else-taken-piece c =
+pub returns : goal.returns
+returns c =
     record {
       serving = λ nodes contest sockets keyed serves.
           let all : length c.args.piece.now ≤ c.in_ok-taken.taken = omega (arith, c.if-taken-piece.false) in
