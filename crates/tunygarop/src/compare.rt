@@ -10,7 +10,7 @@ use feed_commands::{AddressFault, CompareOptions, Fault, addresses};
 use feed_host::Failure;
 use feed_node::{Limits, Node};
 use feed_system::{Host, Pair};
-use std::alloc::AllocError;
+use std::alloc::{AllocError, Global};
 use std::io;
 use std::io::{ErrorKind, Write};
 use tail::Tail;
@@ -57,17 +57,23 @@ fn needs_memory<T: Drop>(outcome: Result<T, AllocError>) -> Result<T, Fault> {
     }
 }
 
+/// The host and the port of a list that has one.
+fn only_address(alloc: Global, text: &str) -> Result<(String, u16), AddressFault> {
+    let mut all = addresses(alloc, text)?;
+    let last = all.pop();
+    if !all.is_empty() {
+        return Err(AddressFault::TooMany);
+    }
+    match last {
+        Some(address) => Ok(address),
+        None => Err(AddressFault::TooMany),
+    }
+}
+
 /// The host and the port that an option names.
 fn address_of(rt: &HostRuntime, option: &str, text: &str) -> Result<(String, u16), Failure> {
-    let outcome = addresses(rt.alloc(), text);
-    let fault = match outcome {
-        Ok(all) if all.len() == 1 => {
-            for address in all {
-                return Ok(address);
-            }
-            AddressFault::TooMany
-        }
-        Ok(_) => AddressFault::TooMany,
+    let fault = match only_address(rt.alloc(), text) {
+        Ok(address) => return Ok(address),
         Err(fault) => fault,
     };
     match fault {
