@@ -22,10 +22,10 @@ use Rattle.feed_live.specs.Upstream.{StaysInLog}
 use Rattle.feed_live.proofs.ServingLemmas.{sockets_are_faithful}
 use Rattle.feed_live.proofs.StateLemmas.{states_in_log, states_within, honest_however}
 
-begins : (before behind text : List ℕ) → before ++ behind ≡ text → take (length before) text ≡ before
+pub begins : (before behind text : List ℕ) → before ++ behind ≡ text → take (length before) text ≡ before
 begins before behind text is = ap (λ t. take (length before) t) (sym is) ∙ take-append_seam before behind
 
-stays : {limits : Limits} {log : Log} {begun : MirrorState} (answer : AnswerParts) (received behind text : List ℕ) → received ++ behind ≡ text
+pub stays : {limits : Limits} {log : Log} {begun : MirrorState} (answer : AnswerParts) (received behind text : List ℕ) → received ++ behind ≡ text
     → FollowsInLog limits log answer begun text → StaysInLog limits log begun 0 received
 stays {begun = begun} answer received behind text is follows =
     record {

@@ -6,6 +6,9 @@ pub mod StateLemmas
 pub mod RelayLemmas
 pub mod TurnLemmas
 pub mod HonestLemmas
+pub mod NoFeedLemmas
+pub mod FullLemmas
+pub mod NetworkLemmas
 pub mod InputLemmas
 pub mod TellingLemmas
 pub mod TokenedLemmas

@@ -1,6 +1,7 @@
 pub mod Serving
 pub mod Held
 pub mod Laws
+pub mod Network
 pub mod States
 pub mod Upstream
 pub mod Relaying

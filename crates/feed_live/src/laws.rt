@@ -3,8 +3,10 @@
 ghost use Rattle.feed_live.specs.Laws.{SocketsAreFaithful, HandedIsFollowed, RelaysShowTheLog, FollowedIsHonest};
 ghost use Rattle.feed_live.specs.Laws.{InputShowsTheLog, ShownIsHonest, SentIsHonest, FilesAreHonest, FilesGoOnHonestly};
 ghost use Rattle.feed_live.specs.Examples.{TheirFeedIsHonest, TheirReplayEnds};
+ghost use Rattle.feed_live.specs.Network.{NetworksShowTheLog, RelayedIsHonest, RequestsAreMeant};
 ghost use Rattle.feed_live.specs.Telling.{MeaningTells, ToldIsHonest, TellingIsHonest, FeedIsHonest, ReplayIsHonest, TokenedIsHonest};
 
+use feed_answer::{answer_laws, followed_laws};
 use feed_follow::{carry_laws, follow_laws};
 use feed_hub::hub_laws;
 use feed_node::reading_laws;
@@ -50,4 +52,18 @@ pub fn foreign_laws()
     line_laws();
     written_lines_law();
     telling_laws();
+}
+
+/// Relays that follow one another in any way, also in a ring, and servers outside that are honest:
+/// whoever starts and has a turn, in any order, each relay shows states of the log. What one relay
+/// reads of another is honest, and its request is read as it was meant.
+pub fn network_laws()
+    ensures network { NetworksShowTheLog }
+    ensures relayed { RelayedIsHonest }
+    ensures meant { RequestsAreMeant }
+{
+    live_laws();
+    follow_laws();
+    answer_laws();
+    followed_laws();
 }

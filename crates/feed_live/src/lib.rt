@@ -29,7 +29,7 @@ pub use figures::{
     Failure, FeedFigures, FileFigures, Following, LONG_WAIT, Reason, ScreenFigures, ScreenRow,
     ScreenTotals,
 };
-pub use laws::{foreign_laws, live_laws};
+pub use laws::{foreign_laws, live_laws, network_laws};
 pub use options::{LiveLimits, Start};
 pub use saved::{Restored, restore};
 pub use turn::{Input, Live, Turn};
