@@ -95,7 +95,7 @@ module _ (handed_follows : HandedIsFollowed) (refusals : RefusalsAreFollowed) (o
 
 module _ (handed_follows : HandedIsFollowed) (refusals : RefusalsAreFollowed) (once : StandsOnce) where
   pub relayed_is_honest : RelayedIsHonest
-  relayed_is_honest log writer reader exchange is_log shows of =
+  relayed_is_honest log writer limits servers exchange is_log shows of =
       λ begun request more asks is_request asked.
       let went = of.went in
       let contest = string_bytes writer.live.contest in
@@ -103,7 +103,7 @@ module _ (handed_follows : HandedIsFollowed) (refusals : RefusalsAreFollowed) (o
       All-contains (WasFaithful (states_of writer.limits log) contest) (traffic_of went.socket) of.traffic
       (All-from_recursion (WasFaithful (states_of writer.limits log) contest) (traffic_of went.socket) (shows.written went.at went.socket went.socket_is)) went.among in
       honest_however exchange.shown
-      (faithful_stays handed_follows refusals once reader.limits log is_log begun asks (states_of writer.limits log) contest of.traffic.came of.traffic.written
+      (faithful_stays handed_follows refusals once limits log is_log begun asks (states_of writer.limits log) contest of.traffic.came of.traffic.written
       exchange.received of.behind shows.states
       (λ head behind minor since begins asks_so. of.meant begun request more head behind minor since asks is_request asked begins asks_so) was of.begins)
 
@@ -137,7 +137,7 @@ module _ (relays : RelaysShowTheLog) (relayed : RelayedIsHonest) (log : Log) whe
       → IsOfNetwork log network reader exchange → IsHonest reader.limits log reader.servers exchange
   one_honest network reader exchange is_log sound (outside honest) = honest
   one_honest network reader exchange is_log sound (inside at writer is of) =
-      relayed log writer reader exchange is_log (shows_the_log writer (sound at writer is)) of
+      relayed log writer reader.limits reader.servers exchange is_log (shows_the_log writer (sound at writer is)) of
 
   all_honest : (network : Network) (reader : Relay) (exchanges : List Exchange) → IsLog reader.limits log → AreSound log network
       → AllByRecursion (IsOfNetwork log network reader) exchanges → AreHonest reader.limits log reader.servers exchanges
@@ -169,7 +169,12 @@ module _ (relays : RelaysShowTheLog) (relayed : RelayedIsHonest) (log : Log) whe
 pub networks_show_the_log : RelaysShowTheLog → RelayedIsHonest → NetworksShowTheLog
 networks_show_the_log relays relayed log network at relay is here =
     let s = are_sound relays relayed log network is at relay here in
-    (shows_the_log relays relayed log relay s, s.honest)
+    let shows = shows_the_log relays relayed log relay s in
+    record {
+      shows = shows;
+      read = s.honest;
+      writes = λ limits servers exchange is_log of. relayed log relay limits servers exchange is_log shows of;
+    }
 
 -- ---- requests
 

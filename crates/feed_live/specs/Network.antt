@@ -44,22 +44,24 @@ IsReadAsWritten log limits servers exchange contest came =
     → exchange.asked ≡ request ++ more → came ≡ head ++ behind
     → Asks head contest (feed minor since) → since ≡ begun.since
 
--- What was read on a connection to a relay: a prefix of what that has written on one of its own,
--- and it read the request there as it was meant.
-pub record IsOfRelay (log : Log) (writer reader : Relay) (exchange : Exchange) : Type 0 where
+-- What somebody with these limits read of a relay, who is given these servers: a prefix of what that
+-- has written on a connection, over which it read the request as it was meant.
+pub record IsOfRelay (log : Log) (writer : Relay) (limits : Limits) (servers : Servers)
+    (exchange : Exchange) : Type 0 where
   pub traffic : Traffic
   pub went : WentOver writer traffic
   pub behind : List ℕ
   pub begins : exchange.received ++ behind ≡ traffic.written
-  pub meant : IsReadAsWritten log reader.limits reader.servers exchange
-      (string_bytes writer.live.contest) traffic.came
+  pub meant : IsReadAsWritten log limits servers exchange (string_bytes writer.live.contest)
+      traffic.came
 
 -- What a relay read on a connection is of a relay of the network, and was written before; or it is
 -- of a server outside that is honest.
 pub data IsOfNetwork (log : Log) (before : Network) (reader : Relay) (exchange : Exchange)
     : Type 0 where
   inside : (at : ℕ) (writer : Relay) → before at ≡ Some writer
-      → IsOfRelay log writer reader exchange → IsOfNetwork log before reader exchange
+      → IsOfRelay log writer reader.limits reader.servers exchange
+      → IsOfNetwork log before reader exchange
   outside : IsHonest reader.limits log reader.servers exchange
       → IsOfNetwork log before reader exchange
 
@@ -97,22 +99,26 @@ pub data IsNetwork (log : Log) : Network → Type 0 where
 
 -- ---- laws
 
--- THE PROMISE: each relay of it shows nothing or a state of the log at its token, and what was
--- written to each connection of its screens is faithful; all that it read was honest.
+-- What makes it so: what is read of a relay that shows the log is honest, for whoever can take that
+-- log.
+abbrev pub RelayedIsHonest : Type 0
+RelayedIsHonest =
+    (log : Log) (writer : Relay) (limits : Limits) (servers : Servers) (exchange : Exchange)
+    → IsLog limits log → ShowsTheLog writer.limits log writer.live writer.sockets
+    → IsOfRelay log writer limits servers exchange → IsHonest limits log servers exchange
+
+-- a relay shows the log; all that it read was honest, and so is all that anybody reads of it
+pub record TellsTheLog (log : Log) (relay : Relay) : Type 0 where
+  pub shows : ShowsTheLog relay.limits log relay.live relay.sockets
+  pub read : AreHonest relay.limits log relay.servers relay.exchanges
+  pub writes : (limits : Limits) (servers : Servers) (exchange : Exchange) → IsLog limits log
+      → IsOfRelay log relay limits servers exchange → IsHonest limits log servers exchange
+
+-- THE PROMISE: so it is with each relay of a network, whatever happened in it
 abbrev pub NetworksShowTheLog : Type 0
 NetworksShowTheLog =
     (log : Log) (network : Network) (at : ℕ) (relay : Relay) → IsNetwork log network
-    → network at ≡ Some relay
-    → ShowsTheLog relay.limits log relay.live relay.sockets
-    × AreHonest relay.limits log relay.servers relay.exchanges
-
--- what makes it so: what a relay reads of one that shows the log is honest
-abbrev pub RelayedIsHonest : Type 0
-RelayedIsHonest =
-    (log : Log) (writer reader : Relay) (exchange : Exchange) → IsLog reader.limits log
-    → ShowsTheLog writer.limits log writer.live writer.sockets
-    → IsOfRelay log writer reader exchange
-    → IsHonest reader.limits log reader.servers exchange
+    → network at ≡ Some relay → TellsTheLog log relay
 
 -- Where a request has no base path and no user, and what came is a prefix of what was asked, it is
 -- read as it was meant.
