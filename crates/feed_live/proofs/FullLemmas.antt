@@ -1,6 +1,6 @@
 -- The text for those who are too many is a refusal: it carries no feed.
 use Rattle.std.proofs.Common.{◌≡◌, refl, sym, ap, ◌∙◌, subst, ℕ, ◌+◌, ◌-◌, ◌<◌, ◌≤◌, ◌⊎◌, inl, inr, ⊎_elim, List, [], ◌∷◌, ◌++◌, length, take, drop, codes, arith, lit≤, length-append, length-take, take-append-drop}
-use Rattle.std.specs.Prelude.{Bool, true, false, Some}
+use Rattle.std.specs.Prelude.{Bool, true, Some}
 use Rattle.std.specs.List.{list_all}
 use Rattle.std.specs.Char.{is_ascii_digit}
 use Rattle.std.proofs.lemmas.Bool.{cases_lt}
@@ -8,7 +8,6 @@ use Rattle.std.proofs.lemmas.List.{take-append-le}
 use Rattle.std.proofs.lemmas.List.Elements.{All-from_recursion}
 use Rattle.std.proofs.lemmas.List.Sums.{AllPass-from_list_all, sum_by-append}
 use Rattle.std.proofs.Math.Seq.{take-append-add}
-use Rattle.httparse.specs.Ascii.{line_feed}
 use Rattle.httparse.specs.Grammar.{ResponseHead, IsResponseHead, Field, IsField, crlf, is_token_byte, is_value_byte, print_response, ReadsResponse}
 use Rattle.httparse.proofs.GrammarLemmas.{response_prefix_free}
 use Rattle.feed_follow.specs.declared.fault.FollowFault.TheVariants.{Status}
@@ -132,8 +131,10 @@ is_head_503 = record {
   reason = AllPass-from_list_all is_value_byte (codes "Service Unavailable") refl;
   fields = All-from_recursion IsField head_503.fields (
     is_field (field (codes "Content-Type") (codes " application/json")) (lit≤ tt) refl refl,
-    (is_field (field (codes "Content-Length") (codes " 41")) (lit≤ tt) refl refl,
-    (is_field (field (codes "Connection") (codes " close")) (lit≤ tt) refl refl, tt)),
+    (
+      is_field (field (codes "Content-Length") (codes " 41")) (lit≤ tt) refl refl,
+      (is_field (field (codes "Connection") (codes " close")) (lit≤ tt) refl refl, tt),
+    ),
   );
 }
 

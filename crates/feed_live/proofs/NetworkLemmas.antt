@@ -1,21 +1,18 @@
 -- Relays that follow one another show states of one log.
-use Rattle.std.proofs.Common.{◌≡◌, ◌≢◌, refl, sym, ap, ◌∙◌, subst, ℕ, ◌+◌, ◌≤◌, ◌⊎◌, inl, inr, List, [], ◌∷◌, ◌++◌, length, take, drop, append_assoc, take-append-drop, Option, Some, None, codes}
-use Rattle.std.specs.Prelude.{Bool, true, false, Contains, is_none, if◌then◌else◌, string_bytes, slice_get}
+use Rattle.std.proofs.Common.{◌≡◌, ◌≢◌, refl, sym, ap, ◌∙◌, subst, ℕ, ◌⊎◌, inl, inr, List, [], ◌∷◌, ◌++◌, drop, append_assoc, take-append-drop, Option, Some, None, codes}
+use Rattle.std.specs.Prelude.{is_none, if◌then◌else◌, string_bytes}
 use Rattle.std.specs.List.{AllByRecursion}
 use Rattle.std.proofs.lemmas.List.Elements.{All-contains, All-from_recursion}
 use Rattle.feed_settings.specs.Limits.{Limits}
-use Rattle.feed_settings.specs.Place.{Place, IsPlace as IsServerPlace}
 use Rattle.feed_node.specs.Mirroring.{MirrorState}
 use Rattle.feed_node.specs.States.{NodeState, published_token}
 use Rattle.feed_follow.specs.Laws.{StandsOnce}
 use Rattle.feed_answer.specs.declared.refusal.Refusal.{Refusal}
-use Rattle.feed_answer.specs.declared.refusal.Refusal.TheVariants.{LargeHead}
 use Rattle.feed_answer.specs.Answer.{refusal_text}
-use Rattle.feed_answer.specs.Answered.{AnswerParts, answer_to, refusing}
+use Rattle.feed_answer.specs.Answered.{answer_to, refusing}
 use Rattle.feed_answer.specs.Asked.{Asked, refused, feed, Asks, Requests}
 use Rattle.feed_answer.specs.FollowLaws.{RefusalsAreFollowed}
-use Rattle.feed_answer.specs.Identity.{Identity, anonymous}
-use Rattle.feed_answer.specs.Laws.{AskedOnce, RequestIsRead, MayBeAskedWith}
+use Rattle.feed_answer.specs.Laws.{RequestIsRead, MayBeAskedWith}
 use Rattle.feed_answer.specs.RequestText.{feed_path, request_text, request_text_as}
 use Rattle.feed_answer.proofs.AskedLemmas.{one_request}
 use Rattle.httparse.proofs.GrammarLemmas.{ReadsRequest-append}
@@ -25,13 +22,13 @@ use Rattle.feed_hub.specs.Laws.{IsInLog, AreInLog}
 use Rattle.feed_hub.specs.Screen.{pending, token_at}
 use Rattle.feed_hub.specs.Told.{IsDue}
 use Rattle.feed_device.specs.Links.{Exchange}
-use Rattle.feed_device.specs.Sockets.{Socket, Traffic, traffic_of}
+use Rattle.feed_device.specs.Sockets.{traffic_of}
 use Rattle.feed_live.specs.Laws.{HandedIsFollowed, RelaysShowTheLog, ShowsTheLog}
-use Rattle.feed_live.specs.Network.{Relay, Network, IsOfRelay, IsReadAsWritten, IsOfNetwork, inside, outside, Starts, Turns, OthersStay, IsNetwork, no_relays, one_starts, one_turns, NetworksShowTheLog, RelayedIsHonest, RequestsAreMeant}
+use Rattle.feed_live.specs.Network.{Relay, Network, IsOfNetwork, inside, outside, OthersStay, IsNetwork, no_relays, one_starts, one_turns, NetworksShowTheLog, RelayedIsHonest, RequestsAreMeant}
 use Rattle.feed_live.specs.Relaying.{IsRelaying}
 use Rattle.feed_live.specs.Serving.{WasServed, IsFaithful, nothing, refused as too_many, served, WasFaithful, full_text}
 use Rattle.feed_live.specs.States.{states_of}
-use Rattle.feed_live.specs.Upstream.{Servers, IsRequestOf, AsksInLog, IsHonest, AreHonest, StaysInLog}
+use Rattle.feed_live.specs.Upstream.{AsksInLog, IsHonest, AreHonest, StaysInLog}
 use Rattle.feed_live.proofs.FullLemmas.{full_carries_none}
 use Rattle.feed_live.proofs.HonestLemmas.{stays}
 use Rattle.feed_live.proofs.ServingLemmas.{number_tells}

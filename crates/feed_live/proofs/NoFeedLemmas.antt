@@ -1,5 +1,5 @@
 -- Bytes that carry no feed leave what a mirror shows.
-use Rattle.std.proofs.Common.{◌≡◌, refl, sym, ap, ◌∙◌, subst, ℕ, ◌⊎◌, inl, inr, List, [], ◌++◌, take, length, append_assoc}
+use Rattle.std.proofs.Common.{◌≡◌, sym, ap, ◌∙◌, subst, ℕ, ◌⊎◌, inl, inr, List, [], ◌++◌, take, length, append_assoc}
 use Rattle.std.specs.Prelude.{Bool, true, false, ◌&&◌, ◌==◌, nat_lt, is_some, if◌then◌else◌}
 use Rattle.feed_settings.specs.Limits.{Limits}
 use Rattle.feed_node.specs.declared.fault.FeedFault.{FeedFault}
@@ -7,7 +7,6 @@ use Rattle.feed_node.specs.declared.fault.FeedFault.TheVariants.{NotOpen, LongLi
 use Rattle.feed_node.specs.Mirroring.{MirrorState, cut_off}
 use Rattle.feed_follow.specs.declared.fault.FollowFault.{FollowFault}
 use Rattle.feed_follow.specs.declared.fault.FollowFault.TheVariants.{Closed, LongHead, BadHead, Status, BadCoding, BadLength, BadChunk, Feed, Memory}
-use Rattle.feed_follow.specs.Follower.{FollowsAt}
 use Rattle.feed_follow.specs.Following.{Leaves, Fails, Brings, HasBadLine, HasLostSome, IsCutAfter}
 use Rattle.feed_follow.specs.Standing.{Standing, in_head, token_refused, in_body, done, failed, Stands}
 use Rattle.feed_answer.specs.declared.refusal.Refusal.{Refusal}

@@ -141,7 +141,14 @@ impl Live {
     }
 
     /// What was told is forgotten.
-    pub fn clear_told(&mut self) {
+    pub fn clear_told(&mut self)
+        // nothing changes of what is shown, kept, and handed to screens
+        ensures relaying { (exchanges : Exchanges) (sockets : AllSockets)
+            → StillRelaying self.old self.new exchanges exchanges sockets sockets }
+        ensures taking { (sockets : AllSockets) → StillTaking self.old self.new []
+            sockets sockets }
+        ensures saved { SameSaved self.old self.new }
+    {
         self.telling.clear();
     }
 
