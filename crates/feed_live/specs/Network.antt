@@ -35,8 +35,8 @@ pub record WentOver (relay : Relay) (traffic : Traffic) : Type 0 where
   pub socket_is : relay.sockets at ≡ Some socket
   pub among : Contains (traffic_of socket) traffic
 
--- READ AS MEANT: where what came begins with a request for the feed of this contest, that has the
--- token of the request with which what was asked begins.
+-- READ AS MEANT: where what came begins with a request for the feed of this contest, its token is
+-- that of the request with which what was asked begins, or both have none.
 abbrev pub IsReadAsWritten : Log → Limits → Servers → Exchange → List ℕ → List ℕ → Type 0
 IsReadAsWritten log limits servers exchange contest came =
     (begun : MirrorState) (request more head behind : List ℕ) (minor : ℕ) (since : Option (List ℕ))
