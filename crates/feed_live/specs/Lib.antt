@@ -9,3 +9,4 @@ pub mod Telling
 pub mod Examples
 pub mod Saved
 pub mod Pending
+pub mod Owed
