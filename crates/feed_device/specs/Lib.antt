@@ -1,3 +1,4 @@
+pub mod Calls
 pub mod Links
 pub mod Sockets
 pub mod Files

@@ -1,4 +1,6 @@
 pub mod EndingLemmas
+pub mod OwedLemmas
+pub mod PendingLemmas
 pub mod Filed
 pub mod SourceLemmas
 pub mod ServingLemmas

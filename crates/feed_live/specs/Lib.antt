@@ -10,3 +10,4 @@ pub mod Telling
 pub mod Examples
 pub mod Saved
 pub mod Pending
+pub mod Owed

@@ -1,8 +1,10 @@
 -- The long texts that screens have yet to take: each counts once, for however many it is.
-use Rattle.std.specs.Prelude.{◌≡◌, ◌≢◌, ◌⊎◌, ℕ, ◌+◌, ◌<◌, ◌≤◌, ◌-◌, ◌^◌, min, List, [], ◌∷◌, ◌++◌, length, Option, Some, None, HoldsAt, remove, sum_by, slice_set}
+use Rattle.std.specs.Prelude.{◌≡◌, ◌≢◌, ◌⊎◌, ◌==◌, ℕ, ◌+◌, ◌<◌, ◌≤◌, ◌-◌, ◌^◌, min, Bool, true, false, List, [], ◌∷◌, ◌++◌, length, Option, Some, None, HoldsAt, AllPairs, remove, sum_by, count_by, slice_set, slice_index_or, if◌then◌else◌}
+use Rattle.slab.specs.Slab.{Slab, get}
 use Rattle.feed_live.specs.declared.conn.Conn.{Conn}
 use Rattle.feed_live.specs.declared.screens.pending.Text.{Text}
 use Rattle.feed_live.specs.declared.screens.pending.TextId.{TextId}
+use Rattle.feed_live.specs.declared.screens.pending.TextId.TheVariants.{Opening, Own, Commit}
 
 -- how many bytes they have together
 abbrev pub total : List Text → ℕ
@@ -11,6 +13,10 @@ total texts = sum_by (λ text. text.length) texts
 -- each has a reader
 abbrev pub AreRead : List Text → Type 0
 AreRead texts = (at : ℕ) → at < length texts → HoldsAt (λ text. text.readers ≢ 0) texts at
+
+-- none of them is there twice
+abbrev pub AreDistinct : List Text → Type 0
+AreDistinct texts = AllPairs (λ one other. one.id ≢ other.id) texts
 
 -- none of them is this one
 abbrev pub HasNone : List Text → TextId → Type 0
@@ -54,11 +60,47 @@ abbrev pub Removes : TextId → List Text → List Text → Type 0
 Removes id old new = Goes id old new
     ⊎ (Counts id (λ before after. before ≡ after + 1) old new ⊎ (HasNone old id × (new ≡ old)))
 
--- so it is with the text that a connection has yet to take
-abbrev pub PaysText : Option TextId → List Text → List Text → Type 0
-PaysText None old new = new ≡ old
-PaysText (Some id) old new = Removes id old new
+-- ---- who has them
 
-abbrev pub Pays : Option Conn → List Text → List Text → Type 0
+-- whether two are the same
+unfoldable pub is_same : TextId → TextId → Bool
+is_same (Opening a) (Opening b) = a == b
+is_same (Opening a) (Own b) = false
+is_same (Opening a) (Commit b) = false
+is_same (Own a) (Own b) = a == b
+is_same (Own a) (Opening b) = false
+is_same (Own a) (Commit b) = false
+is_same (Commit a) (Commit b) = a == b
+is_same (Commit a) (Opening b) = false
+is_same (Commit a) (Own b) = false
+
+-- whether this is what the screen at a place has yet to take
+abbrev pub is_taker : TextId → Option TextId → Bool
+is_taker id None = false
+is_taker id (Some held) = is_same held id
+
+-- at how many places a screen has yet to take it
+unfoldable pub takers : TextId → List (Option TextId) → ℕ
+takers id places = count_by (is_taker id) places
+
+-- how many readers it has on the list
+unfoldable pub readers : TextId → List Text → ℕ
+readers id texts = sum_by (λ text. if is_same text.id id then text.readers else 0) texts
+
+-- each has just as many readers as there are places where a screen has yet to take it
+abbrev pub AreCounted : List Text → List (Option TextId) → Type 0
+AreCounted texts places = (id : TextId) → readers id texts ≡ takers id places
+
+-- the text that the screen at a place has yet to take
+abbrev pub text_at : List (Option TextId) → ℕ → Option TextId
+text_at places at = slice_index_or places at None
+
+-- so it is with the text that a screen has yet to take
+abbrev pub Pays : Option TextId → List Text → List Text → Type 0
 Pays None old new = new ≡ old
-Pays (Some conn) old new = PaysText conn.text old new
+Pays (Some id) old new = Removes id old new
+
+
+-- where there is no connection, none is pending
+abbrev pub AreConnected : List (Option TextId) → Slab Conn → Type 0
+AreConnected places conns = (at : ℕ) → get conns at ≡ None → text_at places at ≡ None

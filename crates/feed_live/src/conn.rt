@@ -2,7 +2,6 @@
 
 ghost use Rattle.std.specs.Prelude.{◌≡◌, None};
 
-use crate::screens::TextId;
 use crate::times::{LINGER, PATIENCE, ROOM_TIME, SHARE_TIME};
 use feed_hub::Key;
 use std::net::SocketAddr;
@@ -53,8 +52,6 @@ pub(crate) struct Conn {
     pub(crate) owes: usize,
     pub(crate) owed_since: u64,
     pub(crate) took: u64,
-    /// Which text that is, where it counts as pending.
-    pub(crate) text: Option<TextId>,
     pub(crate) wait: Option<Wait>,
     /// When a screen sent its end: mostly it went away.
     pub(crate) ended: Option<u64>,
@@ -78,7 +75,6 @@ impl Conn {
             owes: 0,
             owed_since: 0,
             took: 0,
-            text: None,
             wait: None,
             ended: None,
             peer,
@@ -100,32 +96,28 @@ impl Conn {
         }
     }
 
-    /// Whether it has yet to take a text that counts as pending, and takes it so slowly that it would need more than
+    /// Whether it takes the text that it has yet to take so slowly that it would need more than
     /// `SHARE_TIME` for all of it.
     pub(crate) fn is_slow(&self, now: u64) -> bool {
         let time = now.saturating_sub(self.owed_since);
         let share = (self.owes as u64).saturating_mul(time);
-        self.text.is_some() && time >= PATIENCE && self.took.saturating_mul(SHARE_TIME) < share
+        time >= PATIENCE && self.took.saturating_mul(SHARE_TIME) < share
     }
 
     /// It has yet to take a text of so many bytes, from now on.
-    pub(crate) fn owe(&mut self, length: usize, text: Option<TextId>, now: u64)
+    pub(crate) fn owe(&mut self, length: usize, now: u64)
         ensures { self.new.key ≡ self.old.key }
     {
         self.owes = length;
         self.owed_since = now;
         self.took = 0;
-        self.text = text;
     }
 
-    /// It took all of its text. Which that was, where it counted.
-    pub(crate) fn pay(&mut self) -> Option<TextId>
-        ensures key { self.new.key ≡ self.old.key }
-        ensures text { result ≡ self.old.text }
-        ensures none { self.new.text ≡ None }
+    /// It took all of its text.
+    pub(crate) fn pay(&mut self)
+        ensures { self.new.key ≡ self.old.key }
     {
         self.owes = 0;
-        self.text.take()
     }
 
     /// It took so many bytes.

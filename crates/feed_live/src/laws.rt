@@ -2,6 +2,7 @@
 
 ghost use Rattle.feed_live.specs.Laws.{SocketsAreFaithful, HandedIsFollowed, RelaysShowTheLog, FollowedIsHonest};
 ghost use Rattle.feed_live.specs.Laws.{InputShowsTheLog, ShownIsHonest, SentIsHonest, FilesAreHonest, FilesGoOnHonestly};
+ghost use Rattle.feed_live.specs.Owed.{OwesAlwaysWhatIsKept};
 ghost use Rattle.feed_live.specs.Examples.{TheirFeedIsHonest, TheirReplayEnds};
 ghost use Rattle.feed_live.specs.Network.{NetworksShowTheLog, RelayedIsHonest, RequestsAreMeant};
 ghost use Rattle.feed_live.specs.Telling.{MeaningTells, ToldIsHonest, TellingIsHonest, FeedIsHonest, ReplayIsHonest, TokenedIsHonest};
@@ -16,7 +17,8 @@ use feed_world::telling_laws;
 /// What was written to a socket is a prefix of what is due to it, and what a screen was handed
 /// leaves a mirror that reads any prefix of it at a place of the log. So it is of a relay whose
 /// servers are honest. What is followed so is an honest response again. The same holds of a relay
-/// whose feed is its input: what nodes of the log send is an honest one.
+/// whose feed is its input: what nodes of the log send is an honest one. And what counts as owed to
+/// screens is what connections have yet to take.
 pub fn live_laws()
     ensures sockets { SocketsAreFaithful }
     ensures handed { HandedIsFollowed }
@@ -27,6 +29,7 @@ pub fn live_laws()
     ensures sent { SentIsHonest }
     ensures files { FilesAreHonest }
     ensures files_go_on { FilesGoOnHonestly }
+    ensures owed { OwesAlwaysWhatIsKept }
 {
     reading_laws();
     hub_laws();

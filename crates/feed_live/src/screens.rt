@@ -5,9 +5,7 @@ ghost use Rattle.slab.specs.Slab.{get};
 ghost use Rattle.feed_node.specs.States.{NodeState};
 ghost use Rattle.feed_hub.specs.Seats.{seat_at, IsAskingSeat};
 ghost use Rattle.feed_device.specs.Sockets.{AllSockets, IsSocket, IsUnused, closed};
-ghost use Rattle.feed_live.specs.Serving.{Serving, StillServing, StillServingWith, SameSeating, SameKeys};
-ghost use Rattle.feed_live.specs.Serving.{Leaves, ServesBut, HearsSome, HearsAll, key_at};
-ghost use Rattle.feed_live.specs.Held.{answerer, is_over, SameMirrors, Waits};
+ghost use Rattle.feed_live.specs.Pending.{AreConnected};
 
 mod coming;
 mod pending;
@@ -19,6 +17,7 @@ use crate::figures::ScreenTotals;
 use crate::options::LiveLimits;
 use crate::relay::Saying;
 use crate::screens::pending::Pending;
+use crate::screens::sending::leave;
 pub(crate) use crate::screens::pending::TextId;
 use crate::told::Telling;
 use feed_device::{How, Sockets, Stop, Told};
@@ -86,20 +85,13 @@ pub(crate) struct Shown<'a> {
 }
 
 impl Shown<'_> {
+    ghost use Rattle.feed_live.specs.Held.{is_over};
+
     /// Whether a request is answered that came at a time.
     fn is_answering(&self, since: u64, now: u64) -> bool
         ensures { result ≡ is_over self.now.is_held (min (since + self.now.hold) u64.MAX) now }
     {
         !self.is_held || since.saturating_add(self.hold) <= now
-    }
-}
-
-/// The seat at a key is given back, where there is one.
-fn leave(hub: &mut Hub, key: Option<Key>)
-    ensures { Leaves key hub.old hub.new }
-{
-    if let Some(key) = key {
-        hub.leave(key);
     }
 }
 
@@ -127,9 +119,15 @@ pub(crate) struct Screens {
     /// That was told in this minute.
     pub(crate) is_full: bool,
     pub(crate) is_stuck: bool,
+    // where there is no connection, nothing is pending
+    ghost connected: { AreConnected pending.places.items conns },
 }
 
 impl Screens {
+    ghost use Rattle.feed_live.specs.Serving.{Serving, StillServing, StillServingWith, SameSeating, SameKeys};
+    ghost use Rattle.feed_live.specs.Serving.{ServesBut, HearsSome, HearsAll, key_at};
+    ghost use Rattle.feed_live.specs.Held.{answerer, SameMirrors, Waits};
+
     pub(crate) fn new(alloc: Global, limits: LiveLimits) -> Screens
         ensures serving { (nodes : List NodeState) (contest : List ℕ) (sockets : AllSockets)
             → ((at : ℕ) → IsUnused (sockets at))

@@ -66,6 +66,7 @@ impl Live {
     ghost use Rattle.feed_live.specs.Taking.{IsTakingInput, StillTaking, bytes_in};
     ghost use Rattle.feed_live.specs.Saved.{SameSaved};
     ghost use Rattle.feed_live.specs.Held.{Waits, has_heard};
+    ghost use Rattle.feed_live.specs.Owed.{OwesWhatIsKept};
     ghost use Rattle.slab.specs.Slab.{get};
 
     /// A relay that starts from what the state files had.
@@ -197,6 +198,9 @@ impl Live {
 
         // a minute after the number of screens was told last, at the latest
         ensures awake { result.due ≤ min (self.new.reported + 60000) (2 ^ 64 - 1) }
+
+        // what counts as owed is what connections have yet to take, and nothing where there is none
+        ensures owed { OwesWhatIsKept self.new.screens }
     {
         let held = self.held();
         let had_more = self.screens.begin_turn(held);

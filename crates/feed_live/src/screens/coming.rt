@@ -246,7 +246,7 @@ impl Screens {
             (S.socket sockets.old) (S.socket sockets.new) }
     {
         for at in 0..self.conns.capacity() {
-            if self.conns.get(at).is_some_and(|conn| conn.is_slow(now)) {
+            if self.is_slow(at, now) {
                 self.end(sockets, told, at, How::Cut, now);
             }
         }

@@ -6,20 +6,29 @@ ghost use Rattle.feed_device.specs.Sockets.{AllSockets};
 ghost use Rattle.slab.specs.Slab.{get};
 ghost use Rattle.feed_live.specs.declared.conn.Stage.TheVariants.{Asks};
 ghost use Rattle.feed_live.specs.Held.{IsAt};
-ghost use Rattle.feed_live.specs.Serving.{StillServing, SameSeating, SameKeys, key_at, keyless};
+ghost use Rattle.feed_live.specs.Serving.{StillServing, SameSeating, SameKeys, Leaves, key_at, keyless};
 
 use crate::conn::{Stage, Wanted};
 use crate::hand::hand;
 use crate::screens::{Screens, TextId};
 use crate::told::Telling;
 use feed_device::{How, Sockets, Stop};
-use feed_hub::{Key, Refill};
+use feed_hub::{Hub, Key, Refill};
 use feed_node::Node;
 use std::alloc::{AllocError, Global};
 
 /// How many bytes of commits one turn makes for those who catch up, and one commit more: so each
 /// turn is short, however many come back at once.
 const MOST_MADE: usize = 16_777_216;
+
+/// The seat at a key is given back, where there is one.
+pub(crate) fn leave(hub: &mut Hub, key: Option<Key>)
+    ensures { Leaves key hub.old hub.new }
+{
+    if let Some(key) = key {
+        hub.leave(key);
+    }
+}
 
 impl Screens {
     /// The seat of the connection at a place, where that can be written to now.

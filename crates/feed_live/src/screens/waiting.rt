@@ -4,7 +4,7 @@ ghost use Rattle.std.specs.Prelude.{◌≡◌, ◌<◌, ◌↔◌, ◌^◌, ◌-
 ghost use Rattle.feed_node.specs.States.{NodeState};
 ghost use Rattle.feed_device.specs.Sockets.{AllSockets};
 ghost use Rattle.slab.specs.Slab.{get};
-ghost use Rattle.feed_live.specs.Pending.{total, Pays};
+ghost use Rattle.feed_live.specs.Pending.{total, Pays, text_at};
 ghost use Rattle.feed_live.specs.Serving.{StillServing, SameSeating, ServesBut, HearsAll, key_at};
 ghost use Rattle.feed_live.specs.Held.{SameMirrors};
 
@@ -23,7 +23,7 @@ impl Screens {
     /// Whether a long text may be made: those that screens have yet to take have fewer bytes than
     /// they may. So one may be made whatever its length, where there is no other.
     pub(crate) fn has_room(&self) -> bool
-        ensures { IsTrue result ↔ (min (total self.now.pending.texts.items) (2 ^ 64 - 1)
+        ensures { IsTrue result ↔ (min (total self.now.pending.texts.list.items) (2 ^ 64 - 1)
             < self.now.limits.pending) }
     {
         self.pending.total() < self.limits.pending
@@ -42,12 +42,14 @@ impl Screens {
     pub(crate) fn owe(&mut self, at: usize, length: usize, id: TextId, now: u64)
         ensures { SameSeating self.old self.new }
     {
-        let mut text = None;
-        if length >= LONG && self.pending.add(id, length).is_ok() {
-            text = Some(id);
-        }
-        if let Some(conn) = self.conns.get_mut(at) {
-            conn.owe(length, text, now);
+        self.pay(at);
+        let Some(conn) = self.conns.get_mut(at) else {
+            return;
+        };
+        conn.owe(length, now);
+        if length >= LONG {
+            // Without memory for that it doesn't count.
+            let _ = self.pending.add(at, id, length);
         }
     }
 
@@ -55,17 +57,22 @@ impl Screens {
     /// then.
     pub(crate) fn pay(&mut self, at: usize)
         ensures same { SameSeating self.old self.new }
-        ensures paid { Pays (get self.old.conns at) self.old.pending.texts.items
-            self.new.pending.texts.items }
-        ensures once { IfSome (get self.new.conns at) (λ conn. conn.text ≡ None) }
+        ensures paid { Pays (text_at self.old.pending.places.items at)
+            self.old.pending.texts.list.items self.new.pending.texts.list.items }
+        ensures once { text_at self.new.pending.places.items at ≡ None }
     {
-        let Some(conn) = self.conns.get_mut(at) else {
-            return;
-        };
-        if let Some(id) = conn.pay() {
-            self.pending.remove(id);
+        if let Some(conn) = self.conns.get_mut(at) {
+            conn.pay();
+        }
+        if self.pending.remove(at) {
             self.has_more |= self.is_waited;
         }
+    }
+
+    /// Whether the connection at a place has yet to take a text that counts as pending, and takes it
+    /// too slowly.
+    pub(crate) fn is_slow(&self, at: usize, now: u64) -> bool {
+        self.pending.has(at) && self.conns.get(at).is_some_and(|conn| conn.is_slow(now))
     }
 
     /// The connection at a place waits for room no more.
@@ -90,7 +97,7 @@ impl Screens {
     /// Whether a long text may be made for the connection at a place: there is room, and nobody else
     /// has waited for that for longer.
     pub(crate) fn may_take_room(&self, at: usize) -> bool
-        ensures { IsTrue result → (min (total self.now.pending.texts.items) (2 ^ 64 - 1)
+        ensures { IsTrue result → (min (total self.now.pending.texts.list.items) (2 ^ 64 - 1)
             < self.now.limits.pending) }
     {
         if !self.has_room() {

@@ -29,7 +29,9 @@ const LOCATION: &[u8] = b"location:";
 impl Source {
     ghost use Rattle.feed_live.specs.Relaying.{StillFollows, StillServes, SameSource};
     ghost use Rattle.feed_live.specs.Relaying.{IsKeeping, IsLeft, PushesOnly, followed_by};
-    ghost use Rattle.feed_live.specs.Serving.{AllEnd, SaysAll};
+    ghost use Rattle.feed_live.specs.Serving.{StillServing, AllEnd, SaysAll};
+    ghost use Rattle.feed_node.specs.States.{NodeState};
+    ghost use Rattle.feed_device.specs.Sockets.{AllSockets};
     ghost use Rattle.feed_live.specs.declared.source.Reach.TheVariants.{Away, Reads as Read};
 
     /// Reads what came, so many times.
@@ -326,16 +328,28 @@ impl Source {
             self.compare(alloc, told);
             return;
         }
-        if self.is_fresh && self.answers.shown.mirror().since().is_some() {
-            self.is_fresh = false;
-            self.epoch = self.epoch.saturating_add(1);
-            screens.end_feeds(alloc, now);
-        }
+        self.end_former(alloc, screens, now);
         if screens.relay(alloc, self.answers.shown.node(), now) {
             self.is_heard = true;
             self.figures.publish(now);
             self.upstream.published();
             self.returning.publish(now);
+        }
+    }
+
+    /// Where a connection published afresh, the bodies of all end that had something of before.
+    fn end_former(&mut self, alloc: Global, screens: &mut Screens, now: u64)
+        ensures same { SameSource self.old self.new }
+        ensures serves { (nodes : List NodeState) (contest : List ℕ) (sockets : AllSockets)
+            → StillServing nodes contest screens.old screens.new sockets sockets }
+        ensures afresh { self.old.is_fresh ≡ true → IsSome self.old.answers.shown.mirror.since
+            → self.new.epoch ≡ min (self.old.epoch + 1) (2 ^ 64 - 1) }
+        ensures ended { self.new.epoch ≢ self.old.epoch → AllEnd screens.new.hub }
+    {
+        if self.is_fresh && self.answers.shown.mirror().since().is_some() {
+            self.is_fresh = false;
+            self.epoch = self.epoch.saturating_add(1);
+            screens.end_feeds(alloc, now);
         }
     }
 

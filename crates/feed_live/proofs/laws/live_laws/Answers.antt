@@ -1,5 +1,6 @@
 use Rattle.feed_live.proofs.ServingLemmas.{sockets_are_faithful}
 use Rattle.feed_live.proofs.HonestLemmas.{relays_show_the_log, followed_is_honest, input_shows_the_log, shown_is_honest, sent_is_honest, files_are_honest, files_go_on_honestly}
+use Rattle.feed_live.proofs.OwedLemmas.{owes_what_is_kept}
 use Rattle.feed_live.proofs.laws.live_laws.Goals as goal
 
 pub returns-clause-sockets : goal.returns-clause-sockets
@@ -32,3 +33,6 @@ returns-clause-files c = files_are_honest c.hub_laws.ensures.files
 
 pub returns-clause-files_go_on : goal.returns-clause-files_go_on
 returns-clause-files_go_on c = files_go_on_honestly c.hub_laws.ensures.files_follow
+
+pub returns-clause-owed : goal.returns-clause-owed
+returns-clause-owed c = owes_what_is_kept

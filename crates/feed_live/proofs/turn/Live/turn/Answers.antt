@@ -3,6 +3,7 @@ use Rattle.std.specs.Prelude.{Contains}
 use Rattle.feed_live.specs.Saved.{KeepsFiles, SameSaved}
 use Rattle.feed_live.proofs.ServingLemmas.{serving_noted}
 use Rattle.feed_live.proofs.TurnLemmas.{serves_then, screens_only, relays_on, takes_only, takes_still}
+use Rattle.feed_live.proofs.OwedLemmas.{owes_what_is_kept}
 use Rattle.feed_live.proofs.turn.Live.turn.Goals as goal
 
 pub returns : goal.returns
@@ -37,4 +38,5 @@ returns g c =
           (c.save.ensures.anew (λ same. newer (served.epoch ∙ same ∙ before.1)) nodes (subst (λ m. Contains nodes m.node) served.source.shown shown) known);
       wakes = c.next.ensures.wakes;
       awake = c.next.ensures.awake;
+      owed = owes_what_is_kept c.next.new.self.screens;
     }
