@@ -12,3 +12,4 @@ pub mod TokenedLemmas
 pub mod ReplayLemmas
 pub mod TokenedExample
 pub mod ReplayExample
+pub mod FileReading
