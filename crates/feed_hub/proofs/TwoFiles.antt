@@ -194,7 +194,7 @@ module _ (batches : BatchesPublishAtEnd) (sized : ListingHasSize) (weighs : List
 
 -- ---- a file after another
 
-cut : (first prefix more behind : List ℕ) → prefix ++ behind ≡ first ++ more
+pub cut : (first prefix more behind : List ℕ) → prefix ++ behind ≡ first ++ more
     → ((m : List ℕ) × (prefix ≡ first ++ m) × (m ++ behind ≡ more)) ⊎ ((m : List ℕ) × (prefix ++ m ≡ first) × (m ≢ []))
 cut [] prefix more behind e = inl (prefix, refl, e)
 cut (x ∷ first) [] more behind e = inr (x ∷ first, refl, λ n. let no : x ∷ first ≡ [] = n in absurd (cc))

@@ -1,11 +1,12 @@
 //! Laws of the definitions.
 
 ghost use Rattle.feed_hub.specs.Laws.{ScreensAreConnections, ScreensShowStates, ScreensReach, ScreensAreFollowed, DueIsResponse, ServedGrows};
-ghost use Rattle.feed_hub.specs.Files.{FilesRestore, FilesReach, FilesFollow, FilesFollowOn};
+ghost use Rattle.feed_hub.specs.Files.{FilesRestore, FilesReach, FilesBegin, FilesFollow, FilesFollowOn};
 ghost use Rattle.feed_hub.specs.Follows.{ScreensFollow, ScreensArrive};
 
 use feed_answer::followed_laws;
 use feed_node::{node_laws, reading_laws};
+use feed_note::line_laws;
 use feed_tables::table_laws;
 use feed_world::{following_laws, sending_laws, world_laws};
 
@@ -21,12 +22,14 @@ pub fn hub_laws()
     ensures grows { ServedGrows }
     ensures files { FilesRestore }
     ensures files_reach { FilesReach }
+    ensures files_begin { FilesBegin }
     ensures files_follow { FilesFollow }
     ensures files_follow_on { FilesFollowOn }
     ensures live_follows { ScreensFollow }
     ensures live_arrives { ScreensArrive }
 {
     table_laws();
+    line_laws();
     node_laws();
     reading_laws();
     world_laws();

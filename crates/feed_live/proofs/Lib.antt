@@ -17,3 +17,4 @@ pub mod TokenedLemmas
 pub mod ReplayLemmas
 pub mod TokenedExample
 pub mod ReplayExample
+pub mod FileReading

@@ -152,9 +152,23 @@ impl Screens {
             return false;
         }
         self.trim();
+        self.skip_unheard(alloc, now);
         self.say_all(alloc, node, now);
         self.wait_for_rest(node, now);
         true
+    }
+
+    /// Where nobody is there to hear a commit the log is at no token, so it begins at the newest one,
+    /// and no text of those between is made.
+    fn skip_unheard(&mut self, alloc: Global, now: u64)
+        ensures serving { (nodes : List NodeState) (contest : List ℕ) (sockets : AllSockets)
+            → StillServing nodes contest self.old self.new sockets sockets }
+        ensures ended { AllEnd self.old.hub → AllEnd self.new.hub }
+    {
+        if !self.conns.is_empty() {
+            return;
+        }
+        let _ = self.hub.end_all(alloc, now);
     }
 
     /// Says one commit after another, as many as can be said now.

@@ -1,6 +1,7 @@
 use Rattle.feed_hub.proofs.LawLemmas.{screens_connect, screens_show, screens_reach, screens_follow}
 use Rattle.feed_hub.proofs.OpeningLemmas.{due_is_response, served_grows}
 use Rattle.feed_hub.proofs.FileLemmas.{files_restore, files_reach}
+use Rattle.feed_hub.proofs.FileBegins.{files_begin}
 use Rattle.feed_hub.proofs.TwoFiles.{files_follow, files_follow_on}
 use Rattle.feed_hub.proofs.FollowLemmas.{screens_are_safe, screens_arrive}
 use Rattle.feed_hub.proofs.laws.hub_laws.Goals as goal
@@ -81,4 +82,17 @@ returns-clause-files_follow_on c =
       order = c.sending_laws.ensures.order;
       stays = c.following_laws.ensures.places;
       reached = c.following_laws.ensures.reached;
+    })
+
+pub returns-clause-files_begin : goal.returns-clause-files_begin
+returns-clause-files_begin c =
+    files_begin (record {
+      read = c.node_laws.ensures.read;
+      good = c.node_laws.ensures.good;
+      counted = c.node_laws.ensures.counted;
+      one = c.reading_laws.ensures.one;
+      snapshots = c.reading_laws.ensures.snapshots;
+      listed = c.table_laws.ensures.within;
+      cut = c.line_laws.ensures.cut;
+      only_cut = c.line_laws.ensures.only_cut;
     })
