@@ -1,6 +1,6 @@
 //! A mirror that answers many.
 
-ghost use Rattle.std.specs.Prelude.{◌≡◌, ◌<◌, ◌^◌, None, Some, IsTrue, IfOk, length};
+ghost use Rattle.std.specs.Prelude.{◌≡◌, ◌<◌, ◌^◌, None, Some, IsTrue, IfOk, is_some, length};
 ghost use Rattle.feed_note.specs.Texts.{published_text};
 ghost use Rattle.feed_answer.specs.Served.{opening_text};
 ghost use Rattle.feed_hub.specs.Answering.{IsOpeningOf};
@@ -89,7 +89,9 @@ impl Answering {
     }
 
     /// Whether there is a text that many can share.
-    pub fn has_text(&self) -> bool {
+    pub fn has_text(&self) -> bool
+        ensures { result ≡ is_some self.now.opening }
+    {
         self.opening.is_some()
     }
 
