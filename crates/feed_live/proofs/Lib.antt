@@ -1,3 +1,5 @@
+pub mod SweepLemmas
+pub mod CallLemmas
 pub mod EndingLemmas
 pub mod OwedLemmas
 pub mod PendingLemmas
