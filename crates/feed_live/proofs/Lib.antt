@@ -1,4 +1,3 @@
-pub mod SweepLemmas
 pub mod CallLemmas
 pub mod EndingLemmas
 pub mod OwedLemmas

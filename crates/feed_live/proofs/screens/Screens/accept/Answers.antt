@@ -1,5 +1,4 @@
-use Rattle.std.proofs.Common.{◌≡◌, inr, subst}
-use Rattle.feed_device.specs.Calls.{CalledAtLeastOnce}
+use Rattle.std.proofs.Common.{inr}
 use Rattle.feed_live.proofs.CallLemmas.{called_on, called_or}
 use Rattle.feed_live.proofs.screens.Screens.accept.Goals as goal
 
