@@ -1,3 +1,4 @@
+pub mod CallLemmas
 pub mod EndingLemmas
 pub mod OwedLemmas
 pub mod PendingLemmas

@@ -11,6 +11,7 @@ use Rattle.feed_follow.specs.Standing.{Standing}
 use Rattle.feed_world.specs.Log.{Log}
 use Rattle.feed_hub.specs.declared.hub.Hub.{Hub}
 use Rattle.feed_hub.specs.Laws.{IsInLog}
+use Rattle.feed_hub.specs.Upstream.{next_place, counted_on, asked_next, later}
 use Rattle.feed_device.specs.Links.{Exchange, Exchanges, Shown, nothing_shown, once_at, all_from, shown_so}
 use Rattle.feed_device.specs.Sockets.{AllSockets}
 use Rattle.feed_live.specs.declared.conn.Conn.{Conn}
@@ -183,6 +184,14 @@ pub record IsLeft (old new : Source) (before after : Exchanges) : Type 0 where
   pub limits : new.answers.shown.mirror.limits ≡ old.answers.shown.mirror.limits
   pub node : new.answers.shown.mirror.node ≡ old.answers.shown.mirror.node
   pub blank : new.answers.blank.mirror ≡ old.answers.blank.mirror
+
+-- the next place is asked, at once or after a pause
+abbrev pub GoesOnTo : Source → Source → ℕ → Type 0
+GoesOnTo old new now =
+    (new.upstream.place ≡ next_place old.upstream.place old.upstream.places)
+    × (new.upstream.failed ≡ counted_on old.upstream.failed old.upstream.places)
+    × (new.upstream.since ≡ asked_next (next_place old.upstream.place old.upstream.places)
+    (later old.upstream.began 1000) old.upstream.failed old.upstream.places now old.upstream.pause)
 
 -- where one began afresh, what is shown is the same; else that is what follows
 abbrev pub KeepsShown : Option MirrorState → Option MirrorState → MirrorState → MirrorState → Type 0

@@ -1,6 +1,6 @@
 -- THE PROMISE, up to each socket: what is written to it is what the hub was told at the key of its
 -- connection, and so a prefix of what is due to the answer that one of the nodes gave.
-use Rattle.std.specs.Prelude.{◌≡◌, ℕ, zero, suc, ◌<◌, ◌≤◌, List, [], ◌++◌, take, drop, Option, Some, None, Result, MatchResult, Contains, IfSome, IsSome, ◌⊎◌}
+use Rattle.std.specs.Prelude.{◌≡◌, ℕ, zero, suc, ◌<◌, ◌≤◌, ◌+◌, ◌-◌, ◌^◌, min, List, [], ◌++◌, take, drop, Option, Some, None, false, Result, MatchResult, Contains, IfSome, IsSome, ◌⊎◌}
 use Rattle.std.specs.List.{AllByRecursion}
 use Rattle.slab.specs.Slab.{Slab, get}
 use Rattle.feed_settings.specs.declared.framing.Framing.{Framing}
@@ -19,6 +19,7 @@ use Rattle.feed_hub.specs.Log.{Log}
 use Rattle.feed_hub.specs.Screen.{IsServed}
 use Rattle.feed_hub.specs.Seats.{seat_at}
 use Rattle.feed_live.specs.declared.conn.Conn.{Conn}
+use Rattle.feed_live.specs.declared.conn.Stage.TheVariants.{Watches as Watching}
 use Rattle.feed_live.specs.declared.screens.Screens.{Screens}
 use Rattle.feed_live.specs.declared.screens.TheConstants.{FULL}
 use Rattle.feed_live.specs.declared.screens.Hearing.{Hearing}
@@ -196,12 +197,30 @@ pub record IsGreeted (nodes : List NodeState) (contest : List ℕ) (old new : Hu
   pub others : (key : Key) → key.generation < old.seats.next
       → seat_at new.seats.slab key ≡ seat_at old.seats.slab key
 
+-- the hub cut the connection: its key has no seat any more
+abbrev pub IsCutOff : Hub → Option Conn → Type 0
+IsCutOff hub None = ⊥
+IsCutOff hub (Some conn) =
+    (key : Key) × (conn.key ≡ Some key) × (seat_at hub.seats.slab key ≡ None)
+
+-- ---- what is written
+
+-- the connection has this key, and may be written to: its socket took all that it was given last
+abbrev pub IsWritable : Option Conn → Key → Type 0
+IsWritable None key = ⊥
+IsWritable (Some conn) key =
+    (conn.key ≡ Some key) × (conn.stage ≡ Watching) × (conn.is_blocked ≡ false)
+
 -- ---- what was said
 
 -- what was said to all is as far as what the node publishes, or the rest waits for a time
 abbrev pub SaysAll : Screens → NodeState → Type 0
 SaysAll screens node =
     (screens.hub.broadcast.told ≡ published_token node) ⊎ IsSome screens.saying.waits
+
+-- when a line feed is due after silence
+abbrev pub idles_at : Screens → ℕ
+idles_at screens = min (screens.saying.spoke + screens.limits.idle) (2 ^ 64 - 1)
 
 -- ---- bodies that end
 

@@ -6,6 +6,7 @@ ghost use Rattle.feed_answer.specs.Answered.{AnswerParts};
 ghost use Rattle.feed_hub.specs.Hub.{IsSeated, ChangesOnly, prefix_at};
 ghost use Rattle.feed_hub.specs.Seats.{seat_at, Watched};
 ghost use Rattle.feed_hub.specs.Steps.{taken};
+ghost use Rattle.feed_device.specs.Calls.{CalledOnce};
 ghost use Rattle.feed_device.specs.Sockets.{IsWrite, OtherSockets};
 
 use feed_device::{Sockets, Stop};
@@ -28,6 +29,9 @@ pub(crate) fn hand<S: Sockets>(
         → IsSeated nodes hub.old key answer handed
         → IfOk result (λ count. IsSeated nodes hub.new key answer
         (handed ++ take count (prefix_at hub.old key))) }
+
+    // it is offered just once
+    ensures offers { CalledOnce (S.offered sockets.old at) (S.offered sockets.new at) }
 
     // and nothing else changes
     ensures exact { IfOk result (λ count. Watched (λ s t. t ≡ taken count now s)

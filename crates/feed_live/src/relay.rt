@@ -1,10 +1,10 @@
 //! What the node has more is said to all screens.
 
-ghost use Rattle.std.specs.Prelude.{◌≡◌, ℕ, List, Contains, IsTrue, true};
+ghost use Rattle.std.specs.Prelude.{◌≡◌, ◌<◌, ◌≤◌, ℕ, List, Contains, IsTrue, true};
 ghost use Rattle.feed_node.specs.States.{NodeState, published_token};
 ghost use Rattle.feed_hub.specs.Seats.{KeepsThose, IsOnTime};
 ghost use Rattle.feed_device.specs.Sockets.{AllSockets};
-ghost use Rattle.feed_live.specs.Serving.{StillServing, SameSeating, AllEnd, SaysAll};
+ghost use Rattle.feed_live.specs.Serving.{StillServing, SameSeating, AllEnd, SaysAll, idles_at};
 
 use crate::screens::{Counts, Screens};
 use crate::times::{MEMORY_PAUSE, SAY_PAUSE, STALL};
@@ -227,7 +227,8 @@ impl Screens {
     }
 
     fn spoke(&mut self, now: u64)
-        ensures { SameSeating self.old self.new }
+        ensures same { SameSeating self.old self.new }
+        ensures spoke { self.new.saying.spoke ≡ now }
     {
         self.saying.is_due = true;
         self.saying.spoke = now;
@@ -269,7 +270,9 @@ impl Screens {
     }
 
     /// When a line feed is due after silence.
-    pub(crate) fn idles_at(&self) -> u64 {
+    pub(crate) fn idles_at(&self) -> u64
+        ensures { result ≡ idles_at self.now }
+    {
         self.saying.spoke.saturating_add(self.limits.idle)
     }
 
@@ -277,6 +280,9 @@ impl Screens {
     pub(crate) fn idle(&mut self, alloc: Global, now: u64)
         ensures serving { (nodes : List NodeState) (contest : List ℕ) (sockets : AllSockets)
             → StillServing nodes contest self.old self.new sockets sockets }
+        // once that is due, silence begins again
+        ensures speaks { idles_at self.old ≤ now → self.new.saying.spoke ≡ now }
+        ensures waits { now < idles_at self.old → self.new ≡ self.old }
     {
         if now < self.idles_at() {
             return;

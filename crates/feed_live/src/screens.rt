@@ -1,9 +1,10 @@
 //! The screens: each has a socket, a connection at the same place, and a seat in the hub.
 
-ghost use Rattle.std.specs.Prelude.{◌≡◌, ◌≤◌, ◌+◌, ◌-◌, [], ℕ, List, None, Some, Contains, length, min, false, IfOk, IfSome};
+ghost use Rattle.std.specs.Prelude.{◌≡◌, ◌≢◌, ◌≤◌, ◌+◌, ◌-◌, [], ℕ, List, None, Some, Contains, length, min, false, IsTrue, IfOk, IfSome};
 ghost use Rattle.slab.specs.Slab.{get};
 ghost use Rattle.feed_node.specs.States.{NodeState};
 ghost use Rattle.feed_hub.specs.Seats.{seat_at, IsAskingSeat};
+ghost use Rattle.feed_device.specs.Calls.{NotCalled};
 ghost use Rattle.feed_device.specs.Sockets.{AllSockets, IsSocket, IsUnused, closed};
 ghost use Rattle.feed_live.specs.Pending.{AreConnected};
 
@@ -125,7 +126,7 @@ pub(crate) struct Screens {
 
 impl Screens {
     ghost use Rattle.feed_live.specs.Serving.{Serving, StillServing, StillServingWith, SameSeating, SameKeys};
-    ghost use Rattle.feed_live.specs.Serving.{ServesBut, HearsSome, HearsAll, key_at};
+    ghost use Rattle.feed_live.specs.Serving.{ServesBut, HearsSome, HearsAll, IsCutOff, key_at};
     ghost use Rattle.feed_live.specs.Held.{answerer, SameMirrors, Waits};
 
     pub(crate) fn new(alloc: Global, limits: LiveLimits) -> Screens
@@ -168,6 +169,15 @@ impl Screens {
         // its number is free then, and its socket closed
         ensures free { key_at self.new.conns at ≡ None }
         ensures closed { IsSocket (S.socket sockets.new at) closed }
+        ensures offers { NotCalled (S.offered sockets.old) (S.offered sockets.new) }
+        ensures asks { S.asked sockets.new ≡ S.asked sockets.old }
+        // its seat is free, and the others stay
+        ensures seat { (key : Key) → key_at self.old.conns at ≡ Some (Some key)
+            → seat_at self.new.hub.seats.slab key ≡ None }
+        ensures seats { (key : Key) → key_at self.old.conns at ≢ Some (Some key)
+            → seat_at self.new.hub.seats.slab key ≡ seat_at self.old.hub.seats.slab key }
+        ensures others { (other : ℕ) → other ≢ at
+            → get self.new.conns other ≡ get self.old.conns other }
     {
         sockets.close(at);
         self.pay(at);
@@ -188,7 +198,8 @@ impl Screens {
     }
 
     fn count(&mut self, how: How)
-        ensures { SameSeating self.old self.new }
+        ensures same { SameSeating self.old self.new }
+        ensures conns { self.new.conns ≡ self.old.conns }
     {
         match how {
             How::Cut => {
@@ -200,7 +211,9 @@ impl Screens {
     }
 
     /// Whether the hub cut the connection at a place.
-    fn is_cut(&self, at: usize) -> bool {
+    fn is_cut(&self, at: usize) -> bool
+        ensures { IsTrue result → IsCutOff self.now.hub (get self.now.conns at) }
+    {
         match self.conns.get(at) {
             Some(conn) => match conn.key {
                 Some(key) => !self.hub.has(key),
@@ -223,6 +236,10 @@ impl Screens {
         ensures serving { (nodes : List NodeState) (contest : List ℕ)
             → StillServing nodes contest self.old self.new
             (S.socket sockets.old) (S.socket sockets.new) }
+        ensures asks { S.asked sockets.new ≡ S.asked sockets.old }
+        // whom the hub didn't cut stays
+        ensures stays { (at : ℕ) → ¬ (IsCutOff self.old.hub (get self.old.conns at))
+            → get self.new.conns at ≡ get self.old.conns at }
     {
         for at in 0..self.conns.capacity() {
             if self.is_cut(at) {

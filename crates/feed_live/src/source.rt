@@ -1,6 +1,7 @@
 //! The server that is followed, and the mirror of what it sends.
 
-ghost use Rattle.std.specs.Prelude.{◌≡◌, [], None, Some, IfOk, IfSome, drop, false};
+ghost use Rattle.std.specs.Prelude.{◌≡◌, ◌<◌, ◌⊎◌, [], None, Some, IfOk, IfSome, IsSome, drop, length, false};
+ghost use Rattle.feed_device.specs.Calls.{CalledOnce};
 ghost use Rattle.feed_node.specs.States.{published_token};
 
 mod input;
@@ -76,7 +77,7 @@ pub(crate) struct Source {
 }
 
 impl Source {
-    ghost use Rattle.feed_live.specs.Relaying.{StillFollows, SameSource, IsLeft, servers_of};
+    ghost use Rattle.feed_live.specs.Relaying.{StillFollows, SameSource, IsLeft, GoesOnTo, servers_of};
     ghost use Rattle.feed_live.specs.Upstream.{IsRequestOf};
     ghost use Rattle.feed_live.specs.declared.source.Reach.TheVariants.{Away, Asks as Asked};
     ghost use Rattle.feed_live.specs.Held.{has_heard};
@@ -309,6 +310,10 @@ impl Source {
         ensures follows { (screens : Screens) → StillFollows self.old self.new
             (L.exchanges link.old) (L.exchanges link.new) self.old.rest.items
             self.new.rest.items screens screens }
+        // A connection is begun, once; or memory ran out, and the next place is asked after that.
+        ensures begins { self.old.upstream.place < length self.old.places.items
+            → CalledOnce (L.begun link.old) (L.begun link.new)
+            ⊎ ((L.begun link.new ≡ L.begun link.old) × GoesOnTo self.old self.new now) }
     {
         let coming = match self.begin_afresh(alloc) {
             Ok(coming) => coming,
@@ -352,6 +357,8 @@ impl Source {
             self.now.upstream.place mirror.now text.items)) }
         ensures since { IfSome mirror.now.since (λ token.
             published_token mirror.now.node ≡ Some token) }
+        ensures place { self.now.upstream.place < length self.now.places.items
+            → IfOk result (λ made. IsSome made) }
     {
         let since = mirror.since();
         let Some(place) = self.places.get(self.upstream.place()) else {
@@ -365,6 +372,8 @@ impl Source {
     /// The server is left, and the next one is asked: after a pause where each of them failed.
     pub(crate) fn lost<L: Link>(&mut self, link: &mut L, told: &mut Telling, why: Why, now: u64)
         ensures left { IsLeft self.old self.new (L.exchanges link.old) (L.exchanges link.new) }
+        ensures calls { L.begun link.new ≡ L.begun link.old }
+        ensures next { GoesOnTo self.old self.new now }
     {
         let server = self.upstream.place();
         let is_told = self.lose();
@@ -381,7 +390,8 @@ impl Source {
     /// A server is lost. Whether that is to be told: not where it only had its turn, and did not
     /// answer.
     fn lose(&mut self) -> bool
-        ensures { SameSource self.old self.new }
+        ensures same { SameSource self.old self.new }
+        ensures upstream { self.new.upstream ≡ self.old.upstream }
     {
         if self.body_since.is_some() {
             self.returning.lose();
@@ -391,7 +401,8 @@ impl Source {
 
     /// A server that ended its answer has sent all that comes after our token.
     fn hear_end(&mut self, why: Why)
-        ensures { SameSource self.old self.new }
+        ensures same { SameSource self.old self.new }
+        ensures upstream { self.new.upstream ≡ self.old.upstream }
     {
         if matches!(why, Why::Ended) && self.heard_at().is_some() {
             self.is_heard = true;
@@ -400,6 +411,7 @@ impl Source {
 
     pub(crate) fn leave<L: Link>(&mut self, link: &mut L, now: u64)
         ensures exchanges { L.exchanges link.new ≡ L.exchanges link.old }
+        ensures calls { L.begun link.new ≡ L.begun link.old }
         ensures servers { servers_of self.new ≡ servers_of self.old }
         ensures answers { self.new.answers ≡ self.old.answers }
         ensures upstream { self.new.upstream ≡ self.old.upstream }
@@ -503,7 +515,8 @@ fn why_not(begun: Result<(), Why>) -> Why {
 /// Each server failed where the next one is asked after so long a pause: the addresses of names are
 /// asked for again then.
 fn forget_after<L: Link>(link: &mut L, pause: u64)
-    ensures { L.exchanges link.new ≡ L.exchanges link.old }
+    ensures exchanges { L.exchanges link.new ≡ L.exchanges link.old }
+    ensures calls { L.begun link.new ≡ L.begun link.old }
 {
     if pause >= FIRST_PAUSE {
         link.forget_addresses();

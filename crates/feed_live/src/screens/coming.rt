@@ -1,7 +1,8 @@
 //! Who comes: each gets a seat, or is refused.
 
-ghost use Rattle.std.specs.Prelude.{◌≡◌, [], ℕ, List, None, Some, IsTrue};
+ghost use Rattle.std.specs.Prelude.{◌≡◌, ◌≢◌, ◌≤◌, ◌+◌, ◌-◌, ◌^◌, ◌⊎◌, [], ℕ, List, None, Some, Err, min, false, true, IsTrue};
 ghost use Rattle.feed_node.specs.States.{NodeState};
+ghost use Rattle.feed_device.specs.Calls.{CalledOnce, CalledAtLeastOnce};
 ghost use Rattle.feed_device.specs.Sockets.{AllSockets, opened, former_of, IsSocket, OtherSockets};
 ghost use Rattle.feed_live.specs.Serving.{StillServing, StillServingWith, SameSeating, IsSent};
 ghost use Rattle.feed_live.specs.Serving.{IsGreeted, key_at};
@@ -34,23 +35,49 @@ impl Screens {
         ensures serving { (nodes : List NodeState) (contest : List ℕ)
             → StillServing nodes contest self.old self.new
             (S.socket sockets.old) (S.socket sockets.new) }
+        // where somebody waits and the time has come, one is asked for at least; or memory ran out,
+        // and it pauses
+        ensures asks { self.old.is_waited_for ≡ true → self.old.accept_at ≤ now
+            → CalledAtLeastOnce (S.asked sockets.old) (S.asked sockets.new)
+            ⊎ (self.new.accept_at ≡ min (now + 1000) (2 ^ 64 - 1)) }
     {
         if !self.is_waited_for || now < self.accept_at {
             return;
         }
         self.sweep(sockets, told, now);
         for _ in 0..ACCEPTS {
-            self.make_place(sockets, told, now);
-            match self.accept_one(alloc, sockets, told, now) {
-                Ok(()) | Err(Stop::Gone) => {}
-                Err(Stop::Waits) => {
-                    self.is_waited_for = false;
-                    return;
-                }
-                Err(Stop::Failed) => {
-                    self.stick(told, now);
-                    return;
-                }
+            if !self.accept_next(alloc, sockets, told, now) {
+                return;
+            }
+        }
+    }
+
+    /// Takes one. Whether there may be more.
+    fn accept_next<S: Sockets>(
+        &mut self,
+        alloc: Global,
+        sockets: &mut S,
+        told: &mut Telling,
+        now: u64,
+    ) -> bool
+        ensures serving { (nodes : List NodeState) (contest : List ℕ)
+            → StillServing nodes contest self.old self.new
+            (S.socket sockets.old) (S.socket sockets.new) }
+        ensures asks { result ≡ true → CalledOnce (S.asked sockets.old) (S.asked sockets.new) }
+        ensures stops { result ≡ false → CalledOnce (S.asked sockets.old) (S.asked sockets.new)
+            ⊎ (self.new.accept_at ≡ min (now + 1000) (2 ^ 64 - 1)) }
+    {
+        self.make_place(sockets, told, now);
+        match self.accept_one(alloc, sockets, told, now) {
+            Ok(()) => true,
+            Err(Stop::Gone) => true,
+            Err(Stop::Waits) => {
+                self.is_waited_for = false;
+                false
+            }
+            Err(Stop::Failed) => {
+                self.stick(told, now);
+                false
             }
         }
     }
@@ -66,6 +93,7 @@ impl Screens {
         ensures serving { (nodes : List NodeState) (contest : List ℕ)
             → StillServing nodes contest self.old self.new
             (S.socket sockets.old) (S.socket sockets.new) }
+        ensures asks { S.asked sockets.new ≡ S.asked sockets.old }
     {
         if !self.has_no_place() {
             return;
@@ -89,7 +117,8 @@ impl Screens {
 
     /// No connection is taken for a while.
     fn stick(&mut self, told: &mut Telling, now: u64)
-        ensures { SameSeating self.old self.new }
+        ensures same { SameSeating self.old self.new }
+        ensures pause { self.new.accept_at ≡ min (now + 1000) (2 ^ 64 - 1) }
     {
         self.accept_at = now.saturating_add(ACCEPT_PAUSE);
         if !self.is_stuck {
@@ -108,6 +137,9 @@ impl Screens {
         ensures serving { (nodes : List NodeState) (contest : List ℕ)
             → StillServing nodes contest self.old self.new
             (S.socket sockets.old) (S.socket sockets.new) }
+        // one is asked for, unless memory for it ran out
+        ensures asks { result ≢ Err Stop.Failed
+            → CalledOnce (S.asked sockets.old) (S.asked sockets.new) }
     {
         if self.conns.reserve(1).is_err() {
             return Err(Stop::Failed);
@@ -161,6 +193,7 @@ impl Screens {
         peer: SocketAddr,
         now: u64,
     ) -> Conn
+        ensures asks { S.asked sockets.new ≡ S.asked sockets.old }
         ensures greeted { (nodes : List NodeState) (contest : List ℕ)
             → IsSocket (S.socket sockets.old at) (opened [] [])
             → IsGreeted nodes contest self.old.hub self.new.hub result.key
@@ -185,6 +218,7 @@ impl Screens {
 
     /// One more than there may be is told so.
     fn refuse<S: Sockets>(&mut self, sockets: &mut S, told: &mut Telling, at: usize)
+        ensures asks { S.asked sockets.new ≡ S.asked sockets.old }
         ensures sent { (nodes : List NodeState) (contest came : List ℕ)
             → IsSocket (S.socket sockets.old at) (opened came [])
             → IsSent nodes contest (S.socket sockets.new at) }
@@ -258,6 +292,7 @@ impl Screens {
         ensures serving { (nodes : List NodeState) (contest : List ℕ)
             → StillServing nodes contest self.old self.new
             (S.socket sockets.old) (S.socket sockets.new) }
+        ensures asks { S.asked sockets.new ≡ S.asked sockets.old }
     {
         if !self.lingers(at) {
             return;

@@ -1,12 +1,14 @@
 //! What screens are sent: each writes once when it has its turn.
 
-ghost use Rattle.std.specs.Prelude.{◌≡◌, ◌≢◌, ℕ, List, None, Some, Contains, IsTrue, IfSome};
+ghost use Rattle.std.specs.Prelude.{◌≡◌, ◌≢◌, [], ℕ, List, None, Some, Contains, IsTrue, IfSome};
 ghost use Rattle.feed_node.specs.States.{NodeState};
+ghost use Rattle.feed_hub.specs.Hub.{prefix_at};
+ghost use Rattle.feed_device.specs.Calls.{CalledOnce, NotCalled};
 ghost use Rattle.feed_device.specs.Sockets.{AllSockets};
 ghost use Rattle.slab.specs.Slab.{get};
 ghost use Rattle.feed_live.specs.declared.conn.Stage.TheVariants.{Asks};
 ghost use Rattle.feed_live.specs.Held.{IsAt};
-ghost use Rattle.feed_live.specs.Serving.{StillServing, SameSeating, SameKeys, Leaves, key_at, keyless};
+ghost use Rattle.feed_live.specs.Serving.{StillServing, SameSeating, SameKeys, Leaves, IsWritable, key_at, keyless};
 
 use crate::conn::{Stage, Wanted};
 use crate::hand::hand;
@@ -36,6 +38,7 @@ impl Screens {
         ensures key { IfSome result (λ key. key_at self.old.conns at ≡ Some (Some key)) }
         ensures same { SameSeating self.old self.new }
         ensures asks { IsAt (get self.old.conns at) Asks → result ≡ None }
+        ensures some { (key : Key) → IsWritable (get self.old.conns at) key → result ≡ Some key }
     {
         let conn = self.conns.get_mut(at)?;
         conn.has_more = false;
@@ -60,6 +63,10 @@ impl Screens {
             → StillServing nodes contest self.old self.new
             (S.socket sockets.old) (S.socket sockets.new) }
         ensures asks { IsAt (get self.old.conns at) Asks → sockets.new ≡ sockets.old }
+        // what is pending at a place that may be written to is offered, once
+        ensures offers { (key : Key) → IsWritable (get self.old.conns at) key
+            → prefix_at self.old.hub key ≢ []
+            → CalledOnce (S.offered sockets.old at) (S.offered sockets.new at) }
     {
         let Some(key) = self.writable(at) else {
             return;
@@ -84,6 +91,7 @@ impl Screens {
             → Contains nodes node.now.shown → key_at self.old.conns at ≡ Some (Some key)
             → StillServing nodes contest self.old self.new
             (S.socket sockets.old) (S.socket sockets.new) }
+        ensures offers { CalledOnce (S.offered sockets.old at) (S.offered sockets.new at) }
     {
         match self.write_once(sockets, at, key, now) {
             Ok(true) => {
@@ -125,6 +133,8 @@ impl Screens {
             → StillServing nodes contest self.old self.new
             (S.socket sockets.old) (S.socket sockets.new) }
         ensures stays { IsTrue result → key_at self.new.conns at ≡ key_at self.old.conns at }
+        ensures has { prefix_at self.old.hub key ≢ [] → IsTrue result }
+        ensures offers { NotCalled (S.offered sockets.old) (S.offered sockets.new) }
     {
         if !self.hub.prefix(key).is_empty() {
             return true;
@@ -205,6 +215,7 @@ impl Screens {
             → key_at self.old.conns at ≡ Some (Some key)
             → StillServing nodes contest self.old self.new
             (S.socket sockets.old) (S.socket sockets.new) }
+        ensures offers { NotCalled (S.offered sockets.old) (S.offered sockets.new) }
     {
         self.hub.leave(key);
         sockets.shut(at);
@@ -236,6 +247,7 @@ impl Screens {
             → StillServing nodes contest self.old self.new
             (S.socket sockets.old) (S.socket sockets.new) }
         ensures keys { key_at self.new.conns at ≡ key_at self.old.conns at }
+        ensures offers { CalledOnce (S.offered sockets.old at) (S.offered sockets.new at) }
     {
         let length = self.hub.prefix(key).len();
         let count = match hand(&mut self.hub, sockets, at, key, now) {

@@ -1,6 +1,6 @@
 //! Who waits for room: long texts that screens have yet to take have a limit together.
 
-ghost use Rattle.std.specs.Prelude.{◌≡◌, ◌<◌, ◌↔◌, ◌^◌, ◌-◌, [], ℕ, List, None, Some, Contains, min, IsTrue, IfSome};
+ghost use Rattle.std.specs.Prelude.{◌≡◌, ◌≢◌, ◌<◌, ◌↔◌, ◌^◌, ◌-◌, [], ℕ, List, None, Some, Contains, min, IsTrue, IfSome};
 ghost use Rattle.feed_node.specs.States.{NodeState};
 ghost use Rattle.feed_device.specs.Sockets.{AllSockets};
 ghost use Rattle.slab.specs.Slab.{get};
@@ -60,6 +60,8 @@ impl Screens {
         ensures paid { Pays (text_at self.old.pending.places.items at)
             self.old.pending.texts.list.items self.new.pending.texts.list.items }
         ensures once { text_at self.new.pending.places.items at ≡ None }
+        ensures others { (other : ℕ) → other ≢ at
+            → get self.new.conns other ≡ get self.old.conns other }
     {
         if let Some(conn) = self.conns.get_mut(at) {
             conn.pay();

@@ -153,8 +153,9 @@ pub(crate) fn followed_of<'a>(coming: &'a Option<Mirror>, shown: &'a Mirror) -> 
 
 /// What comes to the mirror that is shown is shown from the first byte on.
 pub(crate) fn begin_shown<L: Link>(link: &mut L, coming: &Option<Mirror>)
-    ensures { L.exchanges link.new ≡ (if is_none coming.now
+    ensures shown { L.exchanges link.new ≡ (if is_none coming.now
         then option_map (shown_so all_from 0) (L.exchanges link.old) else L.exchanges link.old) }
+    ensures calls { L.begun link.new ≡ L.begun link.old }
 {
     if coming.is_none() {
         link.show_all(0);

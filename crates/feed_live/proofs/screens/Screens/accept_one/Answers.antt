@@ -4,10 +4,9 @@ use Rattle.feed_live.specs.Serving.{key_of}
 use Rattle.feed_live.proofs.ServingLemmas.{serving_inserted, serving_same, goes_on}
 use Rattle.feed_live.proofs.screens.Screens.accept_one.Goals as goal
 
-pub returns : goal.returns
-returns g c =
-    record {
-      serving = λ nodes contest serving.
+pub returns-clause-serving : goal.returns-clause-serving
+returns-clause-serving g c =
+    λ nodes contest serving.
           c.dismiss.ensures.serving nodes contest
           (serving_inserted c.make_seat.new.self.hub c.greet-conn.new.self.hub c.make_seat.new.self.conns c.greet-conn.new.self.conns c.insert_reserved-at.new.self
           (g.S.Sockets.socket c.args.sockets.now) (g.S.Sockets.socket c.accept.new.self) (g.S.Sockets.socket c.greet-conn.new.sockets)
@@ -18,5 +17,4 @@ returns g c =
           (c.greet-conn.ensures.greeted nodes contest (goes_on _ _ _ c.in_ok-peer.ensures.connection))
           (c.make_seat.ensures.serving nodes contest (g.S.Sockets.socket c.args.sockets.now)
           (serving_same {old = c.args.self.now.hub} {new = c.args.self.now.hub} {conns = c.args.self.now.conns} {conns_new = c.reserve.new.self}
-          refl (λ other. ap (λ s. key_of (get s other)) c.reserve.ensures.rest_kept) (λ _. refl) serving)));
-    }
+          refl (λ other. ap (λ s. key_of (get s other)) c.reserve.ensures.rest_kept) (λ _. refl) serving)))

@@ -1,4 +1,4 @@
-use Rattle.std.proofs.Common.{rules, ◌≡◌, [], refl, subst}
+use Rattle.std.proofs.Common.{rules, ◌≡◌, subst}
 use Rattle.feed_live.specs.declared.screens.Hearing.TheVariants.{Goes, TooMuch}
 use Rattle.feed_live.specs.Serving.{HearsTo}
 use Rattle.feed_live.proofs.ServingLemmas.{answerer_among, but_nothing}

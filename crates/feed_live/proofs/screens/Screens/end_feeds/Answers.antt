@@ -8,7 +8,7 @@ pub returns : goal.returns
 returns c =
     record {
       serving = λ nodes contest sockets serving.
-          serving_noted c.spoke.ensures
+          serving_noted c.spoke.ensures.same
           (serving_on (λ key. still_sits contest (ended_stays nodes _ _ key _ _ _ (c.end_all.ensures.left key) (c.end_all.ensures.served nodes key))) (omega (arith, c.end_all.ensures.next)) serving);
-      ended = subst AllEnd (sym c.spoke.ensures.hub) (all_ended c.args.self.now.hub c.end_all.new.self _ _ _ c.end_all.ensures.left);
+      ended = subst AllEnd (sym c.spoke.ensures.same.hub) (all_ended c.args.self.now.hub c.end_all.new.self _ _ _ c.end_all.ensures.left);
     }

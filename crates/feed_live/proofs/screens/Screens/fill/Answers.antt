@@ -1,5 +1,4 @@
-use Rattle.std.proofs.Common.{◌∙◌, ap}
-use Rattle.feed_live.specs.Serving.{key_at}
+use Rattle.std.proofs.Common.{◌∙◌}
 use Rattle.feed_live.proofs.ServingLemmas.{serving_noted}
 use Rattle.feed_live.proofs.screens.Screens.fill.Goals as goal
 

@@ -2,7 +2,7 @@ use Rattle.std.proofs.Common.{◌≡◌, ◌≢◌, ◌∙◌, ◌⊎◌, ℕ, L
 use Rattle.std.specs.Prelude.{◌==◌, Contains}
 use Rattle.std.proofs.lemmas.Bool.Decides.{eqb_tells}
 use Rattle.std.proofs.lemmas.List.{nil_from_length}
-use Rattle.feed_live.proofs.ServingLemmas.{hears_none, serving_nothing}
+use Rattle.feed_live.proofs.ServingLemmas.{hears_none}
 use Rattle.feed_live.proofs.screens.Screens.hear.Goals as goal
 
 none_of : (bytes : List ℕ) → (length bytes == 0) ≡ true → bytes ≡ []

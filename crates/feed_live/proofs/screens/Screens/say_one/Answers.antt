@@ -8,9 +8,9 @@ pub returns-in-Ok-Looked-More : goal.returns-in-Ok-Looked-More
 returns-in-Ok-Looked-More c =
     record {
       serving = λ nodes contest sockets among serving.
-          serving_noted c.spoke.ensures
+          serving_noted c.spoke.ensures.same
           (serving_said c.say_next.ensures.seats (λ key. c.say_next.ensures.served nodes key among) serving);
-      ended = λ all. subst AllEnd (sym c.spoke.ensures.hub) (end_same c.args.self.now.hub c.say_next.new.self c.say_next.ensures.seats all);
+      ended = λ all. subst AllEnd (sym c.spoke.ensures.same.hub) (end_same c.args.self.now.hub c.say_next.new.self c.say_next.ensures.seats all);
     }
 
 pub returns-in-Ok-Looked-UpToDate : goal.returns-in-Ok-Looked-UpToDate

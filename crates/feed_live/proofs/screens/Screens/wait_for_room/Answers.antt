@@ -1,4 +1,4 @@
-use Rattle.std.proofs.Common.{◌≡◌, ◌≤◌, [], sym, subst, inl, length, drop, arith, false}
+use Rattle.std.proofs.Common.{◌≤◌, subst, inl, length, drop, arith}
 use Rattle.std.proofs.lemmas.List.{drop_all}
 use Rattle.feed_hub.specs.Seats.{IsAskingSeat}
 use Rattle.feed_live.proofs.ServingLemmas.{serving_all, serving_noted, serving_nothing, serving_heard, but_changed, still_sits, cut_stays, held_sits, hears_nothing_more}

@@ -10,24 +10,21 @@ use Rattle.feed_live.proofs.RelayLemmas.{begun_follows, begun_honest, begins_in_
 use Rattle.feed_live.proofs.SourceLemmas.{begins_so, fails_so, left_still}
 use Rattle.feed_live.proofs.source.Source.connect.Goals as goal
 
-pub returns-then-is_err : goal.returns-then-is_err
-returns-then-is_err g c =
+pub returns-then-is_err-clause-follows : goal.returns-then-is_err-clause-follows
+returns-then-is_err-clause-follows g c =
     let failed = fails_so c.connect-begun.result _ _ c.place.result (sym c.is_err.ensures.value ∙ c.if-is_err.true) c.connect-begun.ensures.begins in
-    record {
-      follows = left_still (subst (λ e. IsLeft c.args.self.now c.lost-then-is_err.new.self e (g.L.Link.exchanges c.lost-then-is_err.new.link)) failed c.lost-then-is_err.ensures.left);
-    }
+    left_still (subst (λ e. IsLeft c.args.self.now c.lost-then-is_err.new.self e (g.L.Link.exchanges c.lost-then-is_err.new.link)) failed c.lost-then-is_err.ensures.left)
 
-pub returns : goal.returns
-returns g c =
+pub returns-clause-follows : goal.returns-clause-follows
+returns-clause-follows g c =
     let shown = c.args.self.now.answers.shown.mirror in
     let asking : c.followed_of.result.now ≡ followed c.in-Ok.coming shown = c.followed_of.ensures ∙ ap (λ s. followed c.in-Ok.coming s) c.mirror.ensures in
     let following : c.followed_of-followed.result.now ≡ followed c.in-Ok.coming shown = c.followed_of-followed.ensures ∙ ap (λ s. followed c.in-Ok.coming s) c.mirror-2.ensures in
-    record {
-      follows = λ screens limits log servers contest sockets follows. (
+    λ screens limits log servers contest sockets follows. (
         follows.0,
         λ honest.
             let begins = begins_so c.connect-begun.result _ _ c.place.result (sym c.is_err.ensures.value ∙ c.if-is_err.false) c.connect-begun.ensures.begins in
-            let here = follows.1 (one_more_honest limits log servers _ _ _ begins (begun_honest limits log servers c.in-Ok.coming _ _ c.begin_shown.ensures honest)) in
+            let here = follows.1 (one_more_honest limits log servers _ _ _ begins (begun_honest limits log servers c.in-Ok.coming _ _ c.begin_shown.ensures.shown honest)) in
             let at = begins_in_log limits log servers c.in-Ok.coming shown c.in-Ok.ensures here.0.limits_are here.0.shown_is in
             let asks = subst (λ k. IfSome k.since (λ token. published_token k.node ≡ Some token)) asking c.request.ensures.since in
             let is_request = subst (λ s. IsRequestOf s c.place.result (followed c.in-Ok.coming shown) c.in-Ok-Some.request.items) follows.0
@@ -38,7 +35,6 @@ returns g c =
               here.0,
               subst (λ u. MayFollow limits log servers (is_none c.in-Ok.coming) (Connects c.args.now) c.in-Ok-Some.request.items u (g.L.Link.exchanges c.begin_shown.new.link) c.opened.new.self.follower (followed c.in-Ok.coming shown)) (sym c.clear.ensures.items)
                   (begun_follows limits log servers c.in-Ok.coming c.place.result c.in-Ok-Some.request.items _ _ _ c.args.now c.opened.new.self.follower (followed c.in-Ok.coming shown)
-                  begins c.begin_shown.ensures honest at.0 at.1 asks is_request begun),
+                  begins c.begin_shown.ensures.shown honest at.0 at.1 asks is_request begun),
             ),
-      );
-    }
+      )

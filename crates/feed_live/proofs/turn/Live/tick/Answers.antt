@@ -1,4 +1,3 @@
-use Rattle.std.proofs.Common.{◌∙◌}
 use Rattle.feed_live.proofs.TurnLemmas.{serves_then}
 use Rattle.feed_live.proofs.turn.Live.tick.Goals as goal
 

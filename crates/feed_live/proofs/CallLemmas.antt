@@ -1,0 +1,24 @@
+-- How often devices were called.
+use Rattle.std.proofs.Common.{◌≡◌, refl, ap, ◌∙◌, subst, sym, ℕ, suc, ◌+◌, ◌⊎◌, inl, inr, arith, Option, Some, None}
+use Rattle.std.specs.Prelude.{option_map}
+use Rattle.feed_device.specs.Calls.{CalledOnce, CalledAtLeastOnce}
+
+pub called_once : (old new : Option ℕ) → CalledOnce old new → CalledAtLeastOnce old new
+called_once None new is = (0, is)
+called_once (Some n) new is = let one : suc n ≡ suc 0 + n = omega arith in (0, is ∙ ap (λ x. Some x) one)
+
+pub called_more : (old new later : Option ℕ) → CalledAtLeastOnce old new → CalledOnce new later → CalledAtLeastOnce old later
+called_more None new later some is = (suc some.0, is ∙ ap (option_map (λ x. suc x)) some.1)
+called_more (Some n) new later some is =
+    let more = some.0 in
+    let one : suc (suc more + n) ≡ suc (suc more) + n = omega arith in
+    (suc more, is ∙ ap (option_map (λ x. suc x)) some.1 ∙ ap (λ x. Some x) one)
+
+-- and after one more call
+pub called_on : {W : Type 0} (old before new : Option ℕ) → (W × (before ≡ old)) ⊎ CalledAtLeastOnce old before → CalledOnce before new → CalledAtLeastOnce old new
+called_on old before new (inl (_, none)) once = called_once old new (subst (λ b. CalledOnce b new) none once)
+called_on old before new (inr some) once = called_more old before new some once
+
+pub called_or : {V W : Type 0} (first old before new : Option ℕ) → old ≡ first → (W × (before ≡ old)) ⊎ CalledAtLeastOnce old before → CalledOnce before new ⊎ V → CalledAtLeastOnce first new ⊎ V
+called_or first old before new same so (inl once) = inl (subst (λ a. CalledAtLeastOnce a new) same (called_on old before new so once))
+called_or first old before new same so (inr paused) = inr paused
