@@ -1,5 +1,5 @@
 -- What becomes of the objects of one type alone.
-use Rattle.std.proofs.Common.{Bool, true, false, cond, ◌⊎◌, inl, inr, Option, Less, Equal, Greater, ◌≡◌, ℕ, ◌+◌, List, [], ◌∷◌, None, Some, sym, ap, subst, ◌∙◌, refl, arith}
+use Rattle.std.proofs.Common.{Bool, true, false, cond, ◌⊎◌, inl, inr, Option, Less, Equal, Greater, ◌≡◌, ℕ, List, [], ◌∷◌, None, Some, sym, ap, subst, ◌∙◌, refl, arith}
 use Rattle.std.specs.Ordering.{is_eq, eq_by_cmp}
 use Rattle.std.specs.FinMap.{FinMap, empty, get, insert, remove, entries, put, entries-insert, entries-from_sorted, get-insert, get-remove, get-empty}
 use Rattle.std.specs.declared.cmp.Ordering.{Ordering}
@@ -80,9 +80,9 @@ module _ (kind first id object : List ℕ) (i j : Ids) (m n : Changed) (held : a
   exchanged same made = (
     ap (λ (x : Changed). get x kind) (sym held) ∙ get_here first i kind same,
     made
-    ∙ ap (λ (x : List ℕ). alone x j) (sym same)
-    ∙ sym (insert_here first i kind j same ∙ ap (λ (x : List ℕ). insert empty_map x j) (sym same))
-    ∙ ap (λ (x : Changed). insert x kind j) held,
+        ∙ ap (λ (x : List ℕ). alone x j) (sym same)
+        ∙ sym (insert_here first i kind j same ∙ ap (λ (x : List ℕ). insert empty_map x j) (sym same))
+        ∙ ap (λ (x : Changed). insert x kind j) held,
   )
 
   absent : (byte_order kind first ≡ Equal → ⊥) → get m kind ≡ None

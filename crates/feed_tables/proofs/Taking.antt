@@ -1,5 +1,5 @@
 -- A node that was taken out, by the entry that it had.
-use Rattle.std.proofs.Common.{option_map, min, ◌≡◌, ℕ, ◌+◌, List, [], ◌∷◌, Option, None, Some, sym, ap, ◌∙◌, refl, arith}
+use Rattle.std.proofs.Common.{option_map, ◌≡◌, ℕ, List, [], ◌∷◌, Option, None, Some, sym, ap, ◌∙◌, refl, arith}
 use Rattle.std.specs.declared.alloc.Global.{Global}
 use Rattle.std.specs.declared.boxed.Box.{Box}
 use Rattle.feed_tables.specs.Tree.{handed, named}

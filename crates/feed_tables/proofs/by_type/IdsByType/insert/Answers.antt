@@ -1,5 +1,5 @@
 use Rattle.std.proofs.Common.{◌≡◌, ap, ◌∙◌, List, ℕ, arith, sym}
-use Rattle.std.specs.FinMap.{insert, empty, len, empty_of_len}
+use Rattle.std.specs.FinMap.{insert, empty, empty_of_len}
 use Rattle.feed_tables.specs.ChangedIds.{ids_by_type}
 use Rattle.feed_tables.proofs.ByType.{Changed, empty_map}
 use Rattle.feed_tables.proofs.by_type.IdsByType.insert.Goals.{in-Alone-2, in-Several+in-Fork-2, in-Several+in-Leaf-2}

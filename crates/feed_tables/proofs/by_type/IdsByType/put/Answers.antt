@@ -1,5 +1,5 @@
 use Rattle.std.proofs.Common.{◌≡◌, sym, ap, ◌∙◌, List, ℕ, fold}
-use Rattle.std.specs.FinMap.{entries, get}
+use Rattle.std.specs.FinMap.{get}
 use Rattle.feed_tables.specs.ChangedIds.{ids_by_type, with_ids, with_all_ids}
 use Rattle.feed_tables.specs.declared.ids.Ids.{Ids}
 use Rattle.feed_tables.proofs.ByType.{Changed, alone, entries_alone}

@@ -1,4 +1,4 @@
-use Rattle.std.proofs.Common.{◌≡◌, Equal, sym, ap, ◌∙◌}
+use Rattle.std.proofs.Common.{sym, ap, ◌∙◌}
 use Rattle.feed_tables.specs.ChangedIds.{ids_by_type}
 use Rattle.feed_tables.specs.declared.by_type.IdsByType.TheInside.{Inside}
 use Rattle.feed_tables.proofs.ByType.{alone, same_name, other_name, swapped_here, swapped_nowhere, swapped_same}

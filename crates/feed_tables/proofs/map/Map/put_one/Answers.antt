@@ -1,5 +1,5 @@
-use Rattle.std.proofs.Common.{◌≡◌, ℕ, List, ◌∷◌, [], length, fold, sym, ap, ◌∙◌, arith}
-use Rattle.std.specs.FinMap.{FinMap, get, insert, entries, len-entries, get-from_sorted, find}
+use Rattle.std.proofs.Common.{length, sym, ap, ◌∙◌, arith}
+use Rattle.std.specs.FinMap.{get, len-entries, get-from_sorted, find}
 use Rattle.feed_tables.specs.Bytes.{byte_order}
 use Rattle.feed_tables.specs.Unions.{entry_in}
 use Rattle.feed_tables.specs.Walks.{weight, weighed, weighed_in}

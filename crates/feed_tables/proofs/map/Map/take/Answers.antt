@@ -1,7 +1,6 @@
-use Rattle.std.proofs.Common.{◌≡◌, Option, refl, sym, ap, ◌∙◌}
-use Rattle.std.specs.FinMap.{FinMap, get, get-from_sorted}
+use Rattle.std.proofs.Common.{refl}
+use Rattle.std.specs.FinMap.{get-from_sorted}
 use Rattle.feed_tables.specs.Bytes.{byte_order}
-use Rattle.feed_tables.specs.Tree.{named}
 use Rattle.feed_tables.proofs.Maps.{in_order_without, from_sorted_without}
 use Rattle.feed_tables.proofs.map.Map.take.Goals as goal
 

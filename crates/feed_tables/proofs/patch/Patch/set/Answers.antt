@@ -3,7 +3,6 @@ use Rattle.std.specs.FinMap.{get, insert}
 use Rattle.feed_tables.specs.Map.{Exchanges}
 use Rattle.feed_tables.specs.ChangedIds.{over_ids}
 use Rattle.feed_tables.specs.Tables.{Objects, collection_of}
-use Rattle.feed_tables.specs.declared.ids.Ids.{Ids}
 use Rattle.feed_tables.proofs.Changing.{Changed, held_some, held_none, held_after, held_still, set_again}
 use Rattle.feed_tables.proofs.Patching.{over_of}
 use Rattle.feed_tables.proofs.patch.Patch.set.Goals as goal

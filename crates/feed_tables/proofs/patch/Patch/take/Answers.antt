@@ -2,7 +2,6 @@ use Rattle.std.proofs.Common.{◌≡◌, ap, ◌∙◌, List, ℕ}
 use Rattle.std.specs.FinMap.{get, insert, remove}
 use Rattle.feed_tables.specs.ChangedIds.{over_ids}
 use Rattle.feed_tables.specs.Tables.{Objects, collection_of}
-use Rattle.feed_tables.specs.declared.ids.Ids.{Ids}
 use Rattle.feed_tables.proofs.Changing.{Changed, held_is, held_still, take_done, taken_again, taken_nowhere, none_of, left_ids}
 use Rattle.feed_tables.proofs.Patching.{over_of, exchanged_twice, exchanged_none}
 use Rattle.feed_tables.proofs.patch.Patch.take.Goals as goal

@@ -1,4 +1,4 @@
-use Rattle.std.proofs.Common.{rules, ◌∙◌, ap, refl, ◌∷◌, ◌++◌, [], ◌≡◌, Greater, Less, Equal, sym}
+use Rattle.std.proofs.Common.{rules, refl, ◌≡◌, Greater, Less, Equal, sym}
 use Rattle.feed_tables.specs.Bytes.{byte_order}
 use Rattle.feed_tables.proofs.TreeFork.{at_lent, find_before, find_at, find_after, without_before, without_at, without_after}
 use Rattle.feed_tables.proofs.Maps.{byte_order_antisymmetric}
