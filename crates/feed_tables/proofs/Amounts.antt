@@ -6,7 +6,7 @@ use Rattle.feed_tables.specs.Bytes.{byte_order, IsInOrder}
 use Rattle.feed_tables.specs.Changes.{sets}
 use Rattle.feed_tables.specs.Listings.{ListingHasBytes, ChangesAddBytes}
 use Rattle.feed_tables.specs.Map.{map_over, map_less}
-use Rattle.feed_tables.specs.Patches.{merged, with_ids, with_all_ids}
+use Rattle.feed_tables.specs.ChangedIds.{merged, with_ids, with_all_ids}
 use Rattle.feed_tables.specs.Tables.{Contents, no_objects, objects_or_none, without_id, after, listed, or_clear}
 use Rattle.feed_tables.specs.Walks.{weight, weighed, weighed_in, AreIn}
 use Rattle.feed_tables.specs.declared.change.Change.{Change}

@@ -8,7 +8,7 @@ use Rattle.std.specs.FinMap.{FinMap, find, get, entries, entries_sorted, from_so
 use Rattle.std.specs.FinMap.Entries.{below_all}
 use Rattle.feed_tables.specs.Bytes.{byte_order, IsInOrder}
 use Rattle.feed_tables.specs.Map.{map_over, map_less}
-use Rattle.feed_tables.specs.Patches.{over_ids, merged, changed_table, merged_at, with_ids, with_all_ids, count_after, after_ids, sets_in}
+use Rattle.feed_tables.specs.ChangedIds.{over_ids, merged, changed_table, merged_at, with_ids, with_all_ids, count_after, after_ids, sets_in}
 use Rattle.feed_tables.specs.Tables.{Objects, Contents, object_count, size}
 use Rattle.feed_tables.specs.Tree.{entries_of}
 use Rattle.feed_tables.specs.declared.tree.Fork.{Fork}

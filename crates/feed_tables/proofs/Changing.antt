@@ -7,7 +7,7 @@ use Rattle.std.specs.Ordering.{eq_by_cmp}
 use Rattle.std.specs.FinMap.{FinMap, find, empty, get, insert, remove, len, entries, entries_sorted, get-entries, get-empty, get-insert, get-remove, get_tied, len-entries, len-insert, contains_key}
 use Rattle.feed_tables.specs.Bytes.{byte_order, IsInOrder}
 use Rattle.feed_tables.specs.Map.{map_less, TakesFirst}
-use Rattle.feed_tables.specs.Patches.{over_ids, merged, merged_at, with_ids, with_all_ids}
+use Rattle.feed_tables.specs.ChangedIds.{over_ids, merged, merged_at, with_ids, with_all_ids}
 use Rattle.feed_tables.specs.Tables.{Objects, Contents, no_objects, objects_or_none, collection_of, with_object, without_id}
 use Rattle.feed_tables.specs.declared.ids.Ids.{Ids}
 use Rattle.feed_tables.specs.declared.patch.Patch.{Patch}

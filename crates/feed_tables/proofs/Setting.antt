@@ -4,7 +4,7 @@ use Rattle.std.specs.declared.alloc.Global.{Global}
 use Rattle.std.specs.declared.boxed.Box.{Box}
 use Rattle.std.specs.FinMap.{FinMap, get, from_sorted, get-from_sorted}
 use Rattle.feed_tables.specs.Bytes.{byte_order, IsInOrder}
-use Rattle.feed_tables.specs.Patches.{SetsAmong, SetsIn}
+use Rattle.feed_tables.specs.ChangedIds.{SetsAmong, SetsIn}
 use Rattle.feed_tables.specs.declared.ids.Ids.{Ids}
 use Rattle.feed_tables.specs.declared.tree.Fork.{Fork}
 use Rattle.feed_tables.proofs.MapsOver.{exchanged, in_order_swapped}

@@ -3,7 +3,7 @@ use Rattle.std.specs.Prelude.{◌≡◌, ℕ, ◌+◌, min, Bool, true, false, L
 use Rattle.std.specs.FinMap.{FinMap, find, get, entries}
 use Rattle.feed_tables.specs.Bytes.{byte_order}
 use Rattle.feed_tables.specs.Map.{Exchanges, map_less}
-use Rattle.feed_tables.specs.Patches.{changed_table, merged}
+use Rattle.feed_tables.specs.ChangedIds.{changed_table, merged}
 use Rattle.feed_tables.specs.Tables.{Contents, object_count}
 use Rattle.feed_tables.specs.Tree.{Swaps}
 use Rattle.feed_tables.specs.Walks.{Scale, weighed, weighed_in}

@@ -33,6 +33,10 @@ came Higher = 1
 abbrev pub with_item : {V : Type 0} → ForkOf V → V → ForkOf V
 with_item fork item = record fork { item = item }
 
+-- and with another name
+abbrev pub with_id : {V : Type 0} → ForkOf V → List ℕ → ForkOf V
+with_id fork id = record fork { id = id }
+
 -- an item took the place of the one under a name; where there is none, nothing changed
 abbrev pub Swaps : {V : Type 0} → List ℕ → List (List ℕ × V) → List (List ℕ × V) → V → V → Bool → Type 0
 Swaps id es fs old new true = (find byte_order id es ≡ Some new) × (fs ≡ put byte_order id old es)

@@ -3,7 +3,7 @@
 ghost use Rattle.std.specs.Prelude.{◌≡◌, min, OnOk, OnErr};
 ghost use Rattle.std.specs.FinMap as map;
 ghost use Rattle.feed_tables.specs.Amounts.{in_type, lost_in};
-ghost use Rattle.feed_tables.specs.Patches.{over_ids};
+ghost use Rattle.feed_tables.specs.ChangedIds.{over_ids};
 ghost use Rattle.feed_tables.specs.Tables.{Objects};
 ghost use Rattle.feed_tables.specs.Walks.{weighed};
 

@@ -1,6 +1,7 @@
 //! Names, changes and tables of contest objects.
 #![tactic(auto)]
 
+mod by_type;
 mod change;
 mod ids;
 mod laws;

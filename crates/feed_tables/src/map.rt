@@ -1,6 +1,6 @@
 //! Items by name, seen as a finite map.
 
-ghost use Rattle.std.specs.Prelude.{◌≡◌, ℕ, ◌+◌, ◌↔◌, min, length, flat_map, IfOk, OnOk, OnErr, IsTrue};
+ghost use Rattle.std.specs.Prelude.{◌≡◌, ℕ, ◌+◌, ◌≤◌, ◌↔◌, min, length, flat_map, IfOk, OnOk, OnErr, IsTrue};
 ghost use Rattle.std.specs.List.{FoldsTo};
 ghost use Rattle.std.specs.Option.{option_copied};
 ghost use Rattle.std.specs.FinMap as map;
@@ -9,8 +9,9 @@ ghost use Rattle.feed_tables.specs.Changes.{sets};
 ghost use Rattle.feed_tables.specs.Listers.{FailsIn};
 ghost use Rattle.feed_tables.specs.Map.{Exchanges, map_over, map_less, TakesFirst};
 ghost use Rattle.feed_tables.specs.Objects.{AreObjects};
-ghost use Rattle.feed_tables.specs.Patches.{sets_in, SetsIn};
+ghost use Rattle.feed_tables.specs.ChangedIds.{sets_in, SetsIn};
 ghost use Rattle.feed_tables.specs.Tables.{listed, AreTypes};
+ghost use Rattle.feed_tables.specs.Tree.{handed, named};
 ghost use Rattle.feed_tables.specs.Walks.{weight, weighed, weighed_in};
 
 use crate::ids::Ids;
@@ -19,7 +20,7 @@ use crate::name::{Key, Name};
 use crate::scale::{Merged, Scale, Shift};
 use crate::tables::Table;
 use crate::tree::union::let_go;
-use crate::tree::{Fork, Tree};
+use crate::tree::{Fork, Tree, count_node, weigh_node};
 use feed_text::ObjectText;
 use std::alloc::{AllocError, Global};
 use std::marker::Model;
@@ -93,8 +94,17 @@ impl<V: Drop> Map<V> {
     pub fn remove(&mut self, id: &Key<'_>)
         ensures { self.new ≡ map.remove self.old id.now }
     {
-        let gone = self.tree.remove(id);
-        self.count = count_left(&self.tree, self.count, gone);
+        let _gone = self.take(id);
+    }
+
+    /// Takes the node of this name out, where there is one.
+    pub fn take(&mut self, id: &Key<'_>) -> Option<Box<Fork<V>>>
+        ensures left { self.new ≡ map.remove self.old id.now }
+        ensures gone { handed result ≡ named id.now (map.get self.old id.now) }
+    {
+        let gone = self.tree.take(id);
+        self.count = count_left(&self.tree, self.count, count_node(&gone));
+        gone
     }
 
     /// Takes the first node out.
@@ -114,6 +124,9 @@ impl<V: Drop> Map<V> {
         ensures come { result.come ≡ min (weighed (S.weight scale.now) (map.entries self))
             usize.MAX }
     {
+        if self.tree.has_at_most_one() {
+            return other.put_one(self, scale);
+        }
         let come = self.tree.weigh(scale);
         let count = other.count.saturating_add(self.count);
         let mut spare = Tree::new();
@@ -123,6 +136,30 @@ impl<V: Drop> Map<V> {
         Shift {
             lost: spent.weight,
             come,
+        }
+    }
+
+    // Puts the one item of another map in, where there is one, and answers how much went and came.
+    fn put_one<S: Scale<V>>(&mut self, other: Map<V>, scale: &S) -> Shift
+        requires { map.len other ≤ 1 }
+        ensures put { self.new ≡ map_over other self.old }
+        ensures lost { result.lost ≡ min (weighed_in (S.weight scale.now) self.old
+            (map.entries other)) usize.MAX }
+        ensures come { result.come ≡ min (weighed (S.weight scale.now) (map.entries other))
+            usize.MAX }
+    {
+        let mut back = None;
+        match other.tree.into_node() {
+            Some(node) => {
+                let come = node.weigh(scale);
+                let added = self.tree.insert(node, &mut back);
+                self.count = self.count.saturating_add(added);
+                Shift {
+                    lost: weigh_node(&back, scale),
+                    come,
+                }
+            }
+            None => Shift { lost: 0, come: 0 },
         }
     }
 

@@ -1,6 +1,6 @@
 //! Numbers by name.
 
-ghost use Rattle.std.specs.Prelude.{◌≡◌, ◌<◌, IfOk};
+ghost use Rattle.std.specs.Prelude.{◌≡◌, ◌<◌, IfOk, option_map};
 ghost use Rattle.std.specs.FinMap as map;
 ghost use Rattle.feed_tables.specs.Numbers.{part_of as part_by};
 
@@ -76,6 +76,25 @@ impl Slot {
         let node = Fork::new(alloc, name, 0)?;
         Ok(Slot { node })
     }
+
+    /// The same memory, for this name.
+    pub fn again(self, name: Name) -> Slot
+        ensures { result ≡ name }
+    {
+        let mut node = self.node;
+        node.set_id(name);
+        Slot { node }
+    }
+}
+
+// The slot of a node, where there is one.
+fn slot_of(node: Option<Box<Fork<usize>>>) -> Option<Slot>
+    ensures { result ≡ option_map (λ node. node.value.id) node }
+{
+    match node {
+        Some(node) => Some(Slot { node }),
+        None => None,
+    }
 }
 
 impl Numbers {
@@ -123,11 +142,12 @@ impl Numbers {
         self.parts[part].insert(node);
     }
 
-    /// Takes the number of this name away, where it has one.
-    pub fn remove(&mut self, name: &str)
-        ensures { self.new ≡ map.remove self.old name.now }
+    /// Takes the number of this name away, where it has one, and answers the slot that it had.
+    pub fn remove(&mut self, name: &str) -> Option<Slot>
+        ensures numbers { self.new ≡ map.remove self.old name.now }
+        ensures slot { result ≡ option_map (λ _. name.now) (map.get self.old name.now) }
     {
         let part = part_of(name, self.parts.len());
-        self.parts[part].remove(&Key::of(name));
+        slot_of(self.parts[part].take(&Key::of(name)))
     }
 }

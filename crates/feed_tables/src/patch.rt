@@ -5,9 +5,11 @@ ghost use Rattle.std.specs.Option.{option_copied};
 ghost use Rattle.std.specs.FinMap as map;
 ghost use Rattle.feed_tables.specs.Amounts.{bytes};
 ghost use Rattle.feed_tables.specs.Map.{map_over, map_less};
-ghost use Rattle.feed_tables.specs.Patches.{below, over, adds, with_all_ids};
+ghost use Rattle.feed_tables.specs.ChangedIds.{with_all_ids};
+ghost use Rattle.feed_tables.specs.Patches.{below, over, adds};
 ghost use Rattle.feed_tables.specs.Tables.{Contents, after, with_object, without_id, size, collection_of};
 
+use crate::by_type::IdsByType;
 use crate::change::Change;
 use crate::ids::Ids;
 use crate::map::{Map, held_in};
@@ -26,7 +28,7 @@ pub struct Patch {
     // These are put in after the others are taken away.
     tables: Map<Table>,
     // These change then.
-    ids: Map<Ids>,
+    ids: IdsByType,
 }
 
 // Written out: a caller's proof has one call where a value is dropped.
@@ -47,7 +49,7 @@ impl Patch {
         Patch {
             gone: Map::new(),
             tables: Map::new(),
-            ids: Map::new(),
+            ids: IdsByType::new(),
         }
     }
 
@@ -125,8 +127,7 @@ impl Patch {
         };
         let mut ids = Ids::new();
         ids.set(node);
-        let node = Fork::new(alloc, kind.copy()?, ids)?;
-        self.ids.insert(node);
+        self.ids.insert(alloc, kind, ids)?;
         Ok(())
     }
 
@@ -145,10 +146,9 @@ impl Patch {
     {
         let mut ids = Ids::new();
         ids.set(node);
-        let ids = Fork::new(alloc, kind.copy()?, ids)?;
         let table = Fork::new(alloc, kind.copy()?, Table::Many(Map::new()))?;
+        self.ids.insert(alloc, kind, ids)?;
         self.tables.insert(table);
-        self.ids.insert(ids);
         Ok(())
     }
 
@@ -175,8 +175,7 @@ impl Patch {
             return done;
         }
         ids.take(alloc, objects, id)?;
-        let node = Fork::new(alloc, kind.copy()?, ids)?;
-        self.ids.insert(node);
+        self.ids.insert(alloc, kind, ids)?;
         Ok(())
     }
 
@@ -249,17 +248,7 @@ impl Patch {
             ids,
         } = self;
         tables.merge(gone, own);
-        change_all(ids, tables);
-    }
-}
-
-// Changes the objects of collections.
-fn change_all(mut ids: Map<Ids>, tables: &mut Tables)
-    ensures { tables.new.contents ≡ with_all_ids ids tables.old.contents }
-{
-    'types: while let Some(node) = ids.take_first() {
-        let (kind, ids) = node.into_parts();
-        tables.change(&kind.key(), ids);
+        ids.put(tables);
     }
 }
 

@@ -2,11 +2,10 @@
 
 ghost use Rattle.std.specs.Prelude.{◌≡◌, ℕ, List, min};
 ghost use Rattle.feed_tables.specs.Amounts.{in_type, by_bytes, by_lost, by_come, by_bytes_after};
-ghost use Rattle.feed_tables.specs.Patches.{after_ids};
+ghost use Rattle.feed_tables.specs.ChangedIds.{after_ids};
 ghost use Rattle.feed_tables.specs.Walks.{each_one, by_objects};
 
-use crate::ids::Ids;
-use crate::map::Map;
+use crate::by_type::IdsByType;
 use crate::name::Key;
 use crate::tables::Table;
 use feed_text::ObjectText;
@@ -103,7 +102,7 @@ impl Scale<Table> for ByBytes {
 /// Types and objects after these objects of collections change.
 #[derive(Drop)]
 pub struct AfterIds<'a> {
-    pub changed: &'a Map<Ids>,
+    pub changed: &'a IdsByType,
 }
 
 impl<'a> Scale<Table> for AfterIds<'a> {
@@ -120,7 +119,7 @@ impl<'a> Scale<Table> for AfterIds<'a> {
 /// How many bytes of a type's objects go where these objects of collections change.
 #[derive(Drop)]
 pub struct BytesLost<'a> {
-    pub changed: &'a Map<Ids>,
+    pub changed: &'a IdsByType,
 }
 
 impl<'a> Scale<Table> for BytesLost<'a> {
@@ -137,7 +136,7 @@ impl<'a> Scale<Table> for BytesLost<'a> {
 /// How many come then.
 #[derive(Drop)]
 pub struct BytesCome<'a> {
-    pub changed: &'a Map<Ids>,
+    pub changed: &'a IdsByType,
 }
 
 impl<'a> Scale<Table> for BytesCome<'a> {
@@ -154,7 +153,7 @@ impl<'a> Scale<Table> for BytesCome<'a> {
 /// How many bytes the objects of a type have after these objects of collections change.
 #[derive(Drop)]
 pub struct BytesAfter<'a> {
-    pub changed: &'a Map<Ids>,
+    pub changed: &'a IdsByType,
 }
 
 impl<'a> Scale<Table> for BytesAfter<'a> {

@@ -5,7 +5,9 @@ ghost use Rattle.std.specs.Prelude.{◌≡◌, ℕ, ◌+◌, ◌≤◌, ◌∷�
 ghost use Rattle.std.specs.Option.{option_copied};
 ghost use Rattle.std.specs.FinMap.{put, find};
 ghost use Rattle.feed_tables.specs.Bytes.{byte_order, IsInOrder, without};
-ghost use Rattle.feed_tables.specs.Tree.{parts, came, with_item, Swaps, FirstTaken, handed, named, without_all};
+ghost use Rattle.feed_tables.specs.Tree.{parts, came, with_id, with_item, Swaps, FirstTaken, handed, named, without_all};
+ghost use Rattle.feed_tables.specs.Unions.{entry_in};
+ghost use Rattle.feed_tables.specs.Walks.{weighed};
 
 use crate::map::Map;
 use crate::name::{Key, Name};
@@ -18,7 +20,7 @@ use std::mem;
 
 mod balance;
 pub mod union;
-mod walks;
+pub mod walks;
 
 #[cycle(owned_tree)]
 #[derive(Drop)]
@@ -150,35 +152,47 @@ impl<V: Drop> Tree<V> {
         }
     }
 
-    /// Takes the item of this name away, where there is one, and answers how many items went: one,
-    /// or none.
-    pub fn remove(&mut self, id: &Key<'_>) -> usize
+    /// Takes the node of this name out, where there is one. It stands alone then.
+    pub fn take(&mut self, id: &Key<'_>) -> Option<Box<Fork<V>>>
         requires { IsInOrder self.old }
         ensures left { self.new ≡ without id.now self.old }
-        ensures gone { length self.old ≡ length self.new + result }
+        ensures gone { handed result ≡ named id.now (find byte_order id.now self.old) }
+        ensures count { length self.old ≡ length self.new + length (entry_in result) }
     {
         match &mut self.node {
-            Node::Leaf => 0,
+            Node::Leaf => None,
             Node::Fork(fork) => match id.compare(&fork.id) {
                 Ordering::Less => {
                     let height = fork.left.height();
-                    let gone = fork.left.remove(id);
+                    let gone = fork.left.take(id);
                     settle_left(fork, height);
                     gone
                 }
                 Ordering::Equal => {
                     let left = mem::replace(&mut fork.left, Tree::new());
                     let right = mem::replace(&mut fork.right, Tree::new());
-                    *self = joined(left, right);
-                    1
+                    let root = mem::replace(self, joined(left, right));
+                    root.into_node()
                 }
                 Ordering::Greater => {
                     let height = fork.right.height();
-                    let gone = fork.right.remove(id);
+                    let gone = fork.right.take(id);
                     settle_right(fork, height);
                     gone
                 }
             },
+        }
+    }
+
+    /// The one node, where there is one.
+    #[inline(always)]
+    pub fn into_node(self) -> Option<Box<Fork<V>>>
+        requires { length self ≤ 1 }
+        ensures { entry_in result ≡ self }
+    {
+        match self.node {
+            Node::Leaf => None,
+            Node::Fork(node) => Some(node),
         }
     }
 
@@ -255,6 +269,13 @@ impl<V: Drop> Fork<V> {
         (id, item)
     }
 
+    /// Has this name in place of its own.
+    pub fn set_id(&mut self, id: Name)
+        ensures { self.new ≡ with_id self.old id }
+    {
+        self.id = id;
+    }
+
     /// Has this item in place of its own.
     pub fn set_item(&mut self, item: V)
         ensures { self.new ≡ with_item self.old item }
@@ -277,6 +298,28 @@ impl<V: Drop> Fork<V> {
         ensures { result ≡ min (S.weight scale.now self.now.id self.now.item) usize.MAX }
     {
         scale.weigh(&self.id.key(), &self.item)
+    }
+}
+
+/// How many nodes these are: one, or none.
+#[inline(always)]
+pub fn count_node<V: Drop>(node: &Option<Box<Fork<V>>>) -> usize
+    ensures { result ≡ length (entry_in node.now) }
+{
+    match node {
+        Some(_) => 1,
+        None => 0,
+    }
+}
+
+/// How much the item of a node weighs, where there is one, or `usize::MAX` where it is more.
+#[inline(always)]
+pub fn weigh_node<V: Drop, S: Scale<V>>(node: &Option<Box<Fork<V>>>, scale: &S) -> usize
+    ensures { result ≡ min (weighed (S.weight scale.now) (entry_in node.now)) usize.MAX }
+{
+    match node {
+        Some(node) => node.weigh(scale),
+        None => 0,
     }
 }
 

@@ -88,7 +88,7 @@ impl<V: Drop> Tree<V> {
 
     // Whether there is one item, or none.
     #[inline(always)]
-    fn has_at_most_one(&self) -> bool
+    pub fn has_at_most_one(&self) -> bool
         ensures { IsTrue result ↔ (length self.now ≤ 1) }
     {
         match &self.node {

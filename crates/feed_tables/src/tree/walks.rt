@@ -10,7 +10,7 @@ ghost use Rattle.feed_tables.specs.Changes.{sets};
 ghost use Rattle.feed_tables.specs.Listers.{FailsIn};
 ghost use Rattle.feed_tables.specs.Map.{map_over, map_less};
 ghost use Rattle.feed_tables.specs.Objects.{AreObjects};
-ghost use Rattle.feed_tables.specs.Patches.{sets_in, SetsAmong};
+ghost use Rattle.feed_tables.specs.ChangedIds.{sets_in, SetsAmong};
 ghost use Rattle.feed_tables.specs.Tables.{listed, AreTypes};
 ghost use Rattle.feed_tables.specs.Walks.{weight, weighed, weighed_in, besides, AreIn};
 
@@ -178,7 +178,7 @@ impl<V: Drop> Tree<V> {
 }
 
 // How much a name weighs by what is held under it.
-fn weight_in<W: Drop, S: Scale<W>>(
+pub fn weight_in<W: Drop, S: Scale<W>>(
     items: &Map<W>,
     gone: &Map<()>,
     held: &Map<W>,

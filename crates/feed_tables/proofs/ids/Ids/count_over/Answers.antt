@@ -1,5 +1,5 @@
 use Rattle.std.proofs.Common.{ap, ◌∙◌, sym, min, ℕ}
-use Rattle.feed_tables.specs.Patches.{over_ids}
+use Rattle.feed_tables.specs.ChangedIds.{over_ids}
 use Rattle.feed_tables.proofs.ChangedSizes.{len_is}
 use Rattle.feed_tables.proofs.ids.Ids.count_over.Goals as goal
 

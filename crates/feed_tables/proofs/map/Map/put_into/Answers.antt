@@ -1,8 +1,13 @@
-use Rattle.std.proofs.Common.{ap, arith}
+use Rattle.std.proofs.Common.{ap, arith, length}
+use Rattle.std.specs.FinMap.{len-entries}
 use Rattle.feed_tables.specs.Walks.{weighed}
 use Rattle.feed_tables.proofs.MapsOver.{entries_are}
 use Rattle.feed_tables.proofs.Unions.{joined_in_order, joined, joined_lost, joined_count}
 use Rattle.feed_tables.proofs.map.Map.put_into.Goals as goal
+
+pub put_one-requires : goal.put_one-requires
+put_one-requires g c =
+    omega (arith, c.has_at_most_one.ensures.0 c.if-has_at_most_one.true, len-entries c.args.self, ap length (entries_are c.self.inside.tree c.args.self c.self.invariant.0 c.self.view_is))
 
 pub count_left-other-inside-requires : goal.count_left-other-inside-requires
 count_left-other-inside-requires g c =

@@ -1,8 +1,7 @@
 use Rattle.std.proofs.Common.{◌≡◌, ap, ◌∙◌, List, ℕ}
 use Rattle.std.specs.FinMap.{insert}
-use Rattle.feed_tables.specs.Patches.{over_ids}
+use Rattle.feed_tables.specs.ChangedIds.{over_ids}
 use Rattle.feed_tables.specs.Tables.{Objects, no_objects}
-use Rattle.feed_tables.specs.declared.ids.Ids.{Ids}
 use Rattle.feed_tables.specs.declared.tables.Table.{Table}
 use Rattle.feed_tables.specs.declared.tables.Table.TheVariants.{Many}
 use Rattle.feed_tables.proofs.Changing.{begun}
@@ -16,17 +15,12 @@ returns-clause-ok c =
     let k = c.args.kind.now in
     let first = c.args.node.value in
     let table = c.in_ok-table.table.value in
-    let ids = c.in_ok-ids.ids.value in
-    let put : c.insert.new.self ≡ insert p.tables k (Many no_objects) =
-    c.insert.ensures
-    ∙ ap (λ (q : List ℕ). insert p.tables q table.item) (c.in_ok-table.ensures.0 ∙ c.in_ok-copy-2.ensures)
-    ∙ ap (λ (t : Table). insert p.tables k t) c.in_ok-table.ensures.1
-    ∙ ap (λ (m : Objects). insert p.tables k (Many m)) c.new-2.ensures in
-    let more : c.insert-2.new.self ≡ insert p.ids k c.set.new.self =
+    let put : c.insert-2.new.self ≡ insert p.tables k (Many no_objects) =
     c.insert-2.ensures
-    ∙ ap (λ (q : List ℕ). insert p.ids q ids.item) (c.in_ok-ids.ensures.0 ∙ c.in_ok-copy.ensures)
-    ∙ ap (λ (i : Ids). insert p.ids k i) c.in_ok-ids.ensures.1 in
+    ∙ ap (λ (q : List ℕ). insert p.tables q table.item) (c.in_ok-table.ensures.0 ∙ c.in_ok-copy.ensures)
+    ∙ ap (λ (t : Table). insert p.tables k t) c.in_ok-table.ensures.1
+    ∙ ap (λ (m : Objects). insert p.tables k (Many m)) c.new.ensures in
     let made : over_ids no_objects c.set.new.self ≡ insert no_objects first.id first.item =
     c.set.ensures no_objects ∙ ap (λ (m : Objects). insert m first.id first.item) (c.new-ids.ensures no_objects) in
-    begun p.ids (over_of base p.gone p.tables) k c.insert-2.new.self (over_of base p.gone c.insert.new.self) c.set.new.self first.id first.item
-    c.requires more (over_put base p.gone p.tables c.insert.new.self k (Many no_objects) put) made
+    begun p.ids (over_of base p.gone p.tables) k c.insert.new.self (over_of base p.gone c.insert-2.new.self) c.set.new.self first.id first.item
+    c.requires c.in_ok-insert.ensures.ok (over_put base p.gone p.tables c.insert-2.new.self k (Many no_objects) put) made

@@ -1,9 +1,8 @@
 use Rattle.std.proofs.Common.{◌≡◌, true, None, ap, subst, ◌∙◌, List, ℕ}
 use Rattle.std.specs.FinMap.{get, insert}
 use Rattle.feed_tables.specs.Map.{Exchanges}
-use Rattle.feed_tables.specs.Patches.{over_ids}
+use Rattle.feed_tables.specs.ChangedIds.{over_ids}
 use Rattle.feed_tables.specs.Tables.{Objects, collection_of}
-use Rattle.feed_tables.specs.declared.ids.Ids.{Ids}
 use Rattle.feed_tables.proofs.Changing.{Changed, held_some, held_none, held_after, held_still, set_again}
 use Rattle.feed_tables.proofs.Patching.{over_of}
 use Rattle.feed_tables.proofs.patch.Patch.set.Goals as goal
@@ -45,16 +44,12 @@ returns-clause-ok c =
     let none = subst (λ (q : List ℕ). get p.ids q ≡ None) c.key-2.ensures back.0 in
     let j = c.set.new.self in
     let node = c.in-Some.node.value in
-    let last = c.in_ok-node-2.node.value in
     let made : over_ids held.0 j ≡ insert held.0 c.args.id.now c.args.object.now =
     c.set.ensures held.0
     ∙ ap (λ (n : Objects). insert n node.id node.item) (c.new-ids.ensures held.0)
     ∙ ap (λ (q : List ℕ). insert held.0 q node.item) (back.2 ∙ c.in_ok-node.ensures.0 ∙ c.in_ok-copy.ensures)
     ∙ ap (λ (o : List ℕ). insert held.0 c.args.id.now o) (back.3 ∙ c.in_ok-node.ensures.1 ∙ c.in_ok-copy-2.ensures) in
     let put : c.insert.new.self ≡ insert p.ids k j =
-    c.insert.ensures
-    ∙ ap (λ (n : Changed). insert n last.id last.item) back.1
-    ∙ ap (λ (q : List ℕ). insert p.ids q last.item) (c.in_ok-node-2.ensures.0 ∙ c.in_ok-copy-3.ensures)
-    ∙ ap (λ (x : Ids). insert p.ids k x) c.in_ok-node-2.ensures.1 in
+    c.in_ok-insert.ensures.ok ∙ ap (λ (n : Changed). insert n k j) back.1 in
     set_again p.ids m k c.insert.new.self held.0 held.0 j c.args.id.now c.args.object.now held.1
     (held_still p.ids m k held.0 held.1 none) put made
