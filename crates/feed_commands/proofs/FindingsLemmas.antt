@@ -1,5 +1,5 @@
 -- What is found on lines, one after the other.
-use Rattle.std.proofs.Common.{◌≡◌, refl, sym, ap, ap₂, ◌∙◌, ℕ, suc, ◌+◌, ◌≤◌, ◌<◌, Bool, true, false, not, cond, ◌||◌, ◌&&◌, List, [], ◌∷◌, ◌++◌, length, append_assoc, append-nil, length-append, subst, inl, Option, None, Some, codes, decimal, arith}
+use Rattle.std.proofs.Common.{◌≡◌, refl, sym, ap, ap₂, ◌∙◌, ℕ, suc, ◌+◌, ◌≤◌, Bool, true, false, not, cond, ◌||◌, ◌&&◌, List, [], ◌∷◌, ◌++◌, length, append_assoc, append-nil, length-append, subst, inl, Option, None, Some, codes, decimal, arith}
 use Rattle.std.specs.Prelude.{count_by, bytes_eq, is_some}
 use Rattle.std.specs.List.{AllZip, list_any, position_from}
 use Rattle.std.specs.Option.{option_eq, option_map_or}
@@ -13,17 +13,15 @@ use Rattle.feed_text.specs.Scan.{HoldsLast}
 use Rattle.feed_text.specs.Strings.{decoded, says}
 use Rattle.feed_note.proofs.LinesCut.{no_lines, one_line}
 use Rattle.feed_note.proofs.ReadSoFar.{ReadSoFar, starts, more, stops}
-use Rattle.feed_note.specs.Counts.{IsRead, Stops, StopsAt, is_note, has_token}
+use Rattle.feed_note.specs.Counts.{IsRead, Stops, StopsAt, has_token}
 use Rattle.feed_note.specs.Lines.{HasNoLineFeed, lines}
 use Rattle.feed_note.specs.Notes.{token_in}
 use Rattle.feed_note.specs.Steps.{TakesNote}
 use Rattle.feed_note.specs.declared.line.Line.{Line}
 use Rattle.feed_note.specs.declared.stop.LineStop.{LineStop}
-use Rattle.feed_commands.specs.Findings.{has_this, comes_again, is_tokenless, of_each, is_true, is_in, is_with, first_or, IsOlder, IsMisnamed, OwnsId, IsFound, AreFound, TellsNothing, FindsOn, IsSaid, TakesSaid, ReadsOn, finding_text}
+use Rattle.feed_commands.specs.Findings.{has_this, comes_again, is_tokenless, of_each, is_true, is_in, is_with, first_or, IsOlder, IsMisnamed, OwnsId, IsFound, AreFound, TellsNothing, FindsOn, ReadsOn, finding_text}
 use Rattle.feed_commands.specs.declared.commands.findings.Finding.{Finding}
-use Rattle.feed_commands.specs.declared.commands.findings.Findings.{Findings}
 use Rattle.feed_commands.specs.declared.commands.findings.Reader.{Reader}
-use Rattle.feed_commands.specs.declared.commands.findings.Said.{Said}
 
 -- on which lines it is so, with one line more
 of_each_push : (is_so : List Line → Line → Bool) (before notes : List Line) (note : Line)

@@ -1,5 +1,5 @@
 -- Lemmas on a feed that is read piece by piece.
-use Rattle.std.proofs.Common.{◌≡◌, ◌≢◌, ◌⊎◌, refl, sym, ap, ap₂, ◌∙◌, subst, inl, inr, ℕ, ◌+◌, ◌*◌, ◌<◌, ◌≤◌, ◌^◌, Bool, true, false, ◌||◌, ◌&&◌, not, List, [], ◌∷◌, ◌++◌, length, append_assoc, append-nil, length-append, take, arith, Option, Some, None}
+use Rattle.std.proofs.Common.{◌≡◌, ◌≢◌, refl, sym, ap, ap₂, ◌∙◌, subst, inl, inr, ℕ, ◌+◌, ◌*◌, ◌<◌, ◌≤◌, ◌^◌, Bool, true, false, ◌||◌, ◌&&◌, not, List, [], ◌∷◌, ◌++◌, length, append_assoc, append-nil, length-append, take, arith, Option, Some, None}
 use Rattle.std.specs.Prelude.{count_by, is_some}
 use Rattle.std.specs.List.{AllByRecursion, AllZip, list_any, sum_by}
 use Rattle.std.specs.Option.{option_map_or}
@@ -9,7 +9,6 @@ use Rattle.std.proofs.KnownBytes.{Consumes-nil, Consumes-trans, Consumes-kept}
 use Rattle.std.proofs.lemmas.List.{length-take-le}
 use Rattle.std.proofs.lemmas.List.Sums.{count_by-le-length, sum_by-cons}
 use Rattle.std.proofs.lemmas.Slice.Zip.{AllZip-long}
-use Rattle.feed_text.specs.Ascii.{line_feed}
 use Rattle.feed_text.specs.Limits.{line_bytes}
 use Rattle.feed_text.proofs.Unique.{text_determines_object}
 use Rattle.feed_note.proofs.ChangeBounds.{changes-le-bytes}
@@ -18,7 +17,7 @@ use Rattle.feed_note.proofs.LinesCut.{both, first_true, second_true, one_line, n
 use Rattle.feed_note.proofs.LongLines.{long_next_stays}
 use Rattle.feed_note.proofs.OneMeaning.{only_one}
 use Rattle.feed_note.proofs.ReadSoFar.{change_count}
-use Rattle.feed_note.specs.Counts.{IsRead, AreRead, Stops, StopsAt, Counted, counts_of, is_keep_alive, is_note, has_token}
+use Rattle.feed_note.specs.Counts.{IsRead, Stops, StopsAt, Counted, counts_of, is_keep_alive, is_note, has_token}
 use Rattle.feed_note.specs.Lines.{HasNoLineFeed, lines, rest, ended}
 use Rattle.feed_note.specs.Notes.{token_in}
 use Rattle.feed_note.specs.Splitting.{IsLongNext, first_or}
@@ -344,8 +343,8 @@ module _ (verbose : Bool) (text : List ℕ) (old : Reading) (h : HasTaken verbos
       let left = old.left.items in
       let no_feed = unbroken_both left end h.part part in
       let next : IsLongNext (left ++ end) =
-          subst (λ ls. line_bytes < length (first_or (rest (left ++ end)) ls)) (sym (no_lines (left ++ end) no_feed))
-          (subst (λ t. line_bytes < length t) (sym (no_rest (left ++ end) no_feed)) long) in
+      subst (λ ls. line_bytes < length (first_or (rest (left ++ end)) ls)) (sym (no_lines (left ++ end) no_feed))
+      (subst (λ t. line_bytes < length t) (sym (no_rest (left ++ end) no_feed)) long) in
       subst (λ t. StopsAt t (old.tally.counts.lines + 1) stop.LongLine)
       (sym (append_assoc (ended h.passed) (left ++ end) more) ∙ ap (λ t. t ++ more) (sym (append_assoc (ended h.passed) left end) ∙ ap (λ t. t ++ end) (sym h.is)))
       (stops_long h.passed h.notes ((left ++ end) ++ more) (old.tally.counts.lines + 1) (h.tallied).whole (h.tallied).read

@@ -1,4 +1,3 @@
-use Rattle.std.proofs.Common.{refl}
 use Rattle.feed_commands.proofs.FindingsLemmas.{starts_with_none, one_more, all_taken, repeats_fit, tokenless_fit, older_fit, misnamed_fit, stops_at}
 use Rattle.feed_commands.proofs.commands.findings.find_all.Goals as goal
 

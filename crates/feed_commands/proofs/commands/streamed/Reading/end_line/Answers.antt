@@ -1,4 +1,4 @@
-use Rattle.std.proofs.Common.{rules, ◌∙◌, ◌≡◌, ◌++◌, sym}
+use Rattle.std.proofs.Common.{rules, ◌≡◌, ◌++◌}
 use Rattle.std.proofs.lemmas.Result.{err_from_is_err_and}
 use Rattle.feed_commands.proofs.StreamedLemmas.{stops_ended, taken_line}
 use Rattle.feed_commands.proofs.commands.streamed.Reading.end_line.Goals as goal
