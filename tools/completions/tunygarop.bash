@@ -49,7 +49,7 @@ _tunygarop() {
 
     case $command in
         tables) names="at history staged memory verbose" ;;
-        check) names="verbose" ;;
+        check) names="stream verbose" ;;
         audit) names="primary of against contest for json verbose history staged memory" ;;
         play) names="" ;;
         serve) names="port contest count turn chunked back verbose history staged memory" ;;

@@ -42,6 +42,7 @@ complete -c tunygarop -n '__fish_seen_subcommand_from tables audit serve pull re
 complete -c tunygarop -n '__fish_seen_subcommand_from tables audit serve pull relay live' -l staged -x -d 'How many changes may wait for a token, 1 to 1000000'
 complete -c tunygarop -n '__fish_seen_subcommand_from tables audit serve pull relay live' -l memory -x -d 'How many bytes may wait, and be published, 1 to 1000000000000'
 complete -c tunygarop -n '__fish_seen_subcommand_from tables' -l verbose -d 'Report the number of the faulty line, too'
+complete -c tunygarop -n '__fish_seen_subcommand_from check' -l stream -d 'Read piece by piece, so that the feed may have any length'
 complete -c tunygarop -n '__fish_seen_subcommand_from check' -l verbose -d 'Count what servers get wrong, too'
 complete -c tunygarop -n '__fish_seen_subcommand_from audit' -l verbose -d 'Print objects that differ whole'
 complete -c tunygarop -n '__fish_seen_subcommand_from serve pull relay' -l verbose -d 'Report each connection, too'

@@ -64,6 +64,9 @@ memory = number_in (codes "memory") most_memory
 abbrev pub at : Rule
 at = text_option (codes "at")
 
+abbrev pub stream : Rule
+stream = flag (codes "stream")
+
 abbrev pub verbose : Rule
 verbose = flag (codes "verbose")
 

@@ -7,7 +7,7 @@ use Rattle.clap.specs.Words.{App, Row, Text, new_app, subcommand_of, takes, with
 use Rattle.feed_settings.specs.Limits.{most_commits}
 use Rattle.feed_arguments.specs.Addresses.{most_port}
 use Rattle.feed_arguments.specs.Live.{live, AsksLive}
-use Rattle.feed_arguments.specs.Options.{most_rounds, most_silence, at, verbose, primary, of, against, compared_contest, for_seconds, json, port, listen, contest, count, turn, chunked, back, host, from, base, host_header, user_file, turns, silence, resume, with_limits}
+use Rattle.feed_arguments.specs.Options.{most_rounds, most_silence, at, stream, verbose, primary, of, against, compared_contest, for_seconds, json, port, listen, contest, count, turn, chunked, back, host, from, base, host_header, user_file, turns, silence, resume, with_limits}
 use Rattle.feed_arguments.specs.Options.{text_at, IsNumber, IsNumberUpTo, IsNumberIfGiven, IsGiven, IsFramed, AsksLimits}
 use Rattle.feed_arguments.specs.declared.request.Local.TheVariants as local
 use Rattle.clap.specs.declared.error.kind.ErrorKind.{ErrorKind}
@@ -55,7 +55,7 @@ abbrev pub tables : App
 tables = with_rule (with_rule (with_limits (new_app (codes "tables"))) at) verbose
 
 abbrev pub check : App
-check = with_rule (new_app (codes "check")) verbose
+check = with_rule (with_rule (new_app (codes "check")) stream) verbose
 
 -- a command with the options that say which servers are compared
 abbrev pub with_compared : App → App
@@ -109,6 +109,7 @@ pub record AsksTables (rows : List Row) (options : TablesOptions) : Type 0 where
 
 -- the values of the options of `check`
 pub record AsksCheck (rows : List Row) (options : CheckOptions) : Type 0 where
+  pub stream_is : IsGiven (codes "stream") rows options.stream
   pub verbose_is : IsGiven (codes "verbose") rows options.verbose
 
 -- no option says which servers are compared

@@ -13,10 +13,12 @@ pub struct TablesOptions<'a> {
     pub verbose: bool,
 }
 
-/// What `check` tells.
+/// How `check` reads a feed, and what it tells.
 #[derive(Clone, Copy)]
 pub struct CheckOptions {
-    /// Whether what servers of the field get wrong is told, too.
+    /// Whether the feed is read piece by piece, however long it is.
+    pub stream: bool,
+    /// Whether what servers of the field get wrong is told, too, and where in a line its fault is.
     pub verbose: bool,
 }
 

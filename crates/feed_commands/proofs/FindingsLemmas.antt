@@ -1,5 +1,5 @@
 -- What is found on lines, one after the other.
-use Rattle.std.proofs.Common.{◌≡◌, refl, sym, ap, ap₂, ◌∙◌, ℕ, suc, ◌+◌, ◌≤◌, ◌<◌, Bool, true, false, not, cond, ◌||◌, ◌&&◌, List, [], ◌∷◌, ◌++◌, length, append_assoc, append-nil, length-append, subst, inl, Option, None, Some, codes, decimal, arith}
+use Rattle.std.proofs.Common.{◌≡◌, refl, sym, ap, ap₂, ◌∙◌, ℕ, suc, ◌+◌, ◌≤◌, Bool, true, false, not, cond, ◌||◌, ◌&&◌, List, [], ◌∷◌, ◌++◌, length, append_assoc, append-nil, length-append, subst, inl, Option, None, Some, codes, decimal, arith}
 use Rattle.std.specs.Prelude.{count_by, bytes_eq, is_some}
 use Rattle.std.specs.List.{AllZip, list_any, position_from}
 use Rattle.std.specs.Option.{option_eq, option_map_or}
@@ -13,17 +13,15 @@ use Rattle.feed_text.specs.Scan.{HoldsLast}
 use Rattle.feed_text.specs.Strings.{decoded, says}
 use Rattle.feed_note.proofs.LinesCut.{no_lines, one_line}
 use Rattle.feed_note.proofs.ReadSoFar.{ReadSoFar, starts, more, stops}
-use Rattle.feed_note.specs.Counts.{IsRead, Stops, StopsAt, is_note, has_token}
+use Rattle.feed_note.specs.Counts.{IsRead, Stops, StopsAt, has_token}
 use Rattle.feed_note.specs.Lines.{HasNoLineFeed, lines}
 use Rattle.feed_note.specs.Notes.{token_in}
 use Rattle.feed_note.specs.Steps.{TakesNote}
 use Rattle.feed_note.specs.declared.line.Line.{Line}
 use Rattle.feed_note.specs.declared.stop.LineStop.{LineStop}
-use Rattle.feed_commands.specs.Findings.{has_this, comes_again, is_tokenless, of_each, is_true, is_in, is_with, first_or, IsOlder, IsMisnamed, OwnsId, IsFound, AreFound, TellsNothing, FindsOn, IsSaid, TakesSaid, ReadsOn, finding_text}
+use Rattle.feed_commands.specs.Findings.{has_this, comes_again, is_tokenless, of_each, is_true, is_in, is_with, first_or, IsOlder, IsMisnamed, OwnsId, IsFound, AreFound, TellsNothing, FindsOn, ReadsOn, finding_text}
 use Rattle.feed_commands.specs.declared.commands.findings.Finding.{Finding}
-use Rattle.feed_commands.specs.declared.commands.findings.Findings.{Findings}
 use Rattle.feed_commands.specs.declared.commands.findings.Reader.{Reader}
-use Rattle.feed_commands.specs.declared.commands.findings.Said.{Said}
 
 -- on which lines it is so, with one line more
 of_each_push : (is_so : List Line → Line → Bool) (before notes : List Line) (note : Line)
@@ -35,7 +33,7 @@ of_each_push is_so before (n ∷ notes) note =
     (of_each_push is_so (before ++ n ∷ []) notes note
     ∙ ap (λ l. of_each is_so (before ++ n ∷ []) notes ++ is_so l note ∷ []) (append_assoc before (n ∷ []) notes))
 
-of_each_length : (is_so : List Line → Line → Bool) (before notes : List Line) → length (of_each is_so before notes) ≡ length notes
+pub of_each_length : (is_so : List Line → Line → Bool) (before notes : List Line) → length (of_each is_so before notes) ≡ length notes
 unfolding of_each
 of_each_length is_so before [] = refl
 of_each_length is_so before (n ∷ notes) = ap suc (of_each_length is_so (before ++ n ∷ []) notes)
@@ -54,7 +52,7 @@ first_push number (false ∷ marks) b =
     first_push (number + 1) marks b ∙ ap (first_or (position_from is_true (number + 1) marks) b) (omega arith)
 
 -- the lines' tokens are in the set, and no other texts
-pub HasAll : (List ℕ → Bool) → List Line → Type 0
+unfoldable pub HasAll : (List ℕ → Bool) → List Line → Type 0
 HasAll set notes = (other : List ℕ) → set other ≡ list_any (has_this other) notes
 
 pub is_again : (set : List ℕ → Bool) (notes : List Line) (token : Option (List ℕ)) → HasAll set notes
@@ -103,17 +101,17 @@ owns_none object id found member holds is says_nothing = (
 
 -- ---- one finding
 
-found_first : (finding : Finding) → TellsNothing finding → IsFound [] finding
+pub found_first : (finding : Finding) → TellsNothing finding → IsFound [] finding
 found_first finding none = record { count = none.count; first = none.first }
 
-found_push : (marks : List Bool) (b : Bool) (line : ℕ) (old new : Finding) → IsFound marks old → FindsOn b line old new → line ≡ length marks + 1
+pub found_push : (marks : List Bool) (b : Bool) (line : ℕ) (old new : Finding) → IsFound marks old → FindsOn b line old new → line ≡ length marks + 1
     → IsFound (marks ++ b ∷ []) new
 found_push marks b line old new h on is = record {
   count = on.count ∙ ap (λ n. n + cond b 1 0) h.count ∙ sym (count_push marks b);
   first = on.first ∙ ap₂ (λ f n. first_or f b n) h.first (is ∙ omega arith) ∙ sym (first_push 1 marks b);
 }
 
-found_on : (is_so : List Line → Line → Bool) (notes : List Line) (note : Line) (b : Bool) (line : ℕ) (old new : Finding)
+pub found_on : (is_so : List Line → Line → Bool) (notes : List Line) (note : Line) (b : Bool) (line : ℕ) (old new : Finding)
     → IsFound (of_each is_so [] notes) old → FindsOn b line old new → b ≡ is_so notes note → line ≡ length notes + 1
     → IsFound (of_each is_so [] (notes ++ note ∷ [])) new
 found_on is_so notes note b line old new h on same is =
@@ -122,13 +120,13 @@ found_on is_so notes note b line old new h on same is =
     (is ∙ ap (λ n. n + 1) (sym (of_each_length is_so [] notes))))
 
 -- no more than the lines
-found_fit : (marks : List Bool) (finding : Finding) (n : ℕ) → IsFound marks finding → length marks ≡ n → finding.count ≤ n
+pub found_fit : (marks : List Bool) (finding : Finding) (n : ℕ) → IsFound marks finding → length marks ≡ n → finding.count ≤ n
 found_fit marks finding n h is =
     let few = count_by-le-length is_true marks in
     let same : finding.count ≡ count_by is_true marks = h.count in
     omega arith
 
-zip_push : (P : List ℕ → Bool → Type 0) (xs : List (List ℕ)) (bs : List Bool) (x : List ℕ) (b : Bool) → AllZip P xs bs → P x b
+pub zip_push : (P : List ℕ → Bool → Type 0) (xs : List (List ℕ)) (bs : List Bool) (x : List ℕ) (b : Bool) → AllZip P xs bs → P x b
     → AllZip P (xs ++ x ∷ []) (bs ++ b ∷ [])
 zip_push P [] [] x b h k = (k, tt)
 zip_push P [] (c ∷ cs) x b h k = absurd h
@@ -185,7 +183,7 @@ or_none false true = refl
 or_none false false = refl
 
 -- whether a line has a token, with one line more
-token_more : (old new : Bool) (token : Option (List ℕ)) (notes : List Line) (note : Line) → old ≡ list_any has_token notes → token ≡ token_in note
+pub token_more : (old new : Bool) (token : Option (List ℕ)) (notes : List Line) (note : Line) → old ≡ list_any has_token notes → token ≡ token_in note
     → new ≡ (old || is_some token) → new ≡ list_any has_token (notes ++ note ∷ [])
 token_more old new token notes note before is now =
     now ∙ ap₂ (λ a t. a || is_some t) before is ∙ or_none (list_any has_token notes) (has_token note)

@@ -11,5 +11,6 @@ mod PullLemmas
 pub mod RelayLemmas
 pub mod ServeLemmas
 mod StateAtLemmas
+mod StreamedLemmas
 mod TablesLemmas
 mod TellingLemmas

@@ -6,12 +6,14 @@ use Rattle.feed_commands.specs.Check.{CountsPrinted, CheckFails}
 use Rattle.feed_commands.specs.Play.{Played, PlayFails}
 use Rattle.feed_settings.specs.Limits.{Limits}
 use Rattle.feed_commands.specs.StateAt.{PrintedAt, FailsAt}
+use Rattle.feed_commands.specs.Streamed.{StreamPrinted, StreamCheckFails}
 use Rattle.feed_commands.specs.Streams.{Streams}
 use Rattle.feed_http.specs.Exchange.{Wrote}
 use Rattle.feed_commands.specs.Tables.{PrintedSome, TablesFail}
 use Rattle.feed_commands.specs.Telling.{IsToldStatus, TellsLines}
 use Rattle.feed_commands.specs.declared.fault.Fault.{Fault}
 use Rattle.feed_commands.specs.declared.fault.Fault.TheVariants as fault
+use Rattle.feed_arguments.specs.declared.request.CheckOptions.{CheckOptions}
 use Rattle.feed_arguments.specs.declared.request.Local.{Local}
 use Rattle.feed_arguments.specs.declared.request.Local.TheVariants as local
 use Rattle.feed_arguments.specs.Words.{Asks, AsksNothing}
@@ -30,18 +32,28 @@ abbrev pub NotPrinted : Limits → Option (List ℕ) → Fault → Streams → T
 NotPrinted limits None why s = TablesFail limits why s
 NotPrinted limits (Some token) why s = FailsAt limits token why s
 
+-- what the lines are was printed, of an input that was read whole or as a stream
+abbrev pub CheckPrinted : Bool → CheckOptions → Streams → Type 0
+CheckPrinted false options s = CountsPrinted options s
+CheckPrinted true options s = StreamPrinted options s
+
+-- the same where it was not printed
+abbrev pub CheckNotPrinted : Bool → CheckOptions → Fault → Streams → Type 0
+CheckNotPrinted false options why s = CheckFails options why s
+CheckNotPrinted true options why s = StreamCheckFails options why s
+
 -- the command did what was asked for
 abbrev pub Succeeds : Local → Streams → Type 0
 Succeeds (local.Tables options) s =
     TablesPrinted options.limits (option_map (λ text. text.now) options.at) s
-Succeeds (local.Check options) s = CountsPrinted options s
+Succeeds (local.Check options) s = CheckPrinted options.stream options s
 Succeeds local.Play s = Played s
 
 -- the command failed like this
 abbrev pub Fails : Local → Fault → Streams → Type 0
 Fails (local.Tables options) why s =
     NotPrinted options.limits (option_map (λ text. text.now) options.at) why s
-Fails (local.Check options) why s = CheckFails options why s
+Fails (local.Check options) why s = CheckNotPrinted options.stream options why s
 Fails local.Play why s = PlayFails why s
 
 -- where the fault is a device's, that one failed; where memory ran out, none did

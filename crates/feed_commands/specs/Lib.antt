@@ -11,6 +11,7 @@ pub mod Pull
 pub mod Relay
 pub mod Serve
 pub mod StateAt
+pub mod Streamed
 pub mod Streams
 pub mod Tables
 pub mod Telling

@@ -1,9 +1,10 @@
 //! The commands, as a command line asks for them.
-ghost use Rattle.std.specs.Prelude.{◌≡◌, ◌≢◌, ◌≤◌, None, false, map, IfErr, IfSome, OnOk};
-ghost use Rattle.feed_commands.specs.Commands.{Succeeds, Fails, IsDeviceFault, EndsBy, Replies, TellsRefusal};
+ghost use Rattle.std.specs.Prelude.{◌≡◌, ◌≢◌, ◌≤◌, None, false, map, IfErr, IfSome, IsErrOf, OnOk};
+ghost use Rattle.feed_commands.specs.Commands.{CheckPrinted, CheckNotPrinted, Succeeds, Fails, IsDeviceFault, EndsBy, Replies, TellsRefusal};
 ghost use Rattle.feed_commands.specs.Commands.{is_local, standard, RunsBy};
 ghost use Rattle.feed_arguments.specs.declared.request.Request.TheVariants as asked;
 ghost use Rattle.feed_commands.specs.Streams.{streams_of};
+ghost use Rattle.feed_http.specs.Device.{HasFailed};
 ghost use Rattle.feed_http.specs.Exchange.{wrote_by};
 
 pub mod audit;
@@ -14,16 +15,18 @@ pub mod pull;
 pub mod relay;
 pub mod serve;
 mod state_at;
+mod streamed;
 mod tables;
 
 use crate::fault::{Fault, REFUSED};
 use crate::telling::tell;
 use check::print_counts;
-use feed_arguments::{Local, NoCommand, PROGRAM, Request, parse_words};
+use feed_arguments::{CheckOptions, Local, NoCommand, PROGRAM, Request, parse_words};
 use feed_http::device::{Failed, FeedRead, FeedWrite, write_all};
 use play::print_played;
 use state_at::print_state_at;
 use std::alloc::Global;
+use streamed::print_stream;
 use tables::print_tables;
 
 /// Prints what is replied to words that ask for no command: help and the version to `out`, why they
@@ -45,6 +48,35 @@ fn answer_words<W: FeedWrite, E: FeedWrite>(reply: &NoCommand, out: &mut W, err:
             let _ = write_all(err, text.as_bytes());
             REFUSED
         }
+    }
+}
+
+/// Prints what the lines of the input are, which is read whole or as a stream.
+fn print_check<R: FeedRead, W: FeedWrite>(
+    alloc: Global,
+    options: CheckOptions,
+    input: &mut R,
+    out: &mut W,
+) -> Result<(), Fault>
+    ensures ok { let streams = streams_of R.remaining R.failures W.contents W.failures
+        input.old input.new out.old out.new in
+        OnOk result (CheckPrinted options.stream options streams) }
+    ensures err { let streams = streams_of R.remaining R.failures W.contents W.failures
+        input.old input.new out.old out.new in
+        IfErr result (λ why. CheckNotPrinted options.stream options why streams) }
+
+    ensures read { IsErrOf result Fault.Read
+        → HasFailed (R.failures input.old) (R.failures input.new) }
+    ensures write { IsErrOf result Fault.Write
+        → HasFailed (W.failures out.old) (W.failures out.new) }
+    ensures memory { IsErrOf result Fault.Memory
+        → (R.failures input.new ≡ R.failures input.old)
+        × (W.failures out.new ≡ W.failures out.old) }
+{
+    if options.stream {
+        print_stream(alloc, options, input, out)
+    } else {
+        print_counts(alloc, options, input, out)
     }
 }
 
@@ -72,7 +104,7 @@ pub fn perform<R: FeedRead, W: FeedWrite>(
             Some(token) => print_state_at(alloc, options, token, input, out),
             None => print_tables(alloc, options, input, out),
         },
-        Local::Check(options) => print_counts(alloc, *options, input, out),
+        Local::Check(options) => print_check(alloc, *options, input, out),
         Local::Play => print_played(alloc, input, out),
     }
 }

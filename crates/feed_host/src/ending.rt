@@ -17,6 +17,8 @@ enum Why {
     At(Fault, String, u16),
     /// For a fault, with what it is about.
     About(Fault, String),
+    /// For a fault, which this text tells.
+    ToldAs(Fault, &'static str),
     /// Its options can't be taken: this text says which.
     Refused(&'static str),
     /// The same, where the text names what is in the way.
@@ -62,6 +64,13 @@ impl Failure {
                 why: Why::About(fault, what),
             },
             Err(_) => Failure::from(fault),
+        }
+    }
+
+    /// A fault that this text tells, in place of its own.
+    pub fn told_as(fault: Fault, text: &'static str) -> Failure {
+        Failure {
+            why: Why::ToldAs(fault, text),
         }
     }
 
@@ -132,10 +141,10 @@ fn tell_more(rt: &HostRuntime, name: &'static str, fault: Fault, what: &str) -> 
     }
 }
 
-/// Tells why options can't be taken, and answers the status.
-fn tell_refused(rt: &HostRuntime, name: &'static str, text: &str) -> u8 {
+/// Tells a text, and answers the status, or that of a device that failed.
+fn tell_text(rt: &HostRuntime, name: &'static str, text: &str, status: u8) -> u8 {
     if Reporter::new(rt, name, false).line(text) {
-        REFUSED
+        status
     } else {
         Fault::Write.status()
     }
@@ -153,7 +162,8 @@ pub fn ended(rt: &HostRuntime, name: &'static str, outcome: Result<(), Failure>)
             tell_about(name, fault, address, &mut Errors::new(rt))
         }
         Why::About(fault, what) => tell_more(rt, name, fault, what.as_str()),
-        Why::Refused(text) => tell_refused(rt, name, text),
-        Why::RefusedFor(text) => tell_refused(rt, name, text.as_str()),
+        Why::ToldAs(fault, text) => tell_text(rt, name, text, fault.status()),
+        Why::Refused(text) => tell_text(rt, name, text, REFUSED),
+        Why::RefusedFor(text) => tell_text(rt, name, text.as_str(), REFUSED),
     }
 }

@@ -121,12 +121,27 @@ impl<'r> Comparison<'r> {
         })
     }
 
+    /// Tells which server was lost, once for each loss.
+    fn tell_losses(&mut self) {
+        if self.of.take_loss() {
+            let _ = eprintln!(self.rt;
+                "audit: no connection to the server of --of: it is asked again"
+            );
+        }
+        if self.against.take_loss() {
+            let _ = eprintln!(self.rt;
+                "audit: no connection to the server of --against: it is asked again"
+            );
+        }
+    }
+
     /// Takes what both sent, and compares them at each token that both have.
     fn step(&mut self, now: u64) -> Result<(), Fault> {
         let alloc = self.rt.alloc();
         let ours = needs_memory(self.of.step(alloc, &mut self.pair.first, now))?;
         let theirs = needs_memory(self.against.step(alloc, &mut self.pair.second, now))?;
         self.has_more = ours || theirs;
+        self.tell_losses();
         for _ in 0..u64::MAX {
             let Some((ours, theirs)) = self.of.common(&self.against) else {
                 break;
@@ -240,6 +255,9 @@ pub(crate) fn compare_servers(
         Some(seconds) => seconds.saturating_mul(1_000),
         None => u64::MAX,
     };
-    comparison.run(until)?;
-    comparison.end()
+    match comparison.run(until) {
+        Ok(()) => comparison.end(),
+        Err(Fault::Differs) => Err(Failure::told_as(Fault::Differs, "the servers differ")),
+        Err(fault) => Err(Failure::from(fault)),
+    }
 }

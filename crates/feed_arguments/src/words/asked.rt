@@ -169,6 +169,7 @@ fn check_options(matches: &ArgMatches<'_>) -> CheckOptions
     ensures { AsksCheck (rows_of (found_of matches.now)) result }
 {
     CheckOptions {
+        stream: is_given(matches, "stream"),
         verbose: is_given(matches, "verbose"),
     }
 }

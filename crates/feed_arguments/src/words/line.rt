@@ -73,7 +73,8 @@ fn check<'a>(alloc: Global) -> Result<Command<'a>, AllocError>
         "Counts the lines of the event feed on standard input, or names the first that can't be read";
     let help = "Count what servers get wrong, too: tokens that come again, and more";
     let check = Ok(command(alloc, "check", about));
-    add_option(check, options::verbose(alloc, help))
+    let streamed = add_option(check, options::stream(alloc));
+    add_option(streamed, options::verbose(alloc, help))
 }
 
 /// A command with the options that say which servers are compared.

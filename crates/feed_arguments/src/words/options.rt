@@ -104,6 +104,14 @@ pub(crate) fn at<'a>(alloc: Global) -> Arg<'a>
     )
 }
 
+/// `--stream`.
+pub(crate) fn stream<'a>(alloc: Global) -> Arg<'a>
+    ensures rule { rule_of result ≡ words.stream }
+    ensures local { result.global ≡ false }
+{
+    flag(alloc, "stream").help("Read piece by piece, so that the feed may have any length")
+}
+
 /// `--verbose`.
 pub(crate) fn verbose<'a>(alloc: Global, help: &'a str) -> Arg<'a>
     ensures rule { rule_of result ≡ words.verbose }

@@ -1,5 +1,5 @@
 //! What servers of the field get wrong on the lines of a feed.
-ghost use Rattle.std.specs.Prelude.{◌≡◌, ◌≢◌, ◌+◌, ◌<◌, ◌^◌, ◌≤◌, ◌||◌, true, List, ℕ, cond, bytes_eq, is_some, string_bytes, IfOk, IfErr, OnOk};
+ghost use Rattle.std.specs.Prelude.{◌≡◌, ◌≢◌, ◌+◌, ◌<◌, ◌^◌, ◌≤◌, ◌||◌, true, false, List, ℕ, cond, bytes_eq, is_some, string_bytes, IfOk, IfErr, OnOk};
 ghost use Rattle.std.specs.BTreeSet.{contains_text};
 ghost use Rattle.feed_note.specs.Counts.{Stops, StopsAt};
 ghost use Rattle.feed_note.specs.Lines.{HasNoLineFeed};
@@ -135,7 +135,7 @@ fn read_said(alloc: Global, line: &[u8]) -> Result<Said, LineStop>
 
 /// What was found on the lines that were read, and their tokens.
 #[derive(Drop)]
-struct Reader {
+pub(super) struct Reader {
     seen: BTreeSet<String>,
     has_token: bool,
     lines: u64,
@@ -143,6 +143,36 @@ struct Reader {
 }
 
 impl Reader {
+    /// Nothing was read.
+    pub(super) fn new(alloc: Global) -> Reader
+        ensures lines { result.lines ≡ 0 }
+        ensures seen { (other : List ℕ) → contains_text result.seen other ≡ false }
+        ensures has_token { result.has_token ≡ false }
+        ensures repeats { TellsNothing result.findings.repeats }
+        ensures tokenless { TellsNothing result.findings.tokenless }
+        ensures older { TellsNothing result.findings.older }
+        ensures misnamed { TellsNothing result.findings.misnamed }
+    {
+        Reader {
+            seen: BTreeSet::new(alloc),
+            has_token: false,
+            lines: 0,
+            findings: Findings {
+                repeats: Finding::none(),
+                tokenless: Finding::none(),
+                older: Finding::none(),
+                misnamed: Finding::none(),
+            },
+        }
+    }
+
+    /// What was found.
+    pub(super) fn findings(&self) -> Findings
+        ensures { result ≡ self.now.findings }
+    {
+        self.findings
+    }
+
     /// Notes one token more, and answers whether it was there.
     fn note(&mut self, alloc: Global, token: &Name) -> Result<bool, AllocError>
         ensures again { IfOk result (λ again. again ≡ contains_text self.old.seen token.now) }
@@ -196,7 +226,7 @@ impl Reader {
     }
 
     /// Reads one line more, and takes what it says.
-    fn read(&mut self, alloc: Global, line: &[u8]) -> Result<(), LineStop>
+    pub(super) fn read(&mut self, alloc: Global, line: &[u8]) -> Result<(), LineStop>
         requires unbroken { HasNoLineFeed line.now }
         requires lines { self.old.lines + 1 < 2 ^ 64 }
         requires repeats { self.old.findings.repeats.count ≤ self.old.lines }
@@ -219,17 +249,7 @@ pub(super) fn find_all(alloc: Global, bytes: &[u8]) -> Result<Findings, SurveyFa
     ensures err { IfErr result (λ fault.
         fault.stop ≢ LineStop.Memory → StopsAt bytes.now fault.line fault.stop) }
 {
-    let mut reader = Reader {
-        seen: BTreeSet::new(alloc),
-        has_token: false,
-        lines: 0,
-        findings: Findings {
-            repeats: Finding::none(),
-            tokenless: Finding::none(),
-            older: Finding::none(),
-            misnamed: Finding::none(),
-        },
-    };
+    let mut reader = Reader::new(alloc);
     let mut rest = bytes;
     'lines: while let Some((line, behind)) = split_line(rest) {
         let number = reader.lines + 1;

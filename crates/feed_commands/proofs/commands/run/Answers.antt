@@ -1,4 +1,4 @@
-use Rattle.std.proofs.Common.{rules, refl, sym, subst, inl, inr, map}
+use Rattle.std.proofs.Common.{rules, refl, subst, inl, inr, map}
 use Rattle.feed_arguments.specs.Words.{Asks}
 use Rattle.feed_commands.proofs.commands.run.Goals as goal
 

@@ -1,9 +1,9 @@
-use Rattle.std.proofs.Common.{refl, rules}
 use Rattle.feed_commands.proofs.FindingsLemmas.{starts_with_none, one_more, all_taken, repeats_fit, tokenless_fit, older_fit, misnamed_fit, stops_at}
 use Rattle.feed_commands.proofs.commands.findings.find_all.Goals as goal
 
 pub lines-init : goal.lines-init
-lines-init c = starts_with_none c.args.bytes.now _ refl (λ other. search rules) refl c.none.ensures c.none-2.ensures c.none-3.ensures c.none-4.ensures
+lines-init c =
+    starts_with_none c.args.bytes.now _ c.new-reader.ensures.lines c.new-reader.ensures.seen c.new-reader.ensures.has_token c.new-reader.ensures.repeats c.new-reader.ensures.tokenless c.new-reader.ensures.older c.new-reader.ensures.misnamed
 
 pub read-requires-clause-repeats : goal.read-requires-clause-repeats
 read-requires-clause-repeats c = repeats_fit c.args.bytes.now c.lines.rest.now c.lines.reader c.lines.invariant
