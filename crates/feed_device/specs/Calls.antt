@@ -1,5 +1,5 @@
 -- How often devices are called, where that is counted: so a contract can say that one is.
-use Rattle.std.specs.Prelude.{◌≡◌, ◌≢◌, ℕ, suc, ◌+◌, Option, Some, None, option_map}
+use Rattle.std.specs.Prelude.{◌≡◌, ◌≢◌, ℕ, suc, ◌+◌, Option, option_map}
 
 -- once more
 abbrev pub CalledOnce : Option ℕ → Option ℕ → Type 0

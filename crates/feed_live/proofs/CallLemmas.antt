@@ -1,5 +1,5 @@
 -- How often devices were called.
-use Rattle.std.proofs.Common.{◌≡◌, refl, ap, ◌∙◌, subst, sym, ℕ, suc, ◌+◌, ◌⊎◌, inl, inr, arith, Option, Some, None}
+use Rattle.std.proofs.Common.{◌≡◌, ap, ◌∙◌, subst, ℕ, suc, ◌+◌, ◌⊎◌, inl, inr, arith, Option, Some, None}
 use Rattle.std.specs.Prelude.{option_map}
 use Rattle.feed_device.specs.Calls.{CalledOnce, CalledAtLeastOnce}
 

@@ -3,11 +3,10 @@ use Rattle.std.proofs.Common.{◌≡◌, ◌≢◌, refl, sym, ap, ◌∙◌, su
 use Rattle.std.specs.Prelude.{slice_index_or}
 use Rattle.std.proofs.lemmas.List.{get_or_default}
 use Rattle.std.proofs.lemmas.List.Sums.{sum_by-cons}
-use Rattle.slab.specs.Slab.{get}
 use Rattle.feed_live.specs.declared.screens.Screens.{Screens}
 use Rattle.feed_live.specs.declared.screens.pending.Text.{Text}
 use Rattle.feed_live.specs.declared.screens.pending.TextId.{TextId}
-use Rattle.feed_live.specs.Pending.{is_same, is_taker, takers, readers, text_at, HasNone, IsTextAt}
+use Rattle.feed_live.specs.Pending.{is_same, is_taker, takers, text_at, IsTextAt}
 use Rattle.feed_live.specs.Owed.{texts_of, held_at, HasYetToTake, OwesWhatIsKept}
 use Rattle.feed_live.proofs.PendingLemmas.{same_is, is_itself, readers_of_it, readers_none, counted_nothing}
 
@@ -61,6 +60,7 @@ owes_what_is_kept screens =
   where
     get_same : (at : ℕ) → at < length (texts_of screens) → (e d : Text) → slice_index_or (texts_of screens) at e ≡ slice_index_or (texts_of screens) at d
     get_same at within e d = get_or_default (texts_of screens) at e d within
+
     held_by : (id : TextId) → (place : ℕ) × (held_at screens place ≡ Some id) → HasYetToTake screens id
     held_by id found =
         record {
@@ -68,6 +68,7 @@ owes_what_is_kept screens =
           held = found.1;
           connected = λ gone. let wrong : None ≡ Some id = sym (screens.connected found.0 gone) ∙ found.1 in absurd (cc);
         }
+
     taken_by : (text : Text) (at : ℕ) → IsTextAt (texts_of screens) text at → HasYetToTake screens text.id
     taken_by text at there =
         let most = readers_of_it (texts_of screens) text at there in

@@ -1,13 +1,13 @@
 -- Each text that screens have yet to take has as many readers as there are places where one has it.
 use Rattle.std.proofs.Common.{◌≡◌, ◌≢◌, refl, sym, ap, ◌∙◌, subst, ℕ, zero, suc, ◌+◌, ◌<◌, ◌≤◌, ◌-◌, ◌^◌, ◌*◌, ◌⊎◌, inl, inr, min, arith, Bool, true, false, cond, List, [], ◌∷◌, ◌++◌, length, Option, Some, None}
-use Rattle.std.specs.Prelude.{◌==◌, if◌then◌else◌, slice_index_or, slice_set, sum_by, count_by, remove}
+use Rattle.std.specs.Prelude.{◌==◌, if◌then◌else◌, slice_index_or, slice_set, remove}
 use Rattle.std.proofs.lemmas.Bool.Decides.{eqb_tells}
 use Rattle.std.proofs.lemmas.List.{get_or_default}
 use Rattle.std.proofs.lemmas.List.Sums.{sum_by-set, sum_by-remove, sum_by_push, sum_by-le, count_by-le-length, get_or-le-sum_by}
 use Rattle.feed_live.specs.declared.screens.pending.Text.{Text}
 use Rattle.feed_live.specs.declared.screens.pending.TextId.{TextId}
 use Rattle.feed_live.specs.declared.screens.pending.TextId.TheVariants.{Opening, Own, Commit}
-use Rattle.feed_live.specs.Pending.{total, is_same, is_taker, takers, readers, text_at, text_of, IsTextAt, HasNone, Counts, Goes, Adds, Removes, AreRead, AreCounted}
+use Rattle.feed_live.specs.Pending.{total, is_same, is_taker, takers, readers, text_at, text_of, IsTextAt, HasNone, Adds, Removes, AreRead, AreCounted}
 
 -- ---- ids
 
@@ -126,6 +126,7 @@ readers_none id texts none =
     by : (text : Text) (b : Bool) → is_same text.id id ≡ b → text.id ≢ id → (if b then text.readers else 0) ≤ 0
     by text true same differs = absurd (differs (same_is text.id id same))
     by text false same differs = omega (arith)
+
     nothing : (text : Text) → text.id ≢ id → part id text ≤ 0
     nothing text differs = by text (is_same text.id id) refl differs
 

@@ -1,5 +1,5 @@
 -- The long texts that screens have yet to take: each counts once, for however many it is.
-use Rattle.std.specs.Prelude.{◌≡◌, ◌≢◌, ◌⊎◌, ◌==◌, ℕ, ◌+◌, ◌<◌, ◌≤◌, ◌-◌, ◌^◌, min, Bool, true, false, List, [], ◌∷◌, ◌++◌, length, Option, Some, None, HoldsAt, AllPairs, remove, sum_by, count_by, slice_set, slice_index_or, if◌then◌else◌}
+use Rattle.std.specs.Prelude.{◌≡◌, ◌≢◌, ◌⊎◌, ◌==◌, ℕ, ◌+◌, ◌<◌, ◌-◌, ◌^◌, min, Bool, false, List, [], ◌∷◌, ◌++◌, length, Option, Some, None, HoldsAt, AllPairs, remove, sum_by, count_by, slice_set, slice_index_or, if◌then◌else◌}
 use Rattle.slab.specs.Slab.{Slab, get}
 use Rattle.feed_live.specs.declared.conn.Conn.{Conn}
 use Rattle.feed_live.specs.declared.screens.pending.Text.{Text}
@@ -99,7 +99,6 @@ text_at places at = slice_index_or places at None
 abbrev pub Pays : Option TextId → List Text → List Text → Type 0
 Pays None old new = new ≡ old
 Pays (Some id) old new = Removes id old new
-
 
 -- where there is no connection, none is pending
 abbrev pub AreConnected : List (Option TextId) → Slab Conn → Type 0
