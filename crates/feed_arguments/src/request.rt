@@ -18,7 +18,7 @@ pub struct TablesOptions<'a> {
 pub struct CheckOptions {
     /// Whether the feed is read piece by piece, however long it is.
     pub stream: bool,
-    /// Whether what servers of the field get wrong is told, too, and where in a line its fault is.
+    /// Whether what servers of the field get wrong is told, too.
     pub verbose: bool,
 }
 

@@ -125,12 +125,12 @@ impl<'r> Comparison<'r> {
     fn tell_losses(&mut self) {
         if self.of.take_loss() {
             let _ = eprintln!(self.rt;
-                "audit: no connection to the server of --of: it is asked again"
+                "audit: no feed from the server of --of: it is asked again"
             );
         }
         if self.against.take_loss() {
             let _ = eprintln!(self.rt;
-                "audit: no connection to the server of --against: it is asked again"
+                "audit: no feed from the server of --against: it is asked again"
             );
         }
     }
