@@ -558,7 +558,7 @@ impl Screens {
             TextId::Own(at)
         };
         let length = self.hub.prefix(key).len();
-        self.owe(at, length, id, now);
+        self.owe(at, length, id, now)?;
         Ok(0)
     }
 

@@ -178,20 +178,29 @@ impl Screens {
         let got = self.hub.refill(alloc, node, key, has_room, now)?;
         match got {
             Refill::Goes(number) => self.is_refilled(at, key, number, now),
-            Refill::Waits(length) => self.wait_for_commit(at, key, length, now),
+            Refill::Waits(length) => {
+                self.wait_for_commit(at, key, length, now);
+                Ok(())
+            }
         }
-        Ok(())
     }
 
     /// The screen at a place has what came next: a text with a number counts as pending.
-    fn is_refilled(&mut self, at: usize, key: Key, number: Option<u64>, now: u64)
+    fn is_refilled(
+        &mut self,
+        at: usize,
+        key: Key,
+        number: Option<u64>,
+        now: u64,
+    ) -> Result<(), AllocError>
         ensures { SameSeating self.old self.new }
     {
         let length = self.hub.prefix(key).len();
         self.made = self.made.saturating_add(length);
         self.end_wait(at);
-        if let Some(number) = number {
-            self.owe(at, length, TextId::Commit(number), now);
+        match number {
+            Some(number) => self.owe(at, length, TextId::Commit(number), now),
+            None => Ok(()),
         }
     }
 

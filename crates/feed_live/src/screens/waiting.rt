@@ -1,6 +1,6 @@
 //! Who waits for room: long texts that screens have yet to take have a limit together.
 
-ghost use Rattle.std.specs.Prelude.{◌≡◌, ◌≢◌, ◌<◌, ◌↔◌, ◌^◌, ◌-◌, [], ℕ, List, None, Some, Contains, min, IsTrue, IfSome};
+ghost use Rattle.std.specs.Prelude.{◌≡◌, ◌≢◌, ◌<◌, ◌≤◌, ◌↔◌, ◌^◌, ◌-◌, [], ℕ, List, None, Some, Contains, min, IsTrue, IfSome, OnOk};
 ghost use Rattle.feed_node.specs.States.{NodeState};
 ghost use Rattle.feed_device.specs.Sockets.{AllSockets};
 ghost use Rattle.slab.specs.Slab.{get};
@@ -38,19 +38,27 @@ impl Screens {
     }
 
     /// The connection at a place has yet to take a text of so many bytes. A long one counts as
-    /// pending, once for all who share it.
-    pub(crate) fn owe(&mut self, at: usize, length: usize, id: TextId, now: u64)
-        ensures { SameSeating self.old self.new }
+    /// pending, once for all who share it; without memory for that the connection has to end.
+    pub(crate) fn owe(
+        &mut self,
+        at: usize,
+        length: usize,
+        id: TextId,
+        now: u64,
+    ) -> Result<(), AllocError>
+        ensures same { SameSeating self.old self.new }
+        ensures counts { OnOk result (65536 ≤ length → get self.old.conns at ≢ None
+            → text_at self.new.pending.places.items at ≡ Some id) }
     {
         self.pay(at);
         let Some(conn) = self.conns.get_mut(at) else {
-            return;
+            return Ok(());
         };
         conn.owe(length, now);
-        if length >= LONG {
-            // Without memory for that it doesn't count.
-            let _ = self.pending.add(at, id, length);
+        if length < LONG {
+            return Ok(());
         }
+        self.pending.add(at, id, length)
     }
 
     /// The connection at a place took all of its text, or is over. Who waits for room may have it

@@ -31,9 +31,24 @@ returns-clause-serving c =
     let hears = c.in_ok-heard.ensures.heard in
     let served = c.in_ok-heard.ensures.served nodes in
     let answered : heard.status ≢ None = λ none. let no : None ≡ Some c.in-Some.status = sym none ∙ c.in-Some.is in absurd (cc) in
-    serving_noted c.owe.ensures
+    serving_noted c.owe.ensures.same
     (serving_noted c.is_answered.ensures
     (serving_all c.hear.new.self c.args.self.now.conns sockets c.args.at c.args.key (drop heard.taken c.args.piece.now) keyed
     (inl (is_answered c.args.contest.now c.args.self.now.hub c.hear.new.self c.args.key c.args.answering.now.mirror.node c.args.now c.args.piece.now heard among hears served c.hear.ensures.rest.broadcast answered))
     (serving_heard c.args.self.now.hub c.hear.new.self c.args.self.now.conns sockets c.args.at c.args.key c.args.piece.now heard.taken keyed c.hear.ensures.rest
     (heard_sits c.args.contest.now c.args.self.now.hub c.hear.new.self c.args.key c.args.answering.now.mirror.node c.args.now c.args.piece.now heard among hears served c.hear.ensures.rest.broadcast) serves)))
+
+pub returns-in_err-owe-clause-serving : goal.returns-in_err-owe-clause-serving
+returns-in_err-owe-clause-serving c =
+    λ nodes sockets among keyed serves.
+    let heard = c.in_ok-heard.heard in
+    let hears = c.in_ok-heard.ensures.heard in
+    let served = c.in_ok-heard.ensures.served nodes in
+    let answered : heard.status ≢ None = λ none. let no : None ≡ Some c.in-Some.status = sym none ∙ c.in-Some.is in absurd (cc) in
+    hears_failed c.owe.new.self sockets c.args.at c.args.piece.now _ c.from_residual-in_err-owe.result c.from_residual-in_err-owe.ensures.1
+    (serving_noted c.owe.ensures.same
+    (serving_noted c.is_answered.ensures
+    (serving_all c.hear.new.self c.args.self.now.conns sockets c.args.at c.args.key (drop heard.taken c.args.piece.now) keyed
+    (inl (is_answered c.args.contest.now c.args.self.now.hub c.hear.new.self c.args.key c.args.answering.now.mirror.node c.args.now c.args.piece.now heard among hears served c.hear.ensures.rest.broadcast answered))
+    (serving_heard c.args.self.now.hub c.hear.new.self c.args.self.now.conns sockets c.args.at c.args.key c.args.piece.now heard.taken keyed c.hear.ensures.rest
+    (heard_sits c.args.contest.now c.args.self.now.hub c.hear.new.self c.args.key c.args.answering.now.mirror.node c.args.now c.args.piece.now heard among hears served c.hear.ensures.rest.broadcast) serves))))
