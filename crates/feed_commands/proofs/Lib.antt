@@ -5,6 +5,7 @@ pub mod FindingsLemmas
 mod InputLemmas
 mod InTurnLemmas
 mod MappedLemmas
+pub mod PlacingLemmas
 mod PlayLemmas
 pub mod PrintingLemmas
 mod PullLemmas

@@ -80,9 +80,15 @@ FailsWithin most why old new = ⊥
 abbrev pub InputFails : Fault → Option (List ℕ) → Option (List ℕ) → Type 0
 InputFails why old new = FailsWithin input_bytes why old new
 
+-- the feed stops at this line, unless memory ran out
+abbrev pub SurveyFails : Fault → List ℕ → Type 0
+SurveyFails (fault.Survey why) bytes = StopsAt bytes why.fault.line why.fault.stop
+SurveyFails fault.Memory bytes = Unit {0}
+SurveyFails why bytes = ⊥
+
 -- what was read where the input can't be counted
 abbrev pub CountFails : Fault → Option (List ℕ) → Option (List ℕ) → Type 0
-CountFails (fault.Survey why) old new = InputStops old new why
+CountFails (fault.Survey why) old new = InputStops old new why.fault
 CountFails why old new = InputFails why old new
 
 -- the input was counted, and the counts were printed

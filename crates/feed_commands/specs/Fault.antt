@@ -1,5 +1,5 @@
 -- Why a command fails, for the fault of what it calls, and the statuses that the program ends with.
-use Rattle.std.specs.Prelude.{ℕ, Bool, true, false, Option, Result, Ok, Err, if◌then◌else◌}
+use Rattle.std.specs.Prelude.{◌≡◌, ◌⊎◌, ◌+◌, ◌≤◌, ℕ, Bool, true, false, List, length, Option, None, Some, Result, Ok, Err, if◌then◌else◌}
 use Rattle.feed_audit.specs.declared.verdict.AuditFault.{AuditFault}
 use Rattle.feed_audit.specs.declared.verdict.AuditFault.TheVariants as audit
 use Rattle.feed_settings.specs.declared.place.PlaceFault.{PlaceFault}
@@ -20,6 +20,8 @@ use Rattle.feed_relay.specs.declared.fault.NetworkFault.{NetworkFault}
 use Rattle.feed_relay.specs.declared.fault.NetworkFault.TheVariants as network
 use Rattle.feed_arguments.specs.declared.address.AddressFault.{AddressFault}
 use Rattle.feed_arguments.specs.declared.address.AddressFault.TheVariants as address
+use Rattle.feed_commands.specs.declared.placing.Spot.{Spot}
+use Rattle.feed_commands.specs.declared.fault.SurveyStop.{SurveyStop}
 use Rattle.feed_commands.specs.declared.fault.Fault.{Fault}
 use Rattle.feed_commands.specs.declared.fault.Fault.TheVariants as fault
 
@@ -30,7 +32,7 @@ fault_of_feed why line = fault.Feed (record { fault = why; line = line })
 
 abbrev pub fault_at : LineStop → SurveyFault → Fault
 fault_at stop.Memory why = fault.Memory
-fault_at other why = fault.Survey why
+fault_at other why = fault.Survey (record { fault = why; spot = None })
 
 abbrev pub fault_of_survey : SurveyFault → Fault
 fault_of_survey why = fault_at why.stop why
@@ -109,3 +111,15 @@ status_of (fault.Place why) = 1
 status_of (fault.Address why) = 1
 status_of (fault.Commit why) = 2
 status_of (fault.Network why) = status_of_network why
+
+-- the place is a byte of the line, counted from 1, or the one behind its last
+abbrev pub IsWithin : List ℕ → Option Spot → Type 0
+IsWithin line None = Unit {0}
+IsWithin line (Some spot) = (1 ≤ spot.byte) × (spot.byte ≤ length line + 1)
+
+-- the same fault; or that of a line, which says where in the line it is, or doesn't
+abbrev pub SaysMore : List ℕ → Fault → Fault → Type 0
+SaysMore line why told =
+    (told ≡ why)
+    ⊎ ((stop : SurveyStop) × (spot : Option Spot) × (why ≡ fault.Survey stop)
+    × (told ≡ fault.Survey (record { fault = stop.fault; spot = spot })) × IsWithin line spot)

@@ -52,7 +52,7 @@ pub record StreamReadOn (old new : Option (List ℕ)) : Type 0 where
 
 -- what was read where the input can't be counted
 abbrev pub StreamFails : Fault → Option (List ℕ) → Option (List ℕ) → Type 0
-StreamFails (fault.Survey why) old new = StreamStops old new why
+StreamFails (fault.Survey why) old new = StreamStops old new why.fault
 StreamFails fault.Memory old new = Unit {0}
 StreamFails fault.Read old new = Unit {0}
 StreamFails fault.Turns old new = StreamReadOn old new

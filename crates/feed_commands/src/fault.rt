@@ -1,6 +1,7 @@
 //! Why a command fails: the texts that tell it, and the statuses that it ends with.
 ghost use Rattle.std.specs.Prelude.{◌≡◌};
 
+use crate::placing::{Spot, spot_of};
 use feed_arguments::AddressFault;
 use feed_audit::AuditFault;
 use feed_http::{EngineFault, PlaceFault};
@@ -8,7 +9,7 @@ use feed_node::{CommitFault, FeedFault};
 use feed_note::{LineStop, SurveyFault};
 use feed_play::PlayFault;
 use feed_relay::NetworkFault;
-use std::alloc::{AllocError, AllocFailed};
+use std::alloc::{AllocError, AllocFailed, Global};
 use thiserror::Error;
 
 /// The status for words that are refused: the command line, an option's value, or a server's name.
@@ -21,6 +22,13 @@ pub const REFUSED: u8 = 1;
 pub struct FeedStop {
     pub fault: FeedFault,
     pub line: Option<u64>,
+}
+
+/// At which line a feed can't be read, and why; and where in that line, where that was asked for.
+#[derive(Clone, Copy, Debug, PartialEq, Eq)]
+pub struct SurveyStop {
+    pub fault: SurveyFault,
+    pub spot: Option<Spot>,
 }
 
 /// Why a command fails. Running out of memory in what a command calls is a fault of its own, but
@@ -46,8 +54,8 @@ pub enum Fault {
     #[error("{0}")]
     Feed(FeedStop),
     /// A line of the input can't be read.
-    #[error("line {}: {}", .0.line, .0.stop)]
-    Survey(SurveyFault),
+    #[error("line {}: {}", .0.fault.line, .0.fault.stop)]
+    Survey(SurveyStop),
     /// A line of the input, whose batches are to be served, can't be read.
     #[error("{}", .0.stop)]
     Batches(SurveyFault),
@@ -82,7 +90,7 @@ pub enum Fault {
 
 impl Fault {
     ghost use Rattle.feed_commands.specs.Fault.{status_of, is_one_connections, fault_of_feed};
-    ghost use Rattle.feed_commands.specs.Fault.{fault_of_batches};
+    ghost use Rattle.feed_commands.specs.Fault.{fault_of_batches, SaysMore};
 
     /// The status that a program with this fault ends with.
     pub fn status(self) -> u8
@@ -127,6 +135,19 @@ impl Fault {
         }
     }
 
+    /// The same fault, with its place in this line, where it is one of a line.
+    pub(crate) fn in_line(self, alloc: Global, line: &[u8]) -> Fault
+        ensures { SaysMore line.now self result }
+    {
+        match self {
+            Fault::Survey(stop) => {
+                let spot = spot_of(alloc, line, stop.fault.stop).unwrap_or(None);
+                Fault::Survey(SurveyStop { spot, ..stop })
+            }
+            fault => fault,
+        }
+    }
+
     /// The fault of a command whose input's batches can't be read.
     pub fn of_batches(fault: SurveyFault) -> Fault
         ensures { result ≡ fault_of_batches fault }
@@ -157,7 +178,7 @@ impl From<SurveyFault> for Fault {
     fn from(fault: SurveyFault) -> Fault {
         match fault.stop {
             LineStop::Memory => Fault::Memory,
-            _ => Fault::Survey(fault),
+            _ => Fault::Survey(SurveyStop { fault, spot: None }),
         }
     }
 }

@@ -6,6 +6,7 @@ mod commands;
 mod fault;
 mod input;
 mod opening;
+mod placing;
 mod printing;
 mod snapshot;
 mod telling;
@@ -15,7 +16,7 @@ pub use commands::pull::{print_pulled, pull_outcome, servers_of, start_mirror};
 pub use commands::relay::print_relayed;
 pub use commands::serve::{Source, serve_all, start_source};
 pub use commands::{perform, run};
-pub use fault::{Fault, FeedStop, REFUSED};
+pub use fault::{Fault, FeedStop, REFUSED, SurveyStop};
 pub use feed_arguments::{
     AddressFault, AuditOptions, CompareOptions, LiveOptions, Local, NoCommand, PROGRAM,
     PullOptions, RelayOptions, Request, ServeOptions, TablesOptions, UpstreamOptions, VERSION,
@@ -24,4 +25,5 @@ pub use feed_arguments::{
 pub use feed_http::{device, memory, stream};
 pub use feed_play::{PlayCause, PlayFault, play};
 pub use feed_relay::{Accept, Dial, NetworkFault, Server};
+pub use placing::{Counting, Spot};
 pub use telling::{tell, tell_about};

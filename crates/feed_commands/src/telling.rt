@@ -7,10 +7,12 @@ ghost use Rattle.feed_commands.specs.Telling.{IsEnded, TellsLines, IsToldStatus,
 
 use crate::commands::pull::attempt_outcome;
 use crate::fault::Fault;
+use crate::placing::Spot;
 use arrayvec::ArrayString;
 use feed_http::Served;
 use feed_http::device::{Failed, FeedWrite, write_all};
 use feed_relay::{Attempt, AttemptEnd, NetworkFault, Server};
+use std::fmt;
 use std::fmt::Write;
 
 /// The most bytes of what is told of one fault. The longest text names a server, of at most 255
@@ -22,6 +24,15 @@ const WORDS: usize = ROOM - 1;
 
 /// A host and a port.
 type Address<'h> = (&'h str, u16);
+
+/// Appends where in a line a fault is.
+fn add_spot(words: &mut ArrayString<WORDS>, spot: Spot) -> fmt::Result {
+    write!(words, "\n  at byte {}", spot.byte)?;
+    match spot.member {
+        Some(member) => write!(words, ", in member \"{}\"", member.name()),
+        None => Ok(()),
+    }
+}
 
 /// Appends what more is known of a fault, as a second line: the address that it is about, or where
 /// in the input it is.
@@ -35,6 +46,10 @@ fn add_more(
         (_, Some((host, port))) => write!(words, "\n{name}: {host}:{port}"),
         (Fault::Feed(stop), None) => match stop.line {
             Some(line) => write!(words, "\n{name}: line {line}"),
+            None => Ok(()),
+        },
+        (Fault::Survey(stop), None) => match stop.spot {
+            Some(spot) => add_spot(words, spot),
             None => Ok(()),
         },
         (Fault::Batches(stop), None) => {

@@ -1,6 +1,7 @@
 use Rattle.std.proofs.Common.{rules, ap, ap₂, ◌∙◌, ◌++◌, string_bytes}
 use Rattle.std.proofs.lemmas.Result.{err_from_is_err_and}
 use Rattle.feed_commands.proofs.InputLemmas.{count_fails, count_stops}
+use Rattle.feed_commands.proofs.PlacingLemmas.{survey_counts}
 use Rattle.feed_commands.proofs.CheckLemmas.{tells_counts, tells_findings}
 use Rattle.feed_commands.proofs.commands.check.count_input.Goals.{then-options+in_ok-findings+in_ok-findings_lines+in_ok-push_str, else-options}
 use Rattle.feed_commands.proofs.commands.check.count_input.Goals as goal
@@ -13,7 +14,7 @@ returns-in_err-bytes-clause-err g c =
 pub returns-in_err-counts-clause-err : goal.returns-in_err-counts-clause-err
 returns-in_err-counts-clause-err g c =
     let p = err_from_is_err_and c.from_residual-in_err-counts.result c.from_residual-in_err-counts.ensures.1 in
-    rw (p.1, p.2) (count_stops _ _ c.as_slice-bytes.result.now c.in_err-counts.field-0.0 (search rules) c.in_err-counts.ensures.err)
+    rw (p.1, p.2) (survey_counts _ _ _ c.as_slice-bytes.result.now (search rules) c.in_err-counts.ensures.err)
 
 pub returns-in_err-findings-clause-err : goal.returns-in_err-findings-clause-err
 returns-in_err-findings-clause-err g c =

@@ -10,7 +10,7 @@ use Rattle.feed_commands.proofs.commands.streamed.count_stream.Goals as goal
 pub returns-clause-ok : goal.returns-clause-ok
 returns-clause-ok g c =
     let reading = c.take_all.new.reading in
-    let all = subst (λ v. IsAllTaken v (g.R.FeedRead.remaining c.args.input.now) (g.R.FeedRead.remaining c.take_all.new.input) reading) c.new-reading.ensures.verbose_is c.in_ok-take_all.ensures.ok in
+    let all = subst (λ v. IsAllTaken v (g.R.FeedRead.remaining c.args.input.now) (g.R.FeedRead.remaining c.take_all.new.input) reading) c.new-reading.ensures.verbose_is c.in_default.ensures.ok in
     let size : c.len-rest.result ≡ length reading.left.items = search rules in
     let is = c.in_ok-text.ensures ∙ ap (λ n. counts_text (with_rest reading.tally.counts n) ++ option_map_or findings_text c.if-options.findings []) size in
     elim c.if-options.branch [
