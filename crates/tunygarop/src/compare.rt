@@ -124,9 +124,7 @@ impl<'r> Comparison<'r> {
     /// Tells which server was lost, once for each loss.
     fn tell_losses(&mut self) {
         if self.of.take_loss() {
-            let _ = eprintln!(self.rt;
-                "audit: no feed from the server of --of: it is asked again"
-            );
+            let _ = eprintln!(self.rt; "audit: no feed from the server of --of: it is asked again");
         }
         if self.against.take_loss() {
             let _ = eprintln!(self.rt;
