@@ -173,6 +173,12 @@ pub enum Told {
         server: Option<usize>,
         token: Excerpt,
     },
+    /// A server has another commit where the newest one is that is shown, or has that at another
+    /// state. The token is that of this one.
+    Forgot {
+        server: usize,
+        token: Excerpt,
+    },
     /// What a server sent when it was asked for everything has settled, so long after its first
     /// byte: it is shown now.
     Settled {

@@ -1,6 +1,6 @@
 -- What a mirror makes of all that a screen was handed.
-use Rattle.std.proofs.Common.{◌≡◌, refl, sym, ap, ◌∙◌, subst, ℕ, ◌+◌, ◌-◌, ◌<◌, ◌≤◌, ◌^◌, length-append, max, min, Bool, true, false, true≢false, List, [], ◌∷◌, ◌++◌, ◌⊎◌, inl, inr, length, take, drop, Option, Some, None, append_assoc, append-nil, arith, nat_lt}
-use Rattle.std.specs.Prelude.{if◌then◌else◌, is_none, is_some, ◌&&◌, ◌==◌, Result, Ok, Err}
+use Rattle.std.proofs.Common.{◌≡◌, ◌≢◌, refl, sym, ap, ◌∙◌, subst, ℕ, zero, suc, ◌+◌, ◌-◌, ◌<◌, ◌≤◌, ◌^◌, length-append, max, min, Bool, true, false, true≢false, List, [], ◌∷◌, ◌++◌, ◌⊎◌, inl, inr, length, take, drop, Option, Some, None, append_assoc, append-nil, arith, nat_lt}
+use Rattle.std.specs.Prelude.{Contains, if◌then◌else◌, is_none, is_some, ◌&&◌, ◌==◌, Result, Ok, Err}
 use Rattle.std.specs.Fmt.{digits}
 use Rattle.httparse.specs.Ascii.{crlf_bytes}
 use Rattle.std.proofs.Math.Seq.{take-length}
@@ -32,7 +32,7 @@ use Rattle.feed_answer.specs.Opening.{Started, opens}
 use Rattle.feed_world.specs.Connection.{Connection, sent_text}
 use Rattle.feed_world.specs.Following.{OpensAsked, SessionsOpenAsAsked, PlacesStay, AllIsReached, IsBroughtBy, CarriesPrefix, CarryFeed, FollowsTo, MirrorsFollow, IsCutInLog, FailsKeepStates, RefusalsKeepNodes, brought_by}
 use Rattle.feed_world.specs.Laws.{opened_text}
-use Rattle.feed_world.specs.Log.{Log, IsLog}
+use Rattle.feed_world.specs.Log.{Log, IsLog, tokens_of}
 use Rattle.feed_world.specs.Position.{Position, IsPlace, node_where}
 use Rattle.feed_world.specs.Reading.{IsOpened}
 use Rattle.feed_world.specs.States.{HasAsked, HasReached}
@@ -40,7 +40,7 @@ use Rattle.feed_world.specs.Step.{IsMemory}
 use Rattle.feed_hub.specs.Told.{Told, IsGoing, IsDue}
 use Rattle.feed_hub.specs.Screen.{pending, token_at}
 use Rattle.feed_hub.specs.Laws.{IsInLog, StandsInLog, AreInLog, StandInOrder, ScreensAreConnections}
-use Rattle.feed_hub.specs.Follows.{HasAskedSo, MayStop, FollowsInLog, ScreensFollow, ArrivesInLog, ScreensArrive}
+use Rattle.feed_hub.specs.Follows.{MayAskWith, HasAskedSo, MayStop, FollowsInLog, ScreensFollow, ArrivesInLog, ScreensArrive}
 use Rattle.feed_hub.proofs.LawLemmas.{connection, its_text, is_opened}
 use Rattle.feed_hub.proofs.OpeningLemmas.{due_is_response}
 
@@ -236,22 +236,50 @@ module _ (places : PlacesStay) (follow : MirrorsFollow) (keep : FailsKeepStates)
 
 -- ---- where the screen's own mirror was
 
--- who asked with a token was sent what comes after that
-started : (limits : Limits) (log : Log) (head contest : List ℕ) (begun : MirrorState) (p : Position) (answer : AnswerParts) (opened : List ℕ)
-    → (a : HasAskedSo limits log head contest begun) → (o : OpensAsked log p begun.since 0 answer opened)
-    → is_none begun.since ≡ false → (own : Position) × (a.place ≡ Some own) × (own.low ≤ o.k) × (o.k ≤ own.at)
-started limits log head contest begun p answer opened a o some =
-    by a.place a.is_place (a.asked.since ∙ ap (λ b. if b then None else published_token (node_where log a.place)) some)
+-- a token among those from a number on is that of one of these numbers
+pub held_among : (log : Log) (low many : ℕ) (token : List ℕ) → Contains (tokens_of log low many) token
+    → (m : ℕ) × (low ≤ m) × (m < low + many) × (log.token m ≡ token)
+held_among log low zero token (i, within, is) = absurd (omega (arith, within))
+held_among log low (suc many) token (zero, within, is) = (low, omega arith, omega arith, is)
+held_among log low (suc many) token (suc i, within, is) =
+    let (m, above, below, same) = held_among log (low + 1) many token (i, omega (arith, within), is) in
+    (m, omega (arith, above), omega (arith, below), same)
+
+-- who asks with none asks for everything
+pub asks_alike : (begun : MirrorState) (since : Option (List ℕ)) → MayAskWith begun since
+    → is_none since ≡ is_none begun.since
+asks_alike begun None none = ap is_none (sym none)
+asks_alike begun (Some token) (some, held) = by begun.since some
   where
-    by : (place : Option Position) → IsPlace limits log place → begun.since ≡ published_token (node_where log place)
+    by : (since : Option (List ℕ)) → since ≢ None → false ≡ is_none since
+    by None other = absurd (other refl)
+    by (Some token) other = refl
+
+-- who asked with a token that it holds was sent what comes after that
+started : (limits : Limits) (log : Log) (head contest : List ℕ) (begun : MirrorState) (p : Position) (answer : AnswerParts) (opened : List ℕ)
+    → (a : HasAskedSo limits log head contest begun) → (o : OpensAsked log p a.since 0 answer opened)
+    → is_none begun.since ≡ false → (own : Position) × (a.place ≡ Some own) × (own.low ≤ o.k) × (o.k ≤ own.at)
+started limits log head contest begun p answer opened a o some = asked_with a.since refl a.may_ask
+  where
+    at_place : (token : List ℕ) → a.since ≡ Some token → (place : Option Position) → a.place ≡ place → IsPlace limits log place
+        → Contains (node_where log place).held token
         → (own : Position) × (place ≡ Some own) × (own.low ≤ o.k) × (o.k ≤ own.at)
-    by None is_place e = absurd (true≢false (sym (ap is_none e) ∙ some))
-    by (Some own) is_place e =
-        let there = o.own own.at is_place.in_log e in
+    at_place token is None at is_place (i, within, e) = absurd (omega (arith, within))
+    at_place token is (Some own) at is_place held =
         let order : own.low ≤ own.at = is_place.order in
-        let above : p.low ≤ own.at = there.0 in
-        let is : o.k ≡ max p.low (own.at - 0) = there.2 in
-        (own, refl, omega (arith, order, above, is), omega (arith, above, is))
+        let (m, above, below, same) = held_among log own.low (suc (own.at - own.low)) token held in
+        let last : m ≤ own.at = omega (arith, order, above, below) in
+        let in_log : own.at ≤ length log.commits = is_place.in_log in
+        let there = o.own m (omega (arith, last, in_log)) (is ∙ ap Some (sym same)) in
+        let from : p.low ≤ m = there.0 in
+        let is_k : o.k ≡ max p.low (m - 0) = there.2 in
+        (own, refl, omega (arith, above, from, is_k), omega (arith, last, from, is_k))
+
+    asked_with : (since : Option (List ℕ)) → a.since ≡ since → MayAskWith begun since
+        → (own : Position) × (a.place ≡ Some own) × (own.low ≤ o.k) × (o.k ≤ own.at)
+    asked_with None is none = absurd (true≢false (ap is_none (sym none) ∙ some))
+    asked_with (Some token) is (with, held) =
+        at_place token is a.place refl a.is_place (subst (λ n. Contains n.held token) (ap (λ r. r.before) a.asked.opening) held)
 
 -- ---- what was framed in memory fits into that
 
@@ -302,11 +330,14 @@ module _ (connects : ScreensAreConnections) (opens_so : SessionsOpenAsAsked)
     (a : HasAskedSo limits log head contest begun) (answers : AnswersTo head contest node framing 0 answer)
     (whole : handed ++ rest ≡ due)
     (token before : List ℕ) (g : IsGoing nodes answer token before) where
-  found : (p : Position) × (node_in.1.0 ≡ Some p) × OpensAsked log p begun.since 0 answer g.opened
-  found = opens_so node_in.0 log node node_in.1.0 head contest a.minor begun.since framing 0 answer g.opened is_log.named node_in.1.1 node_in.1.2 a.asks answers g.session
+  found : (p : Position) × (node_in.1.0 ≡ Some p) × OpensAsked log p a.since 0 answer g.opened
+  found = opens_so node_in.0 log node node_in.1.0 head contest a.minor a.since framing 0 answer g.opened is_log.named node_in.1.1 node_in.1.2 a.asks answers g.session
 
-  o : OpensAsked log found.0 begun.since 0 answer g.opened
+  o : OpensAsked log found.0 a.since 0 answer g.opened
   o = found.2
+
+  text_is : answer.text ≡ opening_text answer.framing (opened_text log (is_none begun.since) o.k)
+  text_is = o.text_is ∙ ap (λ f. opening_text answer.framing (opened_text log f o.k)) (asks_alike begun a.since a.may_ask)
 
   abbrev texts : List (List ℕ)
   texts = opened_text log (is_none begun.since) o.k ∷ g.texts
@@ -327,10 +358,10 @@ module _ (connects : ScreensAreConnections) (opens_so : SessionsOpenAsAsked)
   all_text = sym (its_text limits log o.k g.texts token a.place (is_none begun.since) in_order a.is_place begins)
 
   is_response : before ≡ response_text answer.framing texts
-  is_response = g.due_is ∙ due_is_response log answer g.texts (is_none begun.since) o.k o.text_is
+  is_response = g.due_is ∙ due_is_response log answer g.texts (is_none begun.since) o.k text_is
 
   are : AreTexts texts
-  are = (opened_fits answer.framing (opened_text log (is_none begun.since) o.k) answer.text o.text_is g.opening_fits, g.fit)
+  are = (opened_fits answer.framing (opened_text log (is_none begun.since) o.k) answer.text text_is g.opening_fits, g.fit)
 
   follows_by : ((had : Bool) → CarryFeed had (sent_text log c) due) → FollowsInLog limits log answer begun handed
   follows_by carry =

@@ -1,6 +1,6 @@
 -- THE PROMISE, up to each byte that a screen was handed: what a mirror makes of it (CLICS Contest
 -- API 2023-06, event feed and reconnection; RFC 9112).
-use Rattle.std.specs.Prelude.{◌≡◌, ◌⊎◌, ℕ, List, [], ◌++◌, take, Option, Some, None, is_none, is_some}
+use Rattle.std.specs.Prelude.{◌≡◌, ◌≢◌, ◌⊎◌, ℕ, List, [], ◌++◌, take, Option, Some, None, is_none, is_some, Contains}
 use Rattle.feed_settings.specs.Limits.{Limits}
 use Rattle.feed_settings.specs.declared.framing.Framing.{Framing}
 use Rattle.feed_node.specs.Mirroring.{MirrorState}
@@ -22,12 +22,20 @@ use Rattle.feed_hub.specs.Log.{Log as Shared}
 use Rattle.feed_hub.specs.Screen.{pending, token_at, IsServed}
 use Rattle.feed_hub.specs.Laws.{IsInLog, StandsInLog, AreInLog}
 
--- A mirror asked with this head. It was at a place of the log, and asked with the token of that, or
--- with none.
+-- What a mirror may ask with: a token that it holds, its newest or one before that; or with none,
+-- where it asks for everything.
+abbrev pub MayAskWith : MirrorState → Option (List ℕ) → Type 0
+MayAskWith mirror None = mirror.since ≡ None
+MayAskWith mirror (Some token) = (mirror.since ≢ None) × Contains mirror.node.held token
+
+-- A mirror asked with this head. It was at a place of the log, and asked with a token that it held
+-- there, or with none.
 pub record HasAskedSo (limits : Limits) (log : Log) (head contest : List ℕ)
     (begun : MirrorState) : Type 0 where
   pub minor : ℕ
-  pub asks : Asks head contest (feed minor begun.since)
+  pub since : Option (List ℕ)
+  pub may_ask : MayAskWith begun since
+  pub asks : Asks head contest (feed minor since)
   pub place : Option Position
   pub is_place : IsPlace limits log place
   pub asked : HasAsked limits log place (is_none begun.since) begun

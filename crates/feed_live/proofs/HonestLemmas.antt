@@ -41,7 +41,7 @@ pub followed_is_honest : FollowedIsHonest
 followed_is_honest limits log servers head contest text behind exchange followed meant is =
     λ begun request more asks is_request asked.
     let reads = meant begun request more is_request asked in
-    let there = followed begun (record { minor = reads.0; asks = reads.1; place = asks.place; is_place = asks.is_place; asked = asks.asks }) in
+    let there = followed begun (record { minor = reads.0; since = is_request.since; may_ask = is_request.may_ask; asks = reads.1; place = asks.place; is_place = asks.is_place; asked = asks.asks }) in
     honest_however exchange.shown (stays there.0 exchange.received behind text is there.1)
 
 pub relays_show_the_log : RelaysShowTheLog

@@ -1,11 +1,11 @@
 -- Relays that follow one another show states of one log.
-use Rattle.std.proofs.Common.{◌≡◌, ◌≢◌, refl, sym, ap, ◌∙◌, subst, ℕ, ◌⊎◌, inl, inr, List, [], ◌∷◌, ◌++◌, drop, append_assoc, take-append-drop, Option, Some, None, codes}
-use Rattle.std.specs.Prelude.{is_none, if◌then◌else◌, string_bytes}
+use Rattle.std.proofs.Common.{◌≡◌, ◌≢◌, refl, sym, ap, ◌∙◌, subst, ℕ, suc, ◌-◌, ◌≤◌, arith, ◌⊎◌, inl, inr, length, List, [], ◌∷◌, ◌++◌, drop, append_assoc, take-append-drop, Option, Some, None, codes}
+use Rattle.std.specs.Prelude.{string_bytes, Contains}
 use Rattle.std.specs.List.{AllByRecursion}
 use Rattle.std.proofs.lemmas.List.Elements.{All-contains, All-from_recursion}
 use Rattle.feed_settings.specs.Limits.{Limits}
 use Rattle.feed_node.specs.Mirroring.{MirrorState}
-use Rattle.feed_node.specs.States.{NodeState, published_token}
+use Rattle.feed_node.specs.States.{NodeState}
 use Rattle.feed_follow.specs.Laws.{StandsOnce}
 use Rattle.feed_answer.specs.declared.refusal.Refusal.{Refusal}
 use Rattle.feed_answer.specs.Answer.{refusal_text}
@@ -18,6 +18,8 @@ use Rattle.feed_answer.proofs.AskedLemmas.{one_request}
 use Rattle.httparse.proofs.GrammarLemmas.{ReadsRequest-append}
 use Rattle.feed_world.specs.Log.{Log, IsLog}
 use Rattle.feed_world.specs.Position.{Position, IsPlace, node_where}
+use Rattle.feed_hub.proofs.FollowLemmas.{held_among}
+use Rattle.feed_hub.specs.Follows.{MayAskWith}
 use Rattle.feed_hub.specs.Laws.{IsInLog, AreInLog}
 use Rattle.feed_hub.specs.Screen.{pending, token_at}
 use Rattle.feed_hub.specs.Told.{IsDue}
@@ -59,10 +61,10 @@ module _ (handed_follows : HandedIsFollowed) (refusals : RefusalsAreFollowed) (o
   full_stays received behind is = no_feed_stays begun full_text (full_carries_none once) limits log in_log received behind is
 
   -- what a relay that is in the log served
-  served_stays : (nodes : List NodeState) (contest came handed received behind : List ℕ) → AreInLog log nodes → (was : WasServed nodes contest came handed)
-      → ((head behind : List ℕ) (minor : ℕ) (since : Option (List ℕ)) → came ≡ head ++ behind → Asks head contest (feed minor since) → since ≡ begun.since)
+  served_stays : (asked : Option (List ℕ)) → MayAskWith begun asked → (nodes : List NodeState) (contest came handed received behind : List ℕ) → AreInLog log nodes → (was : WasServed nodes contest came handed)
+      → ((head behind : List ℕ) (minor : ℕ) (since : Option (List ℕ)) → came ≡ head ++ behind → Asks head contest (feed minor since) → since ≡ asked)
       → received ++ behind ≡ handed → Stays received
-  served_stays nodes contest came handed received behind nodes_in was meant is = by was.given.answers.asked was.given.answers.asks was.given.answers.answer_is
+  served_stays with may nodes contest came handed received behind nodes_in was meant is = by was.given.answers.asked was.given.answers.asks was.given.answers.answer_is
     where
       of_refusal : (refusal : Refusal) → was.answer ≡ refusing refusal → (at : Option (List ℕ)) → IsDue nodes was.answer at was.served.due → Stays received
       of_refusal refusal e (Some token) g = let no : None ≡ Some g.opened = sym (ap (λ x. x.session) e) ∙ g.session in absurd (cc)
@@ -76,19 +78,19 @@ module _ (handed_follows : HandedIsFollowed) (refusals : RefusalsAreFollowed) (o
       by (feed minor since) asks e =
           let same = meant was.given.head was.given.behind minor since was.given.begins asks in
           let follows = handed_follows limits log nodes contest came handed begun was is_log nodes_in
-          (record { minor = minor; asks = subst (λ s. Asks was.given.head contest (feed minor s)) same asks; place = a.place; is_place = a.is_place; asked = a.asks }) in
+          (record { minor = minor; since = with; may_ask = may; asks = subst (λ s. Asks was.given.head contest (feed minor s)) same asks; place = a.place; is_place = a.is_place; asked = a.asks }) in
           stays was.answer received behind handed is follows
 
-  faithful_stays : (nodes : List NodeState) (contest came written received behind : List ℕ) → AreInLog log nodes
-      → ((head behind : List ℕ) (minor : ℕ) (since : Option (List ℕ)) → came ≡ head ++ behind → Asks head contest (feed minor since) → since ≡ begun.since)
+  faithful_stays : (asked : Option (List ℕ)) → MayAskWith begun asked → (nodes : List NodeState) (contest came written received behind : List ℕ) → AreInLog log nodes
+      → ((head behind : List ℕ) (minor : ℕ) (since : Option (List ℕ)) → came ≡ head ++ behind → Asks head contest (feed minor since) → since ≡ asked)
       → IsFaithful nodes contest came written → received ++ behind ≡ written → Stays received
-  faithful_stays nodes contest came written received behind nodes_in meant nothing is =
+  faithful_stays with may nodes contest came written received behind nodes_in meant nothing is =
       subst Stays (sym (nothing_came received behind is)) (full_stays [] full_text refl)
-  faithful_stays nodes contest came written received behind nodes_in meant (too_many count) is =
+  faithful_stays with may nodes contest came written received behind nodes_in meant (too_many count) is =
       full_stays received (behind ++ drop count full_text)
       (sym (append_assoc received behind (drop count full_text)) ∙ ap (λ t. t ++ drop count full_text) is ∙ take-append-drop count full_text)
-  faithful_stays nodes contest came written received behind nodes_in meant (served handed was) is =
-      served_stays nodes contest came handed received behind nodes_in was meant is
+  faithful_stays with may nodes contest came written received behind nodes_in meant (served handed was) is =
+      served_stays with may nodes contest came handed received behind nodes_in was meant is
 
 module _ (handed_follows : HandedIsFollowed) (refusals : RefusalsAreFollowed) (once : StandsOnce) where
   pub relayed_is_honest : RelayedIsHonest
@@ -100,7 +102,7 @@ module _ (handed_follows : HandedIsFollowed) (refusals : RefusalsAreFollowed) (o
       All-contains (WasFaithful (states_of writer.limits log) contest) (traffic_of went.socket) of.traffic
       (All-from_recursion (WasFaithful (states_of writer.limits log) contest) (traffic_of went.socket) (shows.written went.at went.socket went.socket_is)) went.among in
       honest_however exchange.shown
-      (faithful_stays handed_follows refusals once limits log is_log begun asks (states_of writer.limits log) contest of.traffic.came of.traffic.written
+      (faithful_stays handed_follows refusals once limits log is_log begun asks is_request.since is_request.may_ask (states_of writer.limits log) contest of.traffic.came of.traffic.written
       exchange.received of.behind shows.states
       (λ head behind minor since begins asks_so. of.meant begun request more head behind minor since asks is_request asked begins asks_so) was of.begins)
 
@@ -196,29 +198,34 @@ goes_on bytes more method path minor since r =
     }
 
 -- a token of the log may be asked with
-may_be_asked : (limits : Limits) (log : Log) (place : Option Position) (since : Option (List ℕ)) → IsLog limits log → IsPlace limits log place
-    → since ≡ (if is_none since then None else published_token (node_where log place)) → MayBeAskedWith since
-may_be_asked limits log place None is_log is_place is = tt
-may_be_asked limits log None (Some token) is_log is_place is = let no : Some token ≡ None = is in absurd (cc)
-may_be_asked limits log (Some p) (Some token) is_log is_place is =
-    let same : Some token ≡ Some (log.token p.at) = is in
-    let there : token ≡ log.token p.at = cc in
-    let name = is_log.named.names p.at is_place.in_log in
-    subst (λ t. MayBeAskedWith (Some t)) (sym there) (name.1, name.0)
+may_be_asked : (limits : Limits) (log : Log) (begun : MirrorState) (a : AsksInLog limits log begun) (since : Option (List ℕ)) → IsLog limits log
+    → MayAskWith begun since → MayBeAskedWith since
+may_be_asked limits log begun a None is_log may = tt
+may_be_asked limits log begun a (Some token) is_log (some, held) =
+    by a.place a.is_place (subst (λ n. Contains n.held token) (ap (λ r. r.before) a.asks.opening) held)
+  where
+    by : (place : Option Position) → IsPlace limits log place → Contains (node_where log place).held token → MayBeAskedWith (Some token)
+    by None is_place (i, within, e) = absurd (omega (arith, within))
+    by (Some own) is_place there =
+        let order : own.low ≤ own.at = is_place.order in
+        let (m, above, below, same) = held_among log own.low (suc (own.at - own.low)) token there in
+        let in_log : own.at ≤ length log.commits = is_place.in_log in
+        let name = is_log.named.names m (omega (arith, order, above, below, in_log)) in
+        subst (λ t. MayBeAskedWith (Some t)) same (name.1, name.0)
 
 pub requests_are_meant : RequestIsRead → RequestsAreMeant
 requests_are_meant reads log limits servers exchange contest came later is_log whole nobody places =
     λ begun request more head behind minor since a is_request asked begins asks.
     let place = is_request.place in
     let plain = places exchange.server place is_request.is_place in
-    let text : request ≡ request_text place begun.since = is_request.text_is ∙ ap (λ i. request_text_as place begun.since i) nobody in
-    let own : Asks (request_text place begun.since) place.contest (feed 1 begun.since) =
-    reads place begun.since plain.0 plain.1 (may_be_asked limits log a.place begun.since is_log a.is_place a.asks.since) in
-    let written : Requests exchange.asked (codes "GET") (feed_path [] place.contest) 1 begun.since =
-    subst (λ b. Requests b (codes "GET") (feed_path [] place.contest) 1 begun.since) (ap (λ t. t ++ more) (sym text) ∙ sym asked)
-    (goes_on (request_text place begun.since) more (codes "GET") (feed_path [] place.contest) 1 begun.since own) in
+    let text : request ≡ request_text place is_request.since = is_request.text_is ∙ ap (λ i. request_text_as place is_request.since i) nobody in
+    let own : Asks (request_text place is_request.since) place.contest (feed 1 is_request.since) =
+    reads place is_request.since plain.0 plain.1 (may_be_asked limits log begun a is_request.since is_log is_request.may_ask) in
+    let written : Requests exchange.asked (codes "GET") (feed_path [] place.contest) 1 is_request.since =
+    subst (λ b. Requests b (codes "GET") (feed_path [] place.contest) 1 is_request.since) (ap (λ t. t ++ more) (sym text) ∙ sym asked)
+    (goes_on (request_text place is_request.since) more (codes "GET") (feed_path [] place.contest) 1 is_request.since own) in
     let all : head ++ (behind ++ later) ≡ exchange.asked = sym (append_assoc head behind later) ∙ ap (λ b. b ++ later) (sym begins) ∙ whole in
     let heard : Requests exchange.asked (codes "GET") (feed_path [] contest) minor since =
     subst (λ b. Requests b (codes "GET") (feed_path [] contest) minor since) all
     (goes_on head (behind ++ later) (codes "GET") (feed_path [] contest) minor since asks) in
-    (one_request exchange.asked (codes "GET") (feed_path [] contest) (codes "GET") (feed_path [] place.contest) minor 1 since begun.since heard written).sinces
+    (one_request exchange.asked (codes "GET") (feed_path [] contest) (codes "GET") (feed_path [] place.contest) minor 1 since is_request.since heard written).sinces

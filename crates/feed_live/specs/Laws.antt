@@ -72,8 +72,8 @@ RelaysShowTheLog =
 abbrev pub IsReadAsMeant : Servers → List ℕ → List ℕ → Exchange → Type 0
 IsReadAsMeant servers head contest exchange =
     (begun : MirrorState) (request more : List ℕ)
-    → IsRequestOf servers exchange.server begun request → exchange.asked ≡ request ++ more
-    → (minor : ℕ) × Asks head contest (feed minor begun.since)
+    → (is : IsRequestOf servers exchange.server begun request)
+    → exchange.asked ≡ request ++ more → (minor : ℕ) × Asks head contest (feed minor is.since)
 
 -- Where each mirror that asked with a head follows a text in the log, as `connection_laws` and
 -- `handed` say of what nodes, primaries and relays write, any prefix of it is an honest response to

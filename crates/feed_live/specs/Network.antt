@@ -40,9 +40,9 @@ pub record WentOver (relay : Relay) (traffic : Traffic) : Type 0 where
 abbrev pub IsReadAsWritten : Log → Limits → Servers → Exchange → List ℕ → List ℕ → Type 0
 IsReadAsWritten log limits servers exchange contest came =
     (begun : MirrorState) (request more head behind : List ℕ) (minor : ℕ) (since : Option (List ℕ))
-    → AsksInLog limits log begun → IsRequestOf servers exchange.server begun request
+    → AsksInLog limits log begun → (is : IsRequestOf servers exchange.server begun request)
     → exchange.asked ≡ request ++ more → came ≡ head ++ behind
-    → Asks head contest (feed minor since) → since ≡ begun.since
+    → Asks head contest (feed minor since) → since ≡ is.since
 
 -- What somebody with these limits read of a relay, who is given these servers: a prefix of what that
 -- has written on a connection, over which it read the request as it was meant.

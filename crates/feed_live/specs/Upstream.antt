@@ -5,6 +5,8 @@ use Rattle.feed_settings.specs.Limits.{Limits}
 use Rattle.feed_settings.specs.Place.{Place}
 use Rattle.feed_note.specs.declared.line.Line.{Line}
 use Rattle.feed_note.specs.Publishing.{Published}
+use Rattle.std.specs.Option.{option_and_then}
+use Rattle.feed_node.specs.States.{former_token}
 use Rattle.feed_node.specs.declared.fault.FeedFault.{FeedFault}
 use Rattle.feed_node.specs.Mirroring.{MirrorState, StandsAt, Faulted, present_opening}
 use Rattle.feed_node.specs.declared.fault.FeedFault.TheVariants.{Memory as FeedMemory}
@@ -18,10 +20,11 @@ use Rattle.feed_answer.specs.RequestText.{request_text_as}
 use Rattle.feed_world.specs.Log.{Log, state_after}
 use Rattle.feed_world.specs.Position.{Position, IsPlace}
 use Rattle.feed_world.specs.States.{HasAsked}
+use Rattle.feed_hub.specs.Follows.{MayAskWith}
 use Rattle.feed_hub.specs.Laws.{IsInLog}
 use Rattle.feed_device.specs.Links.{Exchange, Exchanges, Shown, nothing_shown, once_at, all_from}
 
--- the mirror is at a place of the log, and asks with the token of that, or with none
+-- the mirror is at a place of the log, and has the token of that to ask with, or none
 pub record AsksInLog (limits : Limits) (log : Log) (mirror : MirrorState) : Type 0 where
   pub place : Option Position
   pub is_place : IsPlace limits log place
@@ -32,12 +35,35 @@ pub record Servers : Type 0 where
   pub places : List Place
   pub identity : Identity
 
--- this is the text with which the mirror asks the server of this number for what it lacks
+-- the token that is asked with where the newest commit is to come again: the one before the newest,
+-- where that is held
+abbrev pub former_or : Option (List ℕ) → List ℕ → Option (List ℕ)
+former_or None newest = Some newest
+former_or (Some former) newest = Some former
+
+-- the token that a mirror asks with: its newest one, or where that commit is to come again, the one
+-- before it
+abbrev pub asked_with : Bool → MirrorState → Option (List ℕ)
+asked_with false mirror = mirror.since
+asked_with true mirror =
+    option_and_then (former_or (former_token mirror.node)) mirror.since
+
+-- this is the text that asks the server of this number so, with a token or for everything
+pub record IsRequestWith (servers : Servers) (server : ℕ) (since : Option (List ℕ))
+    (text : List ℕ) : Type 0 where
+  pub place : Place
+  pub is_place : slice_get servers.places server ≡ Some place
+  pub text_is : text ≡ request_text_as place since servers.identity
+
+-- This is a text with which the mirror may ask the server of this number: for what comes after a
+-- token that it holds, or for everything.
 pub record IsRequestOf (servers : Servers) (server : ℕ) (mirror : MirrorState) (text : List ℕ)
     : Type 0 where
   pub place : Place
   pub is_place : slice_get servers.places server ≡ Some place
-  pub text_is : text ≡ request_text_as place mirror.since servers.identity
+  pub since : Option (List ℕ)
+  pub may_ask : MayAskWith mirror since
+  pub text_is : text ≡ request_text_as place since servers.identity
 
 -- nothing, or a state of the log with its token
 abbrev pub IsOfLog : Log → Option Published → Type 0

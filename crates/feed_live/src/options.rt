@@ -28,6 +28,9 @@ pub struct LiveLimits {
     /// After how many milliseconds without a publication the other servers are asked in turn. Zero:
     /// only where the one that is followed fails.
     pub return_after: u64,
+    /// Whether each connection asks for the newest commit again, to see whether the server still has
+    /// that.
+    pub rechecks: bool,
     /// How many milliseconds a request waits for a server to be heard.
     pub hold: u64,
     /// Whether what was restored is served before a server was heard.

@@ -7,12 +7,14 @@ ghost use Rattle.feed_node.specs.States.{published_token};
 mod input;
 mod rate;
 mod reading;
+mod rechecking;
 mod returning;
 mod settling;
 
 use crate::figures::{FeedFigures, Following};
 use crate::options::LiveLimits;
 use crate::screens::{Answers, Screens};
+use crate::source::rechecking::{Again, Rechecking, token_for};
 use crate::source::returning::Returning;
 use crate::source::settling::{Settling, begin_shown, followed_of};
 use crate::times::{CONNECT_TIME, QUIET, RESPONSE_TIME};
@@ -62,6 +64,7 @@ pub(crate) struct Source {
     /// It was told that this connection gives one token to two states.
     has_told_twice: bool,
     returning: Returning,
+    rechecking: Rechecking,
     is_heard: bool,
     /// Since when no server answers.
     away_since: u64,
@@ -78,7 +81,7 @@ pub(crate) struct Source {
 
 impl Source {
     ghost use Rattle.feed_live.specs.Relaying.{StillFollows, SameSource, IsLeft, GoesOnTo, servers_of};
-    ghost use Rattle.feed_live.specs.Upstream.{IsRequestOf};
+    ghost use Rattle.feed_live.specs.Upstream.{IsRequestOf, IsRequestWith, asked_with};
     ghost use Rattle.feed_live.specs.declared.source.Reach.TheVariants.{Away, Asks as Asked};
     ghost use Rattle.feed_live.specs.Held.{has_heard};
     ghost use Rattle.feed_live.specs.declared.screens.Screens.{Screens};
@@ -122,6 +125,7 @@ impl Source {
             body_since: None,
             has_told_twice: false,
             returning: Returning::new(limits.return_after, now),
+            rechecking: Rechecking::new(limits.rechecks),
             is_heard: has_nothing || limits.serves_old,
             away_since: now,
             is_fresh: false,
@@ -197,9 +201,10 @@ impl Source {
     }
 
     /// When the server counts as heard though it publishes nothing: it answered with what comes after
-    /// our token. One that was asked for everything counts only once it has published.
+    /// our token. One that was asked for everything counts only once it has published, and one that was
+    /// asked for the newest commit again not before that came.
     fn heard_at(&self) -> Option<u64> {
-        if self.is_heard || self.is_fresh {
+        if self.is_heard || self.is_fresh || self.rechecking.is_going() {
             return None;
         }
         let since = self.body_since?;
@@ -322,7 +327,15 @@ impl Source {
                 return;
             }
         };
-        let request = match self.request(alloc, followed_of(&coming, self.answers.shown.mirror())) {
+        let again = match self.begin_again(alloc) {
+            Ok(again) => again,
+            Err(_) => {
+                self.lost(link, told, Why::Memory, now);
+                return;
+            }
+        };
+        let asks = followed_of(&coming, self.answers.shown.mirror());
+        let request = match self.request(alloc, asks, again.is_some()) {
             Ok(Some(request)) => request,
             Ok(None) => return,
             Err(_) => {
@@ -343,6 +356,7 @@ impl Source {
         self.is_fresh = followed.since().is_none();
         self.upstream.opened(followed, now);
         self.coming = coming;
+        self.rechecking.begin(again);
         self.settling.begin(now);
         self.figures.ask(self.upstream.place(), now);
         self.opened = now;
@@ -351,21 +365,31 @@ impl Source {
         self.reach = Reach::Connects(now);
     }
 
-    /// The text that asks the next place for what a mirror lacks; none where there is no place.
-    fn request(&self, alloc: Global, mirror: &Mirror) -> Result<Option<Vec<u8>>, AllocError>
+    /// The text that asks the next place for what a mirror lacks, and for its newest commit where
+    /// that is to come again; none where there is no place.
+    fn request(
+        &self,
+        alloc: Global,
+        mirror: &Mirror,
+        is_again: bool,
+    ) -> Result<Option<Vec<u8>>, AllocError>
         ensures asks { IfOk result (λ made. IfSome made (λ text. IsRequestOf (servers_of self.now)
             self.now.upstream.place mirror.now text.items)) }
+        ensures token { IfOk result (λ made. IfSome made (λ text. IsRequestWith
+            (servers_of self.now) self.now.upstream.place (asked_with is_again mirror.now)
+            text.items)) }
         ensures since { IfSome mirror.now.since (λ token.
             published_token mirror.now.node ≡ Some token) }
         ensures place { self.now.upstream.place < length self.now.places.items
             → IfOk result (λ made. IsSome made) }
     {
-        let since = mirror.since();
+        // The token that is asked with is that of what the mirror shows, or one before it.
+        let _ = mirror.since();
         let Some(place) = self.places.get(self.upstream.place()) else {
             return Ok(None);
         };
         let mut text = Vec::new(alloc);
-        request_text_as(place, since, &self.identity, &mut text)?;
+        request_text_as(place, token_for(mirror, is_again), &self.identity, &mut text)?;
         Ok(Some(text))
     }
 

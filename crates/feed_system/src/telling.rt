@@ -101,6 +101,14 @@ pub(crate) fn text_of(
                 "{name}: gave the token {token} to two states; what came with it again is left away"
             )
         }
+        Told::Forgot { server, token } => {
+            let name = servers.name(alloc, server)?;
+            let token = token.text();
+            format!(in alloc;
+                "upstream {name}: has another commit at the token {token}, or none; \
+                 if no other server has ours, everything is asked for"
+            )
+        }
         Told::Settled { server, time } => {
             let name = servers.name(alloc, server)?;
             format!(in alloc; "upstream {name}: all of it came, in {time} ms")

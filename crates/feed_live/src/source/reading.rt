@@ -166,7 +166,7 @@ impl Source {
             self.ignored(link, told, now);
             return None;
         }
-        self.take_line(alloc, link, told, screens, piece, now)
+        self.take_checked(alloc, link, told, screens, piece, now)
     }
 
     /// What a head says of where the feed is, is noted. Whether the piece begins a replay.
@@ -201,7 +201,7 @@ impl Source {
 
     /// The first line of the piece, or a part of one, is taken. What comes after it, where the
     /// connection goes on.
-    fn take_line<'a, L: Link>(
+    pub(crate) fn take_line<'a, L: Link>(
         &mut self,
         alloc: Global,
         link: &mut L,
@@ -275,14 +275,26 @@ impl Source {
         }
     }
 
-    /// The server does not hold the token: the others are asked with it before it is forgotten.
+    /// The server does not hold the token: the others are asked with it before it is forgotten. Where
+    /// that is the one before the newest, it is asked with the newest first.
     fn refused<L: Link>(&mut self, link: &mut L, told: &mut Telling, now: u64)
         ensures left { IsLeft self.old self.new (L.exchanges link.old) (L.exchanges link.new) }
     {
+        if self.rechecking.is_going() {
+            self.ask_newest(link, now);
+            return;
+        }
         let refused = Told::Refused {
             server: self.upstream.place(),
         };
         told.tell_if(!self.returning.has_turned(), refused);
+        self.without_token(link, now);
+    }
+
+    /// The others are asked with the token, and after that the mirror forgets it.
+    pub(crate) fn without_token<L: Link>(&mut self, link: &mut L, now: u64)
+        ensures left { IsLeft self.old self.new (L.exchanges link.old) (L.exchanges link.new) }
+    {
         self.leave(link, now);
         self.figures.refuse_token(now);
         self.figures.change(Following::Away, now);
@@ -299,7 +311,9 @@ impl Source {
         self.body_since = Some(now);
         self.has_told_twice = false;
         if !self.is_fresh {
-            self.upstream.held();
+            if !self.rechecking.is_going() {
+                self.upstream.held();
+            }
             self.settling.go_on();
         }
         self.figures.find(self.coming.is_some(), now);
@@ -390,7 +404,7 @@ impl Source {
 }
 
 /// The token that a connection gave to two states, as it is told.
-fn given_twice(mirror: &Mirror) -> Option<Excerpt> {
+pub(crate) fn given_twice(mirror: &Mirror) -> Option<Excerpt> {
     let token = mirror.given_twice()?;
     Some(Excerpt::of(token.text()))
 }

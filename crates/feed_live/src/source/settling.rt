@@ -377,8 +377,13 @@ impl Source {
         }
     }
 
+    /// Whether each connection asks for everything.
+    pub(crate) fn is_always_fresh(&self) -> bool {
+        self.settling.is_always
+    }
+
     /// What comes after the token that is shown is asked for, at the same server.
-    fn ask_again<L: Link>(&mut self, link: &mut L, now: u64)
+    pub(crate) fn ask_again<L: Link>(&mut self, link: &mut L, now: u64)
         ensures left { IsLeft self.old self.new (L.exchanges link.old) (L.exchanges link.new) }
     {
         self.leave(link, now);

@@ -1,0 +1,206 @@
+//! A server that was set back, as after a rehearsal, may give the tokens that this relay has to other
+//! states. So a connection asks for the newest commit again, and that has to come first and to be what
+//! it was. Else everything is asked for.
+
+ghost use Rattle.std.specs.Prelude.{◌≡◌};
+ghost use Rattle.std.specs.Option.{option_copied};
+ghost use Rattle.feed_hub.specs.Follows.{MayAskWith};
+ghost use Rattle.feed_live.specs.Upstream.{asked_with};
+
+use crate::figures::Following;
+use crate::screens::Screens;
+use crate::source::Source;
+use crate::source::reading::{given_twice, split_line};
+use crate::told::Telling;
+use feed_device::{Excerpt, Link, Told};
+use feed_follow::Follower;
+use feed_node::{Limits, Mirror};
+use std::alloc::{AllocError, Global};
+
+/// What a connection brings that asks for the newest commit again, up to its first token.
+#[derive(Drop)]
+pub(crate) struct Again {
+    follower: Follower,
+    /// It had nothing when the connection began, and is shown to nobody.
+    mirror: Mirror,
+}
+
+impl Again {
+    fn new(alloc: Global, limits: Limits) -> Result<Again, AllocError> {
+        let mirror = Mirror::new(alloc, few(limits))?;
+        Ok(Again {
+            follower: Follower::new(&mirror),
+            mirror,
+        })
+    }
+
+    /// Bytes came. Whether the first token is still to come, and nothing is wrong so far.
+    fn waits(&mut self, alloc: Global, bytes: &[u8]) -> bool {
+        let came = self.follower.push(alloc, &mut self.mirror, bytes);
+        came.is_ok() && self.mirror.since().is_none()
+    }
+}
+
+/// The same limits, but that one commit is kept.
+fn few(limits: Limits) -> Limits {
+    let Ok(few) = Limits::new(1, limits.staged()) else {
+        return limits;
+    };
+    match limits.memory() {
+        Some(bytes) => few.with_memory(bytes).unwrap_or(few),
+        None => few,
+    }
+}
+
+/// Whether, and how far, a server was asked for the newest commit again.
+#[derive(Drop)]
+pub(crate) struct Rechecking {
+    /// Whether servers are asked for it.
+    is_on: bool,
+    /// What comes, until it has come.
+    again: Option<Again>,
+    /// It came last.
+    has_come: bool,
+    /// The server does not hold the token before the newest: it is asked with that.
+    asks_newest: bool,
+}
+
+impl Rechecking {
+    pub(crate) fn new(is_on: bool) -> Rechecking {
+        Rechecking {
+            is_on,
+            again: None,
+            has_come: false,
+            asks_newest: false,
+        }
+    }
+
+    /// A connection begins, which brings this.
+    pub(crate) fn begin(&mut self, again: Option<Again>) {
+        self.again = again;
+        self.has_come = false;
+        self.asks_newest = false;
+    }
+
+    /// Whether the newest commit is still to come again.
+    pub(crate) fn is_going(&self) -> bool {
+        self.again.is_some()
+    }
+}
+
+/// The token that a connection asks with: the one before the newest, where the newest commit is to
+/// come again and that is held.
+pub(crate) fn token_for<'a>(mirror: &'a Mirror, is_again: bool) -> Option<&'a str>
+    ensures token { option_copied result ≡ asked_with is_again mirror.now }
+    ensures may_ask { MayAskWith mirror.now (option_copied result) }
+{
+    let newest = mirror.since()?;
+    if !is_again {
+        return Some(newest);
+    }
+    match mirror.node().former_token() {
+        Some(former) => Some(former.text()),
+        None => Some(newest),
+    }
+}
+
+impl Source {
+    ghost use Rattle.feed_live.specs.Relaying.{StillFollows, SameSource, IsLeft};
+    ghost use Rattle.feed_live.specs.declared.source.Reach.TheVariants.{Away, Reads as Read};
+
+    /// What the next connection is to bring, where it asks for the newest commit again.
+    pub(crate) fn begin_again(&self, alloc: Global) -> Result<Option<Again>, AllocError> {
+        let shown = self.answers.shown.mirror();
+        if !self.rechecking.is_on || self.rechecking.asks_newest || self.is_always_fresh() {
+            return Ok(None);
+        }
+        if shown.since().is_none() || shown.node().former_token().is_none() {
+            return Ok(None);
+        }
+        Ok(Some(Again::new(alloc, shown.limits())?))
+    }
+
+    /// The first line of the piece comes, or a part of one. Whether it brings the first token of a
+    /// connection that asked for the newest commit again, and that is another one.
+    fn brings_another(&mut self, alloc: Global, piece: &[u8]) -> bool
+        ensures same { SameSource self.old self.new }
+        ensures epoch { self.new.epoch ≡ self.old.epoch }
+    {
+        self.rechecking.has_come = false;
+        let Some(again) = &mut self.rechecking.again else {
+            return false;
+        };
+        let (line, _) = split_line(piece);
+        if again.waits(alloc, line) {
+            return false;
+        }
+        let is_other = match (again.mirror.since(), self.answers.shown.node().token()) {
+            (Some(came), Some(newest)) => came != newest.text(),
+            _ => false,
+        };
+        self.rechecking.again = None;
+        self.rechecking.has_come = !is_other;
+        is_other
+    }
+
+    /// Whether the newest commit just came again, and would change what is shown. If it wouldn't, the
+    /// server has what this relay has.
+    fn differs_again(&mut self) -> bool
+        ensures same { SameSource self.old self.new }
+        ensures epoch { self.new.epoch ≡ self.old.epoch }
+    {
+        if !self.rechecking.has_come {
+            return false;
+        }
+        if given_twice(self.answers.shown.mirror()).is_some() {
+            return true;
+        }
+        self.upstream.held();
+        false
+    }
+
+    /// A server has another commit where this relay has its newest one: the others are asked whether
+    /// they have that, and then everything is asked for.
+    fn forgot<L: Link>(&mut self, link: &mut L, told: &mut Telling, now: u64)
+        ensures left { IsLeft self.old self.new (L.exchanges link.old) (L.exchanges link.new) }
+    {
+        if let Some(token) = self.answers.shown.node().token() {
+            told.tell(Told::Forgot {
+                server: self.upstream.place(),
+                token: Excerpt::of(token.text()),
+            });
+        }
+        self.without_token(link, now);
+    }
+
+    /// The first line of the piece is taken, or a part of one, unless the server has another commit
+    /// where this relay has its newest one. What comes after it, where the connection goes on.
+    pub(crate) fn take_checked<'a, L: Link>(
+        &mut self,
+        alloc: Global,
+        link: &mut L,
+        told: &mut Telling,
+        screens: &mut Screens,
+        piece: &'a [u8],
+        now: u64,
+    ) -> Option<&'a [u8]>
+        ensures goes_on { IfSome result (λ next. (self.new.reach ≡ self.old.reach)
+            × (self.new.rest.items ≡ self.old.rest.items)
+            × (self.old.reach ≡ Read → StillFollows self.old self.new (L.exchanges link.old)
+            (L.exchanges link.new) piece.entry.now next.now screens.old screens.new)) }
+        ensures stops { result ≡ None → (self.new.reach ≡ Away) × (self.old.reach ≡ Read
+            → (left : List ℕ) → StillFollows self.old self.new (L.exchanges link.old)
+            (L.exchanges link.new) piece.entry.now left screens.old screens.new) }
+    {
+        if self.brings_another(alloc, piece) {
+            self.forgot(link, told, now);
+            return None;
+        }
+        let next = self.take_line(alloc, link, told, screens, piece, now)?;
+        if self.differs_again() {
+            self.forgot(link, told, now);
+            return None;
+        }
+        Some(next)
+    }
+}
