@@ -17,6 +17,7 @@ mod hand;
 mod laws;
 mod options;
 mod relay;
+mod restoring;
 mod saved;
 mod screens;
 mod source;
@@ -31,5 +32,5 @@ pub use figures::{
 };
 pub use laws::{foreign_laws, live_laws, network_laws};
 pub use options::{LiveLimits, Start};
-pub use saved::{Restored, restore};
+pub use restoring::{Restored, restore};
 pub use turn::{Input, Live, Turn};

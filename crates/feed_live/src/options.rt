@@ -1,6 +1,6 @@
 //! What a relay is asked to be.
 
-use crate::saved::Restored;
+use crate::restoring::Restored;
 use feed_answer::{Framing, Identity, Place};
 use feed_node::Mirror;
 

@@ -12,7 +12,8 @@ ghost use Rattle.feed_device.specs.Files.{IsKnown};
 ghost use Rattle.feed_live.specs.Saved.{GoesOn, KeepsFiles};
 
 use crate::options::{LiveLimits, Start};
-use crate::saved::{Good, Restored, Saved};
+use crate::restoring::{Good, Restored};
+use crate::saved::Saved;
 use crate::screens::{Screens, Shown};
 use crate::source::Source;
 use crate::times::{END_TIME, REPORT, TICK};
