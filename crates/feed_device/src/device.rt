@@ -3,7 +3,7 @@
 ghost use Rattle.std.specs.Prelude.{◌≡◌, ◌≢◌, ◌<◌, ◌≤◌, ℕ, List, [], Option, None, Some, length, take, option_map, IfOk, OnOk};
 ghost use Rattle.std.specs.Io.KnownBytes.{Keeps, WriteAppends};
 ghost use Rattle.feed_device.specs.Calls.{CalledOnce, AllCalls, NotCalled, OthersNotCalled};
-ghost use Rattle.feed_device.specs.Files.{IsKnown};
+ghost use Rattle.feed_device.specs.Files.{IsKnown, HasMore, IsLeftOf};
 ghost use Rattle.feed_device.specs.Links.{Exchange, Begins, Asks, Receives, shown_so, once_at, all_from};
 ghost use Rattle.feed_device.specs.Sockets.{Socket, IsAccept, IsRead, IsWrite, closed, goes_on_with, SameSockets, OtherSockets};
 
@@ -158,37 +158,66 @@ pub trait Store {
 
     ghost written_next: { Self → Option (List ℕ) } = { λ _. None };
 
+    // Each text that one of the files has had, where that is known, the latest first: but for what
+    // was cut off. To have another name changes nothing of it.
+    ghost had: { Self → Option (List (List ℕ)) } = { λ _. None };
+
+    /// What the file had when the relay began, once: so far as it is a state.
+    fn read(&mut self) -> Result<Vec<u8>, Stop>
+        ensures left { (texts : List (List ℕ)) → had self.old ≡ Some texts
+            → IfOk result (λ text. IsLeftOf texts text.items) }
+        ensures file { (text : List ℕ) → written self.old ≡ Some text
+            → IfOk result (λ found. found.items ≡ text) }
+        ensures same { (had self.new ≡ had self.old)
+            × Keeps (written self.old) (written self.new)
+            × Keeps (written_next self.old) (written_next self.new) };
+
+    /// What the file before had then, once, where the file goes on from it.
+    fn read_former(&mut self) -> Result<Vec<u8>, Stop>
+        ensures left { (texts : List (List ℕ)) → had self.old ≡ Some texts
+            → IfOk result (λ text. IsLeftOf texts text.items) }
+        ensures same { (had self.new ≡ had self.old)
+            × Keeps (written self.old) (written self.new)
+            × Keeps (written_next self.old) (written_next self.new) };
+
     /// Goes on with the file, of which only so many bytes count.
     fn resume(&mut self, length: u64) -> Result<(), Stop>
         ensures file { (text : List ℕ) → written self.old ≡ Some text
             → OnOk result (written self.new ≡ Some (take length text)) }
-        ensures next { Keeps (written_next self.old) (written_next self.new) };
+        ensures next { Keeps (written_next self.old) (written_next self.new) }
+        ensures had { had self.new ≡ had self.old };
 
     /// Appends some of the bytes to the file, from the first on, and answers how many.
     fn append(&mut self, bytes: &[u8]) -> Result<usize, Stop>
         ensures bound { IfOk result (λ n. n ≤ length bytes.now) }
         ensures bytes { WriteAppends (written self.old) (written self.new) result bytes.now }
-        ensures next { Keeps (written_next self.old) (written_next self.new) };
+        ensures next { Keeps (written_next self.old) (written_next self.new) }
+        ensures had { (text : List ℕ) → written self.old ≡ Some text
+            → HasMore (had self.old) (had self.new) text bytes.now };
 
     /// Begins the file that is to take its place.
     fn begin(&mut self) -> Result<(), Stop>
         ensures begun { (text : List ℕ) → written_next self.old ≡ Some text
             → OnOk result (written_next self.new ≡ Some []) }
         ensures known { IsKnown (written_next self.old) → IsKnown (written_next self.new) }
-        ensures file { Keeps (written self.old) (written self.new) };
+        ensures file { Keeps (written self.old) (written self.new) }
+        ensures had { had self.new ≡ had self.old };
 
     /// Appends some of the bytes to that one, from the first on, and answers how many.
     fn append_next(&mut self, bytes: &[u8]) -> Result<usize, Stop>
         ensures bound { IfOk result (λ n. n ≤ length bytes.now) }
         ensures bytes { WriteAppends (written_next self.old) (written_next self.new) result
             bytes.now }
-        ensures file { Keeps (written self.old) (written self.new) };
+        ensures file { Keeps (written self.old) (written self.new) }
+        ensures had { (text : List ℕ) → written_next self.old ≡ Some text
+            → HasMore (had self.old) (had self.new) text bytes.now };
 
     /// It takes the place of the file. What becomes of the one before is said, too.
     fn replace(&mut self, before: Before) -> Result<(), Stop>
         ensures file { (text : List ℕ) → written_next self.old ≡ Some text
             → OnOk result (written self.new ≡ Some text) }
-        ensures known { IsKnown (written_next self.old) → IsKnown (written_next self.new) };
+        ensures known { IsKnown (written_next self.old) → IsKnown (written_next self.new) }
+        ensures had { had self.new ≡ had self.old };
 }
 
 /// All that a turn reads from and writes to.

@@ -21,6 +21,7 @@ mod restoring;
 mod saved;
 mod screens;
 mod source;
+mod starting;
 mod times;
 mod told;
 mod turn;
@@ -33,4 +34,5 @@ pub use figures::{
 pub use laws::{foreign_laws, live_laws, network_laws};
 pub use options::{LiveLimits, Start};
 pub use restoring::{Restored, restore};
+pub use starting::restore_from;
 pub use turn::{Input, Live, Turn};

@@ -9,7 +9,7 @@ ghost use Rattle.feed_device.specs.Links.{Exchanges};
 ghost use Rattle.feed_device.specs.Sockets.{AllSockets, IsUnused};
 ghost use Rattle.feed_live.specs.Upstream.{Servers};
 ghost use Rattle.feed_device.specs.Files.{IsKnown};
-ghost use Rattle.feed_live.specs.Saved.{GoesOn, KeepsFiles};
+ghost use Rattle.feed_live.specs.Saved.{GoesOn, KeepsFiles, AreParts};
 
 use crate::options::{LiveLimits, Start};
 use crate::restoring::{Good, Restored};
@@ -100,6 +100,7 @@ impl Live {
             → D.written store.old ≡ Some text → IsKnown (D.written_next store.old)
             → IfSome start.restored.file (GoesOn nodes text start.restored.mirror.node)
             → KeepsFiles nodes (D.written store.new) (D.written_next store.new) result.saved }
+        ensures had { D.had store.new ≡ D.had store.old }
         ensures contest { result.contest ≡ contest }
     {
         let Start {
@@ -186,6 +187,14 @@ impl Live {
             self.old.saved
             → KeepsFiles nodes (D.written devices.new.store) (D.written_next devices.new.store)
             self.new.saved }
+
+        // all that they ever had is some of what records of such nodes wrote, from the first byte on
+        ensures parts { (nodes : List NodeState)
+            → Contains nodes self.new.source.answers.shown.mirror.node
+            → KeepsFiles nodes (D.written devices.old.store) (D.written_next devices.old.store)
+            self.old.saved
+            → AreParts nodes (D.had devices.old.store)
+            → AreParts nodes (D.had devices.new.store) }
 
         // where the feed was published afresh, they have nothing of what was shown before
         ensures anew { self.new.source.epoch ≢ self.old.epoch → (nodes : List NodeState)
@@ -364,6 +373,10 @@ impl Live {
             → Contains nodes self.old.source.answers.shown.mirror.node
             → KeepsFiles nodes (D.written store.old) (D.written_next store.old) self.old.saved
             → KeepsFiles nodes (D.written store.new) (D.written_next store.new) self.new.saved }
+        ensures parts { (nodes : List NodeState)
+            → Contains nodes self.old.source.answers.shown.mirror.node
+            → KeepsFiles nodes (D.written store.old) (D.written_next store.old) self.old.saved
+            → AreParts nodes (D.had store.old) → AreParts nodes (D.had store.new) }
         // where the feed was published afresh, they have nothing of what was shown before
         ensures anew { self.old.source.epoch ≢ self.old.epoch → (nodes : List NodeState)
             → Contains nodes self.old.source.answers.shown.mirror.node
@@ -588,6 +601,7 @@ fn saved_of<D: Store>(
     ensures kept { (nodes : List NodeState) (text : List ℕ) → D.written store.old ≡ Some text
         → IsKnown (D.written_next store.old) → IfSome file (GoesOn nodes text node.now.shown)
         → KeepsFiles nodes (D.written store.new) (D.written_next store.new) result }
+    ensures had { D.had store.new ≡ D.had store.old }
 {
     if has_store {
         Some(Saved::new(store, node, file))

@@ -10,7 +10,7 @@ use crate::watchers::{WATCHERS, Watchers};
 use feed_answer::without_brackets;
 use feed_arguments::{AddressFault, LiveOptions, Network, networks};
 use feed_device::{Devices, Ready};
-use feed_state::{StateFile, StateStore};
+use feed_state::{Kept, StateStore};
 use mio::net::TcpListener;
 use mio::{Events, Interest, Poll, Token};
 use std::alloc::{AllocError, Global};
@@ -173,15 +173,18 @@ fn open_ends(rt: &HostRuntime, options: &LiveOptions<'_>) -> Result<Ends, OpenFa
 }
 
 /// Makes all that a relay runs on, and listens. Its time begins at the start. The servers that it
-/// may connect to are those of these hosts, and its state is kept in this file.
+/// may connect to are those of these hosts, and its state is kept in these files.
 pub fn open<'r>(
     rt: &'r HostRuntime,
     options: &LiveOptions<'_>,
-    state: Option<StateFile<File>>,
+    kept: Option<Kept<File>>,
     hosts: Vec<Host>,
     start: Instant,
 ) -> Result<System<'r>, OpenFault> {
-    let files = StateStore::new(rt, state);
+    let files = match kept {
+        Some(kept) => StateStore::new(rt, kept),
+        None => StateStore::none(rt),
+    };
     let buffers = make_buffers(rt.alloc())?;
     let ends = open_ends(rt, options)?;
     let registry = ends.poll.registry().try_clone()?;

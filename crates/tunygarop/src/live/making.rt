@@ -9,9 +9,9 @@ use feed_commands::{
     Verbosity, servers_of,
 };
 use feed_host::{Failure, Hosts, identity_of};
-use feed_live::{Live, LiveLimits, Restored, Start, restore};
+use feed_live::{Live, LiveLimits, Restored, Start, restore, restore_from};
 use feed_node::{Limits, Mirror};
-use feed_state::{Kept, StateFault, StateFile, take_state};
+use feed_state::{Kept, StateFault, take_state};
 use feed_system::{Host, OpenFault, System, open};
 use std::alloc::{AllocError, Global};
 use std::fs::File;
@@ -150,19 +150,18 @@ fn kept_limits(options: &LiveOptions<'_>) -> Limits {
     }
 }
 
-/// What a state file has that a relay begins with: nothing where there is none, or the feed is the
-/// input, which begins anew.
+/// What the state files have that a relay begins with: nothing where there are none, or the feed is
+/// the input, which begins anew.
 fn restored(
     rt: &HostRuntime,
     options: &LiveOptions<'_>,
-    limits: Limits,
-    kept: Option<&Kept<File>>,
+    system: &mut System<'_>,
 ) -> Result<Restored, Fault> {
-    let (Some(kept), Some(_)) = (kept, &options.upstream) else {
-        return needs_memory(restore(rt.alloc(), limits, &[], &[]));
-    };
-    let (before, file) = (kept.before.as_slice(), kept.file.as_slice());
-    needs_memory(restore(rt.alloc(), limits, before, file))
+    let limits = kept_limits(options);
+    match &options.upstream {
+        Some(_) => needs_memory(restore_from(rt.alloc(), limits, &mut system.devices.store)),
+        None => needs_memory(restore(rt.alloc(), limits, &[], &[])),
+    }
 }
 
 /// Why there is nothing to run on.
@@ -233,12 +232,10 @@ fn limits_of(options: &LiveOptions<'_>) -> LiveLimits {
 /// What a relay starts from, before anything is opened.
 #[derive(Drop)]
 struct Plan {
-    start: Start,
     contest: String,
-    state: Option<StateFile<File>>,
-    /// What is told of the state file.
-    told: Option<String>,
-    hosts: Vec<Host>,
+    identity: Identity,
+    asked: Asked,
+    kept: Option<Kept<File>>,
 }
 
 /// Why a state file is not taken.
@@ -264,13 +261,12 @@ fn kept(rt: &HostRuntime, options: &LiveOptions<'_>) -> Result<Option<Kept<File>
 fn start_of(
     rt: &HostRuntime,
     options: &LiveOptions<'_>,
-    kept: Option<&Kept<File>>,
+    system: &mut System<'_>,
     places: Vec<Place>,
     identity: Identity,
 ) -> Result<Start, Fault> {
-    let limits = kept_limits(options);
-    let blank = needs_memory(Mirror::new(rt.alloc(), limits))?;
-    let restored = restored(rt, options, limits, kept)?;
+    let blank = needs_memory(Mirror::new(rt.alloc(), kept_limits(options)))?;
+    let restored = restored(rt, options, system)?;
     Ok(Start {
         restored,
         blank,
@@ -287,27 +283,20 @@ fn identity(rt: &HostRuntime, options: &LiveOptions<'_>) -> Result<Identity, Fai
     }
 }
 
-/// Reads the state files.
+/// Takes the state files.
 fn make_plan(rt: &HostRuntime, options: &LiveOptions<'_>) -> Result<Plan, Failure> {
     let contest = needs_memory(String::from_str(rt.alloc(), options.contest))?;
     let identity = identity(rt, options)?;
-    let Asked { hosts, places } = match servers(rt, options, &identity) {
+    let asked = match servers(rt, options, &identity) {
         Ok(asked) => asked,
         Err(fault) => return Err(of_servers(rt.alloc(), fault)),
     };
     let kept = kept(rt, options)?;
-    let start = start_of(rt, options, kept.as_ref(), places, identity)?;
-    let told = needs_memory(told_of(rt.alloc(), options, kept.as_ref(), &start.restored))?;
-    let state = match kept {
-        Some(kept) => Some(kept.state),
-        None => None,
-    };
     Ok(Plan {
-        start,
         contest,
-        state,
-        told,
-        hosts,
+        identity,
+        asked,
+        kept,
     })
 }
 
@@ -315,11 +304,11 @@ fn make_plan(rt: &HostRuntime, options: &LiveOptions<'_>) -> Result<Plan, Failur
 fn system_of<'r>(
     rt: &'r HostRuntime,
     options: &LiveOptions<'_>,
-    state: Option<StateFile<File>>,
+    kept: Option<Kept<File>>,
     hosts: Vec<Host>,
     start: Instant,
 ) -> Result<System<'r>, Failure> {
-    match open(rt, options, state, hosts, start) {
+    match open(rt, options, kept, hosts, start) {
         Ok(system) => Ok(system),
         Err(fault) => Err(failure_of(rt.alloc(), fault)),
     }
@@ -342,13 +331,16 @@ pub(super) fn prepare<'r>(
     let start = of_system(Instant::now(rt))?;
     let watched = needs_memory(Watched::new(rt, options))?;
     let Plan {
-        start: from,
         contest,
-        state,
-        told,
-        hosts,
+        identity,
+        asked,
+        kept,
     } = make_plan(rt, options)?;
-    let mut system = system_of(rt, options, state, hosts, start)?;
+    let Asked { hosts, places } = asked;
+    let about = kept.as_ref().map(|kept| kept.about);
+    let mut system = system_of(rt, options, kept, hosts, start)?;
+    let from = start_of(rt, options, &mut system, places, identity)?;
+    let told = needs_memory(told_of(rt.alloc(), options, about, &from.restored))?;
     tell_state(&mut system, options, told);
     let store = &mut system.devices.store;
     let live = Live::new(rt.alloc(), contest, limits_of(options), from, store, 0);

@@ -2,20 +2,19 @@
 
 use feed_commands::LiveOptions;
 use feed_live::Restored;
-use feed_state::Kept;
+use feed_state::About;
 use feed_system::restored_text;
 use std::alloc::{AllocError, Global};
-use std::fs::File;
 
 /// Why a relay begins with nothing, where its files had nothing that counts.
-fn reason(options: &LiveOptions<'_>, kept: &Kept<File>) -> &'static str {
+fn reason(options: &LiveOptions<'_>, about: About) -> &'static str {
     if options.upstream.is_none() {
         "standard input begins anew"
     } else if options.is_new {
         "--new was given"
-    } else if kept.length == 0 {
+    } else if about.length == 0 {
         "there is no FILE"
-    } else if kept.file.is_empty() {
+    } else if about.feed == 0 {
         "FILE has no whole snapshot"
     } else {
         "FILE's snapshot is more than --staged or --memory let in"
@@ -26,21 +25,21 @@ fn reason(options: &LiveOptions<'_>, kept: &Kept<File>) -> &'static str {
 pub(super) fn told_of(
     alloc: Global,
     options: &LiveOptions<'_>,
-    kept: Option<&Kept<File>>,
+    about: Option<About>,
     restored: &Restored,
 ) -> Result<Option<String>, AllocError> {
-    let Some(kept) = kept else {
+    let Some(about) = about else {
         return Ok(None);
     };
     let text = match restored.mirror.node().token() {
         Some(token) => restored_text(
             alloc,
-            kept.written,
+            about.written,
             token.text(),
-            kept.left(restored.length()),
+            about.left(restored.length()),
         )?,
         None => {
-            let why = reason(options, kept);
+            let why = reason(options, about);
             format!(in alloc; "state: nothing restored: {why}")?
         }
     };
