@@ -389,7 +389,12 @@ impl Source {
             return Ok(None);
         };
         let mut text = Vec::new(alloc);
-        request_text_as(place, token_for(mirror, is_again), &self.identity, &mut text)?;
+        request_text_as(
+            place,
+            token_for(mirror, is_again),
+            &self.identity,
+            &mut text,
+        )?;
         Ok(Some(text))
     }
 

@@ -82,6 +82,12 @@ impl Rechecking {
         self.asks_newest = false;
     }
 
+    /// The server does not hold the token before the newest.
+    fn refuse(&mut self) {
+        self.again = None;
+        self.asks_newest = true;
+    }
+
     /// Whether the newest commit is still to come again.
     pub(crate) fn is_going(&self) -> bool {
         self.again.is_some()
@@ -157,6 +163,14 @@ impl Source {
         }
         self.upstream.held();
         false
+    }
+
+    /// A server does not hold the token before the newest: it is asked with the newest.
+    pub(crate) fn ask_newest<L: Link>(&mut self, link: &mut L, now: u64)
+        ensures left { IsLeft self.old self.new (L.exchanges link.old) (L.exchanges link.new) }
+    {
+        self.rechecking.refuse();
+        self.ask_again(link, now);
     }
 
     /// A server has another commit where this relay has its newest one: the others are asked whether
