@@ -5,7 +5,7 @@ use Rattle.clap.specs.Words.{App, Row, Rule, new_app, with_rule}
 use Rattle.feed_settings.specs.Limits.{most_commits}
 use Rattle.feed_arguments.specs.Addresses.{most_port}
 use Rattle.feed_arguments.specs.Options as options
-use Rattle.feed_arguments.specs.Options.{flag, number_in, number_between, text_option, with_default, text_at}
+use Rattle.feed_arguments.specs.Options.{flag, number_in, number_between, text_option, tied, with_default, text_at}
 use Rattle.feed_arguments.specs.Options.{IsNumber, IsNumberUpTo, IsNumberIfGiven, IsGiven, IsFramed, AsksLimitsOr}
 use Rattle.feed_arguments.specs.declared.request.LiveOptions.{LiveOptions}
 use Rattle.feed_arguments.specs.declared.request.UpstreamOptions.{UpstreamOptions}
@@ -43,10 +43,6 @@ abbrev pub most_hold : ℕ
 most_hold = 3600
 
 -- ---- the command
-
--- the option, which has a rule on another one
-abbrev pub tied : Rule → Rule
-tied rule = record rule { is_free = false }
 
 abbrev pub host : Rule
 host = tied (text_option (codes "host"))
