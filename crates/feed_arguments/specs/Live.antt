@@ -104,6 +104,9 @@ settle = with_default (codes "2000") (number_between (codes "settle") 0 most_set
 abbrev pub fresh : Rule
 fresh = flag (codes "fresh")
 
+abbrev pub no_recheck : Rule
+no_recheck = flag (codes "no-recheck")
+
 abbrev pub return_after : Rule
 return_after = with_default (codes "30") (number_between (codes "return") 0 most_return)
 
@@ -140,7 +143,7 @@ with_feed command =
 
 -- a command with the options that say how a feed is asked for, and when it is shown
 abbrev pub with_settling : App → App
-with_settling command = with_rule (with_rule command settle) fresh
+with_settling command = with_rule (with_rule (with_rule command settle) fresh) no_recheck
 
 -- a command with the options that say what is followed, as whom, and until when
 abbrev pub with_upstream : App → App
@@ -237,6 +240,7 @@ pub record AsksLive (rows : List Row) (options : LiveOptions) : Type 0 where
   pub is_some_use : (is_some options.listen ≡ true) ⊎ (is_some options.state ≡ true)
   pub settle_is : IsNumberUpTo (codes "settle") most_settle rows options.settle
   pub fresh_is : IsGiven (codes "fresh") rows options.fresh
+  pub no_recheck_is : IsGiven (codes "no-recheck") rows options.no_recheck
   pub return_is : IsNumberUpTo (codes "return") most_return rows options.return_after
   pub hold_is : IsNumberUpTo (codes "hold") most_hold rows options.hold
   pub serve_old_is : IsGiven (codes "serve-old") rows options.serve_old

@@ -115,6 +115,11 @@ fn with_settling<'a>(
             "Ask for everything on each connection, never with since_token: for servers that don't have \
               the same tokens",
         ),
+        flag(
+            "no-recheck",
+            "Ask for what comes after the newest commit, and not for that again to see whether the \
+              server still has it",
+        ),
     ];
     add_options(alloc, command, &settled)
 }
