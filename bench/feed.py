@@ -1,5 +1,5 @@
 #!/usr/bin/env python3
-"""feed.py NOTIFICATIONS [SEED [STYLE]]: a large contest feed on standard output.
+"""A large contest feed on standard output: bench/feed.py NOTIFICATIONS [SEED [STYLE]]
 
 The set-up comes as whole collections; then submissions, judgements, runs, clarifications, comments and states, as a
 contest of 150 teams has them. One line in eight ends a commit, one in forty is a keep-alive, and judgements are written
@@ -10,16 +10,22 @@ Servers write the same in different styles. STYLE is one of these, `plain` if le
 - plain: the members type, id, data and, at the end of a commit, token;
 - tokens: the same, with a token on each line;
 - token-first: a token on each line, before the others;
-- time-last: a token on each line, and behind it a member `time`;
+- spaces: a token on each line, and a space after each colon and comma;
+- time-last: a token on each line, and after it a member `time`;
+- op: a token on each line, and a member `op` before `data`;
 - domjudge: token, id, type, data and time on each line, with `\\/` for a slash and `\\u` for other letters, as DOMjudge
   is believed to write."""
+import argparse
 import random
+import re
 import sys
 
 TEAMS, PROBLEMS = 150, 12
 START = "2026-11-22T10:00:00.000+01:00"
-STYLES = ("plain", "tokens", "token-first", "time-last", "domjudge")
+STYLES = ("plain", "tokens", "token-first", "spaces", "time-last", "op", "domjudge")
 TIME = ',"time":"2026-11-22T12:00:00.000+01:00"'
+# A string, or a colon or comma outside of one.
+STRING_OR_MARK = re.compile(r'("(?:[^"\\]|\\.)*")|([:,])')
 
 
 def escaped(text):
@@ -27,11 +33,20 @@ def escaped(text):
     return "".join(c if c < "\x80" else f"\\u{ord(c):04x}" for c in text.replace("/", "\\/"))
 
 
+def spaced(text):
+    """The text with a space after each colon and comma outside strings."""
+    return STRING_OR_MARK.sub(lambda it: it[1] or f"{it[2]} ", text)
+
+
 def spelled(style, kind, i, data, token):
     """A line: the type, and the id and the token, if any, as JSON strings."""
     marked = f',"token":{token}' if token else ""
     if style in ("plain", "tokens"):
         return f'{{"type":"{kind}","id":{i},"data":{data}{marked}}}'
+    if style == "spaces":
+        return spaced(f'{{"type":"{kind}","id":{i},"data":{data}{marked}}}')
+    if style == "op":
+        return f'{{"type":"{kind}","id":{i},"op":"update","data":{data}{marked}}}'
     if style == "token-first":
         return f'{{"token":{token},"type":"{kind}","id":{i},"data":{data}}}'
     if style == "time-last":
@@ -149,11 +164,14 @@ class Feed:
 
 
 def main():
-    words = dict(enumerate(sys.argv[1:]))
-    style = words.get(2, "plain")
-    if style not in STYLES:
-        sys.exit("feed.py: no such style")
-    Feed(int(words[0]), int(words.get(1, 1)), style).write()
+    words = argparse.ArgumentParser(
+        prog="bench/feed.py", description=__doc__, formatter_class=argparse.RawDescriptionHelpFormatter
+    )
+    words.add_argument("notifications", metavar="NOTIFICATIONS", type=int)
+    words.add_argument("seed", metavar="SEED", type=int, nargs="?", default=1)
+    words.add_argument("style", metavar="STYLE", nargs="?", choices=STYLES, default="plain")
+    asked = words.parse_args()
+    Feed(asked.notifications, asked.seed, asked.style).write()
 
 
 if __name__ == "__main__":

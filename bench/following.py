@@ -1,16 +1,15 @@
 #!/usr/bin/env python3
-"""bench/following.py [NOTIFICATIONS]: times a `Follower` on a generated feed, beside a mirror that is fed the same bytes.
+"""Times a `Follower` on a generated feed, beside a mirror that is fed the same bytes: bench/following.py [NOTIFICATIONS]
 
 Needs the toolchain (rt). The program bench/following/main.rattle is proved and built in a temporary copy of the crates below it, as
 bench/lines.py builds its own. It reads the feed and makes the response before it looks at the clock. The best of three counts."""
-import shutil
 import subprocess
 import sys
 import tempfile
 from functools import partial
 from pathlib import Path
 
-from lines import TOP, answered, best, built
+from lines import TOP, answered, best, built, number_asked
 
 ROWS = {
     "`Mirror::feed`": "mirror",
@@ -28,9 +27,7 @@ def told(program, word, feed):
 
 
 def main():
-    if not shutil.which("rt"):
-        sys.exit("following.py: missing: the toolchain (rt)")
-    count = int(sys.argv[1]) if len(sys.argv) > 1 else 200_000
+    count = number_asked("following.py", __doc__, "NOTIFICATIONS", 200_000)
     with tempfile.TemporaryDirectory(prefix="tunygarop-following-") as name:
         folder = Path(name)
         program, feed = built(folder, "following", "feed_follow"), folder / "feed.ndjson"
@@ -42,4 +39,5 @@ def main():
             print(f"| {row} | {seconds:.3f} |")
 
 
-main()
+if __name__ == "__main__":
+    main()

@@ -1,10 +1,11 @@
 #!/usr/bin/env python3
-"""bench/lines.py [MEGABYTES]: times what reads the lines of a feed: `survey`, and a `Splitter` that is fed in pieces.
+"""Times what reads the lines of a feed, `survey`, and a `Splitter` that is fed in pieces: bench/lines.py [MEGABYTES]
 
 Needs the toolchain (rt). The program bench/lines/main.rattle is proved and built in a temporary copy of the crates below it, with
 what earlier runs kept of their proofs (without any, this takes some minutes). It reads the feed before it looks at the
 clock; `wc -l`, and `tunygarop check` where the built program has it, are timed as whole processes. The best of three
 counts."""
+import argparse
 import os
 import shutil
 import subprocess
@@ -19,6 +20,17 @@ PROGRAM = TOP / "crates/tunygarop/out/tunygarop"
 # About as many notifications of the generated feed are a megabyte.
 NOTIFICATIONS = 4750
 TURNS = 3
+
+
+def number_asked(name, text, word, usual):
+    """The number that a script was called with, where the toolchain is there."""
+    shape = argparse.RawDescriptionHelpFormatter
+    words = argparse.ArgumentParser(prog=f"bench/{name}", description=text, formatter_class=shape)
+    words.add_argument("number", metavar=word, type=int, nargs="?", default=usual)
+    number = words.parse_args().number
+    if not shutil.which("rt"):
+        sys.exit(f"bench/{name}: missing: the toolchain (rt)")
+    return number
 
 
 def below(crate):
@@ -93,9 +105,7 @@ def best(rows):
 
 
 def main():
-    if not shutil.which("rt"):
-        sys.exit("lines.py: missing: the toolchain (rt)")
-    size = int(sys.argv[1]) if len(sys.argv) > 1 else 60
+    size = number_asked("lines.py", __doc__, "MEGABYTES", 60)
     with tempfile.TemporaryDirectory(prefix="tunygarop-lines-") as name:
         folder = Path(name)
         program, feed = built(folder), generated(size, folder)

@@ -1,5 +1,5 @@
 #!/usr/bin/env python3
-"""bench/pulling.py [--runs N] [--feed FILE] [PROGRAM..]: times `pull` from `serve` and from nginx, beside `curl`.
+"""Times `pull` from `serve` and from nginx, beside `curl`: bench/pulling.py [--runs N] [--feed FILE] [PROGRAM..]
 
 Needs the built program (tools/run builds it), or other builds of it that are named, and nginx and curl, Debian's packages;
 it says which is missing. Every connection goes over 127.0.0.1. It is no part of the gate, since it only times.
@@ -18,8 +18,10 @@ import tempfile
 import time
 from pathlib import Path
 
-HERE = Path(__file__).resolve().parent
-BUILT = HERE.parent / "crates/tunygarop/out/tunygarop"
+from measuring import BUILT, HERE
+
+from common import free_port
+
 CONTEST, NOTIFICATIONS = "wf", "200000"
 PATH = f"/contests/{CONTEST}/event-feed"
 NGINX = """daemon off; master_process off; pid {folder}/pid; error_log {folder}/errors;
@@ -31,12 +33,6 @@ http {{
   server {{ listen 127.0.0.1:{port}; location = {path} {{ alias {file}; }} }}
 }}
 """
-
-
-def free_port():
-    with socket.socket() as held:
-        held.bind(("127.0.0.1", 0))
-        return held.getsockname()[1]
 
 
 def processor(pid):
@@ -171,7 +167,9 @@ def show(serves, nginx, rows, held, size):
 
 
 def main():
-    words = argparse.ArgumentParser(add_help=False)
+    words = argparse.ArgumentParser(
+        prog="bench/pulling.py", description=__doc__, formatter_class=argparse.RawDescriptionHelpFormatter
+    )
     words.add_argument("--runs", type=int, default=9)
     words.add_argument("--feed", type=Path)
     words.add_argument("programs", nargs="*", type=Path)

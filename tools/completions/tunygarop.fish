@@ -60,6 +60,7 @@ complete -c tunygarop -n '__fish_seen_subcommand_from live' -l state -x -a '(__f
 complete -c tunygarop -n '__fish_seen_subcommand_from live' -l new -d 'Begin without what the state file has'
 complete -c tunygarop -n '__fish_seen_subcommand_from live' -l settle -x -d 'Milliseconds in which 1/64 of what was asked for from the start may come before it is shown, 0 to 60000'
 complete -c tunygarop -n '__fish_seen_subcommand_from live' -l fresh -d 'Ask for everything on each connection'
+complete -c tunygarop -n '__fish_seen_subcommand_from live' -l no-recheck -d 'Do not ask for the newest commit again'
 complete -c tunygarop -n '__fish_seen_subcommand_from live' -l return -x -d 'Seconds without a commit after which other servers are asked, 0 to 3600'
 complete -c tunygarop -n '__fish_seen_subcommand_from live' -l hold -x -d 'Seconds that requests wait for a server, after a start with a state, 0 to 3600'
 complete -c tunygarop -n '__fish_seen_subcommand_from live' -l serve-old -d 'Serve the state of the file before a server was heard'

@@ -1,4 +1,5 @@
 mod AddressLemmas
-mod LiveLemmas
+mod Conjunctions
+mod DeclaringLemmas
 mod NetworkLemmas
 mod WordsLemmas

@@ -1,4 +1,5 @@
 pub mod Addresses
+pub mod Declaring
 pub mod Live
 pub mod Networks
 pub mod Options

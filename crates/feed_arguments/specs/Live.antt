@@ -5,7 +5,7 @@ use Rattle.clap.specs.Words.{App, Row, Rule, new_app, with_rule}
 use Rattle.feed_settings.specs.Limits.{most_commits}
 use Rattle.feed_arguments.specs.Addresses.{most_port}
 use Rattle.feed_arguments.specs.Options as options
-use Rattle.feed_arguments.specs.Options.{flag, number_in, number_between, text_option, with_default, text_at}
+use Rattle.feed_arguments.specs.Options.{flag, number_in, number_between, text_option, tied, with_default, text_at}
 use Rattle.feed_arguments.specs.Options.{IsNumber, IsNumberUpTo, IsNumberIfGiven, IsGiven, IsFramed, AsksLimitsOr}
 use Rattle.feed_arguments.specs.declared.request.LiveOptions.{LiveOptions}
 use Rattle.feed_arguments.specs.declared.request.UpstreamOptions.{UpstreamOptions}
@@ -43,10 +43,6 @@ abbrev pub most_hold : ℕ
 most_hold = 3600
 
 -- ---- the command
-
--- the option, which has a rule on another one
-abbrev pub tied : Rule → Rule
-tied rule = record rule { is_free = false }
 
 abbrev pub host : Rule
 host = tied (text_option (codes "host"))
@@ -108,6 +104,9 @@ settle = with_default (codes "2000") (number_between (codes "settle") 0 most_set
 abbrev pub fresh : Rule
 fresh = flag (codes "fresh")
 
+abbrev pub no_recheck : Rule
+no_recheck = flag (codes "no-recheck")
+
 abbrev pub return_after : Rule
 return_after = with_default (codes "30") (number_between (codes "return") 0 most_return)
 
@@ -144,7 +143,7 @@ with_feed command =
 
 -- a command with the options that say how a feed is asked for, and when it is shown
 abbrev pub with_settling : App → App
-with_settling command = with_rule (with_rule command settle) fresh
+with_settling command = with_rule (with_rule (with_rule command settle) fresh) no_recheck
 
 -- a command with the options that say what is followed, as whom, and until when
 abbrev pub with_upstream : App → App
@@ -241,6 +240,7 @@ pub record AsksLive (rows : List Row) (options : LiveOptions) : Type 0 where
   pub is_some_use : (is_some options.listen ≡ true) ⊎ (is_some options.state ≡ true)
   pub settle_is : IsNumberUpTo (codes "settle") most_settle rows options.settle
   pub fresh_is : IsGiven (codes "fresh") rows options.fresh
+  pub no_recheck_is : IsGiven (codes "no-recheck") rows options.no_recheck
   pub return_is : IsNumberUpTo (codes "return") most_return rows options.return_after
   pub hold_is : IsNumberUpTo (codes "hold") most_hold rows options.hold
   pub serve_old_is : IsGiven (codes "serve-old") rows options.serve_old

@@ -52,6 +52,10 @@ with_default value rule = record rule { defaults = value ∷ [] }
 abbrev pub needed : Rule → Rule
 needed rule = record rule { required = true }
 
+-- the option, which has a rule on another one
+abbrev pub tied : Rule → Rule
+tied rule = record rule { is_free = false }
+
 abbrev pub history : Rule
 history = with_default (codes "1000") (number_in (codes "history") most_commits)
 

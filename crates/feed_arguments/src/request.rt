@@ -189,6 +189,9 @@ pub struct LiveOptions<'a> {
     pub settle: u64,
     /// Whether each connection asks for everything.
     pub fresh: bool,
+    /// Whether a connection asks for what comes after the newest token, and not for the newest commit
+    /// again.
+    pub no_recheck: bool,
     /// After how many seconds without a commit the other servers are asked in turn, 0 to 3,600. Zero:
     /// they are asked only where the one that is followed fails.
     pub return_after: u64,

@@ -5,6 +5,7 @@ ghost use Rattle.feed_arguments.specs.Words.{Asks, AsksNothing, RefusesBy, Repli
 
 mod asked;
 mod asked_live;
+mod declaring;
 mod line;
 mod live;
 mod options;

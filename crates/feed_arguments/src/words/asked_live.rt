@@ -129,6 +129,7 @@ pub(super) fn live_options<'a>(matches: &ArgMatches<'a>) -> Option<LiveOptions<'
         is_new: is_given(matches, "new"),
         settle,
         fresh: is_given(matches, "fresh"),
+        no_recheck: is_given(matches, "no-recheck"),
         return_after,
         hold,
         serve_old: is_given(matches, "serve-old"),

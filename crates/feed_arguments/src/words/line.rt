@@ -1,19 +1,23 @@
 //! The commands, as the command line declares them.
 ghost use Rattle.std.specs.Prelude.{◌≡◌, true, false, IfOk};
-ghost use Rattle.clap.specs.Words.{App, Rule, app_of, new_app, rule_of, with_rule, with_subcommand};
+ghost use Rattle.clap.specs.Words.{App, app_of, new_app, with_subcommand};
 ghost use Rattle.feed_arguments.specs.Options.{with_limits as limited};
 ghost use Rattle.feed_arguments.specs.Words as words;
 
+use super::declaring::{add_options, flag, number, number_between, text};
 use super::live::live;
+use super::options::{MOST_PORT, MOST_ROUNDS, MOST_SILENCE};
 use super::{PROGRAM, VERSION, options};
-use clap::{Arg, Command};
+use clap::Command;
+use feed_settings::MOST_COMMITS;
 use std::alloc::{AllocError, Global};
 
 /// How the program is mostly called.
 pub(super) const USUAL_CALLS: &str = "\
 Usual calls:
-  tunygarop live --contest finals --host 10.0.0.5 --port 80 --listen 8001 --state finals.state
-        relays a server's feed to screens, and keeps it in a file
+  tunygarop live --contest finals --host 10.0.0.5 --port 80 \\
+      --listen 8001 --address 0.0.0.0 --state finals.state
+        relays a server's feed to screens on any machine, and keeps it in a file
   tunygarop live --contest finals --host 10.0.0.6 --port 8001 --state screen.state
         is a screen: keeps a file up to date, which the next call reads
   tunygarop tables < screen.state
@@ -29,29 +33,16 @@ pub(super) fn command<'a>(alloc: Global, name: &'a str, about: &'a str) -> Comma
     Command::new(alloc, name).about(about)
 }
 
-/// A command with one more option; none where there was none.
-pub(super) fn add_option<'a>(
-    command: Result<Command<'a>, AllocError>,
-    option: Arg<'a>,
-) -> Result<Command<'a>, AllocError>
-    requires { option.global ≡ false }
-    ensures { (app : App) → (rule : Rule) → IfOk command.entry (λ c. app_of c ≡ app)
-        → rule_of option.entry ≡ rule → IfOk result (λ c. app_of c ≡ with_rule app rule) }
-{
-    command?.arg(option)
-}
-
-/// A command with the limits of its node; none where there was none.
-pub(super) fn with_limits<'a>(
+/// A command with the limits of its node.
+fn with_limits<'a>(
     alloc: Global,
     command: Result<Command<'a>, AllocError>,
 ) -> Result<Command<'a>, AllocError>
     ensures { (app : App) → IfOk command.entry (λ c. app_of c ≡ app)
         → IfOk result (λ c. app_of c ≡ limited app) }
 {
-    let kept = add_option(command, options::history(alloc));
-    let staged = add_option(kept, options::staged(alloc));
-    add_option(staged, options::memory(alloc))
+    let limits = [options::history(), options::staged(), options::memory()];
+    add_options(alloc, command, &limits)
 }
 
 /// `tables`.
@@ -59,10 +50,11 @@ fn tables<'a>(alloc: Global) -> Result<Command<'a>, AllocError>
     ensures { IfOk result (λ c. app_of c ≡ words.tables) }
 {
     let about = "Prints the tables that the event feed on standard input has published";
-    let limited = with_limits(alloc, Ok(command(alloc, "tables", about)));
-    let tables = add_option(limited, options::at(alloc));
-    let help = "Tell the number of the faulty line, too";
-    add_option(tables, options::verbose(alloc, help))
+    let tables = with_limits(alloc, Ok(command(alloc, "tables", about)));
+    let at = "Print the tables at the first line that publishes under this token";
+    let verbose = "Tell the number of the faulty line, too";
+    let asked = [text("at", "TOKEN", at), options::verbose(verbose)];
+    add_options(alloc, tables, &asked)
 }
 
 /// `check`.
@@ -71,10 +63,10 @@ fn check<'a>(alloc: Global) -> Result<Command<'a>, AllocError>
 {
     let about =
         "Counts the lines of the event feed on standard input, or names the first that can't be read";
-    let help = "Count what servers get wrong, too: tokens that come again, and more";
-    let check = Ok(command(alloc, "check", about));
-    let streamed = add_option(check, options::stream(alloc));
-    add_option(streamed, options::verbose(alloc, help))
+    let stream = "Read piece by piece, so that the feed may have any length";
+    let verbose = "Count what servers get wrong, too: tokens that come again, and more";
+    let asked = [flag("stream", stream), options::verbose(verbose)];
+    add_options(alloc, Ok(command(alloc, "check", about)), &asked)
 }
 
 /// A command with the options that say which servers are compared.
@@ -85,10 +77,30 @@ fn with_compared<'a>(
     ensures { (app : App) → IfOk command.entry (λ c. app_of c ≡ app)
         → IfOk result (λ c. app_of c ≡ words.with_compared app) }
 {
-    let compared = add_option(command, options::of(alloc));
-    let compared = add_option(compared, options::against(alloc));
-    let compared = add_option(compared, options::compared_contest(alloc));
-    add_option(compared, options::for_seconds(alloc))
+    let compared = [
+        text(
+            "of",
+            "HOST:PORT",
+            "In place of records: the server that is compared with another one",
+        ),
+        text(
+            "against",
+            "HOST:PORT",
+            "The server that it is compared with",
+        ),
+        text(
+            "contest",
+            "C",
+            "The id of the contest, as the path of its feeds has it",
+        ),
+        number(
+            "for",
+            "SECONDS",
+            MOST_ROUNDS,
+            "After how many seconds the comparison ends, 1 to 1000000; without it there is no such time",
+        ),
+    ];
+    add_options(alloc, command, &compared)
 }
 
 /// `audit`.
@@ -96,12 +108,17 @@ fn audit<'a>(alloc: Global) -> Result<Command<'a>, AllocError>
     ensures { IfOk result (λ c. app_of c ≡ words.audit) }
 {
     let about =
-        "Tells whether each state of the screen's record on standard input is one of the primary's, or compares two servers";
-    let help = "Print objects that differ whole, however long they are";
-    let audit = add_option(Ok(command(alloc, "audit", about)), options::primary(alloc));
-    let audit = with_compared(alloc, audit);
-    let audit = add_option(audit, options::json(alloc));
-    let audit = add_option(audit, options::verbose(alloc, help));
+        "Tells whether each state of the screen's record on standard input is one of the primary's, \
+        or compares two servers";
+    let primary = "The file with the primary's record: its feed, as one connection carried it";
+    let primary = [text("primary", "FILE", primary)];
+    let audit = add_options(alloc, Ok(command(alloc, "audit", about)), &primary);
+    let verbose = "Print objects that differ whole, however long they are";
+    let printed = [
+        flag("json", "Print one line of JSON"),
+        options::verbose(verbose),
+    ];
+    let audit = add_options(alloc, with_compared(alloc, audit), &printed);
     with_limits(alloc, audit)
 }
 
@@ -113,10 +130,12 @@ fn with_served<'a>(
     ensures { (app : App) → IfOk command.entry (λ c. app_of c ≡ app)
         → IfOk result (λ c. app_of c ≡ words.with_served app) }
 {
-    let help = "The port of 127.0.0.1 that the feed is served at";
-    let served = add_option(command, options::port(alloc, help));
-    let served = add_option(served, options::contest(alloc));
-    add_option(served, options::count(alloc))
+    let served = [
+        options::port("The port of 127.0.0.1 that the feed is served at"),
+        options::contest(),
+        options::count(),
+    ];
+    add_options(alloc, command, &served)
 }
 
 /// A command with the options that say what `serve` sends.
@@ -127,9 +146,25 @@ fn with_sent<'a>(
     ensures { (app : App) → IfOk command.entry (λ c. app_of c ≡ app)
         → IfOk result (λ c. app_of c ≡ words.with_sent app) }
 {
-    let sent = add_option(command, options::turn(alloc));
-    let sent = add_option(sent, options::chunked(alloc));
-    add_option(sent, options::back(alloc))
+    let sent = [
+        number(
+            "turn",
+            "K",
+            MOST_ROUNDS,
+            "How many batches are committed each time that a reader is up to date, 1 to 1000000; \
+              without it all are committed first",
+        ),
+        options::chunked(),
+        number_between(
+            "back",
+            "B",
+            0,
+            MOST_COMMITS as u64,
+            "How many commits before a reader's token its feed begins, 0 to 65536",
+        )
+        .or("0"),
+    ];
+    add_options(alloc, command, &sent)
 }
 
 /// `serve`.
@@ -139,7 +174,7 @@ fn serve<'a>(alloc: Global) -> Result<Command<'a>, AllocError>
     let about = "Serves the event feed on standard input at a port of 127.0.0.1, as a primary";
     let serve = with_served(alloc, Ok(command(alloc, "serve", about)));
     let serve = with_sent(alloc, serve);
-    let serve = add_option(serve, options::verbose(alloc, CONNECTIONS));
+    let serve = add_options(alloc, serve, &[options::verbose(CONNECTIONS)]);
     with_limits(alloc, serve)
 }
 
@@ -151,23 +186,14 @@ fn with_place<'a>(
     ensures { (app : App) → IfOk command.entry (λ c. app_of c ≡ app)
         → IfOk result (λ c. app_of c ≡ words.with_place app) }
 {
-    let help = "The port of the server that is followed";
-    let placed = add_option(command, options::host(alloc));
-    let placed = add_option(placed, options::port(alloc, help));
-    let placed = add_option(placed, options::from(alloc));
-    add_option(placed, options::contest(alloc))
-}
-
-/// A command with the options that say what a server is told of who asks.
-fn with_identity<'a>(
-    alloc: Global,
-    command: Result<Command<'a>, AllocError>,
-) -> Result<Command<'a>, AllocError>
-    ensures { (app : App) → IfOk command.entry (λ c. app_of c ≡ app)
-        → IfOk result (λ c. app_of c ≡ words.with_identity app) }
-{
-    let named = add_option(command, options::host_header(alloc));
-    add_option(named, options::user_file(alloc))
+    let host = "The address or name of the server that is followed";
+    let placed = [
+        text("host", "H", host).required(),
+        options::port("The port of the server that is followed"),
+        options::from(),
+        options::contest(),
+    ];
+    add_options(alloc, command, &placed)
 }
 
 /// A command with the options that say what is followed, and how far.
@@ -178,11 +204,26 @@ fn with_followed<'a>(
     ensures { (app : App) → IfOk command.entry (λ c. app_of c ≡ app)
         → IfOk result (λ c. app_of c ≡ words.with_followed app) }
 {
-    let followed = with_place(alloc, command);
-    let followed = add_option(followed, options::base(alloc));
-    let followed = with_identity(alloc, followed);
-    let followed = add_option(followed, options::turns(alloc));
-    add_option(followed, options::silence(alloc))
+    let followed = [
+        options::base(),
+        options::host_header(),
+        options::user_file(),
+        number(
+            "turns",
+            "T",
+            MOST_ROUNDS,
+            "The most reads of one connection, 1 to 1000000",
+        )
+        .or("1000000"),
+        number(
+            "silence",
+            "SECONDS",
+            MOST_SILENCE,
+            "After how many seconds without a connection or a byte a server is left, 1 to 3600; \
+              without it there is no such time",
+        ),
+    ];
+    add_options(alloc, with_place(alloc, command), &followed)
 }
 
 /// A command with the options of `pull`.
@@ -193,9 +234,9 @@ fn with_pull<'a>(
     ensures { (app : App) → IfOk command.entry (λ c. app_of c ≡ app)
         → IfOk result (λ c. app_of c ≡ words.with_pull app) }
 {
-    let pull = with_followed(alloc, command);
-    let pull = add_option(pull, options::resume(alloc));
-    let pull = add_option(pull, options::verbose(alloc, CONNECTIONS));
+    let resume = "Begin from the tables on standard input, as this command prints them";
+    let told = [flag("resume", resume), options::verbose(CONNECTIONS)];
+    let pull = add_options(alloc, with_followed(alloc, command), &told);
     with_limits(alloc, pull)
 }
 
@@ -213,11 +254,16 @@ fn relay<'a>(alloc: Global) -> Result<Command<'a>, AllocError>
     ensures { IfOk result (λ c. app_of c ≡ words.relay) }
 {
     let about =
-        "Follows a server's event feed and serves it at a port of 127.0.0.1, in turns, and prints the tables at the end";
+        "Follows a server's event feed and serves it at a port of 127.0.0.1, in turns, and prints \
+        the tables at the end";
     let relay = with_pull(alloc, Ok(command(alloc, "relay", about)));
-    let relay = add_option(relay, options::listen(alloc));
-    let relay = add_option(relay, options::count(alloc));
-    add_option(relay, options::chunked(alloc))
+    let listen = "The port of 127.0.0.1 that the feed is served at";
+    let served = [
+        number("listen", "Q", MOST_PORT, listen).required(),
+        options::count(),
+        options::chunked(),
+    ];
+    add_options(alloc, relay, &served)
 }
 
 /// A command with one more command below it; none where there was none of the two.

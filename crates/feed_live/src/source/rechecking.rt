@@ -34,10 +34,11 @@ impl Again {
         })
     }
 
-    /// Bytes came. Whether the first token is still to come, and nothing is wrong so far.
+    /// Bytes came. Whether the first token is still to come: what is wrong with them, whoever follows
+    /// the connection sees.
     fn waits(&mut self, alloc: Global, bytes: &[u8]) -> bool {
-        let came = self.follower.push(alloc, &mut self.mirror, bytes);
-        came.is_ok() && self.mirror.since().is_none()
+        let _ = self.follower.push(alloc, &mut self.mirror, bytes);
+        self.mirror.since().is_none()
     }
 }
 

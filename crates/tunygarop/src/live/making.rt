@@ -220,7 +220,7 @@ fn limits_of(options: &LiveOptions<'_>) -> LiveLimits {
         is_fresh: options.fresh,
         are_strange: are_strange(options),
         return_after: options.return_after.saturating_mul(1_000),
-        rechecks: true,
+        rechecks: !options.no_recheck,
         hold: options.hold.saturating_mul(1_000),
         serves_old: options.serve_old,
         is_verbose: options.verbosity == Verbosity::Verbose,

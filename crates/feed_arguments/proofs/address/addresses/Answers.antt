@@ -12,5 +12,6 @@ pub returns-clause-ok : goal.returns-clause-ok
 returns-clause-ok c =
     let count = c.count_parts.ensures in
     let fits = c.if-count_parts-gt-MOST_ADDRESSES.false in
-    list_of c.args.text.now _ _ (ap (map (λ part. part.now)) c.deref.ensures.value ∙ c.in_ok-all.ensures) c.in_ok-owned.ensures
+    list_of c.args.text.now _ _ (ap (map (λ part. part.now)) c.deref.ensures.value ∙ c.in_ok-all.ensures)
+    c.in_ok-owned.ensures
     (omega (arith, count, fits))

@@ -5,4 +5,5 @@ use Rattle.feed_arguments.proofs.address.owned.Given as goal
 
 abbrev pub invariant-parts : goal.invariant-parts
 invariant-parts l =
-    AreAddresses (take l.part-index (map (λ part. part.now) l.all)) (map (λ a. (string_bytes a.0, a.1)) l.addresses.items)
+    AreAddresses (take l.part-index (map (λ part. part.now) l.all))
+    (map (λ a. (string_bytes a.0, a.1)) l.addresses.items)

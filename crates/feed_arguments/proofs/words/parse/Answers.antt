@@ -16,14 +16,17 @@ pub returns-in-Some-clause-ok : goal.returns-in-Some-clause-ok
 returns-in-Some-clause-ok c =
     let words = map (λ word. word.now) c.args.words.now in
     let found = c.in_ok-matches.ensures.ok.2 (ap is_simple c.in_ok-program.ensures ∙ line_is_simple) in
-    let entered : subcommand_rows_of c.in_ok-matches.matches ≡ subcommand_of command_line words = found.1 ∙ ap (λ a. subcommand_of a words) c.in_ok-program.ensures in
+    let entered : subcommand_rows_of c.in_ok-matches.matches ≡ subcommand_of command_line words =
+    found.1 ∙ ap (λ a. subcommand_of a words) c.in_ok-program.ensures in
     subst (λ e. AsksAt e c.in-Some.request) entered c.in-Some.ensures.some
 
 pub returns-clause-err : goal.returns-clause-err
 returns-clause-err c =
     let words = map (λ word. word.now) c.args.words.now in
     let found = c.in_ok-matches.ensures.ok.2 (ap is_simple c.in_ok-program.ensures ∙ line_is_simple) in
-    let entered : subcommand_rows_of c.in_ok-matches.matches ≡ subcommand_of command_line words = found.1 ∙ ap (λ a. subcommand_of a words) c.in_ok-program.ensures in
+    let entered : subcommand_rows_of c.in_ok-matches.matches ≡ subcommand_of command_line words =
+    found.1 ∙ ap (λ a. subcommand_of a words) c.in_ok-program.ensures in
     subst (RefusesBy words) (sym c.in_ok-error-in-None.ensures.kind) (λ taken asked asks.
-    let is_live = c.request_entered.ensures.none (search rules) asked (subst (λ e. AsksAt e asked) (sym entered) asks) in
+    let is_live = c.request_entered.ensures.none (search rules) asked (subst (λ e. AsksAt e asked) (sym entered) asks)
+    in
     live_is_not_taken words (subst (λ e. option_map (λ p. p.0) e ≡ Some (codes "live")) entered is_live) taken)

@@ -11,9 +11,11 @@ returns-clause-some c =
     let rows = rows_of (found_of c.in_ok-name.options.now) in
     let named : Some name ≡ subcommand_name_of m = c.in_ok-name.ensures.name in
     let held : Some rows ≡ option_map (λ p. p.1) (subcommand_rows_of m) = c.in_ok-name.ensures.rows in
-    let first : option_map (λ (p : Text × List Row). p.0) (subcommand_rows_of m) ≡ Some name = mapped (λ (p : Text × List Row). p.0) _ _ ∙ sym named in
+    let first : option_map (λ (p : Text × List Row). p.0) (subcommand_rows_of m) ≡ Some name =
+    mapped (λ (p : Text × List Row). p.0) _ _ ∙ sym named in
     let is = pair_of (subcommand_rows_of m) name rows first (sym held) in
-    IfSome_then c.request_named.result c.request_named.ensures.some (λ request by_it. record { name = name; rows = rows; is = is; by = by_it })
+    IfSome_then c.request_named.result c.request_named.ensures.some
+    (λ request by_it. record { name = name; rows = rows; is = is; by = by_it })
 
 pub returns-clause-none : goal.returns-clause-none
 returns-clause-none c =
@@ -22,6 +24,8 @@ returns-clause-none c =
     let rows = rows_of (found_of c.in_ok-name.options.now) in
     let named : Some name ≡ subcommand_name_of m = c.in_ok-name.ensures.name in
     let held : Some rows ≡ option_map (λ p. p.1) (subcommand_rows_of m) = c.in_ok-name.ensures.rows in
-    let first : option_map (λ (p : Text × List Row). p.0) (subcommand_rows_of m) ≡ Some name = mapped (λ (p : Text × List Row). p.0) _ _ ∙ sym named in
+    let first : option_map (λ (p : Text × List Row). p.0) (subcommand_rows_of m) ≡ Some name =
+    mapped (λ (p : Text × List Row). p.0) _ _ ∙ sym named in
     let is = pair_of (subcommand_rows_of m) name rows first (sym held) in
-    λ e request asks. first ∙ ap Some (c.request_named.ensures.none (search rules) request (asked_by _ name rows request is asks)).0
+    λ e request asks. first ∙ ap Some (c.request_named.ensures.none (search rules) request
+    (asked_by _ name rows request is asks)).0

@@ -1,5 +1,10 @@
+use Rattle.std.proofs.Common.{rules, [], ◌∷◌}
+use Rattle.feed_arguments.specs.Options.{json, primary, verbose}
 use Rattle.feed_arguments.proofs.words.line.audit.Goals as goal
 
 pub returns : goal.returns
 returns c =
-    c.with_limits.ensures _ (c.add_option-audit-3.ensures _ _ (c.add_option-audit-2.ensures _ _ (c.with_compared-audit.ensures _ (c.add_option-audit.ensures _ _ c.command.ensures c.primary.ensures.rule)) c.json.ensures.rule) c.verbose.ensures.rule)
+    let first = c.add_options-audit.ensures _ (primary ∷ []) c.command.ensures (search rules) in
+    let printed = c.add_options-audit-2.ensures _ (json ∷ verbose ∷ []) (c.with_compared.ensures _ first)
+    (search rules) in
+    c.with_limits.ensures _ printed

@@ -1,5 +1,7 @@
+use Rattle.std.proofs.Common.{rules, [], ◌∷◌}
+use Rattle.feed_arguments.specs.Options.{stream, verbose}
 use Rattle.feed_arguments.proofs.words.line.check.Goals as goal
 
 pub returns : goal.returns
 returns c =
-    c.add_option.ensures _ _ (c.add_option-streamed.ensures _ _ c.command.ensures c.stream.ensures.rule) c.verbose.ensures.rule
+    c.add_options.ensures _ (stream ∷ verbose ∷ []) c.command.ensures (search rules)

@@ -1,5 +1,7 @@
+use Rattle.std.proofs.Common.{rules, [], ◌∷◌}
+use Rattle.feed_arguments.specs.Options.{against, compared_contest, for_seconds, of}
 use Rattle.feed_arguments.proofs.words.line.with_compared.Goals as goal
 
 pub returns : goal.returns
 returns c =
-    λ app is. c.add_option.ensures _ _ (c.add_option-compared-3.ensures _ _ (c.add_option-compared-2.ensures _ _ (c.add_option-compared.ensures _ _ is c.of.ensures.rule) c.against.ensures.rule) c.compared_contest.ensures.rule) c.for_seconds.ensures.rule
+    λ app is. c.add_options.ensures _ (of ∷ against ∷ compared_contest ∷ for_seconds ∷ []) is (search rules)

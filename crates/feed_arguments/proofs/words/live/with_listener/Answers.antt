@@ -1,5 +1,7 @@
+use Rattle.std.proofs.Common.{rules, [], ◌∷◌}
+use Rattle.feed_arguments.specs.Live.{address, listen, screens}
 use Rattle.feed_arguments.proofs.words.live.with_listener.Goals as goal
 
 pub returns : goal.returns
 returns c =
-    λ app is. c.add_option.ensures _ _ (c.add_tied-served-2.ensures _ _ (c.add_tied-served.ensures _ _ is c.listen.ensures.rule) c.address.ensures.rule) c.screens.ensures.rule
+    λ app is. c.add_options.ensures _ (listen ∷ address ∷ screens ∷ []) is (search rules)

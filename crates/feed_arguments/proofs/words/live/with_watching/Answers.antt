@@ -1,5 +1,8 @@
+use Rattle.std.proofs.Common.{rules, [], ◌∷◌}
+use Rattle.feed_arguments.specs.Live.{quiet, verbose}
 use Rattle.feed_arguments.proofs.words.live.with_watching.Goals as goal
 
 pub returns : goal.returns
 returns c =
-    λ app is. c.add_option.ensures _ _ (c.add_tied-watched.ensures _ _ (c.with_status-watched.ensures _ (c.under.ensures _ is)) c.verbose.ensures.rule) c.quiet.ensures.rule
+    λ app is. c.add_options.ensures _ (verbose ∷ quiet ∷ []) (c.with_status-watched.ensures _ (c.under.ensures _ is))
+    (search rules)

@@ -1,5 +1,0 @@
-use Rattle.feed_arguments.proofs.words.line.with_identity.Goals as goal
-
-pub returns : goal.returns
-returns c =
-    λ app is. c.add_option.ensures _ _ (c.add_option-named.ensures _ _ is c.host_header.ensures.rule) c.user_file.ensures.rule
