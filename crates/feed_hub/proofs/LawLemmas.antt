@@ -2,6 +2,7 @@
 use Rattle.std.proofs.Common.{◌≡◌, refl, sym, ap, ◌∙◌, subst, ℕ, ◌+◌, ◌<◌, ◌≤◌, Bool, true, false, List, [], ◌∷◌, ◌++◌, length, Option, Some, arith, append-nil}
 use Rattle.std.specs.Prelude.{if◌then◌else◌}
 use Rattle.std.proofs.lemmas.Grind.{flat_map-append}
+use Rattle.std.proofs.lemmas.List.{map-append}
 use Rattle.feed_settings.specs.Limits.{Limits}
 use Rattle.feed_settings.specs.declared.framing.Framing.{Framing}
 use Rattle.feed_settings.specs.declared.framing.Framing.TheVariants.{Close, Chunked}
@@ -9,8 +10,9 @@ use Rattle.feed_text.specs.Ascii.{line_feed}
 use Rattle.feed_node.specs.declared.commit.Commit.{Commit}
 use Rattle.feed_node.specs.Serving.{commit_after, commit_text}
 use Rattle.feed_node.specs.States.{NodeState}
-use Rattle.feed_world.specs.Connection.{Part, Commit as CommitPart, Line_feed, parts_text, part_text, Connection, first_parts, sent_text, blocks_within, moved_by}
+use Rattle.feed_world.specs.Connection.{Part, Commit as CommitPart, Line_feed, parts_text, part_text, part_texts, Connection, first_parts, sent_text, blocks_within, moved_by}
 use Rattle.feed_note.specs.Texts.{batch_text}
+use Rattle.feed_world.proofs.Responses.{joined_parts}
 use Rattle.feed_world.specs.Laws.{opened_text, NodesSendTheNext, PartsGoOn}
 use Rattle.feed_world.specs.Following.{PlacesStay, AllIsReached}
 use Rattle.feed_world.specs.States.{HasReached}
@@ -28,13 +30,10 @@ use Rattle.std.proofs.Common.{take, drop, nat_lt}
 use Rattle.std.proofs.lemmas.List.{take-append-drop}
 
 one_more : (log : Log) (texts : List (List ℕ)) (parts : List Part) (text : List ℕ) (part : Part)
-    → joined texts ≡ parts_text log parts → text ≡ part_text log part
-    → joined (texts ++ text ∷ []) ≡ parts_text log (parts ++ part ∷ [])
+    → texts ≡ part_texts log parts → text ≡ part_text log part
+    → texts ++ text ∷ [] ≡ part_texts log (parts ++ part ∷ [])
 one_more log texts parts text part e f =
-    flat_map-append (λ t. t) texts (text ∷ [])
-    ∙ ap (λ t. joined texts ++ t) (append-nil text)
-    ∙ ap (λ h. h ++ text) e ∙ ap (λ t. parts_text log parts ++ t) (f ∙ sym (append-nil (part_text log part)))
-    ∙ sym (flat_map-append (part_text log) parts (part ∷ []))
+    (λ i. e i ++ f i ∷ []) ∙ sym (map-append (part_text log) parts (part ∷ []))
 
 pub screens_connect : NodesSendTheNext → PartsGoOn → ScreensAreConnections
 screens_connect sends order log nodes k texts token is_log in_log small told = by texts token told
@@ -56,11 +55,11 @@ screens_connect sends order log nodes k texts token is_log in_log small told = b
           go_on = order.commit k s.parts s.last s.go_on;
           in_log = omega (arith, less);
           token_is = n.token_is;
-          text_is = one_more log texts s.parts (commit_text commit) (CommitPart (s.last + 1)) s.text_is text;
+          texts_are = one_more log texts s.parts (commit_text commit) (CommitPart (s.last + 1)) s.texts_are text;
         }
 
     by : (texts : List (List ℕ)) (token : List ℕ) → Told nodes (log.token k) texts token → StandInOrder log k texts token
-    by texts token told_none = record { parts = []; last = k; go_on = refl; in_log = small; token_is = refl; text_is = refl }
+    by texts token told_none = record { parts = []; last = k; go_on = refl; in_log = small; token_is = refl; texts_are = refl }
     by texts token (told_commit earlier before node commit t shown e) =
         let place = in_log node shown in
         next_one earlier before node commit (by earlier before t) e place.0 place.1.0 place.1.1 place.1.2
@@ -72,7 +71,7 @@ screens_connect sends order log nodes k texts token is_log in_log small told = b
           go_on = order.line_feed k s.parts s.last s.go_on;
           in_log = s.in_log;
           token_is = s.token_is;
-          text_is = one_more log earlier s.parts (line_feed ∷ []) Line_feed s.text_is refl;
+          texts_are = one_more log earlier s.parts (line_feed ∷ []) Line_feed s.texts_are refl;
         }
 
 first_text : (log : Log) (fresh : Bool) (k : ℕ) → parts_text log (first_parts fresh k) ≡ opened_text log fresh k
@@ -89,7 +88,7 @@ module _ (limits : Limits) (log : Log) (k : ℕ) (texts : List (List ℕ)) (toke
   pub its_text : sent_text log (connection log k texts token fresh s) ≡ opened_text log fresh k ++ joined texts
   its_text =
       flat_map-append (part_text log) (first_parts fresh k) s.parts ∙ ap (λ t. t ++ parts_text log s.parts) (first_text log fresh k)
-      ∙ ap (λ t. opened_text log fresh k ++ t) (sym s.text_is)
+      ∙ ap (λ t. opened_text log fresh k ++ t) (sym (ap joined s.texts_are ∙ joined_parts log s.parts))
 
   pub is_opened : IsOpened limits log place (connection log k texts token fresh s)
   is_opened = record { mirror = is_place; start = start; order = record { more = s.parts; parts = refl; go_on = s.go_on }; sent = s.in_log }

@@ -5,7 +5,7 @@ use Rattle.feed_settings.specs.declared.framing.Framing.{Framing}
 use Rattle.feed_node.specs.Reading.{Reads, reads, keep_latest}
 use Rattle.feed_node.specs.States.{NodeState}
 use Rattle.feed_note.specs.declared.line.Line.{Line}
-use Rattle.feed_world.specs.Connection.{Part, GoOn, parts_text}
+use Rattle.feed_world.specs.Connection.{Part, GoOn, part_texts}
 use Rattle.feed_world.specs.Laws.{opened_text}
 use Rattle.feed_world.specs.Log.{Log, IsLog, IsNamed}
 use Rattle.feed_world.specs.Position.{Position, IsPlace, node_where}
@@ -35,14 +35,14 @@ StandsInLog log node = (own : Limits) × IsInLog own log node
 abbrev pub AreInLog : Log → List NodeState → Type 0
 AreInLog log nodes = (node : NodeState) → Contains nodes node → StandsInLog log node
 
--- the texts are parts of a connection, in order from number k on, and end at this token
+-- each text is a part of a connection, in order from number k on, and the last ends at this token
 pub record StandInOrder (log : Log) (k : ℕ) (texts : List (List ℕ)) (token : List ℕ) : Type 0 where
   pub parts : List Part
   pub last : ℕ
   pub go_on : GoOn k parts last
   pub in_log : last ≤ length log.commits
   pub token_is : token ≡ log.token last
-  pub text_is : joined texts ≡ parts_text log parts
+  pub texts_are : texts ≡ part_texts log parts
 
 -- What nodes at places of one log tell a session that opened at one of its tokens: the commits
 -- after that, each the next one, with line feeds before, between and after them.

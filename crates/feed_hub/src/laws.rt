@@ -1,7 +1,7 @@
 //! Laws of the definitions.
 
 ghost use Rattle.feed_hub.specs.Laws.{ScreensAreConnections, ScreensShowStates, ScreensReach, ScreensAreFollowed, DueIsResponse, ServedGrows};
-ghost use Rattle.feed_hub.specs.Files.{FilesRestore, FilesReach, FilesBegin, FilesFollow, FilesFollowOn};
+ghost use Rattle.feed_hub.specs.Files.{FilesRestore, FilesReach, FilesBegin, FilesBreakOff, FilesFollow, FilesFollowOn};
 ghost use Rattle.feed_hub.specs.Follows.{ScreensFollow, ScreensArrive};
 
 use feed_answer::followed_laws;
@@ -12,7 +12,8 @@ use feed_world::{following_laws, sending_laws, world_laws};
 
 /// What screens are sent is what connections of a world are sent: so, whatever prefix of it came,
 /// what a mirror that reads it shows is a state of the primary's log. With all of it, the mirror is
-/// as far as the session. So it is with any prefix of a file that was written, and with all of it.
+/// as far as the session. So it is with any prefix of a file that was written, and with all of it;
+/// the mirror publishes only where a snapshot or a commit of the file ends.
 pub fn hub_laws()
     ensures connections { ScreensAreConnections }
     ensures states { ScreensShowStates }
@@ -23,6 +24,7 @@ pub fn hub_laws()
     ensures files { FilesRestore }
     ensures files_reach { FilesReach }
     ensures files_begin { FilesBegin }
+    ensures files_break_off { FilesBreakOff }
     ensures files_follow { FilesFollow }
     ensures files_follow_on { FilesFollowOn }
     ensures live_follows { ScreensFollow }

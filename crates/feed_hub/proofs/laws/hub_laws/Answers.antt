@@ -2,6 +2,7 @@ use Rattle.feed_hub.proofs.LawLemmas.{screens_connect, screens_show, screens_rea
 use Rattle.feed_hub.proofs.OpeningLemmas.{due_is_response, served_grows}
 use Rattle.feed_hub.proofs.FileLemmas.{files_restore, files_reach}
 use Rattle.feed_hub.proofs.FileBegins.{files_begin}
+use Rattle.feed_hub.proofs.FileBreaks.{files_break_off}
 use Rattle.feed_hub.proofs.TwoFiles.{files_follow, files_follow_on}
 use Rattle.feed_hub.proofs.FollowLemmas.{screens_are_safe, screens_arrive}
 use Rattle.feed_hub.proofs.laws.hub_laws.Goals as goal
@@ -95,4 +96,15 @@ returns-clause-files_begin c =
       listed = c.table_laws.ensures.within;
       cut = c.line_laws.ensures.cut;
       only_cut = c.line_laws.ensures.only_cut;
+    })
+
+pub returns-clause-files_break_off : goal.returns-clause-files_break_off
+returns-clause-files_break_off c =
+    files_break_off (record {
+      prefixes = c.world_laws.ensures.prefixes;
+      one = c.reading_laws.ensures.one;
+      sends = c.sending_laws.ensures.commits;
+      order = c.sending_laws.ensures.order;
+      stays = c.following_laws.ensures.places;
+      reached = c.following_laws.ensures.reached;
     })
