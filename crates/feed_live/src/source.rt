@@ -334,8 +334,11 @@ impl Source {
                 return;
             }
         };
-        let asks = followed_of(&coming, self.answers.shown.mirror());
-        let request = match self.request(alloc, asks, again.is_some()) {
+        let request = match self.request(
+            alloc,
+            followed_of(&coming, self.answers.shown.mirror()),
+            again.is_some(),
+        ) {
             Ok(Some(request)) => request,
             Ok(None) => return,
             Err(_) => {

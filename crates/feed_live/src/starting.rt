@@ -1,11 +1,11 @@
 //! A relay begins with what its state files had.
 
-ghost use Rattle.std.specs.Prelude.{◌≡◌, List, ℕ, IfOk};
+ghost use Rattle.std.specs.Prelude.{◌≡◌, List, ℕ, Some, IfOk, IfSome};
 ghost use Rattle.std.specs.Io.KnownBytes.{Keeps};
 ghost use Rattle.feed_node.specs.States.{NodeState};
 ghost use Rattle.feed_world.specs.Log.{Log, IsLog};
 ghost use Rattle.feed_hub.specs.Laws.{IsInLog, AreInLog};
-ghost use Rattle.feed_live.specs.Saved.{AreParts, OrNothing};
+ghost use Rattle.feed_live.specs.Saved.{AreParts, GoesOn, OrNothing};
 
 use crate::restoring::{Restored, restore};
 use feed_device::{Stop, Store};
@@ -34,11 +34,24 @@ pub fn restore_from<D: Store>(
     ensures in_log { (log : Log) (nodes : List NodeState) → IsLog limits log → AreInLog log nodes
         → AreParts nodes (D.had store.old)
         → IfOk result (λ restored. IsInLog limits log restored.mirror.node) }
+    // then the state file goes on behind what it has of such a record
+    ensures goes_on { (log : Log) (nodes : List NodeState) (text : List ℕ) → IsLog limits log
+        → AreInLog log nodes → AreParts nodes (D.had store.old) → D.written store.old ≡ Some text
+        → IfOk result (λ restored. IfSome restored.file
+        (GoesOn nodes text restored.mirror.node)) }
     ensures same { (D.had store.new ≡ D.had store.old)
         × Keeps (D.written store.old) (D.written store.new)
         × Keeps (D.written_next store.old) (D.written_next store.new) }
 {
     let former = or_nothing(alloc, store.read_former());
-    let file = or_nothing(alloc, store.read());
-    restore(alloc, limits, former.as_slice(), file.as_slice())
+    match store.read() {
+        Ok(file) => restore(alloc, limits, former.as_slice(), file.as_slice()),
+        Err(_) => {
+            let restored = restore(alloc, limits, former.as_slice(), &[])?;
+            Ok(Restored {
+                mirror: restored.mirror,
+                file: None,
+            })
+        }
+    }
 }

@@ -2,7 +2,7 @@
 //! states. So a connection asks for the newest commit again, and that has to come first and to be what
 //! it was. Else everything is asked for.
 
-ghost use Rattle.std.specs.Prelude.{◌≡◌};
+ghost use Rattle.std.specs.Prelude.{◌≡◌, List, ℕ, IfSome, None};
 ghost use Rattle.std.specs.Option.{option_copied};
 ghost use Rattle.feed_hub.specs.Follows.{MayAskWith};
 ghost use Rattle.feed_live.specs.Upstream.{asked_with};
