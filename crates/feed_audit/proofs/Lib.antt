@@ -1,8 +1,10 @@
 pub mod Agreeing
 pub mod Appending
-pub mod Explaining
+pub mod Bringing
+pub mod Tokens
 pub mod Cutting
 pub mod Meeting
+pub mod Ordered
 pub mod Parts
 pub mod Prefixes
 pub mod Tallying

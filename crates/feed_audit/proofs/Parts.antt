@@ -5,7 +5,7 @@ use Rattle.std.specs.Prelude.{◌==◌, codes, slice_index_or}
 use Rattle.std.proofs.lemmas.List.{take_at, take_all}
 use Rattle.std.specs.List.{AllByRecursion, starts_with}
 use Rattle.feed_settings.specs.Limits.{Limits}
-use Rattle.feed_note.specs.Lines.{HasNoLineFeed, lines, rest, ended}
+use Rattle.feed_note.specs.Lines.{HasNoLineFeed, lines, ended}
 use Rattle.feed_note.proofs.LinesCut.{lines_are_the_only_cut}
 use Rattle.feed_note.proofs.LinesInRow.{ended-append}
 use Rattle.feed_audit.specs.Connections.{Cut, Part, part, Opens, OpensNone, IsFilled, is_blank, IsCutAt, is_marked, is_status_line, is_success, status_in, last, opened, headless, marked, answered}

@@ -9,7 +9,7 @@ use Rattle.feed_node.specs.declared.fault.FeedFault.{FeedFault}
 use Rattle.feed_node.specs.declared.fault.FeedFault.TheVariants as feed
 use Rattle.feed_audit.specs.declared.verdict.AuditFault.{AuditFault}
 use Rattle.feed_audit.specs.declared.verdict.AuditFault.TheVariants as told
-use Rattle.feed_audit.specs.Answers.{HasStates, FailsToAudit, FailsToCount}
+use Rattle.feed_audit.specs.Answers.{HasStates, FailsToCount}
 use Rattle.feed_audit.specs.Walks.{Walked, GoesOn, GoesToEnd, FaultsIn}
 use Rattle.feed_audit.proofs.Agreeing.{good_of, all_lines}
 

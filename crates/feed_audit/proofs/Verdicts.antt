@@ -1,16 +1,14 @@
 -- What is answered of the states that were read.
-use Rattle.std.proofs.Common.{◌≡◌, refl, sym, ap, ◌∙◌, subst, ℕ, ◌+◌, ◌<◌, ◌≤◌, min, List, [], ◌∷◌, ◌++◌, length, length-append, append_assoc, append-nil, arith, Option, None, Some}
+use Rattle.std.proofs.Common.{◌≡◌, refl, sym, ap, ◌∙◌, subst, ℕ, ◌+◌, ◌≤◌, min, List, [], ◌∷◌, ◌++◌, length, arith, Option, None, Some}
 use Rattle.std.specs.Prelude.{IfSome}
-use Rattle.std.specs.List.{AllByRecursion}
 use Rattle.feed_settings.specs.Limits.{Limits}
 use Rattle.feed_tables.specs.Tables.{after_all}
-use Rattle.feed_note.specs.Lines.{HasNoLineFeed, lines, ended}
 use Rattle.feed_note.specs.Meaning.{OnlyOne}
 use Rattle.feed_note.specs.Publishing.{Published}
 use Rattle.feed_note.specs.declared.line.Line.{Line}
 use Rattle.feed_text.specs.Limits.{line_bytes}
 use Rattle.feed_node.specs.Mirroring.{MirrorState, first_opening, publications}
-use Rattle.feed_node.specs.Reading.{Opening, AllGood, AllGoodAfter}
+use Rattle.feed_node.specs.Reading.{AllGood}
 use Rattle.feed_node.specs.States.{NodeState, token_of, published_tables, tables_or_none}
 use Rattle.feed_audit.specs.declared.since.Since.{Since}
 use Rattle.feed_audit.specs.declared.verdict.Stray.{Stray}
@@ -18,8 +16,9 @@ use Rattle.feed_audit.specs.Answers.{Agreement, Straying, IsStrange}
 use Rattle.feed_audit.specs.Differences.{Explains}
 use Rattle.feed_audit.specs.States.{IsStateOf}
 use Rattle.feed_audit.specs.Walks.{Walked, GoesOn, GoesToEnd, AllAre, IsSince, Finds}
-use Rattle.feed_audit.proofs.Agreeing.{agree_by, good_of, lines_walked, state_of, all_lines}
-use Rattle.feed_audit.proofs.Walking.{published_is, all_end, all_goes, lines_of_ended, walked_length}
+use Rattle.feed_audit.proofs.Agreeing.{agree_by, good_of, state_of, all_lines}
+use Rattle.feed_audit.proofs.Bringing.{brings}
+use Rattle.feed_audit.proofs.Walking.{all_end, all_goes}
 
 -- the screen's text was read so far, and its states are the primary's
 pub record Agrees (limits : Limits) (primary screen behind : List ℕ) (count states : ℕ) (mirror : MirrorState) : Type 0 where
@@ -78,24 +77,6 @@ meets_now since ours theirs e f same known = record {
 
 -- ---- a state that is none of the primary's
 
-unsnoc : {X : Type 0} (xs : List X) → 0 < length xs → (ys : List X) × (y : X) × (xs ≡ ys ++ y ∷ [])
-unsnoc [] h = absurd (omega arith)
-unsnoc (x ∷ []) h = ([], x, refl)
-unsnoc (x ∷ z ∷ zs) h = let later = unsnoc (z ∷ zs) (omega arith) in (x ∷ later.0, later.1, ap (λ t. x ∷ t) later.2)
-
-good_init : (limits : Limits) (opening : Opening) (earlier : List Line) (xs : List (List ℕ)) (x : List ℕ) (notes : List Line) (note : Line)
-    → AllGoodAfter limits opening earlier (xs ++ x ∷ []) (notes ++ note ∷ []) → AllGoodAfter limits opening earlier xs notes
-good_init limits opening earlier [] x [] note h = tt
-good_init limits opening earlier [] x (m ∷ []) note h = absurd h.1
-good_init limits opening earlier [] x (m ∷ k ∷ ms) note h = absurd h.1
-good_init limits opening earlier (y ∷ []) x [] note h = absurd h.1
-good_init limits opening earlier (y ∷ z ∷ zs) x [] note h = absurd h.1
-good_init limits opening earlier (y ∷ ys) x (m ∷ ms) note h = (h.0, good_init limits opening (earlier ++ m ∷ []) ys x ms note h.1)
-
-whole_init : (xs : List (List ℕ)) (x : List ℕ) → AllByRecursion HasNoLineFeed (xs ++ x ∷ []) → AllByRecursion HasNoLineFeed xs
-whole_init [] x h = tt
-whole_init (y ∷ ys) x h = (h.0, whole_init ys x h.1)
-
 named : (shown : Option Published) (token : List ℕ) → Some token ≡ token_of shown → (state : Published) × (shown ≡ Some state) × (token ≡ state.token)
 named None token e = absurd (cc)
 named (Some state) token e = (state, refl, cc)
@@ -106,46 +87,21 @@ pub straying : OnlyOne → (limits : Limits) (primary screen left behind : List 
     → (asked : NodeState) → asked ≡ new.node → ((state : Published) → asked.published ≡ Some state → Explains limits primary state stray.difference)
     → stray.before ≡ states → Straying limits primary screen stray
 straying only limits primary screen left behind count states old new wanted shown stray a g is also strange token asked same why states_are =
-    let en = a.notes ++ g.before in
-    let notes = a.notes ++ (g.before ++ g.note ∷ []) in
-    let w = g.walked in
-    let said = walked_length limits w.seen notes new w.whole w.stands in
-    let sizes = length-append a.notes (g.before ++ g.note ∷ []) in
-    let more = length-append g.before (g.note ∷ []) in
-    let parts = unsnoc w.seen (omega arith) in
-    let earlier = parts.0 in
-    let line = parts.1 in
-    let cut : w.seen ≡ earlier ++ line ∷ [] = parts.2 in
-    let whole = subst (AllByRecursion HasNoLineFeed) cut w.whole in
-    let good = subst (λ ls. AllGood limits first_opening ls notes) cut (good_of limits screen behind notes stray.line new w) in
-    let regrouped : notes ≡ en ++ g.note ∷ [] = sym (append_assoc a.notes g.before (g.note ∷ [])) in
-    let good_earlier = good_init limits first_opening [] earlier line en g.note (subst (AllGood limits first_opening (earlier ++ line ∷ [])) regrouped good) in
     let its = named shown.published stray.token token in
     let shows : new.node.published ≡ Some its.0 = sym (ap (λ (n : NodeState). n.published) also) ∙ its.1 in
-    let long : length (earlier ++ line ∷ []) ≡ length earlier + 1 = length-append earlier (line ∷ []) in
-    let sized = ap length cut in
-    let said_count = w.counted in
+    let here = brings only limits (IsStateOf limits primary) screen behind a.notes stray.line new its.0 a.all g shows in
     record {
-      earlier = earlier;
-      line = line;
-      later = lines behind;
-      whole = lines_walked limits screen behind notes stray.line new w ∙ ap (λ s. s ++ lines behind) cut ∙ append_assoc earlier (line ∷ []) (lines behind);
-      counted = omega arith;
-      notes = en;
-      good = good_earlier;
+      earlier = here.earlier;
+      line = here.line;
+      later = here.later;
+      whole = here.whole;
+      counted = here.counted;
+      notes = a.notes ++ g.before;
+      good = here.good;
       before = states_are ∙ a.counted ∙ ap (λ n. min n 18446744073709551615) (sym g.counted_before);
-      agrees = agree_by only limits (IsStateOf limits primary) (ended earlier) en
-          (subst (λ ls. AllGood limits first_opening ls en) (sym (lines_of_ended earlier (whole_init earlier line whole))) good_earlier)
-          (all_end limits (IsStateOf limits primary) a.notes g.before a.all g.quiet);
+      agrees = here.former;
       state = its.0;
-      is = record {
-        first = earlier ++ line ∷ [];
-        later = [];
-        notes = notes;
-        whole = lines_of_ended (earlier ++ line ∷ []) whole ∙ sym (append-nil (earlier ++ line ∷ []));
-        good = good;
-        shown = sym (published_is limits screen behind notes stray.line new w) ∙ shows;
-      };
+      is = here.is;
       named = its.2;
       strays = strange its.0 (ap (λ (n : NodeState). n.published) is ∙ shows);
       explained = why its.0 (ap (λ (n : NodeState). n.published) same ∙ shows);

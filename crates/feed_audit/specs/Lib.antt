@@ -2,6 +2,7 @@ pub mod Answers
 pub mod Connections
 pub mod Differences
 pub mod Parting
+pub mod Places
 pub mod Records
 pub mod States
 pub mod Told

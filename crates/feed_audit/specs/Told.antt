@@ -6,7 +6,7 @@ use Rattle.feed_note.specs.Written.{written_name}
 use Rattle.feed_audit.specs.declared.difference.Side.{Side}
 use Rattle.feed_audit.specs.declared.difference.Side.TheVariants.{Nothing, Object, Collection}
 use Rattle.feed_audit.specs.declared.difference.Difference.{Difference}
-use Rattle.feed_audit.specs.declared.difference.Difference.TheVariants.{NoToken, At, Unknown}
+use Rattle.feed_audit.specs.declared.difference.Difference.TheVariants.{NoToken, At, Same}
 use Rattle.feed_audit.specs.declared.verdict.Stray.{Stray}
 
 -- ---- as lines
@@ -39,7 +39,7 @@ place_text kind (Some id) = kind ++ codes " " ++ id
 
 abbrev pub difference_text : Bool → Difference → List ℕ
 difference_text whole NoToken = codes "the primary has no such token\n"
-difference_text whole Unknown = codes "where it differs was not found out\n"
+difference_text whole Same = codes "the tables are the same\n"
 difference_text whole (At kind id primary screen) =
     codes "first at " ++ place_text kind id ++ codes "\nprimary: " ++ side_text whole primary
     ++ codes "\nscreen: " ++ side_text whole screen ++ codes "\n"
@@ -77,7 +77,7 @@ sides_json primary screen =
 
 abbrev pub difference_json : Difference → List ℕ
 difference_json NoToken = codes "\"why\":\"no token\""
-difference_json Unknown = codes "\"why\":\"unknown\""
+difference_json Same = codes "\"why\":\"same\""
 difference_json (At kind id primary screen) = place_json kind id ++ sides_json primary screen
 
 abbrev pub agreement_json : ℕ → ℕ → List ℕ

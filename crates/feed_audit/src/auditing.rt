@@ -1,43 +1,19 @@
 //! Whether each state of a screen's record is a state of the primary's.
 
-ghost use Rattle.std.specs.Prelude.{◌≡◌, ◌≢◌, ℕ, List, IfOk, IfErr, IfSome, IfNone, min, ◌+◌, Some};
+ghost use Rattle.std.specs.Prelude.{◌≡◌, ℕ, List, IfOk, IfErr, IfSome, IfNone, Some};
 ghost use Rattle.feed_node.specs.States.{published_token};
 ghost use Rattle.feed_audit.specs.Answers.{IsVerdict, FailsToAudit, IsReading, IsStrange};
 ghost use Rattle.feed_audit.specs.Walks.{Finds, IsSince};
 ghost use Rattle.feed_audit.specs.declared.verdict.AuditFault.TheVariants as told;
 
-use crate::difference::{Difference, explain};
+use crate::explaining::explain;
 use crate::since::Since;
-use crate::verdict::{AuditFault, Stray, Verdict};
+use crate::verdict::{AuditFault, Stray, Verdict, of_primary, of_screen};
 use crate::walk::{find, next_state};
-use feed_node::{FeedFault, Limits, Mirror, Node};
+use feed_node::{Limits, Mirror, Node};
 use feed_note::line_laws;
 use feed_tables::Name;
 use std::alloc::Global;
-
-// The fault of the primary's record behind so many lines.
-pub(crate) fn of_primary(fault: FeedFault, lines: usize) -> AuditFault
-    ensures memory { fault ≡ FeedFault.Memory → result ≡ told.Memory }
-    ensures other { fault ≢ FeedFault.Memory
-        → result ≡ told.Primary (min (lines + 1) usize.MAX) fault }
-{
-    match fault {
-        FeedFault::Memory => AuditFault::Memory,
-        _ => AuditFault::Primary(lines.saturating_add(1), fault),
-    }
-}
-
-// The same of the screen's.
-fn of_screen(fault: FeedFault, lines: usize) -> AuditFault
-    ensures memory { fault ≡ FeedFault.Memory → result ≡ told.Memory }
-    ensures other { fault ≢ FeedFault.Memory
-        → result ≡ told.Screen (min (lines + 1) usize.MAX) fault }
-{
-    match fault {
-        FeedFault::Memory => AuditFault::Memory,
-        _ => AuditFault::Screen(lines.saturating_add(1), fault),
-    }
-}
 
 // The token that a node publishes.
 fn token_of(node: &Node) -> Result<Name, AuditFault>

@@ -3,8 +3,7 @@
 ghost use Rattle.std.specs.Prelude.{IfOk, IfErr};
 ghost use Rattle.feed_audit.specs.Answers.{HasStates, FailsToCount};
 
-use crate::auditing::of_primary;
-use crate::verdict::AuditFault;
+use crate::verdict::{AuditFault, of_primary};
 use crate::walk::next_state;
 use feed_node::{Limits, Mirror};
 use feed_note::line_laws;

@@ -1,13 +1,14 @@
 //! Where tables differ.
 
-ghost use Rattle.std.specs.Prelude.{◌≡◌, ◌≢◌, IfOk, IsTrue, Some};
-ghost use Rattle.feed_audit.specs.Differences.{side_at, Tells, Explains};
-ghost use Rattle.feed_note.specs.Publishing.{Published};
+ghost use Rattle.std.specs.Prelude.{◌≡◌, ◌↔◌, IfOk, IfSome, IfNone, IsTrue, flat_map};
+ghost use Rattle.std.specs.Option.{option_cmp, option_copied};
+ghost use Rattle.std.specs.FinMap.{entries};
+ghost use Rattle.feed_tables.specs.Bytes.{byte_order};
+ghost use Rattle.feed_tables.specs.Tables.{Contents, listed, listing};
+ghost use Rattle.feed_audit.specs.Differences.{side_at, DifferFirst, Tells};
+ghost use Rattle.feed_audit.specs.Places.{place_of as place, put_by, place_order, PartAt};
 
-use crate::walk::next_state;
-use feed_node::{Limits, Mirror, Node};
-use feed_note::line_laws;
-use feed_tables::{Change, Name, Tables};
+use feed_tables::{Change, Name, Tables, table_laws};
 use feed_text::ObjectText;
 use std::alloc::{AllocError, Global};
 use std::cmp::Ordering;
@@ -26,16 +27,16 @@ pub enum Side {
 pub enum Difference {
     /// The primary has no state under its token.
     NoToken,
-    /// One of the primary's states under its token differs from it here: at a type, or at an id in
-    /// its collection. In byte order it is the first such place.
+    /// The first of the primary's states under its token differs from it here: at a type, or at an
+    /// id in its collection. In byte order it is the first such place.
     At {
         kind: Name,
         id: Option<Name>,
         primary: Side,
         screen: Side,
     },
-    /// It was not found out.
-    Unknown,
+    /// The tables are the same. An audit never answers so.
+    Same,
 }
 
 /// A type, or an id in its collection.
@@ -46,7 +47,9 @@ struct Place {
 }
 
 /// The id of a change of a snapshot.
-fn id_of(change: &Change) -> Option<&Name> {
+fn id_of(change: &Change) -> Option<&Name>
+    ensures { option_copied result ≡ (place change.now).1 }
+{
     match change {
         Change::Set(_, id, _) => Some(id),
         Change::Remove(_, id) => Some(id),
@@ -54,13 +57,11 @@ fn id_of(change: &Change) -> Option<&Name> {
     }
 }
 
-/// Which of two changes of snapshots comes first.
-fn order(change: &Change, other: &Change) -> Ordering {
-    let kinds = change.kind().text().cmp(other.kind().text());
-    if kinds != Ordering::Equal {
-        return kinds;
-    }
-    match (id_of(change), id_of(other)) {
+/// Which of two ids comes first; none comes before each.
+fn order_ids(id: Option<&Name>, other: Option<&Name>) -> Ordering
+    ensures { result ≡ option_cmp byte_order (option_copied id.entry) (option_copied other.entry) }
+{
+    match (id, other) {
         (None, None) => Ordering::Equal,
         (None, Some(_)) => Ordering::Less,
         (Some(_), None) => Ordering::Greater,
@@ -68,21 +69,34 @@ fn order(change: &Change, other: &Change) -> Ordering {
     }
 }
 
+/// Which of two changes comes first by its place.
+fn order(change: &Change, other: &Change) -> Ordering
+    ensures { result ≡ place_order (place change.now) (place other.now) }
+{
+    match change.kind().text().cmp(other.kind().text()) {
+        Ordering::Equal => order_ids(id_of(change), id_of(other)),
+        kinds => kinds,
+    }
+}
+
 /// Whether both put the same at their place.
-fn puts_same(change: &Change, other: &Change) -> bool {
+fn puts_same(change: &Change, other: &Change) -> bool
+    ensures { IsTrue result ↔ (put_by change.now ≡ put_by other.now) }
+{
     match (change, other) {
-        (Change::Set(_, _, object), Change::Set(_, _, another)) => object.bytes()
-            == another.bytes(),
-        (Change::Single(_, object), Change::Single(_, another)) => {
-            object.bytes() == another.bytes()
-        }
+        (
+            Change::Set(_, _, object) | Change::Single(_, object),
+            Change::Set(_, _, another) | Change::Single(_, another),
+        ) => object.bytes() == another.bytes(),
         (Change::Empty(_), Change::Empty(_)) => true,
-        (Change::Clear(_), Change::Clear(_)) => true,
+        (Change::Remove(_, _) | Change::Clear(_), Change::Remove(_, _) | Change::Clear(_)) => true,
         _ => false,
     }
 }
 
-fn place_of(change: &Change) -> Result<Place, AllocError> {
+fn place_of(change: &Change) -> Result<Place, AllocError>
+    ensures { IfOk result (λ found. (found.kind, found.id) ≡ place change.now) }
+{
     let id = match id_of(change) {
         Some(id) => Some(id.copy()?),
         None => None,
@@ -94,11 +108,43 @@ fn place_of(change: &Change) -> Result<Place, AllocError> {
 }
 
 /// The changes of a snapshot that put something in. The `Clear` of empty tables puts nothing in.
-fn puts(changes: &[Change]) -> &[Change] {
+fn puts(changes: &[Change]) -> &[Change]
+    ensures { (contents : Contents) → changes.now ≡ listing contents
+        → result.now ≡ flat_map listed (entries contents) }
+{
     match changes.first() {
         Some(Change::Clear(_)) => &[],
         _ => changes,
     }
+}
+
+/// The change that comes first by its place where two lists part, each in the order of its places.
+fn first_apart<'a>(ours: &'a [Change], theirs: &'a [Change]) -> Option<&'a Change>
+    ensures some { IfSome result (λ change. PartAt ours.now theirs.now change.now) }
+    ensures none { IfNone result (ours.now ≡ theirs.now) }
+{
+    let mut i: usize = 0;
+    'changes: while i < ours.len() {
+        let change = &ours[i];
+        if i == theirs.len() {
+            return Some(change);
+        }
+        let other = &theirs[i];
+        match order(change, other) {
+            Ordering::Less => return Some(change),
+            Ordering::Greater => return Some(other),
+            Ordering::Equal => {
+                if !puts_same(change, other) {
+                    return Some(change);
+                }
+            }
+        }
+        i += 1;
+    }
+    if i < theirs.len() {
+        return Some(&theirs[i]);
+    }
+    None
 }
 
 /// The first place, in byte order, at which tables differ.
@@ -106,28 +152,18 @@ fn first_place(
     alloc: Global,
     primary: &Tables,
     screen: &Tables,
-) -> Result<Option<Place>, AllocError> {
+) -> Result<Option<Place>, AllocError>
+    ensures some { IfOk result (λ found. IfSome found (λ place.
+        DifferFirst primary.now.contents screen.now.contents (place.kind, place.id))) }
+    ensures none { IfOk result (λ found.
+        IfNone found (primary.now.contents ≡ screen.now.contents)) }
+{
+    // What `none` rests on.
+    table_laws();
     let ours = primary.snapshot(alloc)?;
     let theirs = screen.snapshot(alloc)?;
-    let others = puts(theirs.as_slice());
-    let mut i: usize = 0;
-    'places: for change in puts(ours.as_slice()) {
-        let Some(other) = others.get(i) else {
-            return Ok(Some(place_of(change)?));
-        };
-        match order(change, other) {
-            Ordering::Less => return Ok(Some(place_of(change)?)),
-            Ordering::Greater => return Ok(Some(place_of(other)?)),
-            Ordering::Equal => {
-                if !puts_same(change, other) {
-                    return Ok(Some(place_of(change)?));
-                }
-            }
-        }
-        i += 1;
-    }
-    match others.get(i) {
-        Some(other) => Ok(Some(place_of(other)?)),
+    match first_apart(puts(ours.as_slice()), puts(theirs.as_slice())) {
+        Some(change) => Ok(Some(place_of(change)?)),
         None => Ok(None),
     }
 }
@@ -153,20 +189,8 @@ fn side_of(tables: &Tables, kind: &Name, id: &Option<Name>) -> Result<Side, Allo
     }
 }
 
-/// Whether two sides differ.
-fn differ(side: &Side, other: &Side) -> bool
-    ensures { IsTrue result → side.now ≢ other.now }
-{
-    match (side, other) {
-        (Side::Nothing, Side::Nothing) => false,
-        (Side::Collection, Side::Collection) => false,
-        (Side::Object(object), Side::Object(another)) => object.bytes() != another.bytes(),
-        _ => true,
-    }
-}
-
-/// Where tables differ: the first place in byte order, and what stands there on both sides. It is
-/// `Unknown` where they are the same. Takes time in proportion to both.
+/// Where tables differ: the first place in byte order, and what stands there on both sides. Takes
+/// time in proportion to both.
 pub fn difference_of(
     alloc: Global,
     primary: &Tables,
@@ -175,79 +199,15 @@ pub fn difference_of(
     ensures { IfOk result (λ told. Tells primary.now.contents screen.now.contents told) }
 {
     let Some(place) = first_place(alloc, primary, screen)? else {
-        return Ok(Difference::Unknown);
+        return Ok(Difference::Same);
     };
     let Place { kind, id } = place;
     let ours = side_of(primary, &kind, &id)?;
     let theirs = side_of(screen, &kind, &id)?;
-    if !differ(&ours, &theirs) {
-        return Ok(Difference::Unknown);
-    }
     Ok(Difference::At {
         kind,
         id,
         primary: ours,
         screen: theirs,
     })
-}
-
-/// Whether two nodes publish the same token.
-fn has_token(node: &Node, wanted: &Node) -> bool
-    ensures same { (shown state : Published) → node.now.shown.published ≡ Some shown
-        → wanted.now.shown.published ≡ Some state → IsTrue result → shown.token ≡ state.token }
-    ensures other { (shown state : Published) → node.now.shown.published ≡ Some shown
-        → wanted.now.shown.published ≡ Some state → shown.token ≡ state.token → IsTrue result }
-{
-    let Some(token) = node.token() else {
-        return false;
-    };
-    let Some(other) = wanted.token() else {
-        return false;
-    };
-    token.text() == other.text()
-}
-
-/// Where the tables that two nodes publish differ.
-fn tell(alloc: Global, node: &Node, wanted: &Node) -> Result<Difference, AllocError>
-    ensures { IfOk result (λ told. (shown state : Published)
-        → node.now.shown.published ≡ Some shown → wanted.now.shown.published ≡ Some state
-        → Tells shown.tables state.tables told) }
-{
-    let Some(tables) = node.published() else {
-        return Ok(Difference::Unknown);
-    };
-    let Some(others) = wanted.published() else {
-        return Ok(Difference::Unknown);
-    };
-    difference_of(alloc, tables, others)
-}
-
-/// Why no state of the primary's is the one that a node shows.
-pub fn explain(
-    alloc: Global,
-    limits: Limits,
-    primary: &[u8],
-    wanted: &Node,
-) -> Result<Difference, AllocError>
-    ensures { IfOk result (λ told. (state : Published) → wanted.now.shown.published ≡ Some state
-        → Explains limits primary.now state told) }
-{
-    // What `NoToken` rests on.
-    line_laws();
-    let mut mirror = Mirror::new(alloc, limits)?;
-    mirror.begin();
-    let mut lines = 0;
-    let mut rest = primary;
-    'states: loop {
-        match next_state(alloc, &mut mirror, rest, &mut lines) {
-            Err(_) => return Ok(Difference::Unknown),
-            Ok(None) => return Ok(Difference::NoToken),
-            Ok(Some(behind)) => {
-                rest = behind;
-                if has_token(mirror.node(), wanted) {
-                    return tell(alloc, mirror.node(), wanted);
-                }
-            }
-        }
-    }
 }

@@ -5,6 +5,7 @@ mod auditing;
 mod connections;
 mod counting;
 mod difference;
+mod explaining;
 mod laws;
 mod record;
 mod since;

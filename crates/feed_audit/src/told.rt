@@ -104,7 +104,7 @@ fn print_difference(
 {
     match difference {
         Difference::NoToken => out.extend_from_slice(b"the primary has no such token\n"),
-        Difference::Unknown => out.extend_from_slice(b"where it differs was not found out\n"),
+        Difference::Same => out.extend_from_slice(b"the tables are the same\n"),
         Difference::At {
             kind,
             id,

@@ -88,7 +88,7 @@ fn print_difference(
 {
     match difference {
         Difference::NoToken => out.extend_from_slice(b"\"why\":\"no token\""),
-        Difference::Unknown => out.extend_from_slice(b"\"why\":\"unknown\""),
+        Difference::Same => out.extend_from_slice(b"\"why\":\"same\""),
         Difference::At {
             kind,
             id,

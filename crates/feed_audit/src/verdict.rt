@@ -1,7 +1,7 @@
 //! What an audit answers.
 
-ghost use Rattle.std.specs.Prelude.{◌≡◌, IfErr};
-ghost use Rattle.feed_audit.specs.declared.verdict.AuditFault.TheVariants.{Memory};
+ghost use Rattle.std.specs.Prelude.{◌≡◌, ◌≢◌, ◌+◌, min};
+ghost use Rattle.feed_audit.specs.declared.verdict.AuditFault.TheVariants.{Memory, Primary, Screen};
 
 use crate::difference::Difference;
 use feed_node::FeedFault;
@@ -51,5 +51,29 @@ impl From<AllocError> for AuditFault {
 
     fn from(_error: AllocError) -> AuditFault {
         AuditFault::Memory
+    }
+}
+
+/// The fault of the primary's record behind so many lines.
+pub(crate) fn of_primary(fault: FeedFault, lines: usize) -> AuditFault
+    ensures memory { fault ≡ FeedFault.Memory → result ≡ Memory }
+    ensures other { fault ≢ FeedFault.Memory
+        → result ≡ Primary (min (lines + 1) usize.MAX) fault }
+{
+    match fault {
+        FeedFault::Memory => AuditFault::Memory,
+        _ => AuditFault::Primary(lines.saturating_add(1), fault),
+    }
+}
+
+/// The same of the screen's.
+pub(crate) fn of_screen(fault: FeedFault, lines: usize) -> AuditFault
+    ensures memory { fault ≡ FeedFault.Memory → result ≡ Memory }
+    ensures other { fault ≢ FeedFault.Memory
+        → result ≡ Screen (min (lines + 1) usize.MAX) fault }
+{
+    match fault {
+        FeedFault::Memory => AuditFault::Memory,
+        _ => AuditFault::Screen(lines.saturating_add(1), fault),
     }
 }

@@ -11,3 +11,4 @@ pub mod Examples
 pub mod Saved
 pub mod Pending
 pub mod Owed
+pub mod Audited

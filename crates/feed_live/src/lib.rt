@@ -11,6 +11,7 @@
 //! that had it is closed.
 #![tactic(auto)]
 
+mod audited;
 mod conn;
 mod figures;
 mod hand;
@@ -26,6 +27,7 @@ mod times;
 mod told;
 mod turn;
 
+pub use audited::audited_laws;
 pub use feed_device::{Before, Devices, How, Link, Ready, Sockets, Stop, Store, Told, Why};
 pub use figures::{
     Failure, FeedFigures, FileFigures, Following, LONG_WAIT, Reason, ScreenFigures, ScreenRow,

@@ -37,10 +37,20 @@ locate-requires-clause-since c =
     (subst (λ n. CommitsOn c.states.theirs.node n) (sym c.node.ensures.node) commits) in
     subst (λ n. IsSince c.note_theirs.new.self c.states.ours.node n) (c.node.ensures.node ∙ sym c.node-in-Ok-Some.ensures.node) known
 
+pub explain-requires : goal.explain-requires
+explain-requires c =
+    let strange = subst (λ o. IfNone o (IsStrange c.args.limits c.args.primary.now c.node-in-Ok-Some.result.now.shown)) c.in-None.is c.in_ok-behind-in-Ok-Some.ensures.none in
+    subst (IsStrange c.args.limits c.args.primary.now) (c.node-in-Ok-Some.ensures.node ∙ sym c.node-in-None.ensures.node) strange
+
 pub returns-in_err-behind-in-Ok-Some-clause-err : goal.returns-in_err-behind-in-Ok-Some-clause-err
 returns-in_err-behind-in-Ok-Some-clause-err c =
     let e = err_from_is_err_and c.from_residual-in_err-behind-in-Ok-Some.result c.from_residual-in_err-behind-in-Ok-Some.ensures.1 in
     rw (e.1, e.2) (c.in_err-behind-in-Ok-Some.ensures.err c.args.screen.now)
+
+pub returns-in_err-difference-in-None-clause-err : goal.returns-in_err-difference-in-None-clause-err
+returns-in_err-difference-in-None-clause-err c =
+    let e = err_from_is_err_and c.from_residual-in_err-difference-in-None.result c.from_residual-in_err-difference-in-None.ensures.1 in
+    rw (e.1, e.2) (c.in_err-difference-in-None.ensures.err c.args.screen.now)
 
 pub returns-in-None-clause-ok : goal.returns-in-None-clause-ok
 returns-in-None-clause-ok c =
@@ -50,7 +60,7 @@ returns-in-None-clause-ok c =
     let strange = subst (λ o. IfNone o (IsStrange c.args.limits c.args.primary.now c.node-in-Ok-Some.result.now.shown)) c.in-None.is c.in_ok-behind-in-Ok-Some.ensures.none in
     straying c.line_laws.ensures.one_meaning c.args.limits c.args.primary.now c.args.screen.now _ c.in-Ok-Some.behind.now _ _ _ c.next_state.new.mirror
     c.node-in-Ok-Some.result.now.shown c.node-in-None-2.result.now.shown _ a on c.node-in-Ok-Some.ensures.node c.node-in-None-2.ensures.node strange c.in_ok-token_of-in-None.ensures.ok
-    c.node-in-None.result.now.shown c.node-in-None.ensures.node c.in_ok-difference-in-None.ensures refl
+    c.node-in-None.result.now.shown c.node-in-None.ensures.node c.in_ok-difference-in-None.ensures.ok refl
 
 pub states-preserved : goal.states-preserved
 states-preserved c =

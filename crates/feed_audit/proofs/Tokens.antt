@@ -1,6 +1,6 @@
 -- Why a state is none of the primary's.
-use Rattle.std.proofs.Common.{◌≡◌, ◌≢◌, refl, sym, ap, ◌∙◌, subst, ℕ, true≢false, List, [], ◌∷◌, ◌++◌, Option, None, Some, Result, Ok, Err}
-use Rattle.std.specs.Prelude.{IfSome, IsSome, IfOk}
+use Rattle.std.proofs.Common.{◌≡◌, ◌≢◌, refl, sym, ap, ◌∙◌, subst, ℕ, true≢false, List, [], ◌∷◌, ◌++◌, Option, None, Some}
+use Rattle.std.specs.Prelude.{IfSome, IsSome}
 use Rattle.feed_settings.specs.Limits.{Limits}
 use Rattle.feed_note.specs.Meaning.{OnlyOne}
 use Rattle.feed_note.specs.Publishing.{Published}
@@ -8,12 +8,13 @@ use Rattle.feed_note.specs.declared.line.Line.{Line}
 use Rattle.feed_node.specs.Mirroring.{MirrorState, first_opening}
 use Rattle.feed_node.specs.Reading.{AllGood}
 use Rattle.feed_node.specs.States.{NodeState}
-use Rattle.feed_audit.specs.Differences.{Tells, Explains}
+use Rattle.feed_audit.specs.Differences.{Tells, Explains, IsFirstUnder}
 use Rattle.feed_audit.specs.States.{IsStateOf}
 use Rattle.feed_audit.specs.Walks.{Walked, GoesOn, GoesToEnd, AllAre}
 use Rattle.feed_audit.specs.declared.difference.Difference.{Difference}
-use Rattle.feed_audit.specs.declared.difference.Difference.TheVariants.{NoToken, At, Unknown}
+use Rattle.feed_audit.specs.declared.difference.Difference.TheVariants.{NoToken, At, Same}
 use Rattle.feed_audit.proofs.Agreeing.{agree_by, all_lines, good_of, state_of}
+use Rattle.feed_audit.proofs.Bringing.{brings}
 use Rattle.feed_audit.proofs.Walking.{all_end, all_goes}
 
 -- what was read of the primary's publishes no such token
@@ -34,22 +35,35 @@ some_is : (o : Option Published) → IsSome o → (shown : Published) × (o ≡ 
 some_is None h = absurd (true≢false (sym h))
 some_is (Some shown) h = (shown, refl)
 
-explains : (limits : Limits) (primary : List ℕ) (state shown : Published) (told : Difference) → IsStateOf limits primary shown → shown.token ≡ state.token
-    → Tells shown.tables state.tables told → Explains limits primary state told
-explains limits primary state shown NoToken is same t = absurd t
-explains limits primary state shown (At kind id side other) is same t = (shown, is, same, t)
-explains limits primary state shown Unknown is same t = tt
+explains : (limits : Limits) (primary : List ℕ) (state shown : Published) (told : Difference) → IsFirstUnder limits primary state.token shown
+    → ¬ (shown ≡ state) → Tells shown.tables state.tables told → Explains limits primary state told
+explains limits primary state shown NoToken is other t = absurd t
+explains limits primary state shown (At kind id side there) is other t = (shown, is, t)
+explains limits primary state shown Same is other t =
+    absurd (other (λ i. record { tables = t i; token = is.named i }))
 
-pub found_token : (limits : Limits) (primary left behind : List ℕ) (count new_count : ℕ) (old new : MirrorState) (node : NodeState) (state : Published) (told : Difference)
+pub found_token : OnlyOne → (limits : Limits) (primary left behind : List ℕ) (count new_count : ℕ) (old new : MirrorState) (node : NodeState) (state : Published) (told : Difference)
     (l : Lacks limits primary left count old state) → GoesOn limits primary behind l.0 new_count new → IsSome new.node.published → node ≡ new.node
+    → ¬ (IsStateOf limits primary state)
     → ((shown : Published) → node.published ≡ Some shown → shown.token ≡ state.token)
     → ((shown : Published) → node.published ≡ Some shown → Tells shown.tables state.tables told)
     → Explains limits primary state told
-found_token limits primary left behind count new_count old new node state told l g some is same tells =
+found_token only limits primary left behind count new_count old new node state told l g some is strange same tells =
     let its = some_is new.node.published some in
     let here = ap (λ (n : NodeState). n.published) is ∙ its.1 in
+    let line = brings only limits (λ (s : Published). s.token ≢ state.token) primary behind l.0 new_count new its.0 l.2 g its.1 in
+    let shown = state_of limits primary behind (l.0 ++ (g.before ++ g.note ∷ [])) new_count new its.0 g.walked its.1 in
     explains limits primary state its.0 told
-    (state_of limits primary behind (l.0 ++ (g.before ++ g.note ∷ [])) new_count new its.0 g.walked its.1) (same its.0 here) (tells its.0 here)
+    (record {
+      earlier = line.earlier;
+      line = line.line;
+      later = line.later;
+      whole = line.whole;
+      none = line.former;
+      is = line.is;
+      named = same its.0 here;
+    })
+    (λ e. strange (subst (IsStateOf limits primary) e shown)) (tells its.0 here)
 
 other_token : (shown : Option Published) (state : Published) → ((s : Published) → shown ≡ Some s → s.token ≢ state.token)
     → IfSome shown (λ (s : Published). s.token ≢ state.token)
@@ -57,16 +71,9 @@ other_token None state h = tt
 other_token (Some s) state h = h s refl
 
 pub lacks_on : (limits : Limits) (primary left behind : List ℕ) (count new_count : ℕ) (old new : MirrorState) (node : NodeState) (state : Published)
-    (l : Lacks limits primary left count old state) → GoesOn limits primary behind l.0 new_count new → node ≡ new.node
+    (l : Lacks limits primary left count old state) → (g : GoesOn limits primary behind l.0 new_count new) → node ≡ new.node
     → ((shown : Published) → node.published ≡ Some shown → shown.token ≢ state.token)
-    → Lacks limits primary behind new_count new state
-lacks_on limits primary left behind count new_count old new node state l g is other = (
-  l.0 ++ (g.before ++ g.note ∷ []),
-  g.walked,
-  all_goes limits (λ (s : Published). s.token ≢ state.token) primary behind l.0 new_count new l.2 g
-      (other_token new.node.published state (λ s e. other s (ap (λ (n : NodeState). n.published) is ∙ e))),
-)
-
-pub if_ok_on : {X Y : Type 0} {P Q : X → Type 0} (r : Result X Y) → ((x : X) → P x → Q x) → IfOk r P → IfOk r Q
-if_ok_on (Ok x) f h = f x h
-if_ok_on (Err y) f h = tt
+    → AllAre limits (λ shown. shown.token ≢ state.token) (l.0 ++ (g.before ++ g.note ∷ []))
+lacks_on limits primary left behind count new_count old new node state l g is other =
+    all_goes limits (λ (s : Published). s.token ≢ state.token) primary behind l.0 new_count new l.2 g
+    (other_token new.node.published state (λ s e. other s (ap (λ (n : NodeState). n.published) is ∙ e)))
