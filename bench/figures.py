@@ -15,7 +15,8 @@ bench/figures.json, which is kept for parts that were not measured: call bench/p
 
 --only names parts, with commas between. --runs says how often each command runs, 11 times by default: they run in turns,
 and the median counts. Seconds are those of a processor. It needs cargo, librust-serde-json-dev, jq, valgrind, nginx, curl
-and cc, Debian's packages, and says which is missing. The status is 1 if a part failed; the others are measured then, too."""
+and cc, Debian's packages, and says which of them a part lacks. All takes some 25 minutes, of which `screens` is half. How
+long each part took goes to standard error. The status is 1 if a part could not be measured; the others are, all the same."""
 import argparse
 import hashlib
 import json
@@ -48,7 +49,9 @@ STYLES = {
 # How many screens there are, and the milliseconds between two commits then. How many further ones never read, and how
 # many commits are sent.
 SCREENS, SLOW, COMMITS = {500: 40, 1_000: 40, 9_000: 400, 10_000: 500}, 20, 100
-PACKAGES = {"jq": "jq", "valgrind": "valgrind", "nginx": "nginx", "curl": "curl", "cc": "gcc"}
+# The programs that a part needs besides the fold; those in Debian's packages of the same names, but for cc.
+NEEDS = {"commands": ("jq", "valgrind"), "styles": ("valgrind",), "grows": (), "pulling": ("nginx", "curl"), "screens": ("cc",)}
+FOLDED = ("commands", "styles", "grows")
 ATTACKS = (
     "slow_readers_hold_up_nobody_who_has_a_token",
     "those_who_catch_up_hold_up_nobody",
@@ -88,7 +91,8 @@ def print_same(program, feed):
     ours, theirs = scratch() / "ours", scratch() / "theirs"
     timed([program, "tables"], feed, ours)
     timed([fold()], feed, theirs)
-    if ours.read_bytes() != theirs.read_bytes():
+    # In a process of its own: what this one has held counts as held by those that it starts.
+    if subprocess.run(["cmp", "-s", ours, theirs], check=False).returncode != 0:
         raise Failed(f"the snapshots of {feed.name} differ")
 
 
@@ -166,7 +170,8 @@ def compiled(name):
 def relayed(words, count, every, slow=0):
     """What a relay took for so many screens: what bench/screens/screens.c prints."""
     server, listen = free_port(), free_port()
-    words = [{"SERVER": str(server), "LISTEN": str(listen)}.get(it, it) for it in words]
+    values = {"SERVER": str(server), "LISTEN": str(listen), "SEATS": str(max(1_000, count + slow))}
+    words = [values.get(it, it) for it in words]
     ends = {"stdin": subprocess.DEVNULL, "stdout": subprocess.DEVNULL, "stderr": subprocess.DEVNULL}
     relay = subprocess.Popen(words, **ends)
     try:
@@ -185,9 +190,9 @@ def screens(program, runs):
     # Each screen takes a file.
     most = resource.getrlimit(resource.RLIMIT_NOFILE)[1]
     resource.setrlimit(resource.RLIMIT_NOFILE, (most, most))
-    # It asks at the server's port alone. What comes without an end has to be shown at once.
+    # A feed that comes without an end is shown at once.
     ours = [program, "live", "--host", "127.0.0.1", "--port", "SERVER", "--contest", "finals", "--listen", "LISTEN"]
-    ours += ["--screens", "10000", "--settle", "0"]
+    ours += ["--screens", "SEATS", "--settle", "0"]
     bare = [compiled("bare"), "SERVER", "LISTEN", "finals"]
     made, used, last = [], [], []
     cases = [(f"{count:,}", count, every, 0) for count, every in SCREENS.items()]
@@ -235,11 +240,28 @@ def keep(**measured):
     file.write_text("{\n" + ",\n".join(rows) + "\n}\n")
 
 
-def missing(program):
-    if not program.exists():
-        yield f"{program} (tools/run --help builds it)"
-    yield from lacks_fold()
-    yield from (f"{name} (apt-get install {of})" for name, of in PACKAGES.items() if not shutil.which(name))
+def missing(part):
+    """What a part needs and isn't there, and how to have it."""
+    if part in FOLDED:
+        yield from lacks_fold()
+    for name in NEEDS.get(part, ()):
+        if not shutil.which(name):
+            yield f"{name} (apt-get install {'gcc' if name == 'cc' else name})"
+
+
+def measured(part, program, runs):
+    """Whether a part could be measured. Its table goes to standard output."""
+    print(f"## {part}\n", flush=True)
+    began = time.monotonic()
+    try:
+        if lacks := list(missing(part)):
+            raise Failed("missing: " + ", ".join(lacks))
+        PARTS[part](program, runs)
+    except (Failed, subprocess.SubprocessError) as fault:
+        print(f"bench/figures.py: {part}: {fault}", file=sys.stderr)
+        return False
+    print(f"bench/figures.py: {part}: {time.monotonic() - began:.0f} s", file=sys.stderr)
+    return True
 
 
 def machine():
@@ -269,20 +291,11 @@ def main():
     program, wanted = asked.program.resolve(), asked.only.split(",")
     if unknown := [it for it in wanted if it not in PARTS]:
         words.error(f"no such part: {', '.join(unknown)}")
-    if lacks := list(missing(program)):
-        sys.exit("bench/figures.py: missing: " + ", ".join(lacks))
+    if not program.exists():
+        sys.exit(f"bench/figures.py: no program {program} (tools/run --help builds it)")
     headed(program)
-    failed = []
-    for name in wanted:
-        print(f"## {name}\n", flush=True)
-        began = time.monotonic()
-        try:
-            PARTS[name](program, asked.runs)
-        except (Failed, subprocess.SubprocessError) as fault:
-            failed.append(name)
-            print(f"bench/figures.py: {name}: {fault}", file=sys.stderr)
-        print(f"bench/figures.py: {name}: {time.monotonic() - began:.0f} s", file=sys.stderr)
-    sys.exit(1 if failed else 0)
+    done = [measured(part, program, asked.runs) for part in wanted]
+    sys.exit(0 if all(done) else 1)
 
 
 if __name__ == "__main__":
