@@ -1,3 +1,4 @@
+pub mod Alone
 pub mod Batches
 pub mod Bounds
 pub mod Cuts

@@ -1,3 +1,4 @@
+pub mod Alone
 pub mod Bounds
 pub mod Codes
 pub mod Followed

@@ -10,7 +10,7 @@ invariant_of-result c =
     let vec = c.resize_with.new.self in
     let made = c.in_ok-resize_with.ensures.items in
     let same = behind_none _ _ vec.items made.0 c.new-parts.ensures.items made.2 in (
-      omega (arith, c.in_ok-resize_with.ensures.len, vec.ok.0, c.max.ensures),
+      omega (arith, c.in_ok-resize_with.ensures.len, vec.ok.0, c.parts_for.ensures),
       subst (λ (l : List (FinMap byte_order ℕ)). AreApart (length l) 0 l) (sym same)
           (all_empty (length made.0) made.0 0 (each_empty _ (λ p q part s. s.met) made.0 _ _ made.3)),
     )
