@@ -1,9 +1,11 @@
 -- How the steps of a source stay at places of the log.
-use Rattle.std.proofs.Common.{◌≡◌, sym, ◌∙◌, subst, ℕ, List, Option}
-use Rattle.std.specs.Prelude.{Bool, false, true, None, Some, IfSome, Result, Ok, Err, option_map}
+use Rattle.std.proofs.Common.{◌≡◌, sym, ◌∙◌, subst, ℕ, zero, suc, ◌-◌, arith, List, [], ◌∷◌, length, Option}
+use Rattle.std.specs.Prelude.{Bool, false, true, None, Some, IfSome, MatchOption, Contains, slice_get, Result, Ok, Err, option_map}
 use Rattle.std.specs.Result.{is_err}
 use Rattle.feed_settings.specs.Limits.{Limits}
+use Rattle.feed_note.specs.Publishing.{Published}
 use Rattle.feed_node.specs.Mirroring.{MirrorState}
+use Rattle.feed_node.specs.States.{NodeState, nothing_published, published_token, IsConsistent, HoldsItsTokens}
 use Rattle.feed_follow.specs.Follower.{FollowerState}
 use Rattle.feed_world.specs.Log.{Log}
 use Rattle.feed_device.specs.Links.{Exchanges, Begins, one_more}
@@ -48,3 +50,19 @@ fails_so (Err e) old new server is begins = begins
 pub some_so : {A : Type 0} {P Q : A → Type 0} (found : Option A) → ((value : A) → P value → Q value) → IfSome found P → IfSome found Q
 some_so None change given = tt
 some_so (Some value) change given = change value given
+
+-- ---- tokens
+
+among_at : (xs : List (List ℕ)) (i : ℕ) (x : List ℕ) → slice_get xs i ≡ Some x → Contains xs x
+among_at [] i x e = absurd (cc)
+among_at (y ∷ ys) zero x e = (0, omega arith, cc)
+among_at (y ∷ ys) (suc i) x e = let (k, within, is) = among_at ys i x e in (suc k, omega (arith, within), is)
+
+-- the published token is held
+pub newest_held : (node : NodeState) (token : List ℕ) → IsConsistent node → published_token node ≡ Some token → Contains node.held token
+newest_held node token consistent is = by node.published consistent is
+  where
+    by : (published : Option Published) → MatchOption published (node ≡ nothing_published) (HoldsItsTokens node) → option_map (λ p. p.token) published ≡ Some token
+        → Contains node.held token
+    by None consistent is = absurd (cc)
+    by (Some p) holds is = among_at node.held (length node.held - 1) token (holds.newest ∙ is)

@@ -101,11 +101,13 @@ pub(crate) fn token_for<'a>(mirror: &'a Mirror, is_again: bool) -> Option<&'a st
     ensures token { option_copied result ≡ asked_with is_again mirror.now }
     ensures may_ask { MayAskWith mirror.now (option_copied result) }
 {
+    // The newest token is one that is held.
+    let node = mirror.node();
     let newest = mirror.since()?;
     if !is_again {
         return Some(newest);
     }
-    match mirror.node().former_token() {
+    match node.former_token() {
         Some(former) => Some(former.text()),
         None => Some(newest),
     }
@@ -211,7 +213,9 @@ impl Source {
             self.forgot(link, told, now);
             return None;
         }
-        let next = self.take_line(alloc, link, told, screens, piece, now)?;
+        let Some(next) = self.take_line(alloc, link, told, screens, piece, now) else {
+            return None;
+        };
         if self.differs_again() {
             self.forgot(link, told, now);
             return None;

@@ -1,7 +1,7 @@
 use Rattle.std.proofs.Common.{◌≡◌, ◌∙◌, ap}
 use Rattle.feed_hub.specs.Upstream.{has_another}
 use Rattle.feed_live.proofs.RelayLemmas.{either}
-use Rattle.feed_live.proofs.source.Source.refused.Goals as goal
+use Rattle.feed_live.proofs.source.Source.without_token.Goals as goal
 
 pub returns : goal.returns
 returns g c =
