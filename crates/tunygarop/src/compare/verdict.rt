@@ -59,7 +59,7 @@ fn put_place(whole: bool, difference: &Difference, out: &mut Vec<u8>) -> Result<
         screen,
     } = difference
     else {
-        return put(&["where they differ was not found out\n"], out);
+        return put(&["the tables are the same\n"], out);
     };
     put(&["first at ", kind.text()], out)?;
     if let Some(id) = id {
@@ -107,7 +107,7 @@ fn put_place_json(
         screen,
     } = difference
     else {
-        return put(&[",\"why\":\"unknown\""], out);
+        return put(&[",\"why\":\"same\""], out);
     };
     put(&[",\"why\":\"tables\",\"type\":"], out)?;
     encode_string(alloc, kind.text(), out)?;
