@@ -36,5 +36,6 @@ returns g c =
           };
       kept = λ nodes text written known good.
           c.saved_of-saved.ensures.kept nodes text written known (subst (λ n. IfSome c.args.start.restored.file (GoesOn nodes text n)) (sym c.node.ensures.node) good);
+      had = c.saved_of-saved.ensures.had;
       contest = refl;
     }

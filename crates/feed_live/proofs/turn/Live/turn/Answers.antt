@@ -33,6 +33,9 @@ returns g c =
       kept = λ nodes shown files.
           subst (KeepsFiles nodes (written c.save.new.store) (next c.save.new.store)) (sym after.0)
           (c.save.ensures.kept nodes (subst (λ m. Contains nodes m.node) served.source.shown shown) (subst (KeepsFiles nodes (written c.args.devices.now.store) (next c.args.devices.now.store)) (sym before.0) files));
+      parts = λ nodes shown files parts.
+          c.save.ensures.parts nodes (subst (λ m. Contains nodes m.node) served.source.shown shown)
+          (subst (KeepsFiles nodes (written c.args.devices.now.store) (next c.args.devices.now.store)) (sym before.0) files) parts;
       anew = λ newer nodes shown known.
           subst (KeepsFiles nodes (written c.save.new.store) (next c.save.new.store)) (sym after.0)
           (c.save.ensures.anew (λ same. newer (served.epoch ∙ same ∙ before.1)) nodes (subst (λ m. Contains nodes m.node) served.source.shown shown) known);
