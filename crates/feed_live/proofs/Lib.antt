@@ -19,3 +19,4 @@ pub mod ReplayLemmas
 pub mod TokenedExample
 pub mod ReplayExample
 pub mod FileReading
+pub mod FilesLeft
