@@ -20,3 +20,4 @@ pub mod TokenedExample
 pub mod ReplayExample
 pub mod FileReading
 pub mod AuditedLemmas
+pub mod FilesLeft
