@@ -24,6 +24,7 @@ pub(super) const MOST_IDLE: u64 = 3_600;
 /// The most bytes that a screen may be late.
 pub(super) const MOST_WINDOW: u64 = 1_073_741_824;
 
+/// The most bytes of long texts that screens may have yet to take.
 pub(super) const MOST_PENDING: u64 = 1_099_511_627_776;
 
 /// The most milliseconds that a feed which was asked for from the start may be quiet before it is
