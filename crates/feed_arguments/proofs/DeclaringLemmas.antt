@@ -1,5 +1,5 @@
 -- Lemmas on options that have a rule on another one.
-use Rattle.std.proofs.Common.{◌≡◌, refl, ap, sym, ◌∙◌, ℕ, Bool, true, false, List, [], ◌∷◌, ◌++◌, Option, Some, None, length, arith}
+use Rattle.std.proofs.Common.{◌≡◌, refl, ap, ap₂, sym, ◌∙◌, ℕ, Bool, true, false, List, [], ◌∷◌, ◌++◌, Option, Some, None, length, arith}
 use Rattle.std.proofs.lemmas.Bool.Decides.{nat_tests}
 use Rattle.std.proofs.lemmas.List.{nil_from_length}
 use Rattle.std.specs.Borrow.{Bor}
@@ -155,3 +155,6 @@ tied_again (tie.Excludes other) r = refl
 pub needs_rule : {other : Bor (List ℕ)} (old new : Declared) → new ≡ record old { tie = tie.Needs other }
     → rule_by new ≡ tied (rule_by old)
 needs_rule old new is = ap rule_by is ∙ tied_again old.tie _
+
+pub put : {x y : Rule} {xs ys : List Rule} → x ≡ y → xs ≡ ys → (x ∷ xs) ≡ (y ∷ ys)
+put one others = ap₂ (λ x xs. x ∷ xs) one others

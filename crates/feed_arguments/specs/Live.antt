@@ -1,11 +1,11 @@
 -- The command `live`: its options, and what they ask for.
-use Rattle.std.specs.Prelude.{◌≡◌, ◌⊎◌, ℕ, Bool, true, false, List, Option, Some, None, codes, is_some}
+use Rattle.std.specs.Prelude.{◌≡◌, ◌⊎◌, ℕ, Bool, true, false, List, [], ◌∷◌, Option, Some, None, codes, is_some}
 use Rattle.std.specs.Prelude.{option_map}
-use Rattle.clap.specs.Words.{App, Row, Rule, new_app, with_rule}
+use Rattle.clap.specs.Words.{App, Row, Rule, new_app}
 use Rattle.feed_settings.specs.Limits.{most_commits}
 use Rattle.feed_arguments.specs.Addresses.{most_port}
 use Rattle.feed_arguments.specs.Options as options
-use Rattle.feed_arguments.specs.Options.{flag, number_in, number_between, text_option, tied, with_default, text_at}
+use Rattle.feed_arguments.specs.Options.{flag, number_in, number_between, text_option, tied, with_default, with_rules, text_at}
 use Rattle.feed_arguments.specs.Options.{IsNumber, IsNumberUpTo, IsNumberIfGiven, IsGiven, IsFramed, AsksLimitsOr}
 use Rattle.feed_arguments.specs.declared.request.LiveOptions.{LiveOptions}
 use Rattle.feed_arguments.specs.declared.request.UpstreamOptions.{UpstreamOptions}
@@ -128,64 +128,38 @@ verbose = tied (flag (codes "verbose"))
 abbrev pub quiet : Rule
 quiet = flag (codes "quiet")
 
--- a command with the options that name a server
-abbrev pub with_server : App → App
-with_server command = with_rule (with_rule command host) port
+-- the options that say what is followed, and as whom
+abbrev pub upstream : List Rule
+upstream = options.contest ∷ host ∷ port ∷ base ∷ from ∷ host_header ∷ user_file ∷ []
 
--- a command with the options that say what a server is told of who asks
-abbrev pub with_identity : App → App
-with_identity command = with_rule (with_rule command host_header) user_file
+-- those that say how a feed is asked for, when it is shown, and until when it is followed
+abbrev pub settling : List Rule
+settling = settle ∷ fresh ∷ no_recheck ∷ return_after ∷ until_eof ∷ []
 
--- a command with the options that say which feed is followed
-abbrev pub with_feed : App → App
-with_feed command =
-    with_rule (with_rule (with_server (with_rule command options.contest)) base) from
+-- those that say to whom it is served
+abbrev pub listener : List Rule
+listener = listen ∷ address ∷ screens ∷ allow ∷ per_address ∷ []
 
--- a command with the options that say how a feed is asked for, and when it is shown
-abbrev pub with_settling : App → App
-with_settling command = with_rule (with_rule (with_rule command settle) fresh) no_recheck
+-- those that say how it is served
+abbrev pub pace : List Rule
+pace = idle ∷ window ∷ pending ∷ options.chunked ∷ []
 
--- a command with the options that say what is followed, as whom, and until when
-abbrev pub with_upstream : App → App
-with_upstream command =
-    with_rule (with_rule (with_settling (with_identity (with_feed command))) return_after) until_eof
+-- those that say what is kept, and when that is served
+abbrev pub kept : List Rule
+kept = state ∷ new ∷ hold ∷ serve_old ∷ []
 
--- a command with the options that say to whom it is served
-abbrev pub with_listener : App → App
-with_listener command = with_rule (with_rule (with_rule command listen) address) screens
+-- the limits of the node that is served
+abbrev pub limits : List Rule
+limits = history ∷ options.staged ∷ options.memory ∷ []
 
--- a command with the options that say who may connect
-abbrev pub with_guard : App → App
-with_guard command = with_rule (with_rule command allow) per_address
-
--- a command with the options that say to whom it is served, and how
-abbrev pub with_screens : App → App
-with_screens command = with_rule (with_rule (with_rule (with_rule
-    (with_guard (with_listener command)) idle) window) pending) options.chunked
-
--- a command with the limits of the node that is served
-abbrev pub with_limits : App → App
-with_limits command =
-    with_rule (with_rule (with_rule command history) options.staged) options.memory
-
--- a command with the options that say what of the file is served, and when
-abbrev pub with_serving : App → App
-with_serving command = with_rule (with_rule command hold) serve_old
-
--- a command with the options that say what is kept
-abbrev pub with_state : App → App
-with_state command = with_limits (with_serving (with_rule (with_rule command state) new))
-
--- a command with the options that say where it is watched
-abbrev pub with_status : App → App
-with_status command = with_rule (with_rule command status) status_address
-
--- a command with the options that say where it is watched, and what it reports
-abbrev pub with_watching : App → App
-with_watching command = with_rule (with_rule (with_status command) verbose) quiet
+-- those that say where it is watched, and what it reports
+abbrev pub watching : List Rule
+watching = status ∷ status_address ∷ verbose ∷ quiet ∷ []
 
 abbrev pub live : App
-live = with_watching (with_state (with_screens (with_upstream (new_app (codes "live")))))
+live =
+    with_rules (with_rules (with_rules (with_rules (with_rules (with_rules (with_rules (new_app (codes "live"))
+    upstream) settling) listener) pace) kept) limits) watching
 
 -- ---- what its options ask for
 

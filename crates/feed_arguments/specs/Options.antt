@@ -1,7 +1,7 @@
 -- The options that several commands have, and what the values of options say. Which words of a
 -- command line are the values of an option is as the crate clap reads them.
 use Rattle.std.specs.Prelude.{◌≡◌, ◌≤◌, ℕ, Bool, true, false, List, [], ◌∷◌, Option, Some, None}
-use Rattle.std.specs.Prelude.{IfSome, option_map, codes}
+use Rattle.std.specs.Prelude.{IfSome, option_map, codes, fold}
 use Rattle.std.specs.Option.{option_or}
 use Rattle.std.specs.Str.Parse.{IsNumeral, digits_value, without_leading_plus}
 use Rattle.clap.specs.Walk.{first_of, one_of}
@@ -138,9 +138,13 @@ silence = number_in (codes "silence") most_silence
 abbrev pub resume : Rule
 resume = flag (codes "resume")
 
--- a command with the limits of its node
-abbrev pub with_limits : App → App
-with_limits command = with_rule (with_rule (with_rule command history) staged) memory
+-- the limits of a node
+abbrev pub limits : List Rule
+limits = history ∷ staged ∷ memory ∷ []
+
+-- a command with these options, in order
+abbrev pub with_rules : App → List Rule → App
+with_rules command rules = fold with_rule command rules
 
 -- ---- what their values say
 

@@ -1,13 +1,13 @@
 -- What the words of a command line ask for. Which of them name a command, and which are the values
 -- of its options, is as the crate clap reads them (`subcommand_of`), for the command line defined
 -- here.
-use Rattle.std.specs.Prelude.{◌≡◌, ◌≢◌, ◌⊎◌, List, Option, None, Some, codes, option_map, true, false}
+use Rattle.std.specs.Prelude.{◌≡◌, ◌≢◌, ◌⊎◌, List, [], ◌∷◌, Option, None, Some, codes, option_map, true, false}
 use Rattle.clap.specs.Simple.{on_top}
-use Rattle.clap.specs.Words.{App, Row, Text, new_app, subcommand_of, takes, with_rule, with_subcommand}
+use Rattle.clap.specs.Words.{App, Row, Rule, Text, new_app, subcommand_of, takes, with_subcommand}
 use Rattle.feed_settings.specs.Limits.{most_commits}
 use Rattle.feed_arguments.specs.Addresses.{most_port}
 use Rattle.feed_arguments.specs.Live.{live, AsksLive}
-use Rattle.feed_arguments.specs.Options.{most_rounds, most_silence, at, stream, verbose, primary, of, against, compared_contest, for_seconds, json, port, listen, contest, count, turn, chunked, back, host, from, base, host_header, user_file, turns, silence, resume, with_limits}
+use Rattle.feed_arguments.specs.Options.{most_rounds, most_silence, at, stream, verbose, primary, of, against, compared_contest, for_seconds, json, port, listen, contest, count, turn, chunked, back, host, from, base, host_header, user_file, turns, silence, resume, limits, with_rules}
 use Rattle.feed_arguments.specs.Options.{text_at, IsNumber, IsNumberUpTo, IsNumberIfGiven, IsGiven, IsFramed, AsksLimits}
 use Rattle.feed_arguments.specs.declared.request.Local.TheVariants as local
 use Rattle.clap.specs.declared.error.kind.ErrorKind.{ErrorKind}
@@ -26,58 +26,49 @@ use Rattle.feed_arguments.specs.declared.request.RelayOptions.{RelayOptions}
 
 -- ---- the command line
 
--- a command with the options that say what is followed
-abbrev pub with_place : App → App
-with_place command = with_rule (with_rule (with_rule (with_rule command host) port) from) contest
+-- the options that say what is followed
+abbrev pub place : List Rule
+place = host ∷ port ∷ from ∷ contest ∷ []
 
--- a command with the options that say what a server is told of who asks
-abbrev pub with_identity : App → App
-with_identity command = with_rule (with_rule command host_header) user_file
-
--- a command with the options that say what is followed, and how far
-abbrev pub with_followed : App → App
-with_followed command =
-    with_rule (with_rule (with_identity (with_rule (with_place command) base)) turns) silence
+-- those that say as whom, and how far
+abbrev pub followed : List Rule
+followed = base ∷ host_header ∷ user_file ∷ turns ∷ silence ∷ []
 
 -- a command with the options of `pull`
 abbrev pub with_pull : App → App
-with_pull command = with_limits (with_rule (with_rule (with_followed command) resume) verbose)
+with_pull command =
+    with_rules (with_rules (with_rules (with_rules command place) followed) (resume ∷ verbose ∷ [])) limits
 
--- a command with the options that `serve` needs
-abbrev pub with_served : App → App
-with_served command = with_rule (with_rule (with_rule command port) contest) count
+-- the options that say what `serve` serves
+abbrev pub served : List Rule
+served = port ∷ contest ∷ count ∷ turn ∷ chunked ∷ back ∷ []
 
--- a command with the options that say what `serve` sends
-abbrev pub with_sent : App → App
-with_sent command = with_rule (with_rule (with_rule command turn) chunked) back
+-- those that say which servers are compared
+abbrev pub compared : List Rule
+compared = of ∷ against ∷ compared_contest ∷ for_seconds ∷ []
 
 abbrev pub tables : App
-tables = with_rule (with_rule (with_limits (new_app (codes "tables"))) at) verbose
+tables = with_rules (with_rules (new_app (codes "tables")) limits) (at ∷ verbose ∷ [])
 
 abbrev pub check : App
-check = with_rule (with_rule (new_app (codes "check")) stream) verbose
-
--- a command with the options that say which servers are compared
-abbrev pub with_compared : App → App
-with_compared command =
-    with_rule (with_rule (with_rule (with_rule command of) against) compared_contest) for_seconds
+check = with_rules (new_app (codes "check")) (stream ∷ verbose ∷ [])
 
 abbrev pub audit : App
 audit =
-    with_limits (with_rule (with_rule (with_compared (with_rule (new_app (codes "audit")) primary)) json) verbose)
+    with_rules (with_rules (with_rules (with_rules (new_app (codes "audit")) (primary ∷ [])) compared)
+    (json ∷ verbose ∷ [])) limits
 
 abbrev pub play : App
 play = new_app (codes "play")
 
 abbrev pub serve : App
-serve = with_limits (with_rule (with_sent (with_served (new_app (codes "serve")))) verbose)
+serve = with_rules (with_rules (with_rules (new_app (codes "serve")) served) (verbose ∷ [])) limits
 
 abbrev pub pull : App
 pull = with_pull (new_app (codes "pull"))
 
 abbrev pub relay : App
-relay =
-    with_rule (with_rule (with_rule (with_pull (new_app (codes "relay"))) listen) count) chunked
+relay = with_rules (with_pull (new_app (codes "relay"))) (listen ∷ count ∷ chunked ∷ [])
 
 -- the program's name, with a version; one of the commands must follow
 abbrev pub program : App

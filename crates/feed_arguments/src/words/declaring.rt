@@ -1,9 +1,10 @@
 //! Options as a table has them: what stands after an option's name, whether it has to be given, and
 //! which other option it has to do with.
-ghost use Rattle.std.specs.Prelude.{◌≡◌, List, map, Some, true, false, IfOk, fold};
-ghost use Rattle.clap.specs.Words.{App, Rule, app_of, rule_of, with_rule};
+ghost use Rattle.std.specs.Prelude.{◌≡◌, List, map, Some, true, false, IfOk};
+ghost use Rattle.clap.specs.Words.{App, Rule, app_of, rule_of};
 ghost use Rattle.feed_arguments.specs.Declaring.{IsDeclared, plain, rule_by};
 ghost use Rattle.feed_arguments.specs.Declaring.{value_rule};
+ghost use Rattle.feed_arguments.specs.Options.{with_rules};
 ghost use Rattle.feed_arguments.specs.declared.words.declaring.Tie.TheVariants as tie;
 ghost use Rattle.feed_arguments.specs.declared.words.declaring.Value.TheVariants as values;
 
@@ -198,7 +199,7 @@ pub(super) fn add_options<'a>(
 ) -> Result<Command<'a>, AllocError>
     ensures { (app : App) → (rules : List Rule) → IfOk command.entry (λ c. app_of c ≡ app)
         → map rule_by options.now ≡ rules
-        → IfOk result (λ c. app_of c ≡ fold with_rule app rules) }
+        → IfOk result (λ c. app_of c ≡ with_rules app rules) }
 {
     let mut command = command?;
     for declared in options {

@@ -1,10 +1,11 @@
 //! The commands, as the command line declares them.
-ghost use Rattle.std.specs.Prelude.{◌≡◌, true, false, IfOk};
+ghost use Rattle.std.specs.Prelude.{◌≡◌, map, true, IfOk};
 ghost use Rattle.clap.specs.Words.{App, app_of, new_app, with_subcommand};
-ghost use Rattle.feed_arguments.specs.Options.{with_limits as limited};
+ghost use Rattle.feed_arguments.specs.Declaring.{rule_by};
+ghost use Rattle.feed_arguments.specs.Options.{limits as options_limits};
 ghost use Rattle.feed_arguments.specs.Words as words;
 
-use super::declaring::{add_options, flag, number, number_between, text};
+use super::declaring::{Declared, add_options, flag, number, number_between, text};
 use super::live::live;
 use super::options::{MOST_PORT, MOST_ROUNDS, MOST_SILENCE};
 use super::{PROGRAM, VERSION, options};
@@ -33,16 +34,11 @@ pub(super) fn command<'a>(alloc: Global, name: &'a str, about: &'a str) -> Comma
     Command::new(alloc, name).about(about)
 }
 
-/// A command with the limits of its node.
-fn with_limits<'a>(
-    alloc: Global,
-    command: Result<Command<'a>, AllocError>,
-) -> Result<Command<'a>, AllocError>
-    ensures { (app : App) → IfOk command.entry (λ c. app_of c ≡ app)
-        → IfOk result (λ c. app_of c ≡ limited app) }
+/// The limits of a node.
+fn limits<'a>() -> [Declared<'a>; 3]
+    ensures { map rule_by result ≡ options_limits }
 {
-    let limits = [options::history(), options::staged(), options::memory()];
-    add_options(alloc, command, &limits)
+    [options::history(), options::staged(), options::memory()]
 }
 
 /// `tables`.
@@ -50,7 +46,7 @@ fn tables<'a>(alloc: Global) -> Result<Command<'a>, AllocError>
     ensures { IfOk result (λ c. app_of c ≡ words.tables) }
 {
     let about = "Prints the tables that the event feed on standard input has published";
-    let tables = with_limits(alloc, Ok(command(alloc, "tables", about)));
+    let tables = add_options(alloc, Ok(command(alloc, "tables", about)), &limits());
     let at = "Print the tables at the first line that publishes under this token";
     let verbose = "Tell the number of the faulty line, too";
     let asked = [text("at", "TOKEN", at), options::verbose(verbose)];
@@ -69,15 +65,11 @@ fn check<'a>(alloc: Global) -> Result<Command<'a>, AllocError>
     add_options(alloc, Ok(command(alloc, "check", about)), &asked)
 }
 
-/// A command with the options that say which servers are compared.
-fn with_compared<'a>(
-    alloc: Global,
-    command: Result<Command<'a>, AllocError>,
-) -> Result<Command<'a>, AllocError>
-    ensures { (app : App) → IfOk command.entry (λ c. app_of c ≡ app)
-        → IfOk result (λ c. app_of c ≡ words.with_compared app) }
+/// The options that say which servers are compared.
+fn compared<'a>() -> [Declared<'a>; 4]
+    ensures { map rule_by result ≡ words.compared }
 {
-    let compared = [
+    [
         text(
             "of",
             "HOST:PORT",
@@ -99,8 +91,7 @@ fn with_compared<'a>(
             MOST_ROUNDS,
             "After how many seconds the comparison ends, 1 to 1000000; without it there is no such time",
         ),
-    ];
-    add_options(alloc, command, &compared)
+    ]
 }
 
 /// `audit`.
@@ -113,40 +104,24 @@ fn audit<'a>(alloc: Global) -> Result<Command<'a>, AllocError>
     let primary = "The file with the primary's record: its feed, as one connection carried it";
     let primary = [text("primary", "FILE", primary)];
     let audit = add_options(alloc, Ok(command(alloc, "audit", about)), &primary);
+    let audit = add_options(alloc, audit, &compared());
     let verbose = "Print objects that differ whole, however long they are";
     let printed = [
         flag("json", "Print one line of JSON"),
         options::verbose(verbose),
     ];
-    let audit = add_options(alloc, with_compared(alloc, audit), &printed);
-    with_limits(alloc, audit)
+    let audit = add_options(alloc, audit, &printed);
+    add_options(alloc, audit, &limits())
 }
 
-/// A command with the options that `serve` needs.
-fn with_served<'a>(
-    alloc: Global,
-    command: Result<Command<'a>, AllocError>,
-) -> Result<Command<'a>, AllocError>
-    ensures { (app : App) → IfOk command.entry (λ c. app_of c ≡ app)
-        → IfOk result (λ c. app_of c ≡ words.with_served app) }
+/// The options that say what `serve` serves.
+fn served<'a>() -> [Declared<'a>; 6]
+    ensures { map rule_by result ≡ words.served }
 {
-    let served = [
+    [
         options::port("The port of 127.0.0.1 that the feed is served at"),
         options::contest(),
         options::count(),
-    ];
-    add_options(alloc, command, &served)
-}
-
-/// A command with the options that say what `serve` sends.
-fn with_sent<'a>(
-    alloc: Global,
-    command: Result<Command<'a>, AllocError>,
-) -> Result<Command<'a>, AllocError>
-    ensures { (app : App) → IfOk command.entry (λ c. app_of c ≡ app)
-        → IfOk result (λ c. app_of c ≡ words.with_sent app) }
-{
-    let sent = [
         number(
             "turn",
             "K",
@@ -163,8 +138,7 @@ fn with_sent<'a>(
             "How many commits before a reader's token its feed begins, 0 to 65536",
         )
         .or("0"),
-    ];
-    add_options(alloc, command, &sent)
+    ]
 }
 
 /// `serve`.
@@ -172,39 +146,29 @@ fn serve<'a>(alloc: Global) -> Result<Command<'a>, AllocError>
     ensures { IfOk result (λ c. app_of c ≡ words.serve) }
 {
     let about = "Serves the event feed on standard input at a port of 127.0.0.1, as a primary";
-    let serve = with_served(alloc, Ok(command(alloc, "serve", about)));
-    let serve = with_sent(alloc, serve);
+    let serve = add_options(alloc, Ok(command(alloc, "serve", about)), &served());
     let serve = add_options(alloc, serve, &[options::verbose(CONNECTIONS)]);
-    with_limits(alloc, serve)
+    add_options(alloc, serve, &limits())
 }
 
-/// A command with the options that say what is followed.
-fn with_place<'a>(
-    alloc: Global,
-    command: Result<Command<'a>, AllocError>,
-) -> Result<Command<'a>, AllocError>
-    ensures { (app : App) → IfOk command.entry (λ c. app_of c ≡ app)
-        → IfOk result (λ c. app_of c ≡ words.with_place app) }
+/// The options that say what is followed.
+fn place<'a>() -> [Declared<'a>; 4]
+    ensures { map rule_by result ≡ words.place }
 {
     let host = "The address or name of the server that is followed";
-    let placed = [
+    [
         text("host", "H", host).required(),
         options::port("The port of the server that is followed"),
         options::from(),
         options::contest(),
-    ];
-    add_options(alloc, command, &placed)
+    ]
 }
 
-/// A command with the options that say what is followed, and how far.
-fn with_followed<'a>(
-    alloc: Global,
-    command: Result<Command<'a>, AllocError>,
-) -> Result<Command<'a>, AllocError>
-    ensures { (app : App) → IfOk command.entry (λ c. app_of c ≡ app)
-        → IfOk result (λ c. app_of c ≡ words.with_followed app) }
+/// The options that say as whom, and how far.
+fn followed<'a>() -> [Declared<'a>; 5]
+    ensures { map rule_by result ≡ words.followed }
 {
-    let followed = [
+    [
         options::base(),
         options::host_header(),
         options::user_file(),
@@ -222,8 +186,7 @@ fn with_followed<'a>(
             "After how many seconds without a connection or a byte a server is left, 1 to 3600; \
               without it there is no such time",
         ),
-    ];
-    add_options(alloc, with_place(alloc, command), &followed)
+    ]
 }
 
 /// A command with the options of `pull`.
@@ -234,10 +197,12 @@ fn with_pull<'a>(
     ensures { (app : App) → IfOk command.entry (λ c. app_of c ≡ app)
         → IfOk result (λ c. app_of c ≡ words.with_pull app) }
 {
+    let pull = add_options(alloc, command, &place());
+    let pull = add_options(alloc, pull, &followed());
     let resume = "Begin from the tables on standard input, as this command prints them";
     let told = [flag("resume", resume), options::verbose(CONNECTIONS)];
-    let pull = add_options(alloc, with_followed(alloc, command), &told);
-    with_limits(alloc, pull)
+    let pull = add_options(alloc, pull, &told);
+    add_options(alloc, pull, &limits())
 }
 
 /// `pull`.

@@ -1,5 +1,5 @@
 //! The command `live`, as the command line declares it.
-ghost use Rattle.std.specs.Prelude.{◌≡◌, [], IfOk};
+ghost use Rattle.std.specs.Prelude.{◌≡◌, [], map, IfOk};
 ghost use Rattle.clap.specs.Words.{App, app_of};
 ghost use Rattle.feed_arguments.specs.Declaring.{needs_by, rule_by};
 ghost use Rattle.feed_arguments.specs.Live as live;
@@ -24,6 +24,7 @@ pub(super) const MOST_IDLE: u64 = 3_600;
 /// The most bytes that a screen may be late.
 pub(super) const MOST_WINDOW: u64 = 1_073_741_824;
 
+/// The most bytes of long texts that screens may have yet to take.
 pub(super) const MOST_PENDING: u64 = 1_099_511_627_776;
 
 /// The most milliseconds that a feed which was asked for from the start may be quiet before it is
@@ -47,15 +48,11 @@ fn under<'a>(
     Ok(command?.next_help_heading(heading))
 }
 
-/// A command with the options that say which feed is followed.
-fn with_feed<'a>(
-    alloc: Global,
-    command: Result<Command<'a>, AllocError>,
-) -> Result<Command<'a>, AllocError>
-    ensures { (app : App) → IfOk command.entry (λ c. app_of c ≡ app)
-        → IfOk result (λ c. app_of c ≡ live.with_feed app) }
+/// The options that say what is followed, and as whom.
+fn upstream<'a>() -> [Declared<'a>; 7]
+    ensures { map rule_by result ≡ live.upstream }
 {
-    let followed = [
+    [
         options::contest(),
         text(
             "host",
@@ -73,34 +70,16 @@ fn with_feed<'a>(
         .needs("host"),
         options::base().needs("host"),
         options::from().needs("host"),
-    ];
-    add_options(alloc, command, &followed)
-}
-
-/// A command with the options that say what a server is told of who asks.
-fn with_identity<'a>(
-    alloc: Global,
-    command: Result<Command<'a>, AllocError>,
-) -> Result<Command<'a>, AllocError>
-    ensures { (app : App) → IfOk command.entry (λ c. app_of c ≡ app)
-        → IfOk result (λ c. app_of c ≡ live.with_identity app) }
-{
-    let identity = [
         options::host_header().needs("host"),
         options::user_file().needs("host"),
-    ];
-    add_options(alloc, command, &identity)
+    ]
 }
 
-/// A command with the options that say how a feed is asked for, and when it is shown.
-fn with_settling<'a>(
-    alloc: Global,
-    command: Result<Command<'a>, AllocError>,
-) -> Result<Command<'a>, AllocError>
-    ensures { (app : App) → IfOk command.entry (λ c. app_of c ≡ app)
-        → IfOk result (λ c. app_of c ≡ live.with_settling app) }
+/// The options that say how a feed is asked for, when it is shown, and until when it is followed.
+fn settling<'a>() -> [Declared<'a>; 5]
+    ensures { map rule_by result ≡ live.settling }
 {
-    let settled = [
+    [
         number_between(
             "settle",
             "MS",
@@ -120,21 +99,6 @@ fn with_settling<'a>(
             "Ask for what comes after the newest commit, and not for that again to see whether the \
               server still has it",
         ),
-    ];
-    add_options(alloc, command, &settled)
-}
-
-/// A command with the options that say what is followed, as whom, and until when.
-fn with_upstream<'a>(
-    alloc: Global,
-    command: Result<Command<'a>, AllocError>,
-) -> Result<Command<'a>, AllocError>
-    ensures { (app : App) → IfOk command.entry (λ c. app_of c ≡ app)
-        → IfOk result (λ c. app_of c ≡ live.with_upstream app) }
-{
-    let followed = with_feed(alloc, under(command, "Upstream"));
-    let followed = with_settling(alloc, with_identity(alloc, followed));
-    let until = [
         number_between(
             "return",
             "SECONDS",
@@ -145,8 +109,7 @@ fn with_upstream<'a>(
         )
         .or("30"),
         flag("until-eof", "End where standard input ends"),
-    ];
-    add_options(alloc, followed, &until)
+    ]
 }
 
 /// `--listen Q`, unless there is `--state`; it needs no other option.
@@ -158,15 +121,11 @@ fn listen<'a>() -> Declared<'a>
     number("listen", "Q", MOST_PORT, help).unless("state")
 }
 
-/// A command with the options that say to whom it is served.
-fn with_listener<'a>(
-    alloc: Global,
-    command: Result<Command<'a>, AllocError>,
-) -> Result<Command<'a>, AllocError>
-    ensures { (app : App) → IfOk command.entry (λ c. app_of c ≡ app)
-        → IfOk result (λ c. app_of c ≡ live.with_listener app) }
+/// The options that say to whom it is served.
+fn listener<'a>() -> [Declared<'a>; 5]
+    ensures { map rule_by result ≡ live.listener }
 {
-    let served = [
+    [
         listen(),
         text(
             "address",
@@ -182,19 +141,6 @@ fn with_listener<'a>(
             "How many screens are served at once, 1 to 10000",
         )
         .or("1000"),
-    ];
-    add_options(alloc, command, &served)
-}
-
-/// A command with the options that say who may connect.
-fn with_guard<'a>(
-    alloc: Global,
-    command: Result<Command<'a>, AllocError>,
-) -> Result<Command<'a>, AllocError>
-    ensures { (app : App) → IfOk command.entry (λ c. app_of c ≡ app)
-        → IfOk result (λ c. app_of c ≡ live.with_guard app) }
-{
-    let guarded = [
         text(
             "allow",
             "LIST",
@@ -208,21 +154,14 @@ fn with_guard<'a>(
             "How many screens one address may have at once, 1 to 10000; \
               without it as many as --screens",
         ),
-    ];
-    add_options(alloc, command, &guarded)
+    ]
 }
 
-/// A command with the options that say to whom it is served, and how.
-fn with_screens<'a>(
-    alloc: Global,
-    command: Result<Command<'a>, AllocError>,
-) -> Result<Command<'a>, AllocError>
-    ensures { (app : App) → IfOk command.entry (λ c. app_of c ≡ app)
-        → IfOk result (λ c. app_of c ≡ live.with_screens app) }
+/// The options that say how it is served.
+fn pace<'a>() -> [Declared<'a>; 4]
+    ensures { map rule_by result ≡ live.pace }
 {
-    let served = with_listener(alloc, under(command, "Screens"));
-    let served = with_guard(alloc, served);
-    let paced = [
+    [
         number(
             "idle",
             "SECONDS",
@@ -247,36 +186,18 @@ fn with_screens<'a>(
         )
         .or("67108864"),
         options::chunked(),
-    ];
-    add_options(alloc, served, &paced)
+    ]
 }
 
-/// A command with the limits of the node that is served.
-fn with_limits<'a>(
-    alloc: Global,
-    command: Result<Command<'a>, AllocError>,
-) -> Result<Command<'a>, AllocError>
-    ensures { (app : App) → IfOk command.entry (λ c. app_of c ≡ app)
-        → IfOk result (λ c. app_of c ≡ live.with_limits app) }
+/// The options that say what is kept, and when that is served.
+fn kept<'a>() -> [Declared<'a>; 4]
+    ensures { map rule_by result ≡ live.kept }
 {
-    let history = "How many commits are kept, 1 to 65536";
-    let limits = [
-        number("history", "N", MOST_COMMITS as u64, history).or("65536"),
-        options::staged(),
-        options::memory(),
-    ];
-    add_options(alloc, command, &limits)
-}
-
-/// A command with the options that say what of the file is served, and when.
-fn with_serving<'a>(
-    alloc: Global,
-    command: Result<Command<'a>, AllocError>,
-) -> Result<Command<'a>, AllocError>
-    ensures { (app : App) → IfOk command.entry (λ c. app_of c ≡ app)
-        → IfOk result (λ c. app_of c ≡ live.with_serving app) }
-{
-    let served = [
+    let state = "The file that keeps what was published, for the next start";
+    let new = "Begin without what FILE has, which is moved to FILE.old";
+    [
+        text("state", "FILE", state),
+        flag("new", new).needs("state"),
         number_between(
             "hold",
             "SECONDS",
@@ -290,59 +211,33 @@ fn with_serving<'a>(
             "serve-old",
             "Serve the state of the file at once, however old it is, and not only once a server was heard",
         ),
-    ];
-    add_options(alloc, command, &served)
+    ]
 }
 
-/// A command with the options that say what is kept.
-fn with_state<'a>(
-    alloc: Global,
-    command: Result<Command<'a>, AllocError>,
-) -> Result<Command<'a>, AllocError>
-    ensures { (app : App) → IfOk command.entry (λ c. app_of c ≡ app)
-        → IfOk result (λ c. app_of c ≡ live.with_state app) }
+/// The limits of the node that is served.
+fn limits<'a>() -> [Declared<'a>; 3]
+    ensures { map rule_by result ≡ live.limits }
 {
-    let state = "The file that keeps what was published, for the next start";
-    let new = "Begin without what FILE has, which is moved to FILE.old";
-    let kept = [
-        text("state", "FILE", state),
-        flag("new", new).needs("state"),
-    ];
-    let kept = add_options(alloc, under(command, "State"), &kept);
-    with_limits(alloc, with_serving(alloc, kept))
+    let history = "How many commits are kept, 1 to 65536";
+    [
+        number("history", "N", MOST_COMMITS as u64, history).or("65536"),
+        options::staged(),
+        options::memory(),
+    ]
 }
 
-/// A command with the options that say where it is watched.
-fn with_status<'a>(
-    alloc: Global,
-    command: Result<Command<'a>, AllocError>,
-) -> Result<Command<'a>, AllocError>
-    ensures { (app : App) → IfOk command.entry (λ c. app_of c ≡ app)
-        → IfOk result (λ c. app_of c ≡ live.with_status app) }
+/// The options that say where it is watched, and what it reports.
+fn watching<'a>() -> [Declared<'a>; 4]
+    ensures { map rule_by result ≡ live.watching }
 {
     let status = "A further port, with a page, JSON and metrics on the relay";
     let address = "The address that port is at; without it that of --address";
-    let watched = [
+    [
         number("status", "PORT", MOST_PORT, status),
         text("status-address", "A", address).needs("status"),
-    ];
-    add_options(alloc, command, &watched)
-}
-
-/// A command with the options that say where it is watched, and what it reports.
-fn with_watching<'a>(
-    alloc: Global,
-    command: Result<Command<'a>, AllocError>,
-) -> Result<Command<'a>, AllocError>
-    ensures { (app : App) → IfOk command.entry (λ c. app_of c ≡ app)
-        → IfOk result (λ c. app_of c ≡ live.with_watching app) }
-{
-    let watched = with_status(alloc, under(command, "Watching"));
-    let reported = [
         flag("verbose", "Report each screen, too").excludes("quiet"),
         flag("quiet", "Report nothing but why the command ends"),
-    ];
-    add_options(alloc, watched, &reported)
+    ]
 }
 
 /// `live`.
@@ -350,8 +245,12 @@ pub(super) fn live<'a>(alloc: Global) -> Result<Command<'a>, AllocError>
     ensures { IfOk result (λ c. app_of c ≡ live.live) }
 {
     let about = "Follows an event feed for ever and serves it to many screens at once";
-    let live = with_upstream(alloc, Ok(command(alloc, "live", about)));
-    let live = with_screens(alloc, live);
-    let live = with_state(alloc, live);
-    with_watching(alloc, live)
+    let live = under(Ok(command(alloc, "live", about)), "Upstream");
+    let live = add_options(alloc, live, &upstream());
+    let live = add_options(alloc, live, &settling());
+    let live = add_options(alloc, under(live, "Screens"), &listener());
+    let live = add_options(alloc, live, &pace());
+    let live = add_options(alloc, under(live, "State"), &kept());
+    let live = add_options(alloc, live, &limits());
+    add_options(alloc, under(live, "Watching"), &watching())
 }

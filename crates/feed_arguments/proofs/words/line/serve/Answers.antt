@@ -4,5 +4,6 @@ use Rattle.feed_arguments.proofs.words.line.serve.Goals as goal
 
 pub returns : goal.returns
 returns c =
-    c.with_limits.ensures _ (c.add_options-serve.ensures _ (verbose ∷ [])
-    (c.with_sent-serve.ensures _ (c.with_served-serve.ensures _ c.command.ensures)) (search rules))
+    let served = c.add_options-serve.ensures _ _ c.command.ensures c.served.ensures in
+    let told = c.add_options-serve-2.ensures _ (verbose ∷ []) served (search rules) in
+    c.add_options.ensures _ _ told c.limits.ensures

@@ -4,4 +4,5 @@ use Rattle.feed_arguments.proofs.words.line.tables.Goals as goal
 
 pub returns : goal.returns
 returns c =
-    c.add_options.ensures _ (at ∷ verbose ∷ []) (c.with_limits-tables.ensures _ c.command.ensures) (search rules)
+    c.add_options.ensures _ (at ∷ verbose ∷ []) (c.add_options-tables.ensures _ _ c.command.ensures c.limits.ensures)
+    (search rules)
