@@ -66,3 +66,6 @@ newest_held node token consistent is = by node.published consistent is
         → Contains node.held token
     by None consistent is = absurd (cc)
     by (Some p) holds is = among_at node.held (length node.held - 1) token (holds.newest ∙ is)
+
+pub some_none : (x : List ℕ) → Some x ≡ None → ⊥
+some_none x e = cc

@@ -195,6 +195,7 @@ impl Source {
             self.settles_at(),
             self.tells_at(),
             self.heard_at(),
+            self.newest_at(),
             self.figures.warns_at(),
         ];
         dues.iter().flatten().fold(due, |due, at| due.min(*at))
@@ -280,6 +281,8 @@ impl Source {
             None => {
                 if self.is_to_turn(now) {
                     self.turn(link, told, now);
+                } else if self.is_to_ask_newest(now) {
+                    self.ask_newest(link, now);
                 }
             }
         }
@@ -360,6 +363,9 @@ impl Source {
         self.upstream.opened(followed, now);
         self.coming = coming;
         self.rechecking.begin(again);
+        if self.is_fresh {
+            self.rechecking.trust();
+        }
         self.settling.begin(now);
         self.figures.ask(self.upstream.place(), now);
         self.opened = now;
@@ -409,6 +415,7 @@ impl Source {
     {
         let server = self.upstream.place();
         let is_told = self.lose();
+        self.rechecking.lose();
         self.hear_end(why);
         self.tell_unsettled(told);
         self.leave(link, now);
@@ -456,6 +463,7 @@ impl Source {
         self.reach = Reach::Away;
         // What had not settled is dropped.
         self.coming = None;
+        self.rechecking.leave();
         self.body_since = None;
         self.has_more = false;
     }

@@ -311,7 +311,7 @@ impl Source {
         self.body_since = Some(now);
         self.has_told_twice = false;
         if !self.is_fresh {
-            if !self.rechecking.is_going() {
+            if !self.rechecking.is_going() && !self.rechecking.is_doubted() {
                 self.upstream.held();
             }
             self.settling.go_on();
@@ -347,6 +347,7 @@ impl Source {
             self.is_heard = true;
             self.figures.publish(now);
             self.upstream.published();
+            self.rechecking.trust();
             self.returning.publish(now);
         }
     }
@@ -410,7 +411,7 @@ pub(crate) fn given_twice(mirror: &Mirror) -> Option<Excerpt> {
 }
 
 /// Whether memory ran out, and nothing is wrong with what came.
-fn is_want_of_memory(fault: FollowFault) -> bool
+pub(crate) fn is_want_of_memory(fault: FollowFault) -> bool
     ensures { result ≡ wants_memory fault }
 {
     match fault {

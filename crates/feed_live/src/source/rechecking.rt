@@ -10,11 +10,12 @@ ghost use Rattle.feed_live.specs.Upstream.{asked_with};
 use crate::figures::Following;
 use crate::screens::Screens;
 use crate::source::Source;
-use crate::source::reading::{given_twice, split_line};
+use crate::source::reading::{given_twice, is_want_of_memory, split_line};
+use crate::times::QUIET;
 use crate::told::Telling;
 use feed_device::{Excerpt, Link, Told};
 use feed_follow::Follower;
-use feed_node::{Limits, Mirror};
+use feed_node::{Limits, Mirror, Node};
 use std::alloc::{AllocError, Global};
 
 /// What a connection brings that asks for the newest commit again, up to its first token.
@@ -34,11 +35,13 @@ impl Again {
         })
     }
 
-    /// Bytes came. Whether the first token is still to come: what is wrong with them, whoever follows
-    /// the connection sees.
-    fn waits(&mut self, alloc: Global, bytes: &[u8]) -> bool {
-        let _ = self.follower.push(alloc, &mut self.mirror, bytes);
-        self.mirror.since().is_none()
+    /// Bytes came. Whether there was memory to look at them: what else is wrong with them, whoever
+    /// follows the connection sees.
+    fn hears(&mut self, alloc: Global, bytes: &[u8]) -> bool {
+        match self.follower.push(alloc, &mut self.mirror, bytes) {
+            Ok(_) => true,
+            Err(fault) => !is_want_of_memory(fault),
+        }
     }
 }
 
@@ -64,6 +67,8 @@ pub(crate) struct Rechecking {
     has_come: bool,
     /// The server does not hold the token before the newest: it is asked with that.
     asks_newest: bool,
+    /// A server has another one, and nothing was published since then.
+    is_doubted: bool,
 }
 
 impl Rechecking {
@@ -73,6 +78,7 @@ impl Rechecking {
             again: None,
             has_come: false,
             asks_newest: false,
+            is_doubted: false,
         }
     }
 
@@ -83,15 +89,59 @@ impl Rechecking {
         self.asks_newest = false;
     }
 
+    /// The connection is over.
+    pub(crate) fn leave(&mut self) {
+        self.again = None;
+        self.has_come = false;
+    }
+
+    /// It failed: the next server has its turn.
+    pub(crate) fn lose(&mut self) {
+        self.asks_newest = false;
+    }
+
+    /// Something was published, or everything is asked for.
+    pub(crate) fn trust(&mut self) {
+        self.is_doubted = false;
+    }
+
     /// The server does not hold the token before the newest.
     fn refuse(&mut self) {
         self.again = None;
         self.asks_newest = true;
     }
 
+    /// Whether a server has another one, and nothing was published since then.
+    pub(crate) fn is_doubted(&self) -> bool {
+        self.is_doubted
+    }
+
     /// Whether the newest commit is still to come again.
     pub(crate) fn is_going(&self) -> bool {
         self.again.is_some()
+    }
+}
+
+/// What a connection brought that asked for the newest commit again.
+#[derive(Clone, Copy)]
+enum Came {
+    /// No token yet, or one from further back.
+    Nothing,
+    Newest,
+    Another,
+}
+
+/// What this token is to a node, where one came.
+fn what_came(token: Option<&str>, node: &Node) -> Came {
+    let (Some(came), Some(newest)) = (token, node.token()) else {
+        return Came::Nothing;
+    };
+    if came == newest.text() {
+        Came::Newest
+    } else if node.holds(came) {
+        Came::Nothing
+    } else {
+        Came::Another
     }
 }
 
@@ -129,8 +179,9 @@ impl Source {
         Ok(Some(Again::new(alloc, shown.limits())?))
     }
 
-    /// The first line of the piece comes, or a part of one. Whether it brings the first token of a
-    /// connection that asked for the newest commit again, and that is another one.
+    /// The first line of the piece comes, or a part of one, of a connection that asked for the newest
+    /// commit again. Whether that brings a token that isn't held before the newest one came. A server
+    /// may begin further back.
     fn brings_another(&mut self, alloc: Global, piece: &[u8]) -> bool
         ensures same { SameSource self.old self.new }
         ensures epoch { self.new.epoch ≡ self.old.epoch }
@@ -140,16 +191,23 @@ impl Source {
             return false;
         };
         let (line, _) = split_line(piece);
-        if again.waits(alloc, line) {
+        if !again.hears(alloc, line) {
+            self.rechecking.again = None;
             return false;
         }
-        let is_other = match (again.mirror.since(), self.answers.shown.node().token()) {
-            (Some(came), Some(newest)) => came != newest.text(),
-            _ => false,
-        };
-        self.rechecking.again = None;
-        self.rechecking.has_come = !is_other;
-        is_other
+        let came = what_came(again.mirror.since(), self.answers.shown.node());
+        match came {
+            Came::Nothing => false,
+            Came::Newest => {
+                self.rechecking.again = None;
+                self.rechecking.has_come = true;
+                false
+            }
+            Came::Another => {
+                self.rechecking.again = None;
+                true
+            }
+        }
     }
 
     /// Whether the newest commit just came again, and would change what is shown. If it wouldn't, the
@@ -164,8 +222,29 @@ impl Source {
         if given_twice(self.answers.shown.mirror()).is_some() {
             return true;
         }
-        self.upstream.held();
+        // Where another one was set back, servers keep their turns: else two relays would tell each
+        // other for ever that they still have what it had.
+        if !self.rechecking.is_doubted {
+            self.upstream.held();
+        }
         false
+    }
+
+    /// When a server is asked with the newest token that was asked for that commit again, and sent
+    /// nothing: requests wait for it.
+    pub(crate) fn newest_at(&self) -> Option<u64> {
+        if self.is_heard || !self.rechecking.is_going() {
+            return None;
+        }
+        Some(self.body_since?.saturating_add(QUIET))
+    }
+
+    /// Whether it is time for that.
+    pub(crate) fn is_to_ask_newest(&self, now: u64) -> bool {
+        match self.newest_at() {
+            Some(at) => at <= now,
+            None => false,
+        }
     }
 
     /// A server does not hold the token before the newest: it is asked with the newest.
@@ -182,11 +261,13 @@ impl Source {
         ensures left { IsLeft self.old self.new (L.exchanges link.old) (L.exchanges link.new) }
     {
         if let Some(token) = self.answers.shown.node().token() {
-            told.tell(Told::Forgot {
+            let forgot = Told::Forgot {
                 server: self.upstream.place(),
                 token: Excerpt::of(token.text()),
-            });
+            };
+            told.tell_if(!self.rechecking.is_doubted, forgot);
         }
+        self.rechecking.is_doubted = true;
         self.without_token(link, now);
     }
 

@@ -9,7 +9,7 @@ use feed_commands::{
     Verbosity, servers_of,
 };
 use feed_host::{Failure, Hosts, identity_of};
-use feed_live::{Live, LiveLimits, Restored, Start, restore, restore_from};
+use feed_live::{Live, LiveLimits, Restored, Start, Store, restore_from};
 use feed_node::{Limits, Mirror};
 use feed_state::{Kept, StateFault, take_state};
 use feed_system::{Host, OpenFault, System, open};
@@ -158,10 +158,12 @@ fn restored(
     system: &mut System<'_>,
 ) -> Result<Restored, Fault> {
     let limits = kept_limits(options);
-    match &options.upstream {
-        Some(_) => needs_memory(restore_from(rt.alloc(), limits, &mut system.devices.store)),
-        None => needs_memory(restore(rt.alloc(), limits, &[], &[])),
+    let store = &mut system.devices.store;
+    if options.upstream.is_none() {
+        drop(store.read());
+        drop(store.read_former());
     }
+    needs_memory(restore_from(rt.alloc(), limits, store))
 }
 
 /// Why there is nothing to run on.

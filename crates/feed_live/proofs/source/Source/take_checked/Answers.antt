@@ -47,3 +47,13 @@ returns g c =
       );
       stops = λ none. absurd (cc);
     }
+
+pub returns-in_default-clause-stops : goal.returns-in_default-clause-stops
+returns-in_default-clause-stops g c =
+    λ none.
+    let here = c.take_line.ensures.stops c.in_default.is in (
+      here.0,
+      λ reads left limits log servers contest sockets follows.
+          here.1 (c.brings_another.ensures.same.reach ∙ reads) left limits log servers contest sockets
+          (c.brings_another.ensures.same.servers ∙ follows.0, with_same limits log servers c.brings_another.ensures.same _ c.args.piece.now c.args.piece.now refl follows.1),
+    )

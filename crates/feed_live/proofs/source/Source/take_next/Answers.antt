@@ -19,15 +19,15 @@ returns-then-is_noted_replay g c =
 pub returns : goal.returns
 returns g c =
     record {
-      goes_on = some_so c.take_line.result (λ next here. (
+      goes_on = some_so c.take_checked.result (λ next here. (
         here.0 ∙ c.is_noted_replay.ensures.reach,
         here.1 ∙ c.is_noted_replay.ensures.rest,
         λ reads limits log servers contest sockets follows.
             here.2 (c.is_noted_replay.ensures.reach ∙ reads) limits log servers contest sockets
             (c.is_noted_replay.ensures.servers ∙ follows.0, with_same limits log servers c.is_noted_replay.ensures _ c.args.piece.now c.args.piece.now refl follows.1),
-      )) c.take_line.ensures.goes_on;
+      )) c.take_checked.ensures.goes_on;
       stops = λ none.
-          let here = c.take_line.ensures.stops none in (
+          let here = c.take_checked.ensures.stops none in (
             here.0,
             λ reads left limits log servers contest sockets follows.
                 here.1 (c.is_noted_replay.ensures.reach ∙ reads) left limits log servers contest sockets
