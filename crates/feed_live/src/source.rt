@@ -362,10 +362,7 @@ impl Source {
         self.is_fresh = followed.since().is_none();
         self.upstream.opened(followed, now);
         self.coming = coming;
-        self.rechecking.begin(again);
-        if self.is_fresh {
-            self.rechecking.trust();
-        }
+        self.rechecking.begin(again, self.is_fresh);
         self.settling.begin(now);
         self.figures.ask(self.upstream.place(), now);
         self.opened = now;

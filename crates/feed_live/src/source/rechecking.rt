@@ -82,8 +82,9 @@ impl Rechecking {
         }
     }
 
-    /// A connection begins, which brings this.
-    pub(crate) fn begin(&mut self, again: Option<Again>) {
+    /// A connection begins, which brings this, or asks for everything.
+    pub(crate) fn begin(&mut self, again: Option<Again>, is_fresh: bool) {
+        self.is_doubted = self.is_doubted && !is_fresh;
         self.again = again;
         self.has_come = false;
         self.asks_newest = false;
@@ -100,7 +101,7 @@ impl Rechecking {
         self.asks_newest = false;
     }
 
-    /// Something was published, or everything is asked for.
+    /// Something was published.
     pub(crate) fn trust(&mut self) {
         self.is_doubted = false;
     }
