@@ -1,9 +1,10 @@
 //! What a turn reads from and writes to, by what a contract can say of it.
 
 ghost use Rattle.std.specs.Prelude.{◌≡◌, ◌≢◌, ◌<◌, ◌≤◌, ℕ, List, [], Option, None, Some, length, take, option_map, IfOk, OnOk};
-ghost use Rattle.std.specs.Io.KnownBytes.{Keeps, WriteAppends};
+ghost use Rattle.std.specs.Io.KnownBytes.{WriteAppends};
 ghost use Rattle.feed_device.specs.Calls.{CalledOnce, AllCalls, NotCalled, OthersNotCalled};
-ghost use Rattle.feed_device.specs.Files.{IsKnown, HasMore, IsLeftOf};
+ghost use Rattle.feed_device.specs.Files.{StateFiles, unknown_files, file_text, IsKnown, OtherFilesStay, HasMore, IsLeftOf, gone_on_from};
+ghost use Rattle.feed_device.specs.declared.device.FileSlot.TheVariants.{Next};
 ghost use Rattle.feed_device.specs.Links.{Exchange, Begins, Asks, Receives, shown_so, once_at, all_from};
 ghost use Rattle.feed_device.specs.Sockets.{Socket, IsAccept, IsRead, IsWrite, closed, goes_on_with, SameSockets, OtherSockets};
 
@@ -151,73 +152,68 @@ pub enum Before {
     Goes,
 }
 
+/// Which of the two files is written.
+#[derive(Clone, Copy, Debug, PartialEq, Eq)]
+pub enum FileSlot {
+    /// The state file.
+    Current,
+    /// The one that takes its place once it is whole.
+    Next,
+}
+
 /// The file of the state, the one that takes its place once it is whole, and the one before.
 pub trait Store {
-    // What the file has, and what the one has that takes its place, where that is known.
-    ghost written: { Self → Option (List ℕ) } = { λ _. None };
-
-    ghost written_next: { Self → Option (List ℕ) } = { λ _. None };
-
-    // Each text that one of the files has had, where that is known, the latest first: but for what
-    // was cut off. To have another name changes nothing of it.
-    ghost had: { Self → Option (List (List ℕ)) } = { λ _. None };
+    // What they have, where that is known.
+    ghost files: { Self → StateFiles } = { λ _. unknown_files };
 
     /// What the file had when the relay began, once: so far as it is a state.
     fn read(&mut self) -> Result<Vec<u8>, Stop>
-        ensures left { (texts : List (List ℕ)) → had self.old ≡ Some texts
+        ensures left { (texts : List (List ℕ)) → (files self.old).had ≡ Some texts
             → IfOk result (λ text. IsLeftOf texts text.items) }
-        ensures file { (text : List ℕ) → written self.old ≡ Some text
+        ensures file { (text : List ℕ) → (files self.old).written ≡ Some text
             → IfOk result (λ found. found.items ≡ text) }
-        ensures same { (had self.new ≡ had self.old)
-            × Keeps (written self.old) (written self.new)
-            × Keeps (written_next self.old) (written_next self.new) };
+        ensures same { files self.new ≡ files self.old };
 
     /// What the file before had then, once, where the file goes on from it.
     fn read_former(&mut self) -> Result<Vec<u8>, Stop>
-        ensures left { (texts : List (List ℕ)) → had self.old ≡ Some texts
+        ensures left { (texts : List (List ℕ)) → (files self.old).had ≡ Some texts
             → IfOk result (λ text. IsLeftOf texts text.items) }
-        ensures same { (had self.new ≡ had self.old)
-            × Keeps (written self.old) (written self.new)
-            × Keeps (written_next self.old) (written_next self.new) };
+        ensures same { files self.new ≡ files self.old };
 
     /// Goes on with the file, of which only so many bytes count.
     fn resume(&mut self, length: u64) -> Result<(), Stop>
-        ensures file { (text : List ℕ) → written self.old ≡ Some text
-            → OnOk result (written self.new ≡ Some (take length text)) }
-        ensures next { Keeps (written_next self.old) (written_next self.new) }
-        ensures had { had self.new ≡ had self.old };
+        ensures file { (text : List ℕ) → (files self.old).written ≡ Some text
+            → OnOk result ((files self.new).written ≡ Some (take length text)) }
+        ensures next { (files self.new).next ≡ (files self.old).next }
+        ensures former { (files self.new).former ≡ None }
+        ensures had { (files self.new).had ≡ (files self.old).had };
 
-    /// Appends some of the bytes to the file, from the first on, and answers how many.
-    fn append(&mut self, bytes: &[u8]) -> Result<usize, Stop>
+    /// Appends some of the bytes to a file, from the first on, and answers how many.
+    fn append(&mut self, slot: FileSlot, bytes: &[u8]) -> Result<usize, Stop>
         ensures bound { IfOk result (λ n. n ≤ length bytes.now) }
-        ensures bytes { WriteAppends (written self.old) (written self.new) result bytes.now }
-        ensures next { Keeps (written_next self.old) (written_next self.new) }
-        ensures had { (text : List ℕ) → written self.old ≡ Some text
-            → HasMore (had self.old) (had self.new) text bytes.now };
+        ensures bytes { WriteAppends (file_text slot (files self.old))
+            (file_text slot (files self.new)) result bytes.now }
+        ensures rest { OtherFilesStay slot (files self.old) (files self.new) }
+        ensures had { (text : List ℕ) → file_text slot (files self.old) ≡ Some text
+            → HasMore (files self.old).had (files self.new).had text bytes.now
+            result };
 
     /// Begins the file that is to take its place.
     fn begin(&mut self) -> Result<(), Stop>
-        ensures begun { (text : List ℕ) → written_next self.old ≡ Some text
-            → OnOk result (written_next self.new ≡ Some []) }
-        ensures known { IsKnown (written_next self.old) → IsKnown (written_next self.new) }
-        ensures file { Keeps (written self.old) (written self.new) }
-        ensures had { had self.new ≡ had self.old };
-
-    /// Appends some of the bytes to that one, from the first on, and answers how many.
-    fn append_next(&mut self, bytes: &[u8]) -> Result<usize, Stop>
-        ensures bound { IfOk result (λ n. n ≤ length bytes.now) }
-        ensures bytes { WriteAppends (written_next self.old) (written_next self.new) result
-            bytes.now }
-        ensures file { Keeps (written self.old) (written self.new) }
-        ensures had { (text : List ℕ) → written_next self.old ≡ Some text
-            → HasMore (had self.old) (had self.new) text bytes.now };
+        ensures begun { (text : List ℕ) → (files self.old).next ≡ Some text
+            → OnOk result ((files self.new).next ≡ Some []) }
+        ensures known { IsKnown (files self.old).next → IsKnown (files self.new).next }
+        ensures rest { OtherFilesStay Next (files self.old) (files self.new) }
+        ensures had { (files self.new).had ≡ (files self.old).had };
 
     /// It takes the place of the file. What becomes of the one before is said, too.
     fn replace(&mut self, before: Before) -> Result<(), Stop>
-        ensures file { (text : List ℕ) → written_next self.old ≡ Some text
-            → OnOk result (written self.new ≡ Some text) }
-        ensures known { IsKnown (written_next self.old) → IsKnown (written_next self.new) }
-        ensures had { had self.new ≡ had self.old };
+        ensures file { (text : List ℕ) → (files self.old).next ≡ Some text
+            → OnOk result ((files self.new).written ≡ Some text) }
+        ensures former { OnOk result
+            ((files self.new).former ≡ gone_on_from before (files self.old).written) }
+        ensures known { IsKnown (files self.old).next → IsKnown (files self.new).next }
+        ensures had { (files self.new).had ≡ (files self.old).had };
 }
 
 /// All that a turn reads from and writes to.

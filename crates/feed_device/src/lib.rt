@@ -5,5 +5,5 @@
 mod device;
 mod told;
 
-pub use device::{Before, Devices, Link, Ready, Sockets, Stop, Store};
+pub use device::{Before, Devices, FileSlot, Link, Ready, Sockets, Stop, Store};
 pub use told::{Excerpt, How, Told, Why};

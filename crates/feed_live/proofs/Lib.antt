@@ -21,3 +21,4 @@ pub mod ReplayExample
 pub mod FileReading
 pub mod AuditedLemmas
 pub mod FilesLeft
+pub mod RunLemmas

@@ -12,3 +12,4 @@ pub mod Saved
 pub mod Pending
 pub mod Owed
 pub mod Audited
+pub mod Running

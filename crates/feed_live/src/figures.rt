@@ -2,6 +2,7 @@
 
 use crate::conn::{Conn, Stage};
 use crate::screens::Screens;
+use crate::times::LONG_WAIT;
 use crate::told::Telling;
 use crate::turn::Live;
 use feed_device::{Told, Why};
@@ -28,9 +29,6 @@ pub enum Following {
     /// The input has ended, or can't be followed.
     Ended,
 }
-
-/// After so many milliseconds in which changes waited for a token, there may be none.
-pub const LONG_WAIT: u64 = 10_000;
 
 /// How many kinds of reasons are counted.
 const KINDS: usize = 10;

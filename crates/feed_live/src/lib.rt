@@ -3,7 +3,8 @@
 //!
 //! The turn has no handle. What it reads from and writes to is given (`Devices`), and so is the
 //! time, in milliseconds. Whoever runs it waits until a device is ready, or the time has come that
-//! the turn named, and runs the next one. What happened is told as values (`Told`).
+//! the turn named, and runs the next one: so does `run`, on a `Host`. What happened is told as
+//! values (`Told`).
 //!
 //! A turn goes from upstream to the screens: what upstream sent is followed and said first, then
 //! whoever is gone is closed, then screens are written to and read from, and new ones come last. So
@@ -15,10 +16,12 @@ mod audited;
 mod conn;
 mod figures;
 mod hand;
+mod host;
 mod laws;
 mod options;
 mod relay;
 mod restoring;
+mod running;
 mod saved;
 mod screens;
 mod source;
@@ -30,11 +33,13 @@ mod turn;
 pub use audited::audited_laws;
 pub use feed_device::{Before, Devices, How, Link, Ready, Sockets, Stop, Store, Told, Why};
 pub use figures::{
-    Failure, FeedFigures, FileFigures, Following, LONG_WAIT, Reason, ScreenFigures, ScreenRow,
-    ScreenTotals,
+    Failure, FeedFigures, FileFigures, Following, Reason, ScreenFigures, ScreenRow, ScreenTotals,
 };
+pub use host::{Given, Host};
 pub use laws::{foreign_laws, live_laws, network_laws};
 pub use options::{LiveLimits, Start};
 pub use restoring::{Restored, restore};
+pub use running::{run, run_laws};
 pub use starting::restore_from;
+pub use times::LONG_WAIT;
 pub use turn::{Input, Live, Turn};

@@ -1,7 +1,6 @@
 //! A relay begins with what its state files had.
 
 ghost use Rattle.std.specs.Prelude.{◌≡◌, List, ℕ, Some, IfOk, IfSome};
-ghost use Rattle.std.specs.Io.KnownBytes.{Keeps};
 ghost use Rattle.feed_node.specs.States.{NodeState};
 ghost use Rattle.feed_world.specs.Log.{Log, IsLog};
 ghost use Rattle.feed_hub.specs.Laws.{IsInLog, AreInLog};
@@ -32,16 +31,15 @@ pub fn restore_from<D: Store>(
     ensures limits { IfOk result (λ restored. restored.mirror.limits ≡ limits) }
     // where all that the files ever had was some of what records of nodes of a log wrote
     ensures in_log { (log : Log) (nodes : List NodeState) → IsLog limits log → AreInLog log nodes
-        → AreParts nodes (D.had store.old)
+        → AreParts nodes (D.files store.old).had
         → IfOk result (λ restored. IsInLog limits log restored.mirror.node) }
     // then the state file goes on behind what it has of such a record
     ensures goes_on { (log : Log) (nodes : List NodeState) (text : List ℕ) → IsLog limits log
-        → AreInLog log nodes → AreParts nodes (D.had store.old) → D.written store.old ≡ Some text
+        → AreInLog log nodes → AreParts nodes (D.files store.old).had
+        → (D.files store.old).written ≡ Some text
         → IfOk result (λ restored. IfSome restored.file
         (GoesOn nodes text restored.mirror.node)) }
-    ensures same { (D.had store.new ≡ D.had store.old)
-        × Keeps (D.written store.old) (D.written store.new)
-        × Keeps (D.written_next store.old) (D.written_next store.new) }
+    ensures same { D.files store.new ≡ D.files store.old }
 {
     let former = or_nothing(alloc, store.read_former());
     match store.read() {

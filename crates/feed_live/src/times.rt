@@ -22,6 +22,9 @@ pub(crate) const REPLAY_REPORT: u64 = 30_000;
 /// is less.
 pub(crate) const TURN_TIME: u64 = 10_000;
 
+/// After so long in which changes waited for a token, there may be none.
+pub const LONG_WAIT: u64 = 10_000;
+
 // ---- screens
 
 /// How long a request's head may take, beside the time for which requests may have to wait until a

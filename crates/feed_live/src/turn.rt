@@ -97,10 +97,10 @@ impl Live {
             → IsTakingInput limits log start.restored.mirror [] result sockets }
         // what the state files have, where the good bytes of what was restored are a record's
         ensures kept { (nodes : List NodeState) (text : List ℕ)
-            → D.written store.old ≡ Some text → IsKnown (D.written_next store.old)
+            → (D.files store.old).written ≡ Some text → IsKnown (D.files store.old).next
             → IfSome start.restored.file (GoesOn nodes text start.restored.mirror.node)
-            → KeepsFiles nodes (D.written store.new) (D.written_next store.new) result.saved }
-        ensures had { D.had store.new ≡ D.had store.old }
+            → KeepsFiles nodes (D.files store.new) result.saved }
+        ensures had { (D.files store.new).had ≡ (D.files store.old).had }
         ensures contest { result.contest ≡ contest }
     {
         let Start {
@@ -151,6 +151,8 @@ impl Live {
         ensures taking { (sockets : AllSockets) → StillTaking self.old self.new []
             sockets sockets }
         ensures saved { SameSaved self.old self.new }
+        ensures rest { (self.new.source ≡ self.old.source)
+            × (self.new.ends_at ≡ self.old.ends_at) }
     {
         self.telling.clear();
     }
@@ -183,25 +185,21 @@ impl Live {
         // the state files have what a record wrote of nodes that were shown, one after another
         ensures kept { (nodes : List NodeState)
             → Contains nodes self.new.source.answers.shown.mirror.node
-            → KeepsFiles nodes (D.written devices.old.store) (D.written_next devices.old.store)
-            self.old.saved
-            → KeepsFiles nodes (D.written devices.new.store) (D.written_next devices.new.store)
-            self.new.saved }
+            → KeepsFiles nodes (D.files devices.old.store) self.old.saved
+            → KeepsFiles nodes (D.files devices.new.store) self.new.saved }
 
         // all that they ever had is some of what records of such nodes wrote, from the first byte on
         ensures parts { (nodes : List NodeState)
             → Contains nodes self.new.source.answers.shown.mirror.node
-            → KeepsFiles nodes (D.written devices.old.store) (D.written_next devices.old.store)
-            self.old.saved
-            → AreParts nodes (D.had devices.old.store)
-            → AreParts nodes (D.had devices.new.store) }
+            → KeepsFiles nodes (D.files devices.old.store) self.old.saved
+            → AreParts nodes (D.files devices.old.store).had
+            → AreParts nodes (D.files devices.new.store).had }
 
         // where the feed was published afresh, they have nothing of what was shown before
         ensures anew { self.new.source.epoch ≢ self.old.epoch → (nodes : List NodeState)
             → Contains nodes self.new.source.answers.shown.mirror.node
-            → IsKnown (D.written_next devices.old.store)
-            → KeepsFiles nodes (D.written devices.new.store) (D.written_next devices.new.store)
-            self.new.saved }
+            → IsKnown (D.files devices.old.store).next
+            → KeepsFiles nodes (D.files devices.new.store) self.new.saved }
 
         // where some screen has more to read or to write, the next turn is due at once
         ensures wakes { self.new.screens.has_more ≡ true → result.due ≤ now }
@@ -211,6 +209,9 @@ impl Live {
 
         // what counts as owed is what connections have yet to take, and nothing where there is none
         ensures owed { OwesWhatIsKept self.new.screens }
+
+        // it is the last one only where the relay ends with its input
+        ensures over { result.is_over ≡ true → self.new.ends_at ≢ None }
     {
         let held = self.held();
         let had_more = self.screens.begin_turn(held);
@@ -371,17 +372,17 @@ impl Live {
         ensures serves { (sockets : AllSockets) → OnlyServes self.old self.new sockets sockets }
         ensures kept { (nodes : List NodeState)
             → Contains nodes self.old.source.answers.shown.mirror.node
-            → KeepsFiles nodes (D.written store.old) (D.written_next store.old) self.old.saved
-            → KeepsFiles nodes (D.written store.new) (D.written_next store.new) self.new.saved }
+            → KeepsFiles nodes (D.files store.old) self.old.saved
+            → KeepsFiles nodes (D.files store.new) self.new.saved }
         ensures parts { (nodes : List NodeState)
             → Contains nodes self.old.source.answers.shown.mirror.node
-            → KeepsFiles nodes (D.written store.old) (D.written_next store.old) self.old.saved
-            → AreParts nodes (D.had store.old) → AreParts nodes (D.had store.new) }
+            → KeepsFiles nodes (D.files store.old) self.old.saved
+            → AreParts nodes (D.files store.old).had → AreParts nodes (D.files store.new).had }
         // where the feed was published afresh, they have nothing of what was shown before
         ensures anew { self.old.source.epoch ≢ self.old.epoch → (nodes : List NodeState)
             → Contains nodes self.old.source.answers.shown.mirror.node
-            → IsKnown (D.written_next store.old)
-            → KeepsFiles nodes (D.written store.new) (D.written_next store.new) self.new.saved }
+            → IsKnown (D.files store.old).next
+            → KeepsFiles nodes (D.files store.new) self.new.saved }
     {
         let Some(saved) = &mut self.saved else {
             return;
@@ -535,6 +536,7 @@ impl Live {
         ensures awake { result.due ≤ min (self.new.reported + 60000) (2 ^ 64 - 1) }
         ensures serves { (sockets : AllSockets) → OnlyServes self.old self.new sockets sockets }
         ensures saved { SameSaved self.old self.new }
+        ensures over { result.is_over ≡ true → self.new.ends_at ≢ None }
     {
         self.report(now);
         Turn {
@@ -548,7 +550,9 @@ impl Live {
         self.ends_at.is_none() && self.screens.says_at().is_none()
     }
 
-    fn is_over(&self, now: u64) -> bool {
+    fn is_over(&self, now: u64) -> bool
+        ensures { result ≡ true → self.now.ends_at ≢ None }
+    {
         match self.ends_at {
             Some(at) => at <= now || self.screens.conns.is_empty() && self.is_saved(),
             None => false,
@@ -598,10 +602,11 @@ fn saved_of<D: Store>(
     file: Option<Good>,
     has_store: bool,
 ) -> Option<Saved>
-    ensures kept { (nodes : List NodeState) (text : List ℕ) → D.written store.old ≡ Some text
-        → IsKnown (D.written_next store.old) → IfSome file (GoesOn nodes text node.now.shown)
-        → KeepsFiles nodes (D.written store.new) (D.written_next store.new) result }
-    ensures had { D.had store.new ≡ D.had store.old }
+    ensures kept { (nodes : List NodeState) (text : List ℕ)
+        → (D.files store.old).written ≡ Some text → IsKnown (D.files store.old).next
+        → IfSome file (GoesOn nodes text node.now.shown)
+        → KeepsFiles nodes (D.files store.new) result }
+    ensures had { (D.files store.new).had ≡ (D.files store.old).had }
 {
     if has_store {
         Some(Saved::new(store, node, file))

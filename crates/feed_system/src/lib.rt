@@ -18,7 +18,7 @@ mod watchers;
 pub use descriptors::{Placeholders, hold_standard};
 pub use hosts::Host;
 pub use link::Servers;
-pub use opening::{OpenFault, open};
+pub use opening::{OpenFault, Opened, open};
 pub use pair::Pair;
 pub use procfs::{process, since_1970};
 pub use sockets::Port;

@@ -65,7 +65,7 @@ impl<'r> Servers<'r> {
     }
 
     /// What the server of a number is called, with the address at which it was asked last.
-    pub(crate) fn name(&self, alloc: Global, server: usize) -> Result<String, AllocError> {
+    pub fn name(&self, alloc: Global, server: usize) -> Result<String, AllocError> {
         let Some(server) = self.servers.get(server) else {
             return String::from_str(alloc, "?");
         };

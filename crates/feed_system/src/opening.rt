@@ -172,6 +172,14 @@ fn open_ends(rt: &HostRuntime, options: &LiveOptions<'_>) -> Result<Ends, OpenFa
     })
 }
 
+/// All that a relay runs on.
+#[derive(Drop)]
+pub struct Opened<'r> {
+    pub system: System<'r>,
+    /// What its turns read from and write to.
+    pub devices: Devices<Port, Servers<'r>, StateStore<&'r HostRuntime>>,
+}
+
 /// Makes all that a relay runs on, and listens. Its time begins at the start. The servers that it
 /// may connect to are those of these hosts, and its state is kept in these files.
 pub fn open<'r>(
@@ -180,31 +188,37 @@ pub fn open<'r>(
     kept: Option<Kept<File>>,
     hosts: Vec<Host>,
     start: Instant,
-) -> Result<System<'r>, OpenFault> {
-    let files = match kept {
+) -> Result<Opened<'r>, OpenFault> {
+    let store = match kept {
         Some(kept) => StateStore::new(rt, kept),
         None => StateStore::none(rt),
     };
     let buffers = make_buffers(rt.alloc())?;
     let ends = open_ends(rt, options)?;
     let registry = ends.poll.registry().try_clone()?;
-    let servers = Servers::new(rt, registry, LINK, hosts)?;
-    Ok(joined(rt, ends, servers, files, buffers, start))
-}
-
-fn joined<'r>(
-    rt: &'r HostRuntime,
-    ends: Ends,
-    servers: Servers<'r>,
-    files: StateStore<&'r HostRuntime>,
-    buffers: Buffers,
-    start: Instant,
-) -> System<'r> {
+    let link = Servers::new(rt, registry, LINK, hosts)?;
     let Ends {
         poll,
         watchers,
         port,
     } = ends;
+    Ok(Opened {
+        system: joined(rt, poll, watchers, buffers, start),
+        devices: Devices {
+            sockets: port,
+            link,
+            store,
+        },
+    })
+}
+
+fn joined<'r>(
+    rt: &'r HostRuntime,
+    poll: Poll,
+    watchers: Watchers,
+    buffers: Buffers,
+    start: Instant,
+) -> System<'r> {
     let Buffers {
         events,
         ready,
@@ -217,11 +231,6 @@ fn joined<'r>(
         events,
         ready,
         piece,
-        devices: Devices {
-            sockets: port,
-            link: servers,
-            store: files,
-        },
         watchers,
         poll,
         start,

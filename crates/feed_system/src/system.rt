@@ -1,4 +1,5 @@
-//! All that a relay runs on, as one value: it waits, and has what the turn needs.
+//! All that a relay runs on beside the devices of its turns, as one value: it waits, reads the
+//! input, and writes what happened.
 
 use crate::link::{LINK, Servers};
 use crate::opening::LISTENER;
@@ -7,7 +8,7 @@ use crate::standard::{ERRORS, ErrorStream, INPUT, InputStream};
 use crate::telling::{is_told, stamp, text_of};
 use crate::watchers::{FIRST_WATCHER, WATCHERS, Watchers};
 use feed_arguments::Verbosity;
-use feed_device::{Devices, Ready, Told};
+use feed_device::{Ready, Told};
 use feed_state::StateStore;
 use feed_status::Watch;
 use mio::event::Event;
@@ -16,7 +17,7 @@ use std::alloc::AllocError;
 use std::io;
 use std::time::{Duration, Instant};
 
-/// Sockets, files, standard streams and the clock.
+/// What waits for sockets, standard streams and the clock.
 pub struct System<'r> {
     pub(crate) rt: &'r HostRuntime,
     pub(crate) poll: Poll,
@@ -25,7 +26,6 @@ pub struct System<'r> {
     pub ready: Vec<Ready>,
     /// What the input gave is read into this.
     pub piece: Vec<u8>,
-    pub devices: Devices<Port, Servers<'r>, StateStore<&'r HostRuntime>>,
     pub(crate) input: InputStream,
     pub(crate) errors: ErrorStream,
     pub(crate) watchers: Watchers,
@@ -40,7 +40,6 @@ impl Drop for System<'_> {
             events,
             ready,
             piece,
-            devices,
             input,
             errors,
             watchers,
@@ -50,7 +49,6 @@ impl Drop for System<'_> {
         drop(events);
         drop(ready);
         drop(piece);
-        drop(devices);
         drop(input);
         drop(errors);
         drop(watchers);
@@ -122,24 +120,18 @@ impl System<'_> {
         self.input.read(self.rt, registry, &mut self.piece)
     }
 
-    /// What the server of a number is called.
-    pub fn server_name(&self, server: usize) -> Result<String, AllocError> {
-        self.devices.link.name(self.rt.alloc(), server)
-    }
-
     /// Why the state file could not be written, where it could not.
-    pub fn file_fault(&self) -> Result<String, AllocError> {
+    pub fn file_fault(&self, store: &StateStore<&HostRuntime>) -> Result<String, AllocError> {
         let alloc = self.rt.alloc();
-        match self.devices.store.fault() {
+        match store.fault() {
             Some(fault) => format!(in alloc; "{fault}"),
             None => String::from_str(alloc, "it takes nothing"),
         }
     }
 
-    /// How many connections were refused by their address.
-    pub fn refused(&self) -> u64 {
-        let screens = self.devices.sockets.refused();
-        screens.saturating_add(self.watchers.refused())
+    /// How many connections were refused by their address, of screens and of those who watch.
+    pub fn refused(&self, port: &Port) -> u64 {
+        port.refused().saturating_add(self.watchers.refused())
     }
 
     /// Whether somebody who watches the relay has to be answered.
@@ -160,22 +152,28 @@ impl System<'_> {
         }
     }
 
-    /// Tells what happened, as much as is asked for; so many things more happened that nobody kept.
-    /// What can be written without a wait is.
-    pub fn tell(&mut self, told: &[Told], missed: u64, verbosity: Verbosity) {
+    /// Tells what happened with these servers, as much as is asked for; so many things more
+    /// happened that nobody kept. What can be written without a wait is.
+    pub fn tell(
+        &mut self,
+        told: &[Told],
+        missed: u64,
+        servers: &Servers<'_>,
+        verbosity: Verbosity,
+    ) {
         for told in told {
-            self.tell_one(told, verbosity);
+            self.tell_one(told, servers, verbosity);
         }
         self.errors.miss(missed);
         self.tell_missed();
         self.errors.write(self.rt, self.poll.registry());
     }
 
-    fn tell_one(&mut self, told: &Told, verbosity: Verbosity) {
+    fn tell_one(&mut self, told: &Told, servers: &Servers<'_>, verbosity: Verbosity) {
         if !is_told(told, verbosity) {
             return;
         }
-        if let Ok(text) = text_of(self.rt.alloc(), told, &self.devices.link) {
+        if let Ok(text) = text_of(self.rt.alloc(), told, servers) {
             self.line(text.as_str());
         }
     }

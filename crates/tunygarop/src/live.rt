@@ -5,22 +5,51 @@ mod restoring;
 mod watching;
 
 use feed_commands::{Fault, LiveOptions, Verbosity};
+use feed_device::Devices;
 use feed_host::Failure;
-use feed_live::{Following, Input, Live, Turn};
-use feed_system::System;
-use making::{needs_memory, of_system, prepare};
+use feed_live::{Following, Given, Host, Input, Live, Turn, run};
+use feed_state::StateStore;
+use feed_system::{Port, Servers, System};
+use making::{Prepared, needs_memory, of_system, prepare};
 use std::alloc::AllocError;
 use std::io;
 use watching::{View, Watched, Words};
 
-/// A relay, and all that it runs on.
+/// What a relay runs on, beside the devices of its turns.
 #[derive(Drop)]
 struct Engine<'r> {
     rt: &'r HostRuntime,
     system: System<'r>,
-    live: Live,
     watched: Watched,
     verbosity: Verbosity,
+    /// Whether there may be more of the input, where that is read at all.
+    goes_on: bool,
+    waited: Waited,
+}
+
+/// What came of the last wait.
+#[derive(Clone, Copy)]
+struct Waited {
+    /// The time, in milliseconds since the start.
+    now: u64,
+    /// The same when the wait had ended, in microseconds.
+    began: u64,
+    /// How much was read of the input; nothing where it was not read.
+    read: Option<usize>,
+    /// How many commits were published until then.
+    commits: u64,
+}
+
+impl Waited {
+    /// There was none.
+    fn none() -> Waited {
+        Waited {
+            now: 0,
+            began: 0,
+            read: None,
+            commits: 0,
+        }
+    }
 }
 
 /// What the input has, of which so many bytes were read; nothing where it was not read.
@@ -32,7 +61,12 @@ fn input_of(piece: &[u8], read: Option<usize>) -> Input<'_> {
     }
 }
 
-impl Engine<'_> {
+/// How many commits were published since the start.
+fn commits_of(live: &Live) -> u64 {
+    live.feed_figures().commits
+}
+
+impl<'r> Engine<'r> {
     /// Reads what the input has, where that is to be read: how much, none at its end.
     fn read_input(&mut self, takes_input: bool) -> Option<usize> {
         if !takes_input || !self.system.has_input() {
@@ -41,113 +75,88 @@ impl Engine<'_> {
         Some(self.system.read_input())
     }
 
-    /// One turn, with what the input has where that is read.
-    fn turn(&mut self, takes_input: bool) -> io::Result<Turn> {
+    /// Waits, and reads the clock, and the input where that may be read.
+    fn wait_so(&mut self, live: &Live, due: u64, takes_input: bool) -> io::Result<()> {
+        let has_input = takes_input && self.system.has_input();
+        self.system.wait(if has_input { 0 } else { due })?;
+        let began = self.system.microseconds()?;
+        self.watched.advance(began / 1_000_000, live.screens_open());
         let now = self.system.now()?;
         let read = self.read_input(takes_input);
-        let alloc = self.rt.alloc();
-        let system = &mut self.system;
-        let input = input_of(system.piece.as_slice(), read);
-        Ok(
-            self.live
-                .turn(alloc, &mut system.devices, &system.ready, input, now),
-        )
+        self.waited = Waited {
+            now,
+            began,
+            read,
+            commits: commits_of(live),
+        };
+        Ok(())
     }
 
-    /// One turn; it is measured where it published something.
-    fn measured_turn(&mut self, takes_input: bool) -> io::Result<Turn> {
-        let (began, before) = (self.system.microseconds()?, self.commits());
-        self.watched
-            .advance(began / 1_000_000, self.live.screens_open());
-        let turn = self.turn(takes_input)?;
-        let commits = self.commits().saturating_sub(before);
+    /// A turn is measured where it published something.
+    fn measure(&mut self, live: &Live) -> io::Result<()> {
+        let commits = commits_of(live).saturating_sub(self.waited.commits);
         if commits > 0 {
-            let time = self.system.microseconds()?.saturating_sub(began);
+            let time = self
+                .system
+                .microseconds()?
+                .saturating_sub(self.waited.began);
             self.watched.add(commits, time);
         }
-        Ok(turn)
-    }
-
-    /// How many commits were published since the start.
-    fn commits(&self) -> u64 {
-        self.live.feed_figures().commits
+        Ok(())
     }
 
     /// The name of what is followed.
-    fn followed(&self) -> Result<String, AllocError> {
-        let feed = self.live.feed_figures();
+    fn followed(&self, live: &Live, servers: &Servers<'r>) -> Result<String, AllocError> {
+        let alloc = self.rt.alloc();
+        let feed = live.feed_figures();
         match feed.following {
-            Following::Input | Following::Ended => {
-                String::from_str(self.rt.alloc(), "standard input")
-            }
-            _ => self.system.server_name(feed.server),
+            Following::Input | Following::Ended => String::from_str(alloc, "standard input"),
+            _ => servers.name(alloc, feed.server),
         }
     }
 
     /// Why the last attempt to follow a server failed; nothing where none did.
-    fn failure(&self) -> Result<String, AllocError> {
+    fn failure(&self, live: &Live) -> Result<String, AllocError> {
         let alloc = self.rt.alloc();
-        match self.live.feed_figures().failed {
+        match live.feed_figures().failed {
             Some((failure, _)) => format!(in alloc; "{failure}"),
             None => Ok(String::new(alloc)),
         }
     }
 
     /// What is told of the relay in words.
-    fn words(&self) -> Result<Words, AllocError> {
+    fn words(
+        &self,
+        live: &Live,
+        devices: &Devices<Port, Servers<'r>, StateStore<&'r HostRuntime>>,
+    ) -> Result<Words, AllocError> {
         Ok(Words {
-            name: self.followed()?,
-            failure: self.failure()?,
-            fault: self.system.file_fault()?,
+            name: self.followed(live, &devices.link)?,
+            failure: self.failure(live)?,
+            fault: self.system.file_fault(&devices.store)?,
         })
     }
 
     /// Answers those who watch the relay.
-    fn watch(&mut self) -> io::Result<()> {
+    fn watch(
+        &mut self,
+        live: &Live,
+        devices: &Devices<Port, Servers<'r>, StateStore<&'r HostRuntime>>,
+    ) -> io::Result<()> {
         let now = self.system.now()?;
         if !self.system.is_watched(now) {
             return Ok(());
         }
-        let words = self.words()?;
+        let words = self.words(live, devices)?;
         let view = View {
             rt: self.rt,
-            live: &self.live,
+            live,
             watched: &self.watched,
             words: &words,
-            refused: self.system.refused(),
+            refused: self.system.refused(&devices.sockets),
             now,
         };
         self.system.show(&view, now);
-        Ok(())
-    }
-
-    /// Writes what happened.
-    fn tell(&mut self) {
-        let (told, missed) = (self.live.told(), self.live.missed());
-        self.system.tell(told, missed, self.verbosity);
-        self.live.clear_told();
-    }
-
-    /// Turn after turn.
-    fn run(&mut self, reads_input: bool) -> io::Result<()> {
-        let mut turn = Turn {
-            due: 0,
-            takes_input: true,
-            is_over: false,
-        };
-        let mut goes_on = reads_input;
-        for _ in 0..u64::MAX {
-            let takes_input = goes_on && turn.takes_input;
-            let has_input = takes_input && self.system.has_input();
-            self.system.wait(if has_input { 0 } else { turn.due })?;
-            turn = self.measured_turn(takes_input)?;
-            goes_on = goes_on && !self.system.has_no_more_input();
-            self.watch()?;
-            self.tell();
-            if turn.is_over {
-                break;
-            }
-        }
         Ok(())
     }
 
@@ -164,17 +173,48 @@ impl Engine<'_> {
         }
         Ok(())
     }
+}
 
-    /// Says where it listens, and takes turn after turn.
-    fn serve(&mut self, options: &LiveOptions<'_>) -> Result<(), Failure> {
-        self.tell_port(options)?;
-        let reads_input = options.upstream.is_none() || options.until_eof;
-        Ok(of_system(self.run(reads_input))?)
+impl<'r> Host<Port, Servers<'r>, StateStore<&'r HostRuntime>> for Engine<'r> {
+    type Error = io::Error;
+
+    fn wait(&mut self, live: &Live, turn: Turn) -> io::Result<()> {
+        let takes_input = self.goes_on && turn.takes_input;
+        self.wait_so(live, turn.due, takes_input)?;
+        self.goes_on = self.goes_on && !self.system.has_no_more_input();
+        Ok(())
+    }
+
+    fn given(&self) -> Given<'_> {
+        Given {
+            events: &self.system.ready,
+            input: input_of(self.system.piece.as_slice(), self.waited.read),
+            now: self.waited.now,
+        }
+    }
+
+    fn tell(
+        &mut self,
+        live: &Live,
+        devices: &Devices<Port, Servers<'r>, StateStore<&'r HostRuntime>>,
+    ) -> io::Result<()> {
+        self.measure(live)?;
+        self.watch(live, devices)?;
+        let (told, missed) = (live.told(), live.missed());
+        self.system
+            .tell(told, missed, &devices.link, self.verbosity);
+        Ok(())
     }
 }
 
 /// Follows a server, or standard input, and serves what that publishes.
 pub(crate) fn live_feed(rt: &HostRuntime, options: &LiveOptions<'_>) -> Result<(), Failure> {
-    let mut engine = prepare(rt, options)?;
-    engine.serve(options)
+    let Prepared {
+        mut engine,
+        mut devices,
+        mut live,
+    } = prepare(rt, options)?;
+    engine.tell_port(options)?;
+    let ended = run(rt.alloc(), &mut engine, &mut devices, &mut live);
+    Ok(of_system(ended)?)
 }

@@ -1,18 +1,19 @@
 //! What a relay is made of, before its first turn: state files are read, and ports opened.
 
-use crate::live::Engine;
 use crate::live::restoring::told_of;
 use crate::live::watching::Watched;
+use crate::live::{Engine, Waited};
 use feed_answer::{Identity, Place};
 use feed_commands::{
     AddressFault, Fault, LiveOptions, NetworkFault, PullOptions, Server, UpstreamOptions, VERSION,
     Verbosity, servers_of,
 };
+use feed_device::Devices;
 use feed_host::{Failure, Hosts, identity_of};
 use feed_live::{Live, LiveLimits, Restored, Start, Store, restore_from};
 use feed_node::{Limits, Mirror};
-use feed_state::{Kept, StateFault, take_state};
-use feed_system::{Host, OpenFault, System, open};
+use feed_state::{Kept, StateFault, StateStore, take_state};
+use feed_system::{Host, OpenFault, Opened, Port, Servers, System, open};
 use std::alloc::{AllocError, Global};
 use std::fs::File;
 use std::io;
@@ -155,10 +156,9 @@ fn kept_limits(options: &LiveOptions<'_>) -> Limits {
 fn restored(
     rt: &HostRuntime,
     options: &LiveOptions<'_>,
-    system: &mut System<'_>,
+    store: &mut StateStore<&HostRuntime>,
 ) -> Result<Restored, Fault> {
     let limits = kept_limits(options);
-    let store = &mut system.devices.store;
     if options.upstream.is_none() {
         drop(store.read());
         drop(store.read_former());
@@ -263,12 +263,12 @@ fn kept(rt: &HostRuntime, options: &LiveOptions<'_>) -> Result<Option<Kept<File>
 fn start_of(
     rt: &HostRuntime,
     options: &LiveOptions<'_>,
-    system: &mut System<'_>,
+    store: &mut StateStore<&HostRuntime>,
     places: Vec<Place>,
     identity: Identity,
 ) -> Result<Start, Fault> {
     let blank = needs_memory(Mirror::new(rt.alloc(), kept_limits(options)))?;
-    let restored = restored(rt, options, system)?;
+    let restored = restored(rt, options, store)?;
     Ok(Start {
         restored,
         blank,
@@ -309,9 +309,9 @@ fn system_of<'r>(
     kept: Option<Kept<File>>,
     hosts: Vec<Host>,
     start: Instant,
-) -> Result<System<'r>, Failure> {
+) -> Result<Opened<'r>, Failure> {
     match open(rt, options, kept, hosts, start) {
-        Ok(system) => Ok(system),
+        Ok(opened) => Ok(opened),
         Err(fault) => Err(failure_of(rt.alloc(), fault)),
     }
 }
@@ -325,11 +325,19 @@ fn tell_state(system: &mut System<'_>, options: &LiveOptions<'_>, told: Option<S
     }
 }
 
+/// A relay, and all that it runs on.
+#[derive(Drop)]
+pub(super) struct Prepared<'r> {
+    pub(super) engine: Engine<'r>,
+    pub(super) devices: Devices<Port, Servers<'r>, StateStore<&'r HostRuntime>>,
+    pub(super) live: Live,
+}
+
 /// Makes a relay and all that it runs on, and listens.
 pub(super) fn prepare<'r>(
     rt: &'r HostRuntime,
     options: &LiveOptions<'_>,
-) -> Result<Engine<'r>, Failure> {
+) -> Result<Prepared<'r>, Failure> {
     let start = of_system(Instant::now(rt))?;
     let watched = needs_memory(Watched::new(rt, options))?;
     let Plan {
@@ -340,17 +348,26 @@ pub(super) fn prepare<'r>(
     } = make_plan(rt, options)?;
     let Asked { hosts, places } = asked;
     let about = kept.as_ref().map(|kept| kept.about);
-    let mut system = system_of(rt, options, kept, hosts, start)?;
-    let from = start_of(rt, options, &mut system, places, identity)?;
+    let Opened {
+        mut system,
+        mut devices,
+    } = system_of(rt, options, kept, hosts, start)?;
+    let store = &mut devices.store;
+    let from = start_of(rt, options, store, places, identity)?;
     let told = needs_memory(told_of(rt.alloc(), options, about, &from.restored))?;
     tell_state(&mut system, options, told);
-    let store = &mut system.devices.store;
     let live = Live::new(rt.alloc(), contest, limits_of(options), from, store, 0);
-    Ok(Engine {
+    let engine = Engine {
         rt,
         system,
-        live,
         watched,
         verbosity: options.verbosity,
+        goes_on: options.upstream.is_none() || options.until_eof,
+        waited: Waited::none(),
+    };
+    Ok(Prepared {
+        engine,
+        devices,
+        live,
     })
 }

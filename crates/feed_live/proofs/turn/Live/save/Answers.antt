@@ -8,11 +8,18 @@ pub returns-clause-kept : goal.returns-clause-kept
 returns-clause-kept g c =
     λ nodes among files.
     let is : c.args.self.now.saved ≡ Some c.in-Some.saved = search rules in
-    c.save.ensures.kept nodes (subst (Contains nodes) (sym c.node.ensures) among)
-    (c.begin_where.ensures.kept nodes _ _ (subst (KeepsFiles nodes (g.D.Store.written c.args.store.now) (g.D.Store.written_next c.args.store.now)) is files))
+    (c.save.ensures.kept nodes (subst (Contains nodes) (sym c.node.ensures) among)
+    (c.begin_where.ensures.kept nodes _ (subst (KeepsFiles nodes (g.D.Store.files c.args.store.now)) is files))).0
+
+pub returns-clause-parts : goal.returns-clause-parts
+returns-clause-parts g c =
+    λ nodes among files.
+    let is : c.args.self.now.saved ≡ Some c.in-Some.saved = search rules in
+    (c.save.ensures.kept nodes (subst (Contains nodes) (sym c.node.ensures) among)
+    (c.begin_where.ensures.kept nodes _ (subst (KeepsFiles nodes (g.D.Store.files c.args.store.now)) is files))).1
 
 pub returns-clause-anew : goal.returns-clause-anew
 returns-clause-anew g c =
     λ afresh nodes among known.
-    c.save.ensures.kept nodes (subst (Contains nodes) (sym c.node.ensures) among)
-    (c.begin_where.ensures.anew (differ_so c.epoch-epoch.result c.args.self.now.epoch (λ same. afresh (sym c.epoch-epoch.ensures ∙ same))) nodes _ _ known)
+    (c.save.ensures.kept nodes (subst (Contains nodes) (sym c.node.ensures) among)
+    (c.begin_where.ensures.anew (differ_so c.epoch-epoch.result c.args.self.now.epoch (λ same. afresh (sym c.epoch-epoch.ensures ∙ same))) nodes _ known)).0

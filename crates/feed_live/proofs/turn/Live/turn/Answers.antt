@@ -22,8 +22,7 @@ returns g c =
       c.next.ensures.saved.0 ∙ c.serve.ensures.saved.0 ∙ c.tick.ensures.saved.0,
       c.next.ensures.saved.1 ∙ c.serve.ensures.saved.1 ∙ c.tick.ensures.saved.1,
     ) in
-    let written = g.D.Store.written in
-    let next = g.D.Store.written_next in
+    let files_of = g.D.Store.files in
     record {
       relaying = λ limits log servers is.
           relays_on limits log servers _ served (c.follow.ensures.relaying _ limits log servers (c.take_input.ensures.relaying _ _ limits log servers (relays_on limits log servers _ said is)));
@@ -31,15 +30,16 @@ returns g c =
           let taken = c.take_input.ensures.taking _ limits log begun input (takes_only limits log said is) in
           takes_only limits log served (takes_still limits log (c.follow.ensures.nothing taken.no_places) taken);
       kept = λ nodes shown files.
-          subst (KeepsFiles nodes (written c.save.new.store) (next c.save.new.store)) (sym after.0)
-          (c.save.ensures.kept nodes (subst (λ m. Contains nodes m.node) served.source.shown shown) (subst (KeepsFiles nodes (written c.args.devices.now.store) (next c.args.devices.now.store)) (sym before.0) files));
+          subst (KeepsFiles nodes (files_of c.save.new.store)) (sym after.0)
+          (c.save.ensures.kept nodes (subst (λ m. Contains nodes m.node) served.source.shown shown) (subst (KeepsFiles nodes (files_of c.args.devices.now.store)) (sym before.0) files));
       parts = λ nodes shown files parts.
           c.save.ensures.parts nodes (subst (λ m. Contains nodes m.node) served.source.shown shown)
-          (subst (KeepsFiles nodes (written c.args.devices.now.store) (next c.args.devices.now.store)) (sym before.0) files) parts;
+          (subst (KeepsFiles nodes (files_of c.args.devices.now.store)) (sym before.0) files) parts;
       anew = λ newer nodes shown known.
-          subst (KeepsFiles nodes (written c.save.new.store) (next c.save.new.store)) (sym after.0)
+          subst (KeepsFiles nodes (files_of c.save.new.store)) (sym after.0)
           (c.save.ensures.anew (λ same. newer (served.epoch ∙ same ∙ before.1)) nodes (subst (λ m. Contains nodes m.node) served.source.shown shown) known);
       wakes = c.next.ensures.wakes;
       awake = c.next.ensures.awake;
       owed = owes_what_is_kept c.next.new.self.screens;
+      over = c.next.ensures.over;
     }
