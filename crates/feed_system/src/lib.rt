@@ -12,6 +12,7 @@ mod procfs;
 mod sockets;
 mod standard;
 mod system;
+mod tally;
 mod telling;
 mod watchers;
 

@@ -118,10 +118,10 @@ fn status_address(options: &LiveOptions<'_>) -> Result<Option<SocketAddr>, OpenF
 
 /// The port that screens come to, and who may.
 fn port(rt: &HostRuntime, poll: &Poll, options: &LiveOptions<'_>) -> Result<Port, OpenFault> {
-    let guard = Guard::new(allowed(rt.alloc(), options)?, options.per_address);
+    let guard = Guard::new(allowed(rt.alloc(), options)?);
     let listener = listener_of(rt, poll, screens_address(options)?, LISTENER)?;
     let registry = poll.registry().try_clone()?;
-    Ok(Port::new(rt.alloc(), registry, listener, guard))
+    Ok(Port::new(rt.alloc(), registry, listener, guard, options.per_address))
 }
 
 /// Who watches the relay, and the port that they come to.
@@ -130,7 +130,7 @@ fn watchers(
     poll: &Poll,
     options: &LiveOptions<'_>,
 ) -> Result<Watchers, OpenFault> {
-    let guard = Guard::new(allowed(rt.alloc(), options)?, None);
+    let guard = Guard::new(allowed(rt.alloc(), options)?);
     let listener = listener_of(rt, poll, status_address(options)?, WATCHERS)?;
     let registry = poll.registry().try_clone()?;
     Ok(Watchers::new(rt.alloc(), registry, listener, guard))

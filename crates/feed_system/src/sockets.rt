@@ -1,13 +1,15 @@
 //! The screens' sockets.
 
-ghost use Rattle.std.specs.Prelude.{◌≡◌, ◌≤◌, length, IfOk};
+ghost use Rattle.std.specs.Prelude.{◌≡◌, ◌≤◌, ◌↔◌, length, IfOk, IsTrue};
+ghost use Rattle.feed_system.specs.Room.{HasRoom};
 
-use crate::guard::{Guard, counted};
+use crate::guard::Guard;
+use crate::tally::{Owner, Tally};
 use feed_arguments::Origin;
 use feed_device::{Sockets, Stop};
 use mio::net::{TcpListener, TcpStream};
 use mio::{Interest, Registry, Token};
-use std::alloc::Global;
+use std::alloc::{AllocError, Global};
 use std::io;
 use std::io::{ErrorKind, Read, Write};
 use std::net::{Shutdown, SocketAddr};
@@ -15,36 +17,15 @@ use std::net::{Shutdown, SocketAddr};
 /// The token of the first screen's socket; those before it are other devices'.
 pub(crate) const FIRST_SCREEN: usize = 16;
 
-/// The socket of one screen, and as whose it counts.
-#[derive(Drop)]
-struct Peer {
-    stream: TcpStream,
-    owner: Origin,
-    // It sends no more: mostly it went away.
-    has_ended: bool,
-    // It made room for another one, and is sent nothing more.
-    is_gone: bool,
-}
-
-impl Peer {
-    /// Reads once.
-    fn read(&mut self, buf: &mut [u8]) -> Result<usize, Stop>
-        ensures same { length buf.new ≡ length buf.old }
-        ensures bound { IfOk result (λ n. n ≤ length buf.new) }
-    {
-        let count = read_once(&mut self.stream, buf)?;
-        self.has_ended = self.has_ended || count == 0;
-        Ok(count)
-    }
-}
-
 /// A port that screens connect to, who may connect, and their sockets, each at its number.
 #[derive(Drop)]
 pub struct Port {
     registry: Registry,
     listener: Option<TcpListener>,
     guard: Guard,
-    peers: Vec<Option<Peer>>,
+    // Whose they are, where an address may have only so many.
+    tally: Option<Tally>,
+    streams: Vec<Option<TcpStream>>,
 }
 
 /// How often a call that a signal broke off is made.
@@ -89,19 +70,34 @@ pub(crate) fn write_once(stream: &mut TcpStream, bytes: &[u8]) -> Result<usize, 
     Err(Stop::Failed)
 }
 
+/// There are as many places as there have to be for this one.
+fn reach(streams: &mut Vec<Option<TcpStream>>, at: usize) -> Result<(), AllocError> {
+    for _ in streams.len()..=at {
+        streams.push(None)?;
+    }
+    Ok(())
+}
+
 impl Port {
-    /// No screens yet. Without a listener none comes.
+    /// No screens yet. Without a listener none comes. An address may have so many, where that is
+    /// limited.
     pub(crate) fn new(
         alloc: Global,
         registry: Registry,
         listener: Option<TcpListener>,
         guard: Guard,
+        per_address: Option<u64>,
     ) -> Port {
+        let tally = match per_address {
+            Some(most) => Some(Tally::new(alloc, most)),
+            None => None,
+        };
         Port {
             registry,
             listener,
             guard,
-            peers: Vec::new(alloc),
+            tally,
+            streams: Vec::new(alloc),
         }
     }
 
@@ -111,68 +107,75 @@ impl Port {
     }
 
     fn stream(&mut self, at: usize) -> Option<&mut TcpStream> {
-        Some(&mut self.peer(at)?.stream)
+        self.streams.get_mut(at)?.as_mut()
     }
 
-    fn peer(&mut self, at: usize) -> Option<&mut Peer> {
-        self.peers.get_mut(at)?.as_mut()
-    }
-
-    /// How many connections somebody has.
-    fn count_of(&self, owner: Origin) -> u64 {
-        let mut count = 0u64;
-        for peer in &self.peers {
-            if peer
-                .as_ref()
-                .is_some_and(|peer| peer.owner == owner && !peer.is_gone)
-            {
-                count = count.saturating_add(1);
-            }
+    /// Whether somebody may have one more connection.
+    fn has_room(&self, owner: Owner) -> bool
+        ensures { IsTrue result ↔ HasRoom self.now.tally owner }
+    {
+        match &self.tally {
+            Some(tally) => tally.has_room(owner),
+            None => true,
         }
-        count
     }
 
-    /// Takes leave of a connection of somebody, if there is one that has ended what it sends. That
-    /// it went away would only be found when it is written to for the second time.
-    fn make_room(&mut self, owner: Origin) {
-        for place in &mut self.peers {
-            let Some(peer) = place else {
-                continue;
-            };
-            if peer.owner == owner && peer.has_ended && !peer.is_gone {
-                peer.is_gone = true;
-                let _ = peer.stream.shutdown(Shutdown::Both);
-                return;
-            }
+    /// Takes leave of a connection of somebody, if there is one that sends no more. That it went
+    /// away would only be found when it is written to for the second time.
+    fn make_room(&mut self, owner: Owner) {
+        let Some(tally) = &mut self.tally else {
+            return;
+        };
+        let Some(at) = tally.ended(owner) else {
+            return;
+        };
+        tally.remove(at);
+        if let Some(stream) = self.stream(at) {
+            let _ = stream.shutdown(Shutdown::Both);
         }
     }
 
     /// Whether who connects stays.
-    fn lets_in(&mut self, origin: Origin) -> bool {
-        let owner = counted(origin);
-        if !self.guard.has_room(self.count_of(owner)) {
+    fn lets_in(&mut self, origin: Origin, owner: Owner) -> bool
+        ensures { IsTrue result → HasRoom self.new.tally owner }
+    {
+        if !self.has_room(owner) {
             self.make_room(owner);
         }
-        let count = self.count_of(owner);
-        self.guard.lets_in(origin, count)
+        let has_room = self.has_room(owner);
+        self.guard.lets_in(origin, has_room)
+    }
+
+    /// The connection at a number counts as somebody's, where they are counted.
+    fn count(&mut self, at: usize, owner: Owner) -> Result<(), AllocError>
+        requires { HasRoom self.old.tally owner }
+    {
+        match &mut self.tally {
+            Some(tally) => tally.add(at, owner),
+            None => Ok(()),
+        }
+    }
+
+    /// The connection at a number sends no more. Where there is no memory to note that, it makes
+    /// room for no other one.
+    fn end(&mut self, at: usize) {
+        if let Some(tally) = &mut self.tally {
+            let _ = tally.end(at);
+        }
     }
 
     /// Keeps a socket at its number, and has events of it told.
-    fn keep(&mut self, at: usize, owner: Origin, mut stream: TcpStream) -> io::Result<()> {
+    fn keep(&mut self, at: usize, owner: Owner, mut stream: TcpStream) -> io::Result<()>
+        requires { HasRoom self.old.tally owner }
+    {
         let _ = stream.set_nodelay(true);
         let interests = Interest::READABLE | Interest::WRITABLE;
         let token = Token(FIRST_SCREEN.saturating_add(at));
-        for _ in self.peers.len()..=at {
-            self.peers.push(None)?;
-        }
+        reach(&mut self.streams, at)?;
         self.registry.register(&mut stream, token, interests)?;
-        if let Some(place) = self.peers.get_mut(at) {
-            *place = Some(Peer {
-                stream,
-                owner,
-                has_ended: false,
-                is_gone: false,
-            });
+        self.count(at, owner)?;
+        if let Some(place) = self.streams.get_mut(at) {
+            *place = Some(stream);
         }
         Ok(())
     }
@@ -185,20 +188,24 @@ impl Sockets for Port {
         };
         let (stream, peer) = listener.accept().map_err(|error| stop_of(&error))?;
         let origin = Origin::of(peer.ip());
+        let owner = Owner::of(origin);
         // Who may not connect is closed here, with its socket.
-        if !self.lets_in(origin) {
+        if !self.lets_in(origin, owner) {
             return Err(Stop::Gone);
         }
-        self.keep(at, counted(origin), stream)
-            .map_err(|_| Stop::Failed)?;
+        self.keep(at, owner, stream).map_err(|_| Stop::Failed)?;
         Ok(peer)
     }
 
     fn read(&mut self, at: usize, buf: &mut [u8]) -> Result<usize, Stop> {
-        match self.peer(at) {
-            Some(peer) => peer.read(buf),
-            None => Err(Stop::Failed),
+        let Some(stream) = self.stream(at) else {
+            return Err(Stop::Failed);
+        };
+        let count = read_once(stream, buf)?;
+        if count == 0 {
+            self.end(at);
         }
+        Ok(count)
     }
 
     fn write(&mut self, at: usize, bytes: &[u8]) -> Result<usize, Stop> {
@@ -215,7 +222,10 @@ impl Sockets for Port {
     }
 
     fn close(&mut self, at: usize) {
-        if let Some(place) = self.peers.get_mut(at) {
+        if let Some(tally) = &mut self.tally {
+            tally.remove(at);
+        }
+        if let Some(place) = self.streams.get_mut(at) {
             *place = None;
         }
     }

@@ -285,7 +285,7 @@ impl Watchers {
     /// taken.
     fn accept_one<W: Watch>(&mut self, alloc: Global, relay: &W, now: u64) -> Option<()> {
         let (stream, peer) = self.listener.as_ref()?.accept().ok()?;
-        if !self.guard.lets_in(Origin::of(peer.ip()), 0) {
+        if !self.guard.lets_in(Origin::of(peer.ip()), true) {
             return Some(());
         }
         self.make_room();
