@@ -23,7 +23,7 @@ _tunygarop() {
             mapfile -t COMPREPLY < <(compgen -A hostname -- "$word")
             return
             ;;
-        --state | --user-file | --primary)
+        --state | --user-file | --primary | --screen)
             compopt -o filenames 2> /dev/null
             mapfile -t COMPREPLY < <(compgen -f -- "$word")
             return
@@ -50,7 +50,7 @@ _tunygarop() {
     case $command in
         tables) names="at history staged memory verbose" ;;
         check) names="stream verbose" ;;
-        audit) names="primary of against contest for json verbose history staged memory" ;;
+        audit) names="primary screen of against contest for json verbose history staged memory" ;;
         play) names="" ;;
         serve) names="port contest count turn chunked back verbose history staged memory" ;;
         pull) names="host port from contest base host-header user-file turns silence resume verbose history staged memory" ;;

@@ -16,7 +16,8 @@ complete -c tunygarop -n '__fish_seen_subcommand_from help' -a 'tables check aud
 complete -c tunygarop -s h -l help -d 'Print help'
 complete -c tunygarop -n __fish_use_subcommand -s V -l version -d 'Print the version'
 
-complete -c tunygarop -n '__fish_seen_subcommand_from audit' -l primary -x -a '(__fish_complete_path)' -d 'File with the primary\'s record'
+complete -c tunygarop -n '__fish_seen_subcommand_from audit' -l primary -x -a '(__fish_complete_path)' -d 'File with the primary\'s record, or - for standard input'
+complete -c tunygarop -n '__fish_seen_subcommand_from audit' -l screen -x -a '(__fish_complete_path)' -d 'File with the screen\'s record, in place of standard input'
 complete -c tunygarop -n '__fish_seen_subcommand_from audit' -l of -x -d 'Server that is compared with another one'
 complete -c tunygarop -n '__fish_seen_subcommand_from audit' -l against -x -d 'Server that it is compared with'
 complete -c tunygarop -n '__fish_seen_subcommand_from audit' -l for -x -d 'Seconds for which servers are compared, 1 to 1000000'

@@ -77,6 +77,9 @@ verbose = flag (codes "verbose")
 abbrev pub primary : Rule
 primary = text_option (codes "primary")
 
+abbrev pub screen : Rule
+screen = text_option (codes "screen")
+
 abbrev pub of : Rule
 of = text_option (codes "of")
 

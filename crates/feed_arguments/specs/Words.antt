@@ -7,7 +7,7 @@ use Rattle.clap.specs.Words.{App, Row, Rule, Text, new_app, subcommand_of, takes
 use Rattle.feed_settings.specs.Limits.{most_commits}
 use Rattle.feed_arguments.specs.Addresses.{most_port}
 use Rattle.feed_arguments.specs.Live.{live, AsksLive}
-use Rattle.feed_arguments.specs.Options.{most_rounds, most_silence, at, stream, verbose, primary, of, against, compared_contest, for_seconds, json, port, listen, contest, count, turn, chunked, back, host, from, base, host_header, user_file, turns, silence, resume, limits, with_rules}
+use Rattle.feed_arguments.specs.Options.{most_rounds, most_silence, at, stream, verbose, primary, screen, of, against, compared_contest, for_seconds, json, port, listen, contest, count, turn, chunked, back, host, from, base, host_header, user_file, turns, silence, resume, limits, with_rules}
 use Rattle.feed_arguments.specs.Options.{text_at, IsNumber, IsNumberUpTo, IsNumberIfGiven, IsGiven, IsFramed, AsksLimits}
 use Rattle.feed_arguments.specs.declared.request.Local.TheVariants as local
 use Rattle.clap.specs.declared.error.kind.ErrorKind.{ErrorKind}
@@ -43,6 +43,10 @@ with_pull command =
 abbrev pub served : List Rule
 served = port ∷ contest ∷ count ∷ turn ∷ chunked ∷ back ∷ []
 
+-- those that say which records are compared
+abbrev pub audited : List Rule
+audited = primary ∷ screen ∷ []
+
 -- those that say which servers are compared
 abbrev pub compared : List Rule
 compared = of ∷ against ∷ compared_contest ∷ for_seconds ∷ []
@@ -55,7 +59,7 @@ check = with_rules (new_app (codes "check")) (stream ∷ verbose ∷ [])
 
 abbrev pub audit : App
 audit =
-    with_rules (with_rules (with_rules (with_rules (new_app (codes "audit")) (primary ∷ [])) compared)
+    with_rules (with_rules (with_rules (with_rules (new_app (codes "audit")) audited) compared)
     (json ∷ verbose ∷ [])) limits
 
 abbrev pub play : App
@@ -110,17 +114,30 @@ pub record ComparesNone (rows : List Row) : Type 0 where
   pub contest_is : text_at (codes "contest") rows ≡ None
   pub seconds_are : text_at (codes "for") rows ≡ None
 
--- the values of the options of `audit` that compares records
+-- a record of this name is on standard input, as one without a name is
+abbrev pub IsOnInput : Option Text → Type 0
+IsOnInput None = Unit {0}
+IsOnInput (Some name) = name ≡ codes "-"
+
+-- both are
+abbrev pub AreOnInput : Option Text → Option Text → Type 0
+AreOnInput primary screen = IsOnInput primary × IsOnInput screen
+
+-- the values of the options of `audit` that compares records, one of which at most is on standard
+-- input
 pub record AsksAudit (rows : List Row) (options : AuditOptions) : Type 0 where
   pub alone : ComparesNone rows
   pub primary_is : text_at (codes "primary") rows ≡ Some options.primary.now
+  pub screen_is : text_at (codes "screen") rows ≡ option_map (λ text. text.now) options.screen
+  pub apart : ¬ (AreOnInput (text_at (codes "primary") rows) (text_at (codes "screen") rows))
   pub json_is : IsGiven (codes "json") rows options.json
   pub verbose_is : IsGiven (codes "verbose") rows options.verbose
   pub limits_are : AsksLimits rows options.limits
 
 -- the values of the options of `audit` that compares two servers
 pub record AsksCompare (rows : List Row) (options : CompareOptions) : Type 0 where
-  pub alone : text_at (codes "primary") rows ≡ None
+  pub no_primary : text_at (codes "primary") rows ≡ None
+  pub no_screen : text_at (codes "screen") rows ≡ None
   pub of_is : text_at (codes "of") rows ≡ Some options.of.now
   pub against_is : text_at (codes "against") rows ≡ Some options.against.now
   pub contest_is : text_at (codes "contest") rows ≡ Some options.contest.now

@@ -25,8 +25,10 @@ pub struct CheckOptions {
 /// What `audit` compares the record of a screen with, and how it prints what it found.
 #[derive(Clone, Copy)]
 pub struct AuditOptions<'a> {
-    /// The name of the file with the primary's record. Any text will do.
+    /// The name of the file with the primary's record, or `-` for standard input. Any text will do.
     pub primary: &'a str,
+    /// The same of the screen's, which without it is on standard input. One of both is not.
+    pub screen: Option<&'a str>,
     /// Whether what was found is printed as JSON.
     pub json: bool,
     /// Whether objects that differ are printed whole, however long they are.

@@ -11,7 +11,7 @@ mod live;
 mod options;
 
 use crate::request::{NoCommand, Request};
-use asked::request_entered;
+use asked::{refusal, request_entered};
 use clap::error::ErrorKind;
 use line::{USUAL_CALLS, command_line};
 use std::alloc::Global;
@@ -49,11 +49,7 @@ fn parse<'a>(alloc: Global, words: &'a [&'a str]) -> Result<Request<'a>, clap::E
     let matches = program.try_get_matches_from_mut(words)?;
     match request_entered(&matches) {
         Some(request) => Ok(request),
-        None => Err(program.error(
-            ErrorKind::ValueValidation,
-            "a number out of its range, or options that do not go together: \
-              audit takes --primary alone, or --of, --against and --contest",
-        )?),
+        None => Err(program.error(ErrorKind::ValueValidation, refusal(&matches))?),
     }
 }
 

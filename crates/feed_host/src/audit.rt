@@ -1,4 +1,4 @@
-//! The command `audit`, over a file and the standard streams.
+//! The command `audit`, over files and the standard streams.
 
 use crate::ahead::{file_ahead, input_ahead};
 use crate::ending::Failure;
@@ -6,55 +6,90 @@ use feed_commands::stream::Stream;
 use feed_commands::{AuditOptions, Fault, print_verdict, read_record};
 use std::io::ErrorKind;
 
-const UNREAD_PRIMARY: &str = "the primary's record can't be read";
+/// The name that stands for standard input.
+const INPUT: &str = "-";
 
-const LONG_PRIMARY: &str = "the primary's record has over 512 MiB";
+/// What a second line says of a record that can't be read, and of one that is too long.
+#[derive(Clone, Copy)]
+struct Texts {
+    unread: &'static str,
+    long: &'static str,
+}
 
-const UNREAD_SCREEN: &str = "the screen's record, on standard input, can't be read";
+const PRIMARY_FILE: Texts = Texts {
+    unread: "the primary's record can't be read",
+    long: "the primary's record has over 512 MiB",
+};
 
-const LONG_SCREEN: &str = "the screen's record, on standard input, has over 512 MiB";
+const PRIMARY_INPUT: Texts = Texts {
+    unread: "the primary's record, on standard input, can't be read",
+    long: "the primary's record, on standard input, has over 512 MiB",
+};
 
-/// A fault of reading a record; a second line says which.
-fn failure_of(fault: Fault, unread: &'static str, long: &'static str) -> Failure {
-    match fault {
-        Fault::Read => Failure::with_more(fault, unread),
-        Fault::TooLong => Failure::with_more(fault, long),
-        _ => Failure::from(fault),
+const SCREEN_FILE: Texts = Texts {
+    unread: "the screen's record can't be read",
+    long: "the screen's record has over 512 MiB",
+};
+
+const SCREEN_INPUT: Texts = Texts {
+    unread: "the screen's record, on standard input, can't be read",
+    long: "the screen's record, on standard input, has over 512 MiB",
+};
+
+impl Texts {
+    /// A fault of reading the record; a second line says which.
+    fn failure(self, fault: Fault) -> Failure {
+        match fault {
+            Fault::Read => Failure::with_more(fault, self.unread),
+            Fault::TooLong => Failure::with_more(fault, self.long),
+            _ => Failure::from(fault),
+        }
     }
 }
 
-/// The primary's record: what the file of this name has.
-fn read_primary(rt: &HostRuntime, path: &str) -> Result<Vec<u8>, Failure> {
-    match file_ahead(rt, path) {
-        Ok(file) => read_record(rt.alloc(), &mut Stream::new(file)).map_err(|fault| failure_of(
-            fault,
-            UNREAD_PRIMARY,
-            LONG_PRIMARY,
-        )),
+/// What the file of this name has.
+fn read_file(rt: &HostRuntime, name: &str, texts: Texts) -> Result<Vec<u8>, Failure> {
+    match file_ahead(rt, name) {
+        Ok(file) => {
+            read_record(rt.alloc(), &mut Stream::new(file)).map_err(|fault| texts.failure(fault))
+        }
         Err(error) => match error.kind() {
             ErrorKind::OutOfMemory => Err(Failure::from(Fault::Memory)),
-            _ => Err(Failure::with_more(Fault::Read, UNREAD_PRIMARY)),
+            _ => Err(texts.failure(Fault::Read)),
         },
     }
 }
 
-/// The screen's: what standard input has.
-fn read_screen(rt: &HostRuntime) -> Result<Vec<u8>, Failure> {
+/// What standard input has.
+fn read_input(rt: &HostRuntime, texts: Texts) -> Result<Vec<u8>, Failure> {
     let Ok(input) = input_ahead(rt) else {
         return Err(Failure::from(Fault::Memory));
     };
-    read_record(rt.alloc(), &mut Stream::new(input)).map_err(|fault| failure_of(
-        fault,
-        UNREAD_SCREEN,
-        LONG_SCREEN,
-    ))
+    read_record(rt.alloc(), &mut Stream::new(input)).map_err(|fault| texts.failure(fault))
 }
 
-/// Prints whether each state of the screen's record on standard input is one of the primary's in
-/// its file.
+/// The primary's record.
+fn read_primary(rt: &HostRuntime, name: &str) -> Result<Vec<u8>, Failure> {
+    if name == INPUT {
+        read_input(rt, PRIMARY_INPUT)
+    } else {
+        read_file(rt, name, PRIMARY_FILE)
+    }
+}
+
+/// The screen's, on standard input where no file is named.
+fn read_screen(rt: &HostRuntime, name: Option<&str>) -> Result<Vec<u8>, Failure> {
+    match name {
+        Some(name) if name != INPUT => read_file(rt, name, SCREEN_FILE),
+        _ => read_input(rt, SCREEN_INPUT),
+    }
+}
+
+/// Prints whether each state of the screen's record is one of the primary's. One of both records at
+/// most is on standard input.
 pub fn audit_records(rt: &HostRuntime, options: &AuditOptions<'_>) -> Result<(), Failure> {
     let primary = read_primary(rt, options.primary)?;
-    let screen = read_screen(rt)?;
+    let screen = read_screen(rt, options.screen)?;
     print_verdict(
         rt.alloc(),
         options,

@@ -8,7 +8,7 @@ ghost use Rattle.feed_arguments.specs.Live.{AreBothGiven, kept_bytes};
 ghost use Rattle.feed_arguments.specs.Options.{most_rounds, most_silence};
 ghost use Rattle.feed_arguments.specs.Options.{text_at, IsNumber, IsNumberUpTo, IsNumberIfGiven};
 ghost use Rattle.feed_arguments.specs.Options.{IsGiven, IsFramed, AsksLimits, AsksLimitsOr};
-ghost use Rattle.feed_arguments.specs.Words.{AsksTables, AsksCheck, AsksAudit, AsksCompare, ComparesNone, AsksServe, AsksPull, AsksRelay, AsksBy, AsksAt};
+ghost use Rattle.feed_arguments.specs.Words.{AsksTables, AsksCheck, AreOnInput, AsksAudit, AsksCompare, ComparesNone, AsksServe, AsksPull, AsksRelay, AsksBy, AsksAt};
 ghost use Rattle.feed_arguments.specs.declared.request.AuditOptions.{AuditOptions as Audit};
 ghost use Rattle.feed_arguments.specs.declared.request.CompareOptions.{CompareOptions as Compare};
 ghost use Rattle.feed_arguments.specs.declared.request.PullOptions.{PullOptions as Pull};
@@ -185,6 +185,27 @@ fn compares_none(matches: &ArgMatches<'_>) -> bool
         && text(matches, "for").is_none()
 }
 
+/// Whether both records are on standard input.
+fn are_on_input(primary: &str, screen: Option<&str>) -> bool
+    ensures yes { result ≡ true
+        → AreOnInput (Some primary.now) (option_map (λ name. name.now) screen.entry) }
+    ensures no { result ≡ false
+        → ¬ (AreOnInput (Some primary.now) (option_map (λ name. name.now) screen.entry)) }
+{
+    match screen {
+        Some(screen) => primary == "-" && screen == "-",
+        None => primary == "-",
+    }
+}
+
+/// Whether options of `audit` name standard input for both records.
+fn reads_input_twice(matches: &ArgMatches<'_>) -> bool {
+    match text(matches, "primary") {
+        Some(primary) => are_on_input(primary, text(matches, "screen")),
+        None => false,
+    }
+}
+
 /// What the options of `audit` ask for that compares records.
 fn audit_options<'a>(matches: &ArgMatches<'a>) -> Option<AuditOptions<'a>>
     ensures some { IfSome result (λ options. AsksAudit (rows_of (found_of matches.now)) options) }
@@ -195,9 +216,14 @@ fn audit_options<'a>(matches: &ArgMatches<'a>) -> Option<AuditOptions<'a>>
         return None;
     }
     let primary = text(matches, "primary")?;
+    let screen = text(matches, "screen");
+    if are_on_input(primary, screen) {
+        return None;
+    }
     let limits = limits(matches)?;
     Some(AuditOptions {
         primary,
+        screen,
         json: is_given(matches, "json"),
         verbose: is_given(matches, "verbose"),
         limits,
@@ -210,7 +236,7 @@ fn compare_options<'a>(matches: &ArgMatches<'a>) -> Option<CompareOptions<'a>>
     ensures none { result ≡ None → (options : Compare)
         → ¬ (AsksCompare (rows_of (found_of matches.now)) options) }
 {
-    if text(matches, "primary").is_some() {
+    if text(matches, "primary").is_some() || text(matches, "screen").is_some() {
         return None;
     }
     let of = text(matches, "of")?;
@@ -376,6 +402,20 @@ fn request_named<'a>(name: &str, matches: &ArgMatches<'a>) -> Option<Request<'a>
             None => None,
         },
         _ => None,
+    }
+}
+
+/// Why the command that was entered asks for nothing.
+pub(super) fn refusal(matches: &ArgMatches<'_>) -> &'static str {
+    match matches.subcommand() {
+        Some(("audit", options)) if compares_none(options) && reads_input_twice(options) => {
+            "audit can read one record from standard input, and not both: \
+              give --primary or --screen the name of a file"
+        }
+        _ => {
+            "a number out of its range, or options that do not go together: \
+              audit takes --primary and --screen, or --of, --against and --contest"
+        }
     }
 }
 

@@ -65,6 +65,25 @@ fn check<'a>(alloc: Global) -> Result<Command<'a>, AllocError>
     add_options(alloc, Ok(command(alloc, "check", about)), &asked)
 }
 
+/// The options that say which records are compared.
+fn audited<'a>() -> [Declared<'a>; 2]
+    ensures { map rule_by result ≡ words.audited }
+{
+    [
+        text(
+            "primary",
+            "FILE",
+            "The file with the primary's record: its feed, as one connection carried it; \
+             - for standard input",
+        ),
+        text(
+            "screen",
+            "FILE",
+            "The file with the screen's record; without it, and with -, that is on standard input",
+        ),
+    ]
+}
+
 /// The options that say which servers are compared.
 fn compared<'a>() -> [Declared<'a>; 4]
     ensures { map rule_by result ≡ words.compared }
@@ -101,9 +120,7 @@ fn audit<'a>(alloc: Global) -> Result<Command<'a>, AllocError>
     let about =
         "Tells whether each state of the screen's record on standard input is one of the primary's, \
         or compares two servers";
-    let primary = "The file with the primary's record: its feed, as one connection carried it";
-    let primary = [text("primary", "FILE", primary)];
-    let audit = add_options(alloc, Ok(command(alloc, "audit", about)), &primary);
+    let audit = add_options(alloc, Ok(command(alloc, "audit", about)), &audited());
     let audit = add_options(alloc, audit, &compared());
     let verbose = "Print objects that differ whole, however long they are";
     let printed = [
