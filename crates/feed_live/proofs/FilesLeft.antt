@@ -2,7 +2,6 @@
 use Rattle.std.proofs.Common.{◌≡◌, sym, ap, ◌∙◌, subst, ℕ, zero, suc, ◌<◌, arith, List, [], ◌∷◌, ◌++◌, length, Option, Some, None, append_assoc}
 use Rattle.std.specs.Prelude.{Result, Ok, Err, IfOk, Vec, slice_index_or}
 use Rattle.std.specs.List.{AllByRecursion}
-use Rattle.std.specs.Io.KnownBytes.{Keeps}
 use Rattle.feed_device.specs.Files.{IsLeftOf}
 use Rattle.feed_node.specs.States.{NodeState}
 use Rattle.feed_live.specs.Saved.{IsPartOfFile, OrNothing}
@@ -24,9 +23,3 @@ pub read_part : {A E : Type 0} (nodes : List NodeState) (texts : List (List ℕ)
     → (read : Result (Vec ℕ A) E) (found : List ℕ) → OrNothing read found → IfOk read (λ text. IsLeftOf texts text.items) → IsPartOfFile nodes found
 read_part nodes texts all (Ok bytes) found is left = left_part nodes texts found all (subst (IsLeftOf texts) (sym is) left)
 read_part nodes texts all (Err fault) found is left = subst (IsPartOfFile nodes) (sym is) all.0
-
--- a file that is known stays so
-pub still_known : (before after : Option (List ℕ)) (text : List ℕ) → Keeps before after → before ≡ Some text → after ≡ Some text
-still_known None after text keeps is = absurd (cc)
-still_known (Some xs) None text keeps is = absurd keeps
-still_known (Some xs) (Some ys) text keeps is = ap Some keeps ∙ is

@@ -46,7 +46,7 @@ followed_is_honest limits log servers head contest text behind exchange followed
 
 pub relays_show_the_log : RelaysShowTheLog
 relays_show_the_log limits log servers exchanges live sockets honest relaying =
-    let here = (relaying.1.1 honest).0 in
+    let here = relaying.1.1.0 honest in
     record {
       shown = here.shown_is;
       states = states_in_log limits log;

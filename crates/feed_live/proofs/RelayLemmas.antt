@@ -1,7 +1,7 @@
 -- How a relay stays at places of the log, step by step.
 use Rattle.std.proofs.Common.{◌≡◌, ◌⊎◌, inl, inr, suc, ◌-◌, refl, sym, ap, ◌∙◌, subst, ℕ, ◌+◌, ◌≤◌, arith, List, [], ◌∷◌, ◌++◌, length, length-append, take, drop, append-nil, append_assoc, Option, Some, None}
 use Rattle.std.specs.Result.{is_err}
-use Rattle.std.specs.Prelude.{Result, Ok, Err, OnOk, Bool, true, false, Contains, option_map, is_none, is_some, IfSome, if◌then◌else◌}
+use Rattle.std.specs.Prelude.{Result, Ok, Err, OnOk, Bool, true, false, Contains, option_map, is_none, is_some, IfSome, IsSome, if◌then◌else◌}
 use Rattle.std.proofs.lemmas.List.{take-take, drop-take, take-append-drop}
 use Rattle.slab.specs.Slab.{Slab}
 use Rattle.feed_settings.specs.Limits.{Limits}
@@ -32,7 +32,7 @@ use Rattle.feed_live.specs.declared.source.Source.{Source}
 use Rattle.feed_live.specs.Relaying.{servers_of, IsShownSo, Follows, MayFollow, MayShow, FollowsLog, IsToShow, Shows, SameSource, IsKeeping, IsLeft, KeepsShown, PushesOnly, IsNowShown, ShowsAlone, followed, followed_by}
 use Rattle.feed_live.specs.Serving.{Serving}
 use Rattle.feed_live.specs.States.{states_of}
-use Rattle.feed_live.specs.Upstream.{AsksInLog, Servers, IsRequestOf, IsOfLog, wants_memory, StaysInLog, EndsInLog, IsHonestAs, IsHonest, AreKnownHonest}
+use Rattle.feed_live.specs.Upstream.{AsksInLog, Servers, IsRequestOf, IsOfLog, wants_memory, StaysInLog, EndsInLog, IsHonestAs, IsHonest, AreHonest, AreKnownHonest}
 use Rattle.feed_live.proofs.StateLemmas.{among_states, of_log, has_read, has_read_all}
 
 -- what holds where it is no error
@@ -67,7 +67,7 @@ done_goes_on is refused = let e = sym is ∙ refused in cc
 
 -- bytes were followed, and more may be
 pub record IsTaken (bounds : Limits) (lines : Log) (asked : Servers) (is_shown : Bool) (request next : List ℕ) (exchanges : Exchanges) (follower : Option FollowerState) (mirror : MirrorState) : Type 0 where
-  pub at : is_shown ≡ true → IsInLog bounds lines mirror.node
+  pub at : AreKnownHonest bounds lines asked exchanges → is_shown ≡ true → IsInLog bounds lines mirror.node
   pub follows : MayFollow bounds lines asked is_shown Reads request next exchanges follower mirror
 
 module _ (limits : Limits) (log : Log) where
@@ -114,7 +114,28 @@ module _ (limits : Limits) (log : Log) where
 pub same_followed : {before after : Option MirrorState} {old new : MirrorState} → after ≡ before → new ≡ old → followed after new ≡ followed before old
 same_followed {before} {after} {old} {new} coming shown = ap (λ c. followed c new) coming ∙ ap (λ s. followed before s) shown
 
+-- the exchanges were known before
+pub known_before : (f : List Exchange → List Exchange) (before after : Exchanges) → after ≡ option_map f before → IsSome after → IsSome before
+known_before f None after is known = subst (λ e. IsSome e) is known
+known_before f (Some before) after is known = refl
+
+-- so they are where it is noted what is shown from here on
+pub known_begun : (coming : Option MirrorState) (before after : Exchanges)
+    → after ≡ (if is_none coming then option_map (shown_so all_from 0) before else before) → IsSome after → IsSome before
+known_begun None before after is known = known_before (shown_so all_from 0) before after is known
+known_begun (Some coming) before after is known = subst (λ e. IsSome e) is known
+
 module _ (limits : Limits) (log : Log) (servers : Servers) where
+  -- honest exchanges are known
+  pub known_of : (exchanges : Exchanges) → AreKnownHonest limits log servers exchanges → IsSome exchanges
+  known_of None honest = absurd honest
+  known_of (Some exchanges) honest = refl
+
+  -- those before the latest one are honest, too
+  before_honest : (exchanges : Exchanges) (latest : Exchange) (before : List Exchange) → exchanges ≡ Some (latest ∷ before) → AreKnownHonest limits log servers exchanges → AreHonest limits log servers before
+  before_honest exchanges latest before is honest =
+      let all : AreKnownHonest limits log servers (Some (latest ∷ before)) = subst (λ e. AreKnownHonest limits log servers e) is honest in all.1
+
   -- all that is followed may be written in another way
   pub follows_as : (exchanges : Exchanges) {is_shown is_shown_new : Bool} {reach reach_new : Reach} {request request_new unread unread_new : List ℕ} {follower follower_new : Option FollowerState} {mirror mirror_new : MirrorState}
       → is_shown_new ≡ is_shown → request_new ≡ request → unread_new ≡ unread → reach_new ≡ reach → follower_new ≡ follower → mirror_new ≡ mirror
@@ -204,22 +225,22 @@ module _ (limits : Limits) (log : Log) (servers : Servers) where
 
   pub begun_follows : (coming : Option MirrorState) (server : ℕ) (request : List ℕ) (before begun after : Exchanges) (since : ℕ) (follower : Option FollowerState) (mirror : MirrorState)
       → begun ≡ option_map (one_more server) before → after ≡ (if is_none coming then option_map (shown_so all_from 0) begun else begun)
-      → AreKnownHonest limits log servers after
-      → mirror.limits ≡ limits → IsInLog limits log mirror.node
+      → IsSome after
+      → (AreKnownHonest limits log servers before → (mirror.limits ≡ limits) × IsInLog limits log mirror.node)
       → IfSome mirror.since (λ token. published_token mirror.node ≡ Some token)
       → IsRequestOf servers server mirror request → IsFollowing mirror [] in_head follower mirror
       → MayFollow limits log servers (is_none coming) (Connects since) request [] after follower mirror
-  begun_follows coming server request before begun after since None mirror is noted honest bounds at asks is_request following = absurd following
-  begun_follows coming server request None begun after since (Some follower) mirror is noted honest bounds at asks is_request following =
-      absurd (subst (λ e. AreKnownHonest limits log servers e) is (begun_honest coming begun after noted honest))
-  begun_follows None server request (Some before) begun after since (Some follower) mirror is noted honest bounds at asks is_request following =
+  begun_follows coming server request before begun after since None mirror is noted known at asks is_request following = absurd following
+  begun_follows coming server request None begun after since (Some follower) mirror is noted known at asks is_request following =
+      let wrong : false ≡ true = subst (λ e. IsSome e) is (known_begun coming begun after noted known) in absurd (cc)
+  begun_follows None server request (Some before) begun after since (Some follower) mirror is noted known at asks is_request following =
       record {
         start = mirror;
-        asks = asks_in_log mirror bounds at asks;
         is_request = is_request;
         latest = record { server = server; asked = []; received = []; shown = all_from 0 };
         before = before;
         exchanges_are = noted ∙ ap (λ e. option_map (shown_so all_from 0) e) is;
+        asks = λ honest. asks_in_log mirror (at honest).0 (at honest).1 asks;
         asked = refl;
         bytes = [];
         received = refl;
@@ -227,14 +248,14 @@ module _ (limits : Limits) (log : Log) (servers : Servers) where
         follows = following;
         shown = omega arith;
       }
-  begun_follows (Some coming) server request (Some before) begun after since (Some follower) mirror is noted honest bounds at asks is_request following =
+  begun_follows (Some coming) server request (Some before) begun after since (Some follower) mirror is noted known at asks is_request following =
       record {
         start = mirror;
-        asks = asks_in_log mirror bounds at asks;
         is_request = is_request;
         latest = record { server = server; asked = []; received = []; shown = nothing_shown };
         before = before;
         exchanges_are = noted ∙ is;
+        asks = λ honest. asks_in_log mirror (at honest).0 (at honest).1 asks;
         asked = refl;
         bytes = [];
         received = refl;
@@ -427,7 +448,7 @@ module _ (limits : Limits) (log : Log) (servers : Servers) where
       let all : AreKnownHonest limits log servers (Some (follows.latest ∷ follows.before)) = subst (λ e. AreKnownHonest limits log servers e) follows.exchanges_are honest in
       stays_from follows.latest.shown (length follows.bytes) follows.latest.received (follows.bytes ++ unread) follows.received
       (subst (λ b. IsShownSo b follows.latest.shown (length follows.bytes)) is follows.shown)
-      (all.0 follows.start request [] follows.asks follows.is_request (follows.asked ∙ sym (append-nil request)))
+      (all.0 follows.start request [] (follows.asks all.1) follows.is_request (follows.asked ∙ sym (append-nil request)))
 
   -- a push that goes on, where a response is followed then
   abbrev GoesOnSo : MirrorState → List ℕ → Option FollowerState → MirrorState → Progress → Type 0
@@ -445,20 +466,20 @@ module _ (limits : Limits) (log : Log) (servers : Servers) where
   pub taken : {is_shown : Bool} (request line next : List ℕ) (exchanges : Exchanges) (old new : Option FollowerState) (before after : MirrorState) (progress : Progress)
       → (progress ≡ reached.TokenRefused → ⊥)
       → ((start : MirrorState) (bytes : List ℕ) (standing : Standing) → IsFollowing start bytes standing old before → IsPushed start (bytes ++ line) new after progress)
-      → AreKnownHonest limits log servers exchanges → MayFollow limits log servers is_shown Reads request (line ++ next) exchanges old before
+      → MayFollow limits log servers is_shown Reads request (line ++ next) exchanges old before
       → IsTaken limits log servers is_shown request next exchanges new after
-  taken request line next exchanges None new before after progress on push honest follows = absurd (no_away follows)
+  taken request line next exchanges None new before after progress on push follows = absurd (no_away follows)
     where
       no_away : Reads ≡ Away → ⊥
       no_away e = cc
-  taken {is_shown} request line next exchanges (Some follower) new before after progress on push honest follows =
+  taken {is_shown} request line next exchanges (Some follower) new before after progress on push follows =
       by new (goes_on follows.start (follows.bytes ++ line) new after progress on (push follows.start follows.bytes follows.standing follows.follows))
     where
       by : (now : Option FollowerState) → GoesOnSo follows.start (follows.bytes ++ line) now after progress → IsTaken limits log servers is_shown request next exchanges now after
       by None goes = absurd goes
       by (Some now) goes =
           record {
-            at = λ is.
+            at = λ honest is.
                 let st = stays_in_log request (line ++ next) exchanges follower before is honest follows in
                 st.stays.shows (follows.bytes ++ line) next goes.0 now after (append_assoc follows.bytes line next) (longer st.least follows.bytes line st.within) goes.2;
             follows = record {
@@ -517,47 +538,46 @@ module _ (limits : Limits) (log : Log) (servers : Servers) where
   -- the screens changed, and are served as before
   pub with_screens : (exchanges : Exchanges) {contest : List ℕ} {X : Type 0} {shown blank : MirrorState} {hub hub_new : Hub} {conns conns_new : Slab Conn} {sockets sockets_new : AllSockets}
       → (Shows limits log contest shown blank hub conns sockets → Serving (states_of limits log) contest hub conns sockets → Serving (states_of limits log) contest hub_new conns_new sockets_new)
-      → (AreKnownHonest limits log servers exchanges → Shows limits log contest shown blank hub conns sockets × X)
-      → AreKnownHonest limits log servers exchanges → Shows limits log contest shown blank hub_new conns_new sockets_new × X
-  with_screens exchanges still follows honest = let here = follows honest in (shows_still limits log (still here.0) here.0, here.1)
+      → (AreKnownHonest limits log servers exchanges → Shows limits log contest shown blank hub conns sockets) × X
+      → (AreKnownHonest limits log servers exchanges → Shows limits log contest shown blank hub_new conns_new sockets_new) × X
+  with_screens exchanges still follows = (λ honest. let here = follows.0 honest in shows_still limits log (still here) here, follows.1)
 
   -- what is followed and shown is the same
   pub with_same : {contest : List ℕ} {old new : Source} → SameSource old new
       → (exchanges : Exchanges) {hub : Hub} {conns : Slab Conn} {sockets : AllSockets} (unread left : List ℕ) → left ≡ unread
-      → (AreKnownHonest limits log servers exchanges → Shows limits log contest old.answers.shown.mirror old.answers.blank.mirror hub conns sockets
-      × MayFollow limits log servers (is_none old.coming) old.reach old.request.items unread exchanges old.upstream.follower (followed_by old))
-      → AreKnownHonest limits log servers exchanges → Shows limits log contest new.answers.shown.mirror new.answers.blank.mirror hub conns sockets
-      × MayFollow limits log servers (is_none new.coming) new.reach new.request.items left exchanges new.upstream.follower (followed_by new)
-  with_same same exchanges unread left rest follows honest = let here = follows honest in (same_shows limits log same here.0, same_follows same exchanges unread left rest here.1)
+      → (AreKnownHonest limits log servers exchanges → Shows limits log contest old.answers.shown.mirror old.answers.blank.mirror hub conns sockets)
+      × (IsSome exchanges → MayFollow limits log servers (is_none old.coming) old.reach old.request.items unread exchanges old.upstream.follower (followed_by old))
+      → (AreKnownHonest limits log servers exchanges → Shows limits log contest new.answers.shown.mirror new.answers.blank.mirror hub conns sockets)
+      × (IsSome exchanges → MayFollow limits log servers (is_none new.coming) new.reach new.request.items left exchanges new.upstream.follower (followed_by new))
+  with_same same exchanges unread left rest follows = (λ honest. same_shows limits log same (follows.0 honest), λ known. same_follows same exchanges unread left rest (follows.1 known))
 
   -- the server is left
   pub with_left : {contest : List ℕ} {old new : Source} {before after : Exchanges} → IsLeft old new before after
       → {hub : Hub} {conns : Slab Conn} {sockets : AllSockets} (unread : List ℕ)
       → (AreKnownHonest limits log servers before → Shows limits log contest old.answers.shown.mirror old.answers.blank.mirror hub conns sockets)
-      → AreKnownHonest limits log servers after → Shows limits log contest new.answers.shown.mirror new.answers.blank.mirror hub conns sockets
-      × MayFollow limits log servers (is_none new.coming) new.reach new.request.items unread after new.upstream.follower (followed_by new)
-  with_left {old} {new} left unread shows honest =
-      (left_shows left (shows (left_honest left honest)), left_follows left new.request.items unread (followed_by new))
+      → (AreKnownHonest limits log servers after → Shows limits log contest new.answers.shown.mirror new.answers.blank.mirror hub conns sockets)
+      × (IsSome after → MayFollow limits log servers (is_none new.coming) new.reach new.request.items unread after new.upstream.follower (followed_by new))
+  with_left {old} {new} left unread shows =
+      (λ honest. left_shows left (shows (left_honest left honest)), λ known. left_follows left new.request.items unread (followed_by new))
 
   -- what is unread is this
   pub with_unread : {X : Type 0} (is_shown : Bool) (exchanges : Exchanges) (reach : Reach) (request : List ℕ) (follower : Option FollowerState) (mirror : MirrorState) {unread other : List ℕ} → other ≡ unread
-      → (AreKnownHonest limits log servers exchanges → X × MayFollow limits log servers is_shown reach request unread exchanges follower mirror)
-      → AreKnownHonest limits log servers exchanges → X × MayFollow limits log servers is_shown reach request other exchanges follower mirror
-  with_unread is_shown exchanges reach request follower mirror is follows honest =
-      let here = follows honest in (here.0, subst (λ u. MayFollow limits log servers is_shown reach request u exchanges follower mirror) (sym is) here.1)
+      → X × (IsSome exchanges → MayFollow limits log servers is_shown reach request unread exchanges follower mirror)
+      → X × (IsSome exchanges → MayFollow limits log servers is_shown reach request other exchanges follower mirror)
+  with_unread is_shown exchanges reach request follower mirror is follows =
+      (follows.0, λ known. subst (λ u. MayFollow limits log servers is_shown reach request u exchanges follower mirror) (sym is) (follows.1 known))
 
   -- what is kept changed alone
   pub with_kept : {contest : List ℕ} {hub : Hub} {conns : Slab Conn} {sockets : AllSockets} {old new : Source} → IsKeeping old new
       → (exchanges : Exchanges) (unread left : List ℕ) → left ≡ unread
-      → (AreKnownHonest limits log servers exchanges → Shows limits log contest old.answers.shown.mirror old.answers.blank.mirror hub conns sockets
-      × MayFollow limits log servers (is_none old.coming) old.reach old.request.items unread exchanges old.upstream.follower (followed_by old))
-      → AreKnownHonest limits log servers exchanges → Shows limits log contest new.answers.shown.mirror new.answers.blank.mirror hub conns sockets
-      × MayFollow limits log servers (is_none new.coming) new.reach new.request.items left exchanges new.upstream.follower (followed_by new)
-  with_kept {contest} {hub} {conns} {sockets} {old} {new} same exchanges unread left rest follows honest =
-      let here = follows honest in (
-        subst (λ a. Shows limits log contest a.shown.mirror a.blank.mirror hub conns sockets) (sym same.answers) here.0,
-        follows_as exchanges (ap is_none same.coming) (ap (λ r. r.items) same.request) rest same.reach (ap (λ u. u.follower) same.upstream) (same_followed same.coming (ap (λ a. a.shown.mirror) same.answers)) here.1,
-      )
+      → (AreKnownHonest limits log servers exchanges → Shows limits log contest old.answers.shown.mirror old.answers.blank.mirror hub conns sockets)
+      × (IsSome exchanges → MayFollow limits log servers (is_none old.coming) old.reach old.request.items unread exchanges old.upstream.follower (followed_by old))
+      → (AreKnownHonest limits log servers exchanges → Shows limits log contest new.answers.shown.mirror new.answers.blank.mirror hub conns sockets)
+      × (IsSome exchanges → MayFollow limits log servers (is_none new.coming) new.reach new.request.items left exchanges new.upstream.follower (followed_by new))
+  with_kept {contest} {hub} {conns} {sockets} {old} {new} same exchanges unread left rest follows = (
+    λ honest. subst (λ a. Shows limits log contest a.shown.mirror a.blank.mirror hub conns sockets) (sym same.answers) (follows.0 honest),
+    λ known. follows_as exchanges (ap is_none same.coming) (ap (λ r. r.items) same.request) rest same.reach (ap (λ u. u.follower) same.upstream) (same_followed same.coming (ap (λ a. a.shown.mirror) same.answers)) (follows.1 known),
+  )
 
   -- ---- bytes come to the mirror that follows
 
@@ -570,52 +590,53 @@ module _ (limits : Limits) (log : Log) (servers : Servers) where
   shown_after (Some coming) now {contest} {hub} {conns} {sockets} old new blank blank_new keeps bounds at same shows =
       shows_at limits log (ap (λ m. m.limits) keeps) (subst (λ m. IsInLog limits log m.node) (sym keeps) shows.shown_is) same shows
 
-  pub with_shown : (exchanges : Exchanges) {contest : List ℕ} {hub : Hub} {conns : Slab Conn} {sockets : AllSockets} {X : Type 0} {old new : Source} → PushesOnly old new
-      → (AreKnownHonest limits log servers exchanges → X → is_none old.coming ≡ true → IsInLog limits log (followed_by new).node)
-      → (AreKnownHonest limits log servers exchanges → Shows limits log contest old.answers.shown.mirror old.answers.blank.mirror hub conns sockets × X)
+  pub with_shown : (exchanges : Exchanges) {contest : List ℕ} {hub : Hub} {conns : Slab Conn} {sockets : AllSockets} {old new : Source} → PushesOnly old new
+      → (AreKnownHonest limits log servers exchanges → is_none old.coming ≡ true → IsInLog limits log (followed_by new).node)
+      → (AreKnownHonest limits log servers exchanges → Shows limits log contest old.answers.shown.mirror old.answers.blank.mirror hub conns sockets)
       → AreKnownHonest limits log servers exchanges → Shows limits log contest new.answers.shown.mirror new.answers.blank.mirror hub conns sockets
-  with_shown exchanges {old = old} {new = new} only at follows honest =
-      let here = follows honest in
-      shown_after old.coming new.coming old.answers.shown.mirror new.answers.shown.mirror old.answers.blank.mirror new.answers.blank.mirror only.shown only.limits (at honest here.1) only.blank here.0
+  with_shown exchanges {old = old} {new = new} only at shows honest =
+      shown_after old.coming new.coming old.answers.shown.mirror new.answers.shown.mirror old.answers.blank.mirror new.answers.blank.mirror only.shown only.limits (at honest) only.blank (shows honest)
 
   -- what came is taken: a push goes on
   pub with_taken : (exchanges : Exchanges) {contest : List ℕ} {hub : Hub} {conns : Slab Conn} {sockets : AllSockets} {old new : Source} (line next : List ℕ) (progress : Progress)
       → old.reach ≡ Reads → PushesOnly old new → (progress ≡ reached.TokenRefused → ⊥)
       → ((start : MirrorState) (bytes : List ℕ) (standing : Standing) → IsFollowing start bytes standing old.upstream.follower (followed_by old) → IsPushed start (bytes ++ line) new.upstream.follower (followed_by new) progress)
-      → (AreKnownHonest limits log servers exchanges → Shows limits log contest old.answers.shown.mirror old.answers.blank.mirror hub conns sockets
-      × MayFollow limits log servers (is_none old.coming) old.reach old.request.items (line ++ next) exchanges old.upstream.follower (followed_by old))
-      → AreKnownHonest limits log servers exchanges → Shows limits log contest new.answers.shown.mirror new.answers.blank.mirror hub conns sockets
-      × MayFollow limits log servers (is_none new.coming) new.reach new.request.items next exchanges new.upstream.follower (followed_by new)
-  with_taken exchanges {old = old} {new = new} line next progress reads only on push follows honest =
-      let here = follows honest in
-      let is_taken = taken old.request.items line next exchanges old.upstream.follower new.upstream.follower (followed_by old) (followed_by new) progress on push honest
-      (subst (λ r. MayFollow limits log servers (is_none old.coming) r old.request.items (line ++ next) exchanges old.upstream.follower (followed_by old)) reads here.1) in (
-        with_shown exchanges only (λ _ _. is_taken.at) follows honest,
-        follows_as exchanges only.coming only.request refl (only.reach ∙ reads) refl refl is_taken.follows,
-      )
+      → (AreKnownHonest limits log servers exchanges → Shows limits log contest old.answers.shown.mirror old.answers.blank.mirror hub conns sockets)
+      × (IsSome exchanges → MayFollow limits log servers (is_none old.coming) old.reach old.request.items (line ++ next) exchanges old.upstream.follower (followed_by old))
+      → (AreKnownHonest limits log servers exchanges → Shows limits log contest new.answers.shown.mirror new.answers.blank.mirror hub conns sockets)
+      × (IsSome exchanges → MayFollow limits log servers (is_none new.coming) new.reach new.request.items next exchanges new.upstream.follower (followed_by new))
+  with_taken exchanges {old = old} {new = new} line next progress reads only on push follows = (
+    with_shown exchanges only (λ honest. (is_taken (known_of exchanges honest)).at honest) follows.0,
+    λ known. follows_as exchanges only.coming only.request refl (only.reach ∙ reads) refl refl (is_taken known).follows,
+  )
+    where
+      is_taken : IsSome exchanges → IsTaken limits log servers (is_none old.coming) old.request.items next exchanges new.upstream.follower (followed_by new)
+      is_taken known =
+          taken old.request.items line next exchanges old.upstream.follower new.upstream.follower (followed_by old) (followed_by new) progress on push
+          (subst (λ r. MayFollow limits log servers (is_none old.coming) r old.request.items (line ++ next) exchanges old.upstream.follower (followed_by old)) reads (follows.1 known))
 
   -- or the token was refused
   pub with_refused : (exchanges : Exchanges) {contest : List ℕ} {hub : Hub} {conns : Slab Conn} {sockets : AllSockets} {old new : Source} (line next : List ℕ) (progress : Progress)
       → old.reach ≡ Reads → PushesOnly old new → progress ≡ reached.TokenRefused
       → ((start : MirrorState) (bytes : List ℕ) (standing : Standing) → IsFollowing start bytes standing old.upstream.follower (followed_by old) → IsPushed start (bytes ++ line) new.upstream.follower (followed_by new) progress)
-      → (AreKnownHonest limits log servers exchanges → Shows limits log contest old.answers.shown.mirror old.answers.blank.mirror hub conns sockets
-      × MayFollow limits log servers (is_none old.coming) old.reach old.request.items (line ++ next) exchanges old.upstream.follower (followed_by old))
+      → (AreKnownHonest limits log servers exchanges → Shows limits log contest old.answers.shown.mirror old.answers.blank.mirror hub conns sockets)
+      × (IsSome exchanges → MayFollow limits log servers (is_none old.coming) old.reach old.request.items (line ++ next) exchanges old.upstream.follower (followed_by old))
       → AreKnownHonest limits log servers exchanges → Shows limits log contest new.answers.shown.mirror new.answers.blank.mirror hub conns sockets
   with_refused exchanges {old = old} {new = new} line next progress reads only is push follows =
-      with_shown exchanges only (λ honest here. refused_at old.request.items line next exchanges old.upstream.follower new.upstream.follower (followed_by old) (followed_by new) progress is push honest
-      (subst (λ r. MayFollow limits log servers (is_none old.coming) r old.request.items (line ++ next) exchanges old.upstream.follower (followed_by old)) reads here)) follows
+      with_shown exchanges only (λ honest. refused_at old.request.items line next exchanges old.upstream.follower new.upstream.follower (followed_by old) (followed_by new) progress is push honest
+      (subst (λ r. MayFollow limits log servers (is_none old.coming) r old.request.items (line ++ next) exchanges old.upstream.follower (followed_by old)) reads (follows.1 (known_of exchanges honest)))) follows.0
 
   -- or it failed
   pub with_failed : (exchanges : Exchanges) {contest : List ℕ} {hub : Hub} {conns : Slab Conn} {sockets : AllSockets} {old new : Source} (line next : List ℕ) (fault : FollowFault)
       → old.reach ≡ Reads → PushesOnly old new
       → ((start : MirrorState) (bytes : List ℕ) (standing : Standing) → IsFollowing start bytes standing old.upstream.follower (followed_by old)
       → (had_token : Bool) × (had_token ≡ is_some start.since) × Fails start had_token bytes line (followed_by new) fault)
-      → (AreKnownHonest limits log servers exchanges → Shows limits log contest old.answers.shown.mirror old.answers.blank.mirror hub conns sockets
-      × MayFollow limits log servers (is_none old.coming) old.reach old.request.items (line ++ next) exchanges old.upstream.follower (followed_by old))
+      → (AreKnownHonest limits log servers exchanges → Shows limits log contest old.answers.shown.mirror old.answers.blank.mirror hub conns sockets)
+      × (IsSome exchanges → MayFollow limits log servers (is_none old.coming) old.reach old.request.items (line ++ next) exchanges old.upstream.follower (followed_by old))
       → AreKnownHonest limits log servers exchanges → Shows limits log contest new.answers.shown.mirror new.answers.blank.mirror hub conns sockets
   with_failed exchanges {old = old} {new = new} line next fault reads only fail follows =
-      with_shown exchanges only (λ honest here. failed_at old.request.items line next exchanges old.upstream.follower (followed_by old) (followed_by new) fault fail honest
-      (subst (λ r. MayFollow limits log servers (is_none old.coming) r old.request.items (line ++ next) exchanges old.upstream.follower (followed_by old)) reads here)) follows
+      with_shown exchanges only (λ honest. failed_at old.request.items line next exchanges old.upstream.follower (followed_by old) (followed_by new) fault fail honest
+      (subst (λ r. MayFollow limits log servers (is_none old.coming) r old.request.items (line ++ next) exchanges old.upstream.follower (followed_by old)) reads (follows.1 (known_of exchanges honest)))) follows.0
 
   -- ---- what came afresh is shown
 
@@ -664,12 +685,12 @@ module _ (limits : Limits) (log : Log) (servers : Servers) where
 
   -- what follows may be shown
   pub follows_may_show : (is_shown : Bool) (reach : Reach) (request unread : List ℕ) (exchanges : Exchanges) (follower : Option FollowerState) (mirror : MirrorState) → reach ≡ Reads
-      → (AreKnownHonest limits log servers exchanges → MayFollow limits log servers is_shown reach request unread exchanges follower mirror)
+      → (IsSome exchanges → MayFollow limits log servers is_shown reach request unread exchanges follower mirror)
       → MayShow limits log servers (length unread) exchanges mirror
   follows_may_show is_shown reach request unread exchanges None mirror reads follows =
       record {
-        once = λ honest. absurd (no_away (sym reads ∙ follows (shown_so_honest once_at (length unread) exchanges _ refl honest)));
-        all = λ honest. absurd (no_away (sym reads ∙ follows (shown_so_honest all_from (length unread) exchanges _ refl honest)));
+        once = λ honest. absurd (no_away (sym reads ∙ follows (known_of exchanges (shown_so_honest once_at (length unread) exchanges _ refl honest))));
+        all = λ honest. absurd (no_away (sym reads ∙ follows (known_of exchanges (shown_so_honest all_from (length unread) exchanges _ refl honest))));
       }
     where
       no_away : Reads ≡ Away → ⊥
@@ -677,24 +698,28 @@ module _ (limits : Limits) (log : Log) (servers : Servers) where
   follows_may_show is_shown reach request unread exchanges (Some follower) mirror reads follows =
       record {
         once = λ honest.
-            let here = read (follows (shown_so_honest once_at (length unread) exchanges _ refl honest)) in (
-              bounds here,
+            let earlier = shown_so_honest once_at (length unread) exchanges _ refl honest in
+            let here = read (follows (known_of exchanges earlier)) in
+            let asks = here.asks (before_honest exchanges here.latest here.before here.exchanges_are earlier) in (
+              bounds here asks,
               once_so here.start here.bytes unread here.latest.received here.received mirror (shows here) (ends here) is_shown here.latest.shown here.shown
-                  (latest_so once_at (length unread) exchanges here.latest here.before here.exchanges_are honest here.start request [] here.asks here.is_request (here.asked ∙ sym (append-nil request))),
+                  (latest_so once_at (length unread) exchanges here.latest here.before here.exchanges_are honest here.start request [] asks here.is_request (here.asked ∙ sym (append-nil request))),
             );
         all = λ honest.
-            let here = read (follows (shown_so_honest all_from (length unread) exchanges _ refl honest)) in (
-              bounds here,
+            let earlier = shown_so_honest all_from (length unread) exchanges _ refl honest in
+            let here = read (follows (known_of exchanges earlier)) in
+            let asks = here.asks (before_honest exchanges here.latest here.before here.exchanges_are earlier) in (
+              bounds here asks,
               all_so here.start here.bytes unread here.latest.received here.received mirror (shows here) (ends here) is_shown here.latest.shown here.shown
-                  (latest_so all_from (length unread) exchanges here.latest here.before here.exchanges_are honest here.start request [] here.asks here.is_request (here.asked ∙ sym (append-nil request))),
+                  (latest_so all_from (length unread) exchanges here.latest here.before here.exchanges_are honest here.start request [] asks here.is_request (here.asked ∙ sym (append-nil request))),
             );
       }
     where
       read : Follows limits log servers is_shown reach request unread exchanges follower mirror → Follows limits log servers is_shown Reads request unread exchanges follower mirror
       read here = subst (λ r. Follows limits log servers is_shown r request unread exchanges follower mirror) reads here
 
-      bounds : (here : Follows limits log servers is_shown Reads request unread exchanges follower mirror) → mirror.limits ≡ limits
-      bounds here = limits_stay here.bytes here.standing here.follows ∙ here.asks.asks.limits_are
+      bounds : (here : Follows limits log servers is_shown Reads request unread exchanges follower mirror) → AsksInLog limits log here.start → mirror.limits ≡ limits
+      bounds here asks = limits_stay here.bytes here.standing here.follows ∙ asks.asks.limits_are
 
       shows : (here : Follows limits log servers is_shown Reads request unread exchanges follower mirror) (least : ℕ) → least ≤ length here.bytes → StaysInLog limits log here.start least here.latest.received → IsInLog limits log mirror.node
       shows here least within stays = stays.shows here.bytes unread here.standing follower mirror (sym here.received) within here.follows
@@ -707,12 +732,12 @@ module _ (limits : Limits) (log : Log) (servers : Servers) where
       → after.limits ≡ before.limits
       → ((start : MirrorState) (bytes : List ℕ) (standing : Standing) → IsFollowing start bytes standing old before
       → (had_token : Bool) × (had_token ≡ is_some start.since) × Fails start had_token bytes line after fault)
-      → (AreKnownHonest limits log servers exchanges → MayFollow limits log servers is_shown reach request (line ++ next) exchanges old before)
+      → (IsSome exchanges → MayFollow limits log servers is_shown reach request (line ++ next) exchanges old before)
       → MayShow limits log servers (length next) exchanges after
   failed_may_show is_shown reach request line next exchanges None before after fault bytes_fail reads same fail follows =
       record {
-        once = λ honest. absurd (no_away (sym reads ∙ follows (shown_so_honest once_at (length next) exchanges _ refl honest)));
-        all = λ honest. absurd (no_away (sym reads ∙ follows (shown_so_honest all_from (length next) exchanges _ refl honest)));
+        once = λ honest. absurd (no_away (sym reads ∙ follows (known_of exchanges (shown_so_honest once_at (length next) exchanges _ refl honest))));
+        all = λ honest. absurd (no_away (sym reads ∙ follows (known_of exchanges (shown_so_honest all_from (length next) exchanges _ refl honest))));
       }
     where
       no_away : Reads ≡ Away → ⊥
@@ -720,24 +745,28 @@ module _ (limits : Limits) (log : Log) (servers : Servers) where
   failed_may_show is_shown reach request line next exchanges (Some follower) before after fault bytes_fail reads same fail follows =
       record {
         once = λ honest.
-            let here = read (follows (shown_so_honest once_at (length next) exchanges _ refl honest)) in (
-              bounds here,
+            let earlier = shown_so_honest once_at (length next) exchanges _ refl honest in
+            let here = read (follows (known_of exchanges earlier)) in
+            let asks = here.asks (before_honest exchanges here.latest here.before here.exchanges_are earlier) in (
+              bounds here asks,
               once_so here.start (here.bytes ++ line) next here.latest.received (came here) after (shows here) (ends here) is_shown here.latest.shown (later_shown is_shown here.latest.shown here.bytes line here.shown)
-                  (latest_so once_at (length next) exchanges here.latest here.before here.exchanges_are honest here.start request [] here.asks here.is_request (here.asked ∙ sym (append-nil request))),
+                  (latest_so once_at (length next) exchanges here.latest here.before here.exchanges_are honest here.start request [] asks here.is_request (here.asked ∙ sym (append-nil request))),
             );
         all = λ honest.
-            let here = read (follows (shown_so_honest all_from (length next) exchanges _ refl honest)) in (
-              bounds here,
+            let earlier = shown_so_honest all_from (length next) exchanges _ refl honest in
+            let here = read (follows (known_of exchanges earlier)) in
+            let asks = here.asks (before_honest exchanges here.latest here.before here.exchanges_are earlier) in (
+              bounds here asks,
               all_so here.start (here.bytes ++ line) next here.latest.received (came here) after (shows here) (ends here) is_shown here.latest.shown (later_shown is_shown here.latest.shown here.bytes line here.shown)
-                  (latest_so all_from (length next) exchanges here.latest here.before here.exchanges_are honest here.start request [] here.asks here.is_request (here.asked ∙ sym (append-nil request))),
+                  (latest_so all_from (length next) exchanges here.latest here.before here.exchanges_are honest here.start request [] asks here.is_request (here.asked ∙ sym (append-nil request))),
             );
       }
     where
       read : Follows limits log servers is_shown reach request (line ++ next) exchanges follower before → Follows limits log servers is_shown Reads request (line ++ next) exchanges follower before
       read here = subst (λ r. Follows limits log servers is_shown r request (line ++ next) exchanges follower before) reads here
 
-      bounds : (here : Follows limits log servers is_shown Reads request (line ++ next) exchanges follower before) → after.limits ≡ limits
-      bounds here = same ∙ limits_stay here.bytes here.standing here.follows ∙ here.asks.asks.limits_are
+      bounds : (here : Follows limits log servers is_shown Reads request (line ++ next) exchanges follower before) → AsksInLog limits log here.start → after.limits ≡ limits
+      bounds here asks = same ∙ limits_stay here.bytes here.standing here.follows ∙ asks.asks.limits_are
 
       came : (here : Follows limits log servers is_shown Reads request (line ++ next) exchanges follower before) → here.latest.received ≡ (here.bytes ++ line) ++ next
       came here = here.received ∙ sym (append_assoc here.bytes line next)
@@ -805,18 +834,18 @@ module _ (limits : Limits) (log : Log) (servers : Servers) where
 
   pub with_now_shown : {contest : List ℕ} {hub : Hub} {conns : Slab Conn} {sockets : AllSockets} {old new : Source} (unread : List ℕ) (before after : Exchanges)
       → after ≡ option_map (shown_so all_from (length unread)) before → old.reach ≡ Reads → IsNowShown old new
-      → (AreKnownHonest limits log servers before → Shows limits log contest old.answers.shown.mirror old.answers.blank.mirror hub conns sockets
-      × MayFollow limits log servers (is_none old.coming) old.reach old.request.items unread before old.upstream.follower (followed_by old))
-      → AreKnownHonest limits log servers after → Shows limits log contest new.answers.shown.mirror new.answers.blank.mirror hub conns sockets
-      × MayFollow limits log servers (is_none new.coming) new.reach new.request.items unread after new.upstream.follower (followed_by new)
-  with_now_shown {old = old} {new = new} unread before after is reads now follows honest =
-      let earlier = shown_so_honest all_from (length unread) before after is honest in (
-        shows_now (length unread) before after is now (λ h. (follows h).0)
-            (follows_may_show (is_none old.coming) old.reach old.request.items unread before old.upstream.follower (followed_by old) reads (λ h. (follows h).1)) honest,
-        follows_as after (ap is_none now.coming) now.request refl (now.reach ∙ reads) now.follower (ap (λ c. followed c new.answers.shown.mirror) now.coming ∙ now.shown)
-            (now_follows (is_none old.coming) old.request.items unread before after old.upstream.follower (followed_by old) is
-            (subst (λ r. MayFollow limits log servers (is_none old.coming) r old.request.items unread before old.upstream.follower (followed_by old)) reads (follows earlier).1)),
-      )
+      → (AreKnownHonest limits log servers before → Shows limits log contest old.answers.shown.mirror old.answers.blank.mirror hub conns sockets)
+      × (IsSome before → MayFollow limits log servers (is_none old.coming) old.reach old.request.items unread before old.upstream.follower (followed_by old))
+      → (AreKnownHonest limits log servers after → Shows limits log contest new.answers.shown.mirror new.answers.blank.mirror hub conns sockets)
+      × (IsSome after → MayFollow limits log servers (is_none new.coming) new.reach new.request.items unread after new.upstream.follower (followed_by new))
+  with_now_shown {old = old} {new = new} unread before after is reads now follows = (
+    shows_now (length unread) before after is now follows.0
+        (follows_may_show (is_none old.coming) old.reach old.request.items unread before old.upstream.follower (followed_by old) reads follows.1),
+    λ known. follows_as after (ap is_none now.coming) now.request refl (now.reach ∙ reads) now.follower (ap (λ c. followed c new.answers.shown.mirror) now.coming ∙ now.shown)
+        (now_follows (is_none old.coming) old.request.items unread before after old.upstream.follower (followed_by old) is
+        (subst (λ r. MayFollow limits log servers (is_none old.coming) r old.request.items unread before old.upstream.follower (followed_by old)) reads
+        (follows.1 (known_before (shown_so all_from (length unread)) before after is known)))),
+  )
 
   -- a mirror that shows the same at its own token alone is at a place of the log, too
   alone_in_log : (bounds : Limits) (published : Option Published) → IsOfLog log published → IsInLog limits log (restored_from bounds published).node
@@ -862,8 +891,8 @@ module _ (limits : Limits) (log : Log) (servers : Servers) where
       → FollowsLog limits log servers contest exchanges source unread screens sockets → IsToShow limits log servers contest exchanges source (length unread) screens sockets
   to_show source screens exchanges unread reads follows = (
     follows.0,
-    λ honest. (follows.1 honest).0,
-    follows_may_show (is_none source.coming) source.reach source.request.items unread exchanges source.upstream.follower (followed_by source) reads (λ honest. (follows.1 honest).1),
+    follows.1.0,
+    follows_may_show (is_none source.coming) source.reach source.request.items unread exchanges source.upstream.follower (followed_by source) reads follows.1.1,
   )
 
   pub same_to_show : {contest : List ℕ} {old new : Source} (screens : Screens) {sockets : AllSockets} {exchanges : Exchanges} {unread : ℕ} → SameSource old new

@@ -57,7 +57,7 @@ cleared {old} {live} {after} {exchanges} {sockets} {files_then} {input} turn rel
 pub given_so : {live after : Live} {exchanges exchanges_then : Exchanges} {sockets sockets_then : AllSockets} {files files_then : StateFiles}
     {input before came now : Option (List ℕ)} → before ≡ input → now ≡ came
     → IsTurn (moment_of live exchanges sockets files before) (moment_of after exchanges_then sockets_then files_then came)
-    → IsTurn (moment_of live exchanges sockets files_then input) (moment_of after exchanges_then sockets_then files_then now)
+    → IsTurn (moment_of live exchanges sockets files input) (moment_of after exchanges_then sockets_then files_then now)
 given_so {live} {after} {exchanges} {exchanges_then} {sockets} {sockets_then} {files} {files_then} {input} {before} {came} {now} was is turn =
     subst (λ i. IsTurn (moment_of live exchanges sockets files i) (moment_of after exchanges_then sockets_then files_then now)) was
     (subst (λ i. IsTurn (moment_of live exchanges sockets files before) (moment_of after exchanges_then sockets_then files_then i)) (sym is) turn)

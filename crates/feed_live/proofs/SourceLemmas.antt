@@ -1,6 +1,6 @@
 -- How the steps of a source stay at places of the log.
 use Rattle.std.proofs.Common.{◌≡◌, sym, ◌∙◌, subst, ℕ, zero, suc, ◌-◌, arith, List, [], ◌∷◌, length, Option}
-use Rattle.std.specs.Prelude.{Bool, false, true, None, Some, IfSome, MatchOption, Contains, slice_get, Result, Ok, Err, option_map}
+use Rattle.std.specs.Prelude.{Bool, false, true, None, Some, IfSome, MatchOption, IsSome, Contains, slice_get, Result, Ok, Err, option_map}
 use Rattle.std.specs.Result.{is_err}
 use Rattle.feed_settings.specs.Limits.{Limits}
 use Rattle.feed_note.specs.Publishing.{Published}
@@ -21,20 +21,21 @@ use Rattle.feed_live.proofs.RelayLemmas.{with_left, opens_follows}
 pub left_still : {old new : Source} {before after : Exchanges} → IsLeft old new before after
     → (screens : Screens) → StillFollows old new before after old.rest.items new.rest.items screens screens
 left_still {old} {new} left screens limits log servers contest sockets follows =
-    (left.servers ∙ follows.0, with_left limits log servers left new.rest.items (λ honest. (follows.1 honest).0))
+    (left.servers ∙ follows.0, with_left limits log servers left new.rest.items follows.1.0)
 
 -- the connection is open
 pub with_open : (limits : Limits) (log : Log) (servers : Servers) {X : Type 0} (is_shown : Bool) (reach : Reach) (request unread : List ℕ) (before after : Exchanges) (since : ℕ) (follower : Option FollowerState) (mirror : MirrorState)
     → reach ≡ Connects since → after ≡ before
-    → (AreKnownHonest limits log servers before → X × MayFollow limits log servers is_shown reach request unread before follower mirror)
-    → AreKnownHonest limits log servers after → X × MayFollow limits log servers is_shown (Asks 0) request unread after follower mirror
-with_open limits log servers is_shown reach request unread before after since follower mirror is same follows honest =
-    let here = follows (subst (λ e. AreKnownHonest limits log servers e) same honest) in (
-      here.0,
+    → (AreKnownHonest limits log servers before → X) × (IsSome before → MayFollow limits log servers is_shown reach request unread before follower mirror)
+    → (AreKnownHonest limits log servers after → X) × (IsSome after → MayFollow limits log servers is_shown (Asks 0) request unread after follower mirror)
+with_open limits log servers is_shown reach request unread before after since follower mirror is same follows = (
+  λ honest. follows.0 (subst (λ e. AreKnownHonest limits log servers e) same honest),
+  λ known.
+      let here = follows.1 (subst (λ e. IsSome e) same known) in
       subst (λ e. MayFollow limits log servers is_shown (Asks 0) request unread e follower mirror) (sym same)
-          (opens_follows limits log servers is_shown request unread before since follower mirror
-          (subst (λ r. MayFollow limits log servers is_shown r request unread before follower mirror) is here.1)),
-    )
+      (opens_follows limits log servers is_shown request unread before since follower mirror
+      (subst (λ r. MayFollow limits log servers is_shown r request unread before follower mirror) is here)),
+)
 
 -- a connection was begun, which did not fail
 pub begins_so : {A E : Type 0} (result : Result A E) (old new : Exchanges) (server : ℕ) → is_err result ≡ false → Begins old new result server → new ≡ option_map (one_more server) old

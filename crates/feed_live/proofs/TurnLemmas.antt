@@ -1,7 +1,7 @@
 -- How a turn stays at places of the log.
 use Rattle.std.proofs.Common.{◌≡◌, ◌≢◌, refl, eqb-true, inl, inr, sym, ap, ◌∙◌, subst, ℕ, List, [], length, nat_eq, Bool, None}
 use Rattle.std.proofs.lemmas.Bool.Decides.{eqb_tells}
-use Rattle.std.specs.Prelude.{◌==◌, ◌⊎◌, true, not, Contains, false, is_none, string_bytes}
+use Rattle.std.specs.Prelude.{◌==◌, ◌⊎◌, true, not, Contains, false, is_none, IsSome, string_bytes}
 use Rattle.std.proofs.lemmas.List.{nil_from_length}
 use Rattle.slab.specs.Slab.{Slab}
 use Rattle.feed_settings.specs.Limits.{Limits}
@@ -114,16 +114,16 @@ module _ (limits : Limits) (log : Log) (servers : Servers) where
   pub with_begun : (exchanges : Exchanges) {contest : List ℕ} {hub : Hub} {conns : Slab Conn} {sockets : AllSockets} (source : Source) (mirror blank : MirrorState)
       → source.answers.shown.mirror ≡ mirror → source.answers.blank.mirror ≡ blank → source.upstream.follower ≡ None → source.reach ≡ Away
       → mirror.limits ≡ limits → IsInLog limits log mirror.node → IsInLog limits log blank.node → Serving (states_of limits log) contest hub conns sockets
-      → AreKnownHonest limits log servers exchanges → Shows limits log contest source.answers.shown.mirror source.answers.blank.mirror hub conns sockets
-      × MayFollow limits log servers (is_none source.coming) source.reach source.request.items source.rest.items exchanges source.upstream.follower (followed_by source)
-  with_begun exchanges source mirror blank shown blank_is follower away bounds at blank_at serving honest = (
-    record {
+      → (AreKnownHonest limits log servers exchanges → Shows limits log contest source.answers.shown.mirror source.answers.blank.mirror hub conns sockets)
+      × (IsSome exchanges → MayFollow limits log servers (is_none source.coming) source.reach source.request.items source.rest.items exchanges source.upstream.follower (followed_by source))
+  with_begun exchanges source mirror blank shown blank_is follower away bounds at blank_at serving = (
+    λ honest. record {
       limits_are = ap (λ m. m.limits) shown ∙ bounds;
       shown_is = subst (λ m. IsInLog limits log m.node) (sym shown) at;
       blank_is = subst (λ m. IsInLog limits log m.node) (sym blank_is) blank_at;
       serving = serving;
     },
-    subst (λ f. MayFollow limits log servers (is_none source.coming) source.reach source.request.items source.rest.items exchanges f (followed_by source)) (sym follower) away,
+    λ known. subst (λ f. MayFollow limits log servers (is_none source.coming) source.reach source.request.items source.rest.items exchanges f (followed_by source)) (sym follower) away,
   )
 
   -- a whole turn

@@ -1,6 +1,6 @@
 -- THE PROMISE of a relay that follows servers: what it shows, and what each socket was handed, is of
 -- the primary's log, as long as the servers are honest.
-use Rattle.std.specs.Prelude.{◌≡◌, ◌⊎◌, ℕ, ◌≤◌, Bool, false, true, List, [], ◌∷◌, ◌++◌, length, take, Option, Some, None, option_map, is_none, Contains, string_bytes}
+use Rattle.std.specs.Prelude.{◌≡◌, ◌⊎◌, ℕ, ◌≤◌, Bool, false, true, List, [], ◌∷◌, ◌++◌, length, take, Option, Some, None, option_map, is_none, IsSome, Contains, string_bytes}
 use Rattle.slab.specs.Slab.{Slab}
 use Rattle.feed_settings.specs.Limits.{Limits}
 use Rattle.feed_node.specs.Mirroring.{MirrorState}
@@ -22,7 +22,7 @@ use Rattle.feed_live.specs.declared.source.Source.{Source}
 use Rattle.feed_live.specs.declared.turn.Live.{Live}
 use Rattle.feed_live.specs.Serving.{Serving, StillServing}
 use Rattle.feed_live.specs.States.{states_of}
-use Rattle.feed_live.specs.Upstream.{AsksInLog, Servers, IsRequestOf, AreKnownHonest, IsOfLog}
+use Rattle.feed_live.specs.Upstream.{AsksInLog, Servers, IsRequestOf, AreHonest, AreKnownHonest, IsOfLog}
 
 -- so much of the request was written where the connection has come so far
 abbrev pub IsAsked : Reach → List ℕ → List ℕ → Type 0
@@ -38,18 +38,19 @@ IsShownSo true (all_from least) count = least ≤ count
 IsShownSo true (once_at at) count = ⊥
 IsShownSo true nothing_shown count = ⊥
 
--- A response is followed: that to the request of a mirror at a place of the log, which was written
--- on the latest connection, as it is asked of that server. What was read there came to the mirror,
--- but for what is still unread. The mirror is the one that is shown, or nothing of it is shown.
+-- A response is followed: that to the request of a mirror, which was written on the latest
+-- connection, as it is asked of that server. What was read there, whatever it is, came to the mirror
+-- in its order, but for what is still unread. The mirror is the one that is shown, or nothing of it is
+-- shown. Where the servers before were honest, the mirror that asked was at a place of the log.
 pub record Follows (limits : Limits) (log : Log) (servers : Servers) (is_shown : Bool)
     (reach : Reach) (request unread : List ℕ) (exchanges : Exchanges) (follower : FollowerState)
     (mirror : MirrorState) : Type 0 where
   pub start : MirrorState
-  pub asks : AsksInLog limits log start
   pub latest : Exchange
   pub is_request : IsRequestOf servers latest.server start request
   pub before : List Exchange
   pub exchanges_are : exchanges ≡ Some (latest ∷ before)
+  pub asks : AreHonest limits log servers before → AsksInLog limits log start
   pub asked : IsAsked reach request latest.asked
   pub bytes : List ℕ
   pub received : latest.received ≡ bytes ++ unread
@@ -86,16 +87,17 @@ abbrev pub followed_by : Source → MirrorState
 followed_by source = followed source.coming source.answers.shown.mirror
 
 -- A relay of this contest asks these servers. It shows the log where all of them were honest so
--- far, and follows one as it should, of whose response this is unread.
+-- far. Whether they were or not, it follows one as it should, of whose response this is unread.
 abbrev pub FollowsLog : Limits → Log → Servers → List ℕ → Exchanges → Source → List ℕ → Screens
     → AllSockets → Type 0
 FollowsLog limits log servers contest exchanges source unread screens sockets =
     (servers_of source ≡ servers)
-    × (AreKnownHonest limits log servers exchanges
+    × ((AreKnownHonest limits log servers exchanges
     → Shows limits log contest source.answers.shown.mirror source.answers.blank.mirror screens.hub
-    screens.conns sockets
-    × MayFollow limits log servers (is_none source.coming) source.reach source.request.items unread
-    exchanges source.upstream.follower (followed_by source))
+    screens.conns sockets)
+    × (IsSome exchanges
+    → MayFollow limits log servers (is_none source.coming) source.reach source.request.items unread
+    exchanges source.upstream.follower (followed_by source)))
 
 -- THE PROMISE: so it is with a relay whose feed is not its input
 abbrev pub IsRelaying : Limits → Log → Servers → Exchanges → Live → AllSockets → Type 0

@@ -1,9 +1,10 @@
 -- THE PROMISE of a relay whose feed is its input: what it shows, and what each socket was handed,
 -- is of the log, as long as that input is honest.
-use Rattle.std.specs.Prelude.{◌≡◌, ℕ, Bool, true, List, [], ◌++◌, Result, OnOk, string_bytes}
+use Rattle.std.specs.Prelude.{◌≡◌, ℕ, Bool, true, false, List, [], ◌++◌, Result, MatchResult, OnOk, string_bytes}
 use Rattle.feed_settings.specs.Limits.{Limits}
 use Rattle.feed_note.specs.declared.line.Line.{Line}
-use Rattle.feed_node.specs.Mirroring.{MirrorState, StandsAt, present_opening}
+use Rattle.feed_node.specs.declared.fault.FeedFault.{FeedFault}
+use Rattle.feed_node.specs.Mirroring.{MirrorState, StandsAt, Faulted, present_opening}
 use Rattle.feed_world.specs.Log.{Log}
 use Rattle.feed_device.specs.Sockets.{AllSockets}
 use Rattle.feed_live.specs.declared.screens.Screens.{Screens}
@@ -27,6 +28,17 @@ pub record TakesInput (begun : MirrorState) (input unread : List ℕ) (mirror : 
   pub taken : bytes ++ unread ≡ input
   pub notes : List Line
   pub stands : StandsAt (present_opening begun) bytes notes mirror
+
+-- The mirror, which began so, stopped in its input: at its first fault, or memory ran out. It takes
+-- nothing more of it. What the good bytes before published stands.
+pub record StopsInput (begun : MirrorState) (input : List ℕ) (fault : FeedFault)
+    (mirror : MirrorState) : Type 0 where
+  pub before : List ℕ
+  pub piece : List ℕ
+  pub behind : List ℕ
+  pub whole : (before ++ piece) ++ behind ≡ input
+  pub old : MirrorState
+  pub stops : Faulted (present_opening begun) before piece old mirror fault
 
 -- A relay of this contest shows the log where its input was honest so far, to the mirror that it
 -- began with.
@@ -66,6 +78,39 @@ StillTakes old new unread left screens later result =
     → TakesInput begun input unread old.answers.shown.mirror
     → ShowsInput limits log contest begun input new later sockets
     × OnOk result (TakesInput begun input left new.answers.shown.mirror)
+
+-- It took its input, of which this was unread. It takes the rest; or it stopped there, with a fault.
+abbrev pub TakesOrStops : {A : Type 0} → Source → Source → List ℕ → List ℕ → Result A FeedFault
+    → Type 0
+TakesOrStops old new unread left result =
+    (begun : MirrorState) (input : List ℕ)
+    → TakesInput begun input unread old.answers.shown.mirror
+    → MatchResult result (λ _. TakesInput begun input left new.answers.shown.mirror)
+    (λ fault. StopsInput begun input fault new.answers.shown.mirror)
+
+-- so it is where these bytes came behind those that were kept
+abbrev pub TakesMoreOrStops : {A : Type 0} → Source → Source → List ℕ → Result A FeedFault → Type 0
+TakesMoreOrStops old new more result =
+    (begun : MirrorState) (input : List ℕ)
+    → TakesInput begun input old.rest.items old.answers.shown.mirror
+    → MatchResult result
+    (λ _. TakesInput begun (input ++ more) new.rest.items new.answers.shown.mirror)
+    (λ fault. StopsInput begun (input ++ more) fault new.answers.shown.mirror)
+
+-- where it stopped
+abbrev pub StopsSomewhere : Source → Source → List ℕ → Type 0
+StopsSomewhere old new more =
+    (fault : FeedFault) × ((begun : MirrorState) (input : List ℕ)
+    → TakesInput begun input old.rest.items old.answers.shown.mirror
+    → StopsInput begun (input ++ more) fault new.answers.shown.mirror)
+
+-- A relay took its input, which goes on with these bytes, and takes no more of it: it stopped there.
+abbrev pub StopsTaking : Live → Live → List ℕ → AllSockets → Type 0
+StopsTaking old new more sockets =
+    (limits : Limits) (log : Log) (begun : MirrorState) (input : List ℕ)
+    → IsTakingInput limits log begun input old sockets → old.feeds ≡ true → new.feeds ≡ false
+    → (fault : FeedFault)
+    × StopsInput begun (input ++ more) fault new.source.answers.shown.mirror
 
 -- so it is where these bytes came behind those that were kept, and it may go on
 abbrev pub StillTakesMore : Source → Source → List ℕ → Screens → Screens → Bool → Type 0

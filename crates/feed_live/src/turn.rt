@@ -64,7 +64,7 @@ pub struct Live {
 
 impl Live {
     ghost use Rattle.feed_live.specs.Relaying.{IsRelaying, StillRelaying, OnlyServes};
-    ghost use Rattle.feed_live.specs.Taking.{IsTakingInput, StillTaking, bytes_in};
+    ghost use Rattle.feed_live.specs.Taking.{IsTakingInput, StillTaking, StopsTaking, bytes_in};
     ghost use Rattle.feed_live.specs.Saved.{SameSaved};
     ghost use Rattle.feed_live.specs.Held.{Waits, has_heard};
     ghost use Rattle.feed_live.specs.Owed.{OwesWhatIsKept};
@@ -182,6 +182,11 @@ impl Live {
         ensures taking { StillTaking self.old self.new (bytes_in input.entry)
             (S.socket devices.old.sockets) (S.socket devices.new.sockets) }
 
+        // where the input doesn't end, it goes on as the feed; or it stopped at its first fault, or
+        // where memory ran out
+        ensures stops { input.entry ≢ Input.End → StopsTaking self.old self.new
+            (bytes_in input.entry) (S.socket devices.old.sockets) }
+
         // the state files have what a record wrote of nodes that were shown, one after another
         ensures kept { (nodes : List NodeState)
             → Contains nodes self.new.source.answers.shown.mirror.node
@@ -281,6 +286,8 @@ impl Live {
             → StillRelaying self.old self.new exchanges exchanges sockets sockets }
         ensures taking { (sockets : AllSockets) → StillTaking self.old self.new
             (bytes_in input.entry) sockets sockets }
+        ensures stops { input.entry ≢ Input.End → (sockets : AllSockets)
+            → StopsTaking self.old self.new (bytes_in input.entry) sockets }
         ensures saved { SameSaved self.old self.new }
     {
         match input {
@@ -296,6 +303,7 @@ impl Live {
             → StillRelaying self.old self.new exchanges exchanges sockets sockets }
         ensures taking { (sockets : AllSockets) → StillTaking self.old self.new piece.now
             sockets sockets }
+        ensures stops { (sockets : AllSockets) → StopsTaking self.old self.new piece.now sockets }
         ensures saved { SameSaved self.old self.new }
     {
         if self.feeds {

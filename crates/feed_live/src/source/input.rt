@@ -14,6 +14,8 @@ use std::alloc::Global;
 impl Source {
     ghost use Rattle.feed_live.specs.Relaying.{SameSource, servers_of};
     ghost use Rattle.feed_live.specs.Taking.{BeginsInput, StillTakes, StillTakesMore};
+    ghost use Rattle.feed_live.specs.Taking.{TakesOrStops, TakesMoreOrStops, StopsSomewhere};
+    ghost use Rattle.feed_live.specs.declared.screens.Screens.{Screens};
     ghost use Rattle.feed_live.specs.Serving.{SaysAll};
 
     /// The input is a feed from here on, where it feeds.
@@ -38,6 +40,8 @@ impl Source {
         now: u64,
     ) -> bool
         ensures takes { StillTakesMore self.old self.new piece.now screens.old screens.new result }
+        // it ends at its first fault, or where memory runs out, and nowhere else
+        ensures stops { result ≡ false → StopsSomewhere self.old self.new piece.now }
         ensures servers { servers_of self.new ≡ servers_of self.old }
     {
         self.hear(piece, now);
@@ -74,6 +78,7 @@ impl Source {
     ) -> Result<(), FeedFault>
         ensures takes { StillTakesMore self.old self.new piece.now screens.old screens.new
             (is_ok result) }
+        ensures stops { TakesMoreOrStops self.old self.new piece.now result }
         ensures servers { servers_of self.new ≡ servers_of self.old }
     {
         let kept = self.kept(alloc);
@@ -92,13 +97,29 @@ impl Source {
     ) -> Result<(), FeedFault>
         ensures takes { StillTakes self.old self.new (self.old.rest.items ++ piece.now)
             self.new.rest.items screens.old screens.new result }
+        ensures stops { TakesOrStops self.old self.new (self.old.rest.items ++ piece.now)
+            self.new.rest.items result }
         ensures servers { servers_of self.new ≡ servers_of self.old }
     {
         if !self.rest.is_empty() {
-            self.keep(piece)?;
-            return Ok(());
+            return self.keep_input(piece);
         }
         self.feed(alloc, screens, piece, now)
+    }
+
+    /// Keeps bytes of the input. Where there is no memory for them, nothing more of it is followed.
+    fn keep_input(&mut self, piece: &[u8]) -> Result<(), FeedFault>
+        ensures takes { (screens : Screens) → StillTakes self.old self.new
+            (self.old.rest.items ++ piece.now) self.new.rest.items screens screens result }
+        ensures stops { TakesOrStops self.old self.new (self.old.rest.items ++ piece.now)
+            self.new.rest.items result }
+        ensures servers { servers_of self.new ≡ servers_of self.old }
+    {
+        if self.keep(piece).is_ok() {
+            return Ok(());
+        }
+        self.answers.shown.change().cut();
+        Err(FeedFault::Memory)
     }
 
     /// Follows bytes of the input, up to a commit after which nothing more can be said for now.
@@ -112,6 +133,8 @@ impl Source {
     ) -> Result<(), FeedFault>
         ensures takes { self.old.rest.items ≡ [] → StillTakes self.old self.new piece.now
             self.new.rest.items screens.old screens.new result }
+        ensures stops { self.old.rest.items ≡ [] → TakesOrStops self.old self.new piece.now
+            self.new.rest.items result }
         ensures servers { servers_of self.new ≡ servers_of self.old }
     {
         let mut rest = piece;
@@ -123,8 +146,7 @@ impl Source {
             rest = next;
             self.feed_line(alloc, screens, line, now)?;
         }
-        self.keep(rest)?;
-        Ok(())
+        self.keep_input(rest)
     }
 
     /// Follows one line, or a part of one.
@@ -137,6 +159,8 @@ impl Source {
     ) -> Result<(), FeedFault>
         ensures takes { (next : List ℕ) → StillTakes self.old self.new (line.now ++ next) next
             screens.old screens.new result }
+        ensures stops { (next : List ℕ) → TakesOrStops self.old self.new (line.now ++ next) next
+            result }
         ensures says { OnOk result (SaysAll screens.new self.new.answers.shown.mirror.node) }
         ensures servers { servers_of self.new ≡ servers_of self.old }
         ensures rest { self.new.rest.items ≡ self.old.rest.items }

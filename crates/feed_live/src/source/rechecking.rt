@@ -1,6 +1,6 @@
 //! A server that was set back, as after a rehearsal, may give the tokens that this relay has to other
-//! states. So a connection asks for the newest commit again, and that has to come first and to be what
-//! it was. Else everything is asked for.
+//! states. So a connection asks for the newest commit again, and that has to be what it was. Only
+//! commits that the relay holds may come before it. Else everything is asked for.
 
 ghost use Rattle.std.specs.Prelude.{◌≡◌, List, ℕ, IfSome, None};
 ghost use Rattle.std.specs.Option.{option_copied};
@@ -18,7 +18,8 @@ use feed_follow::Follower;
 use feed_node::{Limits, Mirror, Node};
 use std::alloc::{AllocError, Global};
 
-/// What a connection brings that asks for the newest commit again, up to its first token.
+/// What a connection brings that asks for the newest commit again, up to that one, or to the first
+/// token that isn't held.
 #[derive(Drop)]
 pub(crate) struct Again {
     follower: Follower,

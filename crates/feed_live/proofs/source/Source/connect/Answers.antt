@@ -20,21 +20,22 @@ returns-clause-follows g c =
     let shown = c.args.self.now.answers.shown.mirror in
     let asking : c.followed_of.result.now ≡ followed c.in-Ok.coming shown = c.followed_of.ensures ∙ ap (λ s. followed c.in-Ok.coming s) c.mirror.ensures in
     let following : c.followed_of-followed.result.now ≡ followed c.in-Ok.coming shown = c.followed_of-followed.ensures ∙ ap (λ s. followed c.in-Ok.coming s) c.mirror-2.ensures in
+    let begins = begins_so c.connect-begun.result _ _ c.place.result (sym c.is_err.ensures.value ∙ c.if-is_err.false) c.connect-begun.ensures.begins in
     λ screens limits log servers contest sockets follows. (
       follows.0,
-      λ honest.
-          let begins = begins_so c.connect-begun.result _ _ c.place.result (sym c.is_err.ensures.value ∙ c.if-is_err.false) c.connect-begun.ensures.begins in
-          let here = follows.1 (one_more_honest limits log servers _ _ _ begins (begun_honest limits log servers c.in-Ok.coming _ _ c.begin_shown.ensures.shown honest)) in
-          let at = begins_in_log limits log servers c.in-Ok.coming shown c.in-Ok.ensures here.0.limits_are here.0.shown_is in
-          let asks = subst (λ k. IfSome k.since (λ token. published_token k.node ≡ Some token)) asking c.request.ensures.since in
-          let is_request = subst (λ s. IsRequestOf s c.place.result (followed c.in-Ok.coming shown) c.in-Ok-Some.request.items) follows.0
-          (subst (λ p. IsRequestOf (servers_of c.args.self.now) p (followed c.in-Ok.coming shown) c.in-Ok-Some.request.items) (sym c.place.ensures.place)
-          (subst (λ k. IsRequestOf (servers_of c.args.self.now) c.args.self.now.upstream.place k c.in-Ok-Some.request.items) asking
-          (subst (λ made. IfSome made (λ text. IsRequestOf (servers_of c.args.self.now) c.args.self.now.upstream.place c.followed_of.result.now text.items)) c.in-Ok-Some.field-0-is c.in-Ok-Some.ensures.asks))) in
-          let begun = subst (λ k. IsFollowing k [] in_head c.opened.new.self.follower k) following c.opened.ensures.follows in (
-            here.0,
+      (
+        λ honest. follows.1.0 (one_more_honest limits log servers _ _ _ begins (begun_honest limits log servers c.in-Ok.coming _ _ c.begin_shown.ensures.shown honest)),
+        λ known.
+            let asks = subst (λ k. IfSome k.since (λ token. published_token k.node ≡ Some token)) asking c.request.ensures.since in
+            let is_request = subst (λ s. IsRequestOf s c.place.result (followed c.in-Ok.coming shown) c.in-Ok-Some.request.items) follows.0
+            (subst (λ p. IsRequestOf (servers_of c.args.self.now) p (followed c.in-Ok.coming shown) c.in-Ok-Some.request.items) (sym c.place.ensures.place)
+            (subst (λ k. IsRequestOf (servers_of c.args.self.now) c.args.self.now.upstream.place k c.in-Ok-Some.request.items) asking
+            (subst (λ made. IfSome made (λ text. IsRequestOf (servers_of c.args.self.now) c.args.self.now.upstream.place c.followed_of.result.now text.items)) c.in-Ok-Some.field-0-is c.in-Ok-Some.ensures.asks))) in
+            let begun = subst (λ k. IsFollowing k [] in_head c.opened.new.self.follower k) following c.opened.ensures.follows in
             subst (λ u. MayFollow limits log servers (is_none c.in-Ok.coming) (Connects c.args.now) c.in-Ok-Some.request.items u (g.L.Link.exchanges c.begin_shown.new.link) c.opened.new.self.follower (followed c.in-Ok.coming shown)) (sym c.clear.ensures.items)
-                (begun_follows limits log servers c.in-Ok.coming c.place.result c.in-Ok-Some.request.items _ _ _ c.args.now c.opened.new.self.follower (followed c.in-Ok.coming shown)
-                begins c.begin_shown.ensures.shown honest at.0 at.1 asks is_request begun),
-          ),
+            (begun_follows limits log servers c.in-Ok.coming c.place.result c.in-Ok-Some.request.items _ _ _ c.args.now c.opened.new.self.follower (followed c.in-Ok.coming shown)
+            begins c.begin_shown.ensures.shown known
+            (λ honest. let here = follows.1.0 honest in begins_in_log limits log servers c.in-Ok.coming shown c.in-Ok.ensures here.limits_are here.shown_is)
+            asks is_request begun),
+      ),
     )

@@ -1,7 +1,8 @@
 use Rattle.std.proofs.Common.{refl, sym, subst}
 use Rattle.std.specs.Prelude.{Contains}
+use Rattle.std.proofs.lemmas.Result.{err_from_is_err_and}
 use Rattle.feed_live.specs.States.{states_of}
-use Rattle.feed_live.proofs.InputLemmas.{shows_taken, shows_stopped, takes_on, takes_so, none_ok}
+use Rattle.feed_live.proofs.InputLemmas.{shows_taken, shows_stopped, stops_in, takes_on, takes_so, none_ok}
 use Rattle.feed_live.proofs.StateLemmas.{among_states}
 use Rattle.feed_live.proofs.source.Source.feed_line.Goals as goal
 
@@ -31,3 +32,15 @@ returns-else-relay-clause-takes c =
           takes shows,
       takes_on c.args.line.now next _ c.in_ok-feed.ensures.ok (takes_so refl c.change.ensures.mirror takes),
     )
+
+pub returns-in_err-feed-clause-stops : goal.returns-in_err-feed-clause-stops
+returns-in_err-feed-clause-stops c =
+    λ next.
+    let e = err_from_is_err_and c.from_residual.result c.from_residual.ensures.1 in
+    rw (e.1, e.2) (λ begun input takes. stops_in c.args.line.now next _ c.in_err-feed.ensures.err (takes_so refl c.change.ensures.mirror takes))
+
+pub returns-then-relay-clause-stops : goal.returns-then-relay-clause-stops
+returns-then-relay-clause-stops c = λ next begun input takes. takes_on c.args.line.now next _ c.in_ok-feed.ensures.ok (takes_so refl c.change.ensures.mirror takes)
+
+pub returns-else-relay-clause-stops : goal.returns-else-relay-clause-stops
+returns-else-relay-clause-stops c = λ next begun input takes. takes_on c.args.line.now next _ c.in_ok-feed.ensures.ok (takes_so refl c.change.ensures.mirror takes)

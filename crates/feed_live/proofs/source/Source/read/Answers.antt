@@ -1,7 +1,7 @@
 use Rattle.std.specs.Prelude.{is_none}
 use Rattle.std.proofs.Common.{◌≡◌, ◌∙◌, sym, ap, subst, [], take, length}
 use Rattle.feed_live.specs.Relaying.{FollowsLog, followed_by}
-use Rattle.feed_live.proofs.RelayLemmas.{with_left, received_more_honest, reads_follows, to_show, to_show_of}
+use Rattle.feed_live.proofs.RelayLemmas.{with_left, received_more_honest, known_before, reads_follows, to_show, to_show_of}
 use Rattle.feed_live.proofs.source.Source.read.Goals as goal
 
 pub returns-in-Ok-eq0 : goal.returns-in-Ok-eq0
@@ -12,9 +12,10 @@ returns-in-Ok-eq0 g c =
           let shows = c.settle_ended.ensures.shows limits log servers contest sockets (to_show_of limits log servers c.args.self.now c.args.screens.now none_came
           (to_show limits log servers c.args.self.now c.args.screens.now _ (take c.in-Ok-eq0.field-0 c.read.new.buf) reads (
             follows.0,
-            λ honest. let here = follows.1 (received_more_honest limits log servers _ _ _ c.in-Ok-eq0.ensures.bytes honest) in (
-              here.0,
-              reads_follows limits log servers (is_none c.args.self.now.coming) c.args.self.now.reach c.args.self.now.request.items (take c.in-Ok-eq0.field-0 c.read.new.buf) _ _ c.args.self.now.upstream.follower (followed_by c.args.self.now) c.in-Ok-eq0.ensures.bytes here.1,
+            (
+              λ honest. follows.1.0 (received_more_honest limits log servers _ _ _ c.in-Ok-eq0.ensures.bytes honest),
+              λ known.
+                  reads_follows limits log servers (is_none c.args.self.now.coming) c.args.self.now.reach c.args.self.now.request.items (take c.in-Ok-eq0.field-0 c.read.new.buf) _ _ c.args.self.now.upstream.follower (followed_by c.args.self.now) c.in-Ok-eq0.ensures.bytes (follows.1.1 (known_before _ _ _ c.in-Ok-eq0.ensures.bytes known)),
             ),
           ))) in
           (c.lost.ensures.left.servers ∙ shows.0, with_left limits log servers c.lost.ensures.left c.lost.new.self.rest.items shows.1);
@@ -26,8 +27,11 @@ returns-in-Ok g c =
       follows = λ reads none limits log servers contest sockets follows.
           c.take.ensures.follows reads none limits log servers contest sockets (
             follows.0,
-            λ honest. let here = follows.1 (received_more_honest limits log servers _ _ _ c.in-Ok.ensures.bytes honest) in
-                (here.0, reads_follows limits log servers (is_none c.args.self.now.coming) c.args.self.now.reach c.args.self.now.request.items _ _ _ c.args.self.now.upstream.follower (followed_by c.args.self.now) c.in-Ok.ensures.bytes here.1),
+            (
+              λ honest. follows.1.0 (received_more_honest limits log servers _ _ _ c.in-Ok.ensures.bytes honest),
+              λ known.
+                  reads_follows limits log servers (is_none c.args.self.now.coming) c.args.self.now.reach c.args.self.now.request.items _ _ _ c.args.self.now.upstream.follower (followed_by c.args.self.now) c.in-Ok.ensures.bytes (follows.1.1 (known_before _ _ _ c.in-Ok.ensures.bytes known)),
+            ),
           );
     }
 

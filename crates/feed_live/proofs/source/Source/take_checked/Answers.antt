@@ -10,7 +10,7 @@ returns-then-brings_another g c =
         c.forgot.ensures.left.reach,
         λ reads left limits log servers contest sockets follows. (
           c.forgot.ensures.left.servers ∙ c.brings_another.ensures.same.servers ∙ follows.0,
-          with_left limits log servers c.forgot.ensures.left left (λ honest. same_shows limits log c.brings_another.ensures.same (follows.1 honest).0),
+          with_left limits log servers c.forgot.ensures.left left (λ honest. same_shows limits log c.brings_another.ensures.same (follows.1.0 honest)),
         ),
       );
     }
@@ -26,7 +26,7 @@ returns-then-differs_again g c =
             let after = took.2 (c.brings_another.ensures.same.reach ∙ reads) limits log servers contest sockets
             (c.brings_another.ensures.same.servers ∙ follows.0, with_same limits log servers c.brings_another.ensures.same _ c.args.piece.now c.args.piece.now refl follows.1) in (
               c.forgot-then-differs_again.ensures.left.servers ∙ c.differs_again.ensures.same.servers ∙ after.0,
-              with_left limits log servers c.forgot-then-differs_again.ensures.left left (λ honest. same_shows limits log c.differs_again.ensures.same (after.1 honest).0),
+              with_left limits log servers c.forgot-then-differs_again.ensures.left left (λ honest. same_shows limits log c.differs_again.ensures.same (after.1.0 honest)),
             ),
       );
     }

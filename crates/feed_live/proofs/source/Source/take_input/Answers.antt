@@ -1,5 +1,6 @@
-use Rattle.std.proofs.Common.{◌≡◌}
+use Rattle.std.proofs.Common.{◌≡◌, sym, subst, ◌++◌}
 use Rattle.std.specs.Prelude.{true, false}
+use Rattle.feed_live.specs.Taking.{StopsInput}
 use Rattle.feed_live.proofs.InputLemmas.{takes_so}
 use Rattle.feed_live.proofs.RelayLemmas.{same_shows}
 use Rattle.feed_live.proofs.source.Source.take_input.Goals as goal
@@ -15,3 +16,15 @@ returns-in-Err-clause-takes c =
     λ limits log contest begun input sockets shows takes.
     let fed = c.in-Err.ensures.takes limits log contest begun input sockets (λ honest. same_shows limits log c.hear.ensures (shows honest)) (takes_so c.hear.ensures.rest c.hear.ensures.shown takes) in
     (λ honest. same_shows limits log c.end_input.ensures (fed.0 honest), λ wrong. let no : false ≡ true = wrong in absurd (cc))
+
+pub returns-in-Ok-clause-stops : goal.returns-in-Ok-clause-stops
+returns-in-Ok-clause-stops c = λ wrong. let no : true ≡ false = wrong in absurd (cc)
+
+pub returns-in-Err-clause-stops : goal.returns-in-Err-clause-stops
+returns-in-Err-clause-stops c =
+    λ ends. (
+      c.in-Err.fault,
+      λ begun input takes.
+          subst (λ m. StopsInput begun (input ++ c.args.piece.now) c.in-Err.fault m) (sym c.end_input.ensures.shown)
+          (c.in-Err.ensures.stops begun input (takes_so c.hear.ensures.rest c.hear.ensures.shown takes)),
+    )

@@ -100,7 +100,7 @@ returns-else-is_want_of_memory g c =
             let next = c.split_line.result.1.now in
             let here = with_unread limits log servers (is_none c.args.self.now.coming) _ _ _ _ _ c.split_line.ensures follows.1 in
             let may = failed_may_show limits log servers (is_none c.args.self.now.coming) c.args.self.now.reach c.args.self.now.request.items c.split_line.result.0.now next _ c.args.self.now.upstream.follower
-            (followed_by c.args.self.now) (followed_by c.push.new.self) c.in-Err.fault (sym c.is_want_of_memory.ensures ∙ c.if-is_want_of_memory.false) reads c.push.ensures.only.limits c.in-Err.ensures.err (λ honest. (here honest).1) in
+            (followed_by c.args.self.now) (followed_by c.push.new.self) c.in-Err.fault (sym c.is_want_of_memory.ensures ∙ c.if-is_want_of_memory.false) reads c.push.ensures.only.limits c.in-Err.ensures.err here.1 in
             let ended = c.settle_ended.ensures.shows limits log servers contest sockets (
               c.say-in-Err.ensures.same.servers ∙ c.push.ensures.only.servers ∙ follows.0,
               λ honest.

@@ -11,7 +11,7 @@ returns-then-is_noted_replay g c =
         c.ignored.ensures.left.reach,
         λ reads left limits log servers contest sockets follows. (
           c.ignored.ensures.left.servers ∙ c.is_noted_replay.ensures.servers ∙ follows.0,
-          with_left limits log servers c.ignored.ensures.left left (λ honest. same_shows limits log c.is_noted_replay.ensures (follows.1 honest).0),
+          with_left limits log servers c.ignored.ensures.left left (λ honest. same_shows limits log c.is_noted_replay.ensures (follows.1.0 honest)),
         ),
       );
     }

@@ -17,3 +17,13 @@ returns-else-self-clause-taking c =
       shows = λ honest. is.shows (honest_before limits log input c.args.piece.now honest);
       takes = λ feeds. let wrong : false ≡ true = sym c.if-self.false ∙ feeds in absurd (cc);
     }
+
+pub returns-then-self-clause-stops : goal.returns-then-self-clause-stops
+returns-then-self-clause-stops c =
+    λ sockets limits log begun input is feeds ends.
+    let stopped = c.take_input-self.ensures.stops ends in
+    (stopped.0, stopped.1 begun input (is.takes c.if-self.true))
+
+pub returns-else-self-clause-stops : goal.returns-else-self-clause-stops
+returns-else-self-clause-stops c =
+    λ sockets limits log begun input is feeds ends. let wrong : false ≡ true = sym c.if-self.false ∙ feeds in absurd (cc)

@@ -1,5 +1,5 @@
 use Rattle.std.proofs.Common.{sym, subst, ◌++◌}
-use Rattle.feed_live.specs.Taking.{IsTakingInput, bytes_in}
+use Rattle.feed_live.specs.Taking.{IsTakingInput, StopsInput, bytes_in}
 use Rattle.feed_live.proofs.turn.Live.take_input.Goals as goal
 
 pub returns-in-Nothing-clause-taking : goal.returns-in-Nothing-clause-taking
@@ -16,3 +16,18 @@ pub returns-in-End-clause-taking : goal.returns-in-End-clause-taking
 returns-in-End-clause-taking c =
     λ sockets limits log begun input is.
     subst (λ i. IsTakingInput limits log begun (input ++ bytes_in i) c.end.new.self sockets) (sym c.in-End.is) (c.end.ensures.taking sockets limits log begun input is)
+
+pub returns-in-Nothing-clause-stops : goal.returns-in-Nothing-clause-stops
+returns-in-Nothing-clause-stops c =
+    λ goes_on sockets limits log begun input is feeds ends.
+    let stopped = c.feed.ensures.stops sockets limits log begun input is feeds ends in
+    (stopped.0, subst (λ i. StopsInput begun (input ++ bytes_in i) stopped.0 c.feed.new.self.source.answers.shown.mirror) (sym c.in-Nothing.is) stopped.1)
+
+pub returns-in-Bytes-clause-stops : goal.returns-in-Bytes-clause-stops
+returns-in-Bytes-clause-stops c =
+    λ goes_on sockets limits log begun input is feeds ends.
+    let stopped = c.feed-in-Bytes.ensures.stops sockets limits log begun input is feeds ends in
+    (stopped.0, subst (λ i. StopsInput begun (input ++ bytes_in i) stopped.0 c.feed-in-Bytes.new.self.source.answers.shown.mirror) (sym c.in-Bytes.is) stopped.1)
+
+pub returns-in-End-clause-stops : goal.returns-in-End-clause-stops
+returns-in-End-clause-stops c = λ goes_on. absurd (goes_on c.in-End.is)

@@ -1,6 +1,7 @@
-use Rattle.std.proofs.Common.{sym, subst, ◌∙◌}
+use Rattle.std.proofs.Common.{sym, ap, subst, ◌∙◌, ◌++◌}
 use Rattle.std.specs.Prelude.{Contains}
 use Rattle.feed_live.specs.Saved.{KeepsFiles, SameSaved}
+use Rattle.feed_live.specs.Taking.{StopsInput, bytes_in}
 use Rattle.feed_live.proofs.ServingLemmas.{serving_noted}
 use Rattle.feed_live.proofs.TurnLemmas.{serves_then, screens_only, relays_on, takes_only, takes_still}
 use Rattle.feed_live.proofs.OwedLemmas.{owes_what_is_kept}
@@ -29,6 +30,14 @@ returns g c =
       taking = λ limits log begun input is.
           let taken = c.take_input.ensures.taking _ limits log begun input (takes_only limits log said is) in
           takes_only limits log served (takes_still limits log (c.follow.ensures.nothing taken.no_places) taken);
+      stops = λ goes_on limits log begun input is feeds ends.
+          let begins = takes_only limits log said is in
+          let taken = c.take_input.ensures.taking _ limits log begun input begins in
+          let same = c.follow.ensures.nothing taken.no_places in
+          let stopped = c.take_input.ensures.stops goes_on _ limits log begun input begins (said.feeds ∙ feeds) (sym (ap (λ l. l.feeds) same) ∙ sym served.feeds ∙ ends) in (
+            stopped.0,
+            subst (λ m. StopsInput begun (input ++ bytes_in c.args.input) stopped.0 m) (sym (served.source.shown ∙ ap (λ l. l.source.answers.shown.mirror) same)) stopped.1,
+          );
       kept = λ nodes shown files.
           subst (KeepsFiles nodes (files_of c.save.new.store)) (sym after.0)
           (c.save.ensures.kept nodes (subst (λ m. Contains nodes m.node) served.source.shown shown) (subst (KeepsFiles nodes (files_of c.args.devices.now.store)) (sym before.0) files));
