@@ -6,9 +6,9 @@ use Rattle.feed_note.specs.Lines.{HasNoLineFeed, lines, ended}
 use Rattle.feed_note.specs.Meaning.{OnlyOne}
 use Rattle.feed_note.specs.Publishing.{Published}
 use Rattle.feed_note.specs.declared.line.Line.{Line}
-use Rattle.feed_node.specs.Mirroring.{MirrorState, first_opening}
+use Rattle.feed_node.specs.Mirroring.{MirrorState}
 use Rattle.feed_node.specs.Reading.{Opening, AllGood, AllGoodAfter}
-use Rattle.feed_audit.specs.States.{IsStateOf}
+use Rattle.feed_audit.specs.States.{Start, IsStateFrom}
 use Rattle.feed_audit.specs.Walks.{GoesOn, AllAre}
 use Rattle.feed_audit.proofs.Agreeing.{agree_by, good_of, lines_walked}
 use Rattle.feed_audit.proofs.Walking.{published_is, all_end, lines_of_ended, walked_length}
@@ -32,24 +32,24 @@ whole_init [] x h = tt
 whole_init (y ∷ ys) x h = (h.0, whole_init ys x h.1)
 
 -- Of a text that was read so far, this many lines come before the one that publishes this, and what was published before is so.
-pub record Brings (limits : Limits) (P : Published → Type 0) (text : List ℕ) (before : List Line) (line_count : ℕ) (state : Published) : Type 0 where
+pub record Brings (start : Start) (P : Published → Type 0) (text : List ℕ) (before : List Line) (line_count : ℕ) (state : Published) : Type 0 where
   pub earlier : List (List ℕ)
   pub line : List ℕ
   pub later : List (List ℕ)
   pub whole : lines text ≡ earlier ++ line ∷ later
   pub counted : line_count ≡ min (length earlier + 1) 18446744073709551615
-  pub good : AllGood limits first_opening earlier before
-  pub former : (former : Published) → IsStateOf limits (ended earlier) former → P former
-  pub is : IsStateOf limits (ended (earlier ++ line ∷ [])) state
+  pub good : AllGood start.limits start.opening earlier before
+  pub former : (former : Published) → IsStateFrom start (ended earlier) former → P former
+  pub is : IsStateFrom start (ended (earlier ++ line ∷ [])) state
 
-pub brings : OnlyOne → (limits : Limits) (P : Published → Type 0) (text behind : List ℕ) (read : List Line) (count : ℕ) (mirror : MirrorState) (state : Published)
-    → AllAre limits P read → (g : GoesOn limits text behind read count mirror) → mirror.node.published ≡ Some state
-    → Brings limits P text (read ++ g.before) count state
-brings only limits P text behind read count mirror state all g shows =
+pub brings : OnlyOne → (start : Start) (P : Published → Type 0) (text behind : List ℕ) (read : List Line) (count : ℕ) (mirror : MirrorState) (state : Published)
+    → AllAre start P read → (g : GoesOn start text behind read count mirror) → mirror.node.published ≡ Some state
+    → Brings start P text (read ++ g.before) count state
+brings only start P text behind read count mirror state all g shows =
     let en = read ++ g.before in
     let notes = read ++ (g.before ++ g.note ∷ []) in
     let w = g.walked in
-    let said = walked_length limits w.seen notes mirror w.whole w.stands in
+    let said = walked_length start w.seen notes mirror w.whole w.stands in
     let sizes = length-append read (g.before ++ g.note ∷ []) in
     let more = length-append g.before (g.note ∷ []) in
     let parts = unsnoc w.seen (omega arith) in
@@ -57,9 +57,9 @@ brings only limits P text behind read count mirror state all g shows =
     let line = parts.1 in
     let cut : w.seen ≡ earlier ++ line ∷ [] = parts.2 in
     let whole = subst (AllByRecursion HasNoLineFeed) cut w.whole in
-    let good = subst (λ ls. AllGood limits first_opening ls notes) cut (good_of limits text behind notes count mirror w) in
+    let good = subst (λ ls. AllGood start.limits start.opening ls notes) cut (good_of start text behind notes count mirror w) in
     let regrouped : notes ≡ en ++ g.note ∷ [] = sym (append_assoc read g.before (g.note ∷ [])) in
-    let good_earlier = good_init limits first_opening [] earlier line en g.note (subst (AllGood limits first_opening (earlier ++ line ∷ [])) regrouped good) in
+    let good_earlier = good_init start.limits start.opening [] earlier line en g.note (subst (AllGood start.limits start.opening (earlier ++ line ∷ [])) regrouped good) in
     let long : length (earlier ++ line ∷ []) ≡ length earlier + 1 = length-append earlier (line ∷ []) in
     let sized = ap length cut in
     let said_count = w.counted in
@@ -67,18 +67,18 @@ brings only limits P text behind read count mirror state all g shows =
       earlier = earlier;
       line = line;
       later = lines behind;
-      whole = lines_walked limits text behind notes count mirror w ∙ ap (λ s. s ++ lines behind) cut ∙ append_assoc earlier (line ∷ []) (lines behind);
+      whole = lines_walked start text behind notes count mirror w ∙ ap (λ s. s ++ lines behind) cut ∙ append_assoc earlier (line ∷ []) (lines behind);
       counted = omega arith;
       good = good_earlier;
-      former = agree_by only limits P (ended earlier) en
-          (subst (λ ls. AllGood limits first_opening ls en) (sym (lines_of_ended earlier (whole_init earlier line whole))) good_earlier)
-          (all_end limits P read g.before all g.quiet);
+      former = agree_by only start P (ended earlier) en
+          (subst (λ ls. AllGood start.limits start.opening ls en) (sym (lines_of_ended earlier (whole_init earlier line whole))) good_earlier)
+          (all_end start P read g.before all g.quiet);
       is = record {
         first = earlier ++ line ∷ [];
         later = [];
         notes = notes;
         whole = lines_of_ended (earlier ++ line ∷ []) whole ∙ sym (append-nil (earlier ++ line ∷ []));
         good = good;
-        shown = sym (published_is limits text behind notes count mirror w) ∙ shows;
+        shown = sym (published_is start text behind notes count mirror w) ∙ shows;
       };
     }

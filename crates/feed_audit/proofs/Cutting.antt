@@ -4,23 +4,28 @@ use Rattle.std.specs.List.{AllByRecursion}
 use Rattle.feed_note.specs.Lines.{HasNoLineFeed, lines, rest, ended}
 use Rattle.feed_note.proofs.LinesCut.{lines_cut, lines_are_the_only_cut}
 use Rattle.feed_note.proofs.LinesInRow.{ended-append}
-use Rattle.feed_audit.specs.Connections.{Cut, Part, part, Opens, OpensNone, IsFilled, is_blank, is_marked, is_success, status_in, last, opened, headless, marked, answered}
+use Rattle.feed_audit.specs.Connections.{Cut, Part, part, Opens, OpensNone, IsFilled, is_blank, is_marked, is_success, since_in, status_in, announced_by, last, opened, headless, marked, named, answered}
 
 -- how a connection begins on a line
 pub data Begins (line : List ℕ) : Type 0 where
   by_mark : is_marked line ≡ true → Begins line
-  by_head : (status : List ℕ) → is_marked line ≡ false → status_in line ≡ Some status → Begins line
+  by_name : (token : List ℕ) → is_marked line ≡ false → since_in line ≡ Some token → Begins line
+  by_head : (status : List ℕ) → is_marked line ≡ false → since_in line ≡ None → status_in line ≡ Some status → Begins line
 
 begins_or_not : (line : List ℕ) → OpensNone line ⊎ Begins line
 begins_or_not line = by (is_marked line) refl
   where
-    by_status : is_marked line ≡ false → (o : Option (List ℕ)) → status_in line ≡ o → OpensNone line ⊎ Begins line
-    by_status e None f = inl (record { unmarked = e; headless = f })
-    by_status e (Some status) f = inr (by_head status e f)
+    by_status : is_marked line ≡ false → since_in line ≡ None → (o : Option (List ℕ)) → status_in line ≡ o → OpensNone line ⊎ Begins line
+    by_status e n None f = inl (record { unmarked = e; unnamed = n; headless = f })
+    by_status e n (Some status) f = inr (by_head status e n f)
+
+    by_token : is_marked line ≡ false → (o : Option (List ℕ)) → since_in line ≡ o → OpensNone line ⊎ Begins line
+    by_token e None n = by_status e n (status_in line) refl
+    by_token e (Some token) n = inr (by_name token e n)
 
     by : (b : Bool) → is_marked line ≡ b → OpensNone line ⊎ Begins line
     by true e = inr (by_mark e)
-    by false e = by_status e (status_in line) refl
+    by false e = by_token e (since_in line) refl
 
 -- the first line on which one does
 record FirstOf (ls : List (List ℕ)) : Type 0 where
@@ -96,64 +101,71 @@ lines_behind text front later e = sym (lines_are_the_only_cut (behind text later
 
 -- ---- all of it
 
-abbrev Cuts : ℕ → Bool → List ℕ → Type 0
-Cuts before is_feed text = (parts : List Part) × Cut before is_feed text parts
+abbrev Cuts : ℕ → Bool → Option (List ℕ) → List ℕ → Type 0
+Cuts before is_feed since text = (parts : List Part) × Cut before is_feed since text parts
+
+-- texts of so many lines at most are cut
+abbrev CutsUpTo : ℕ → Type 0
+CutsUpTo n = (at : ℕ) (feed : Bool) (token : Option (List ℕ)) (t : List ℕ) → length (lines t) ≤ n → Cuts at feed token t
 
 -- behind lines, where what follows is cut
-cut_behind : (n before : ℕ) (is_feed next : Bool) (text : List ℕ) (body head later : List (List ℕ)) → lines text ≡ body ++ (head ++ later)
-    → AllByRecursion OpensNone body → Opens head next → length (lines text) ≤ suc n → 1 ≤ length head
-    → ((at : ℕ) (feed : Bool) (t : List ℕ) → length (lines t) ≤ n → Cuts at feed t) → Cuts before is_feed text
-cut_behind n before is_feed next text body head later e none opens size some cuts =
+cut_behind : (n before : ℕ) (is_feed next : Bool) (since token : Option (List ℕ)) (text : List ℕ) (body head later : List (List ℕ)) → lines text ≡ body ++ (head ++ later)
+    → AllByRecursion OpensNone body → Opens (announced_by since body) head next token → length (lines text) ≤ suc n → 1 ≤ length head
+    → CutsUpTo n → Cuts before is_feed since text
+cut_behind n before is_feed next since token text body head later e none opens size some cuts =
     let whole = subst (AllByRecursion HasNoLineFeed) (e ∙ sym (append_assoc body head later)) (lines_cut text).whole in
     let joined : lines text ≡ (body ++ head) ++ later = e ∙ sym (append_assoc body head later) in
     let long = ap length joined in
     let l1 = length-append (body ++ head) later in
     let l2 = length-append body head in
     let small : length (lines (behind text later)) ≤ n = subst (λ ls. length ls ≤ n) (sym (lines_behind text (body ++ head) later joined)) (omega arith) in
-    let c = cuts (before + length (body ++ head)) next (behind text later) small in
+    let c = cuts (before + length (body ++ head)) next token (behind text later) small in
     let is : text ≡ ended body ++ (ended head ++ behind text later) =
     text_cut text (body ++ head) later joined ∙ ap (λ t. t ++ behind text later) (ended-append body head)
     ∙ append_assoc (ended body) (ended head) (behind text later) in (
-      part before is_feed (ended body) ∷ c.0,
-      opened body head next (behind text later) c.0 is (whole_front (body ++ head) later whole) none opens c.1,
+      part before is_feed since (ended body) ∷ c.0,
+      opened body head next token (behind text later) c.0 is (whole_front (body ++ head) later whole) none opens c.1,
     )
 
-all_filled : (before : ℕ) (is_feed : Bool) (text line status : List ℕ) (body fields : List (List ℕ)) → lines text ≡ body ++ line ∷ fields
-    → AllByRecursion OpensNone body → is_marked line ≡ false → status_in line ≡ Some status → AllByRecursion IsFilled fields → Cuts before is_feed text
-all_filled before is_feed text line status body fields e none unmarked has filled =
+all_filled : (before : ℕ) (is_feed : Bool) (since : Option (List ℕ)) (text line status : List ℕ) (body fields : List (List ℕ)) → lines text ≡ body ++ line ∷ fields
+    → AllByRecursion OpensNone body → is_marked line ≡ false → since_in line ≡ None → status_in line ≡ Some status → AllByRecursion IsFilled fields → Cuts before is_feed since text
+all_filled before is_feed since text line status body fields e none unmarked unnamed has filled =
     let whole = subst (AllByRecursion HasNoLineFeed) e (lines_cut text).whole in
     let is : text ≡ ended body ++ (ended (line ∷ fields) ++ rest text) =
     (lines_cut text).text ∙ ap (λ ls. ended ls ++ rest text) e ∙ ap (λ t. t ++ rest text) (ended-append body (line ∷ fields))
     ∙ append_assoc (ended body) (ended (line ∷ fields)) (rest text) in
-    (part before is_feed (ended body) ∷ [], headless body fields line status (rest text) is whole (lines_cut text).part none unmarked has filled)
+    (part before is_feed since (ended body) ∷ [], headless body fields line status (rest text) is whole (lines_cut text).part none unmarked unnamed has filled)
 
 no_lines_left : (ls seen later : List (List ℕ)) (line : List ℕ) → ls ≡ seen ++ line ∷ later → length ls ≤ 0 → ⊥
 no_lines_left ls seen later line e h = let l = ap length e in let k = length-append seen (line ∷ later) in absurd (omega arith)
 
-cuts_by : (n before : ℕ) (is_feed : Bool) (text : List ℕ) → length (lines text) ≤ suc n → ((at : ℕ) (feed : Bool) (t : List ℕ) → length (lines t) ≤ n → Cuts at feed t)
-    → AllByRecursion OpensNone (lines text) ⊎ FirstOf (lines text) → Cuts before is_feed text
-cuts_by n before is_feed text size cuts (inl none) = (part before is_feed text ∷ [], last none)
-cuts_by n before is_feed text size cuts (inr f) = by f.begins
+cuts_by : (n before : ℕ) (is_feed : Bool) (since : Option (List ℕ)) (text : List ℕ) → length (lines text) ≤ suc n → CutsUpTo n
+    → AllByRecursion OpensNone (lines text) ⊎ FirstOf (lines text) → Cuts before is_feed since text
+cuts_by n before is_feed since text size cuts (inl none) = (part before is_feed since text ∷ [], last none)
+cuts_by n before is_feed since text size cuts (inr f) = by f.begins
   where
-    by_blank : (status : List ℕ) → is_marked f.line ≡ false → status_in f.line ≡ Some status → AllByRecursion IsFilled f.later ⊎ BlankIn f.later → Cuts before is_feed text
-    by_blank status unmarked has (inl filled) = all_filled before is_feed text f.line status f.seen f.later f.is f.none unmarked has filled
-    by_blank status unmarked has (inr b) =
+    by_blank : (status : List ℕ) → is_marked f.line ≡ false → since_in f.line ≡ None → status_in f.line ≡ Some status → AllByRecursion IsFilled f.later ⊎ BlankIn f.later
+        → Cuts before is_feed since text
+    by_blank status unmarked unnamed has (inl filled) = all_filled before is_feed since text f.line status f.seen f.later f.is f.none unmarked unnamed has filled
+    by_blank status unmarked unnamed has (inr b) =
         let is : lines text ≡ f.seen ++ ((f.line ∷ (b.fields ++ b.blank ∷ [])) ++ b.later) =
         f.is ∙ ap (λ t. f.seen ++ f.line ∷ t) (b.is ∙ sym (append_assoc b.fields (b.blank ∷ []) b.later)) in
-        cut_behind n before is_feed (is_success status) text f.seen (f.line ∷ (b.fields ++ b.blank ∷ [])) b.later is f.none
-        (answered f.line b.fields b.blank status unmarked has b.filled b.ends) size (omega arith) cuts
+        cut_behind n before is_feed (is_success status) since (announced_by since f.seen) text f.seen (f.line ∷ (b.fields ++ b.blank ∷ [])) b.later is f.none
+        (answered f.line b.fields b.blank status unmarked unnamed has b.filled b.ends) size (omega arith) cuts
 
-    by : Begins f.line → Cuts before is_feed text
-    by (by_mark e) = cut_behind n before is_feed true text f.seen (f.line ∷ []) f.later f.is f.none (marked f.line e) size (omega arith) cuts
-    by (by_head status e h) = by_blank status e h (blank_in f.later)
+    by : Begins f.line → Cuts before is_feed since text
+    by (by_mark e) = cut_behind n before is_feed true since None text f.seen (f.line ∷ []) f.later f.is f.none (marked f.line e) size (omega arith) cuts
+    by (by_name token e h) = cut_behind n before is_feed true since (Some token) text f.seen (f.line ∷ []) f.later f.is f.none (named f.line token e h) size (omega arith) cuts
+    by (by_head status e n' h) = by_blank status e n' h (blank_in f.later)
 
-cuts_none : (before : ℕ) (is_feed : Bool) (text : List ℕ) → length (lines text) ≤ 0 → AllByRecursion OpensNone (lines text) ⊎ FirstOf (lines text) → Cuts before is_feed text
-cuts_none before is_feed text size (inl none) = (part before is_feed text ∷ [], last none)
-cuts_none before is_feed text size (inr f) = absurd (no_lines_left (lines text) f.seen f.later f.line f.is size)
+cuts_none : (before : ℕ) (is_feed : Bool) (since : Option (List ℕ)) (text : List ℕ) → length (lines text) ≤ 0 → AllByRecursion OpensNone (lines text) ⊎ FirstOf (lines text)
+    → Cuts before is_feed since text
+cuts_none before is_feed since text size (inl none) = (part before is_feed since text ∷ [], last none)
+cuts_none before is_feed since text size (inr f) = absurd (no_lines_left (lines text) f.seen f.later f.line f.is size)
 
-cuts_all : (n before : ℕ) (is_feed : Bool) (text : List ℕ) → length (lines text) ≤ n → Cuts before is_feed text
-cuts_all zero before is_feed text size = cuts_none before is_feed text size (first_of (lines text))
-cuts_all (suc n) before is_feed text size = cuts_by n before is_feed text size (cuts_all n) (first_of (lines text))
+cuts_all : (n before : ℕ) (is_feed : Bool) (since : Option (List ℕ)) (text : List ℕ) → length (lines text) ≤ n → Cuts before is_feed since text
+cuts_all zero before is_feed since text size = cuts_none before is_feed since text size (first_of (lines text))
+cuts_all (suc n) before is_feed since text size = cuts_by n before is_feed since text size (cuts_all n) (first_of (lines text))
 
-pub each_cuts : (before : ℕ) (is_feed : Bool) (text : List ℕ) → (parts : List Part) × Cut before is_feed text parts
-each_cuts before is_feed text = cuts_all (length (lines text)) before is_feed text (omega arith)
+pub each_cuts : (before : ℕ) (is_feed : Bool) (since : Option (List ℕ)) (text : List ℕ) → (parts : List Part) × Cut before is_feed since text parts
+each_cuts before is_feed since text = cuts_all (length (lines text)) before is_feed since text (omega arith)

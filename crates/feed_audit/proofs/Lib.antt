@@ -1,12 +1,13 @@
 pub mod Agreeing
 pub mod Appending
 pub mod Bringing
-pub mod Tokens
 pub mod Cutting
+pub mod GoingOn
 pub mod Meeting
 pub mod Ordered
 pub mod Parts
 pub mod Prefixes
 pub mod Tallying
+pub mod Tokens
 pub mod Verdicts
 pub mod Walking

@@ -10,20 +10,21 @@ use Rattle.feed_node.specs.declared.fault.FeedFault.TheVariants as feed
 use Rattle.feed_audit.specs.declared.verdict.AuditFault.{AuditFault}
 use Rattle.feed_audit.specs.declared.verdict.AuditFault.TheVariants as told
 use Rattle.feed_audit.specs.Answers.{HasStates, FailsToCount}
+use Rattle.feed_audit.specs.States.{afresh}
 use Rattle.feed_audit.specs.Walks.{Walked, GoesOn, GoesToEnd, FaultsIn}
 use Rattle.feed_audit.proofs.Agreeing.{good_of, all_lines}
 
 -- the text was read so far, and its states are counted
 pub record Counts (limits : Limits) (text behind : List ℕ) (count states : ℕ) (mirror : MirrorState) : Type 0 where
   pub notes : List Line
-  pub walked : Walked limits text behind notes count mirror
+  pub walked : Walked (afresh limits) text behind notes count mirror
   pub counted : states ≡ min (publications limits.history first_opening notes) 18446744073709551615
 
-pub counts_none : (limits : Limits) (text : List ℕ) (mirror : MirrorState) → Walked limits text text [] 0 mirror → Counts limits text text 0 0 mirror
+pub counts_none : (limits : Limits) (text : List ℕ) (mirror : MirrorState) → Walked (afresh limits) text text [] 0 mirror → Counts limits text text 0 0 mirror
 counts_none limits text mirror w = record { notes = []; walked = w; counted = refl }
 
 pub counts_on : (limits : Limits) (text left behind : List ℕ) (count new_count states new_states : ℕ) (old new : MirrorState)
-    (a : Counts limits text left count states old) → GoesOn limits text behind a.notes new_count new → new_states ≡ min (states + 1) 18446744073709551615
+    (a : Counts limits text left count states old) → GoesOn (afresh limits) text behind a.notes new_count new → new_states ≡ min (states + 1) 18446744073709551615
     → Counts limits text behind new_count new_states new
 counts_on limits text left behind count new_count states new_states old new a g more = record {
   notes = a.notes ++ (g.before ++ g.note ∷ []);
@@ -32,12 +33,12 @@ counts_on limits text left behind count new_count states new_states old new a g 
 }
 
 pub counts_all : (limits : Limits) (text left : List ℕ) (count new_count states : ℕ) (old new : MirrorState)
-    (a : Counts limits text left count states old) → GoesToEnd limits text a.notes new_count new → HasStates limits text states
+    (a : Counts limits text left count states old) → GoesToEnd (afresh limits) text a.notes new_count new → HasStates limits text states
 counts_all limits text left count new_count states old new a g =
     let w = g.passes.walked in
     let notes = a.notes ++ g.passes.more in
-    let all = all_lines limits text g.behind notes new_count new w g.part in
-    let good = subst (λ ls. AllGood limits first_opening ls notes) (sym all.0) (good_of limits text g.behind notes new_count new w) in
+    let all = all_lines (afresh limits) text g.behind notes new_count new w g.part in
+    let good = subst (λ ls. AllGood limits first_opening ls notes) (sym all.0) (good_of (afresh limits) text g.behind notes new_count new w) in
     record {
       notes = notes;
       read = record { good = good; short = subst (λ r. length r ≤ line_bytes) (sym all.1) g.short };
@@ -45,10 +46,10 @@ counts_all limits text left count new_count states old new a g =
     }
 
 module _ (limits : Limits) (primary : List ℕ) (told_as : AuditFault) (line : ℕ) where
-  count_fails_by : (fault : FeedFault) → FaultsIn limits primary line fault → told_as ≡ told.Primary line fault → FailsToCount limits primary told_as
+  count_fails_by : (fault : FeedFault) → FaultsIn (afresh limits) primary line fault → told_as ≡ told.Primary line fault → FailsToCount limits primary told_as
   count_fails_by fault f e = subst (FailsToCount limits primary) (sym e) f
 
-  pub count_fails : (fault : FeedFault) → (fault ≢ feed.Memory → FaultsIn limits primary line fault) → (fault ≡ feed.Memory → told_as ≡ told.Memory)
+  pub count_fails : (fault : FeedFault) → (fault ≢ feed.Memory → FaultsIn (afresh limits) primary line fault) → (fault ≡ feed.Memory → told_as ≡ told.Memory)
       → (fault ≢ feed.Memory → told_as ≡ told.Primary line fault) → FailsToCount limits primary told_as
   count_fails feed.NotOpen f m o = count_fails_by feed.NotOpen (f (λ e. absurd (cc))) (o (λ e. absurd (cc)))
   count_fails feed.LongLine f m o = count_fails_by feed.LongLine (f (λ e. absurd (cc))) (o (λ e. absurd (cc)))

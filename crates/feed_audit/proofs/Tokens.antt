@@ -9,7 +9,7 @@ use Rattle.feed_node.specs.Mirroring.{MirrorState, first_opening}
 use Rattle.feed_node.specs.Reading.{AllGood}
 use Rattle.feed_node.specs.States.{NodeState}
 use Rattle.feed_audit.specs.Differences.{Tells, Explains, IsFirstUnder}
-use Rattle.feed_audit.specs.States.{IsStateOf}
+use Rattle.feed_audit.specs.States.{afresh, IsStateOf}
 use Rattle.feed_audit.specs.Walks.{Walked, GoesOn, GoesToEnd, AllAre}
 use Rattle.feed_audit.specs.declared.difference.Difference.{Difference}
 use Rattle.feed_audit.specs.declared.difference.Difference.TheVariants.{NoToken, At, Same}
@@ -20,16 +20,16 @@ use Rattle.feed_audit.proofs.Walking.{all_end, all_goes}
 -- what was read of the primary's publishes no such token
 abbrev pub Lacks : Limits → List ℕ → List ℕ → ℕ → MirrorState → Published → Type 0
 Lacks limits primary behind count mirror state =
-    (notes : List Line) × Walked limits primary behind notes count mirror × AllAre limits (λ shown. shown.token ≢ state.token) notes
+    (notes : List Line) × Walked (afresh limits) primary behind notes count mirror × AllAre (afresh limits) (λ shown. shown.token ≢ state.token) notes
 
 pub no_token : OnlyOne → (limits : Limits) (primary left : List ℕ) (count new_count : ℕ) (old new : MirrorState) (state : Published)
-    (l : Lacks limits primary left count old state) → GoesToEnd limits primary l.0 new_count new → Explains limits primary state NoToken
+    (l : Lacks limits primary left count old state) → GoesToEnd (afresh limits) primary l.0 new_count new → Explains limits primary state NoToken
 no_token only limits primary left count new_count old new state l g shown is =
     let notes = l.0 ++ g.passes.more in
-    let all = all_lines limits primary g.behind notes new_count new g.passes.walked g.part in
-    agree_by only limits (λ (s : Published). s.token ≢ state.token) primary notes
-    (subst (λ ls. AllGood limits first_opening ls notes) (sym all.0) (good_of limits primary g.behind notes new_count new g.passes.walked))
-    (all_end limits (λ (s : Published). s.token ≢ state.token) l.0 g.passes.more l.2 g.passes.quiet) shown is
+    let all = all_lines (afresh limits) primary g.behind notes new_count new g.passes.walked g.part in
+    agree_by only (afresh limits) (λ (s : Published). s.token ≢ state.token) primary notes
+    (subst (λ ls. AllGood limits first_opening ls notes) (sym all.0) (good_of (afresh limits) primary g.behind notes new_count new g.passes.walked))
+    (all_end (afresh limits) (λ (s : Published). s.token ≢ state.token) l.0 g.passes.more l.2 g.passes.quiet) shown is
 
 some_is : (o : Option Published) → IsSome o → (shown : Published) × (o ≡ Some shown)
 some_is None h = absurd (true≢false (sym h))
@@ -43,7 +43,7 @@ explains limits primary state shown Same is other t =
     absurd (other (λ i. record { tables = t i; token = is.named i }))
 
 pub found_token : OnlyOne → (limits : Limits) (primary left behind : List ℕ) (count new_count : ℕ) (old new : MirrorState) (node : NodeState) (state : Published) (told : Difference)
-    (l : Lacks limits primary left count old state) → GoesOn limits primary behind l.0 new_count new → IsSome new.node.published → node ≡ new.node
+    (l : Lacks limits primary left count old state) → GoesOn (afresh limits) primary behind l.0 new_count new → IsSome new.node.published → node ≡ new.node
     → ¬ (IsStateOf limits primary state)
     → ((shown : Published) → node.published ≡ Some shown → shown.token ≡ state.token)
     → ((shown : Published) → node.published ≡ Some shown → Tells shown.tables state.tables told)
@@ -51,8 +51,8 @@ pub found_token : OnlyOne → (limits : Limits) (primary left behind : List ℕ)
 found_token only limits primary left behind count new_count old new node state told l g some is strange same tells =
     let its = some_is new.node.published some in
     let here = ap (λ (n : NodeState). n.published) is ∙ its.1 in
-    let line = brings only limits (λ (s : Published). s.token ≢ state.token) primary behind l.0 new_count new its.0 l.2 g its.1 in
-    let shown = state_of limits primary behind (l.0 ++ (g.before ++ g.note ∷ [])) new_count new its.0 g.walked its.1 in
+    let line = brings only (afresh limits) (λ (s : Published). s.token ≢ state.token) primary behind l.0 new_count new its.0 l.2 g its.1 in
+    let shown = state_of (afresh limits) primary behind (l.0 ++ (g.before ++ g.note ∷ [])) new_count new its.0 g.walked its.1 in
     explains limits primary state its.0 told
     (record {
       earlier = line.earlier;
@@ -71,9 +71,9 @@ other_token None state h = tt
 other_token (Some s) state h = h s refl
 
 pub lacks_on : (limits : Limits) (primary left behind : List ℕ) (count new_count : ℕ) (old new : MirrorState) (node : NodeState) (state : Published)
-    (l : Lacks limits primary left count old state) → (g : GoesOn limits primary behind l.0 new_count new) → node ≡ new.node
+    (l : Lacks limits primary left count old state) → (g : GoesOn (afresh limits) primary behind l.0 new_count new) → node ≡ new.node
     → ((shown : Published) → node.published ≡ Some shown → shown.token ≢ state.token)
-    → AllAre limits (λ shown. shown.token ≢ state.token) (l.0 ++ (g.before ++ g.note ∷ []))
+    → AllAre (afresh limits) (λ shown. shown.token ≢ state.token) (l.0 ++ (g.before ++ g.note ∷ []))
 lacks_on limits primary left behind count new_count old new node state l g is other =
-    all_goes limits (λ (s : Published). s.token ≢ state.token) primary behind l.0 new_count new l.2 g
+    all_goes (afresh limits) (λ (s : Published). s.token ≢ state.token) primary behind l.0 new_count new l.2 g
     (other_token new.node.published state (λ s e. other s (ap (λ (n : NodeState). n.published) is ∙ e)))

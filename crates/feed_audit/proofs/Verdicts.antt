@@ -1,52 +1,67 @@
 -- What is answered of the states that were read.
-use Rattle.std.proofs.Common.{◌≡◌, refl, sym, ap, ◌∙◌, subst, ℕ, ◌+◌, ◌≤◌, min, List, [], ◌∷◌, ◌++◌, length, arith, Option, None, Some}
+use Rattle.std.proofs.Common.{◌≡◌, refl, sym, ap, ◌∙◌, subst, ℕ, ◌+◌, ◌≤◌, min, List, [], ◌∷◌, ◌++◌, length, append-nil, arith, Option, None, Some}
 use Rattle.std.specs.Prelude.{IfSome}
 use Rattle.feed_settings.specs.Limits.{Limits}
 use Rattle.feed_tables.specs.Tables.{after_all}
 use Rattle.feed_note.specs.Meaning.{OnlyOne}
+use Rattle.feed_note.specs.Lines.{ended, lines, rest}
 use Rattle.feed_note.specs.Publishing.{Published}
+use Rattle.feed_note.proofs.LinesCut.{lines_are_the_only_cut}
 use Rattle.feed_note.specs.declared.line.Line.{Line}
 use Rattle.feed_text.specs.Limits.{line_bytes}
-use Rattle.feed_node.specs.Mirroring.{MirrorState, first_opening, publications}
+use Rattle.feed_node.specs.Mirroring.{MirrorState, mirror_after, publications}
 use Rattle.feed_node.specs.Reading.{AllGood}
 use Rattle.feed_node.specs.States.{NodeState, token_of, published_tables, tables_or_none}
 use Rattle.feed_audit.specs.declared.since.Since.{Since}
 use Rattle.feed_audit.specs.declared.verdict.Stray.{Stray}
-use Rattle.feed_audit.specs.Answers.{Agreement, Straying, IsStrange}
+use Rattle.feed_audit.specs.Answers.{AgreementFrom, StrayingFrom, IsStrange}
 use Rattle.feed_audit.specs.Differences.{Explains}
-use Rattle.feed_audit.specs.States.{IsStateOf}
+use Rattle.feed_audit.specs.States.{Start, afresh, published_from, IsStateOf}
 use Rattle.feed_audit.specs.Walks.{Walked, GoesOn, GoesToEnd, AllAre, IsSince, Finds}
 use Rattle.feed_audit.proofs.Agreeing.{agree_by, good_of, state_of, all_lines}
 use Rattle.feed_audit.proofs.Bringing.{brings}
 use Rattle.feed_audit.proofs.Walking.{all_end, all_goes}
 
 -- the screen's text was read so far, and its states are the primary's
-pub record Agrees (limits : Limits) (primary screen behind : List ℕ) (count states : ℕ) (mirror : MirrorState) : Type 0 where
+pub record Agrees (start : Start) (primary screen behind : List ℕ) (count states : ℕ) (mirror : MirrorState) : Type 0 where
   pub notes : List Line
-  pub walked : Walked limits screen behind notes count mirror
-  pub all : AllAre limits (IsStateOf limits primary) notes
-  pub counted : states ≡ min (publications limits.history first_opening notes) 18446744073709551615
+  pub walked : Walked start screen behind notes count mirror
+  pub all : AllAre start (IsStateOf start.limits primary) notes
+  pub counted : states ≡ min (publications start.limits.history start.opening notes) 18446744073709551615
 
-pub agrees_none : (limits : Limits) (primary screen : List ℕ) (mirror : MirrorState) → Walked limits screen screen [] 0 mirror → Agrees limits primary screen screen 0 0 mirror
-agrees_none limits primary screen mirror w = record { notes = []; walked = w; all = first; counted = refl }
+pub agrees_none : (start : Start) (primary screen : List ℕ) (mirror : MirrorState) → IfSome (published_from start []) (IsStateOf start.limits primary)
+    → Walked start screen screen [] 0 mirror → Agrees start primary screen screen 0 0 mirror
+agrees_none start primary screen mirror shown w = record { notes = []; walked = w; all = first; counted = refl }
   where
-    first : AllAre limits (IsStateOf limits primary) []
-    first [] b e = tt
+    first : AllAre start (IsStateOf start.limits primary) []
+    first [] b e = shown
     first (n ∷ a) b e = absurd (cc)
 
-pub agreement : OnlyOne → (limits : Limits) (primary screen left : List ℕ) (count new_count states : ℕ) (old new : MirrorState)
-    (a : Agrees limits primary screen left count states old) → GoesToEnd limits screen a.notes new_count new → Agreement limits primary screen states
-agreement only limits primary screen left count new_count states old new a g =
+-- and the mirror has read all of it
+pub left_at_end : (start : Start) (text : List ℕ) (notes : List Line) (count : ℕ) (mirror : MirrorState) (g : GoesToEnd start text notes count mirror)
+    → mirror ≡ mirror_after start.limits start.opening (notes ++ g.passes.more) []
+left_at_end start text notes count mirror g =
     let w = g.passes.walked in
-    let all = all_lines limits screen g.behind (a.notes ++ g.passes.more) new_count new w g.part in
-    let good = subst (λ ls. AllGood limits first_opening ls (a.notes ++ g.passes.more)) (sym all.0) (good_of limits screen g.behind (a.notes ++ g.passes.more) new_count new w) in
-    record {
-      notes = a.notes ++ g.passes.more;
-      read = record { good = good; short = subst (λ r. length r ≤ line_bytes) (sym all.1) g.short };
-      counted = a.counted ∙ ap (λ n. min n 18446744073709551615) (sym g.passes.counted);
-      agrees = agree_by only limits (IsStateOf limits primary) screen (a.notes ++ g.passes.more) good
-          (all_end limits (IsStateOf limits primary) a.notes g.passes.more a.all g.passes.quiet);
-    }
+    let none : rest (ended w.seen) ≡ [] = sym (lines_are_the_only_cut (ended w.seen) w.seen [] (record { whole = w.whole; part = refl; text = sym (append-nil (ended w.seen)) })).1 in
+    w.stands.state ∙ ap (λ l. mirror_after l start.opening (notes ++ g.passes.more) (rest (ended w.seen))) w.limits_are
+    ∙ ap (mirror_after start.limits start.opening (notes ++ g.passes.more)) none
+
+pub agreement : OnlyOne → (start : Start) (primary screen left : List ℕ) (count new_count states : ℕ) (old new : MirrorState)
+    (a : Agrees start primary screen left count states old) → GoesToEnd start screen a.notes new_count new
+    → (b : AgreementFrom start primary screen states) × (new ≡ mirror_after start.limits start.opening b.notes [])
+agreement only start primary screen left count new_count states old new a g =
+    let w = g.passes.walked in
+    let all = all_lines start screen g.behind (a.notes ++ g.passes.more) new_count new w g.part in
+    let good = subst (λ ls. AllGood start.limits start.opening ls (a.notes ++ g.passes.more)) (sym all.0) (good_of start screen g.behind (a.notes ++ g.passes.more) new_count new w) in (
+      record {
+        notes = a.notes ++ g.passes.more;
+        read = record { good = good; short = subst (λ r. length r ≤ line_bytes) (sym all.1) g.short };
+        counted = a.counted ∙ ap (λ n. min n 18446744073709551615) (sym g.passes.counted);
+        agrees = agree_by only start (IsStateOf start.limits primary) screen (a.notes ++ g.passes.more) good
+            (all_end start (IsStateOf start.limits primary) a.notes g.passes.more a.all g.passes.quiet);
+      },
+      left_at_end start screen a.notes new_count new g,
+    )
 
 -- what was found is a state of the primary's
 found_state : (limits : Limits) (primary : List ℕ) (shown : Option Published) → ((state : Published) → shown ≡ Some state → IsStateOf limits primary state)
@@ -54,16 +69,29 @@ found_state : (limits : Limits) (primary : List ℕ) (shown : Option Published) 
 found_state limits primary None h = tt
 found_state limits primary (Some state) h = h state refl
 
-pub agrees_on : (limits : Limits) (primary screen left behind our_behind : List ℕ) (count new_count our_count states new_states : ℕ) (old new ours : MirrorState) (wanted : NodeState)
-    (a : Agrees limits primary screen left count states old) → GoesOn limits screen behind a.notes new_count new → wanted ≡ new.node
-    → Finds limits primary our_behind our_count ours wanted → new_states ≡ min (states + 1) 18446744073709551615
-    → Agrees limits primary screen behind new_count new_states new
-agrees_on limits primary screen left behind our_behind count new_count our_count states new_states old new ours wanted a g is f more = record {
+-- and so is what the mirror shows that has read all of a text that agrees
+pub shown_after : (start : Start) (primary screen : List ℕ) (states : ℕ) (a : AgreementFrom start primary screen states) (mirror : MirrorState)
+    → mirror ≡ mirror_after start.limits start.opening a.notes [] → IfSome mirror.node.published (IsStateOf start.limits primary)
+shown_after start primary screen states a mirror left =
+    found_state start.limits primary mirror.node.published (λ state e. a.agrees state (record {
+      first = lines screen;
+      later = [];
+      notes = a.notes;
+      whole = sym (append-nil (lines screen));
+      good = a.read.good;
+      shown = sym (ap (λ m. m.node.published) left) ∙ e;
+    }))
+
+pub agrees_on : (start : Start) (primary screen left behind our_behind : List ℕ) (count new_count our_count states new_states : ℕ) (old new ours : MirrorState) (wanted : NodeState)
+    (a : Agrees start primary screen left count states old) → GoesOn start screen behind a.notes new_count new → wanted ≡ new.node
+    → Finds (afresh start.limits) primary our_behind our_count ours wanted → new_states ≡ min (states + 1) 18446744073709551615
+    → Agrees start primary screen behind new_count new_states new
+agrees_on start primary screen left behind our_behind count new_count our_count states new_states old new ours wanted a g is f more = record {
   notes = a.notes ++ (g.before ++ g.note ∷ []);
   walked = g.walked;
-  all = all_goes limits (IsStateOf limits primary) screen behind a.notes new_count new a.all g
-      (found_state limits primary new.node.published
-      (λ state e. state_of limits primary our_behind f.notes our_count ours state f.walked (f.same ∙ ap (λ (n : NodeState). n.published) is ∙ e)));
+  all = all_goes start (IsStateOf start.limits primary) screen behind a.notes new_count new a.all g
+      (found_state start.limits primary new.node.published
+      (λ state e. state_of (afresh start.limits) primary our_behind f.notes our_count ours state f.walked (f.same ∙ ap (λ (n : NodeState). n.published) is ∙ e)));
   counted = let one = g.counted in let before = a.counted in omega arith;
 }
 
@@ -81,15 +109,15 @@ named : (shown : Option Published) (token : List ℕ) → Some token ≡ token_o
 named None token e = absurd (cc)
 named (Some state) token e = (state, refl, cc)
 
-pub straying : OnlyOne → (limits : Limits) (primary screen left behind : List ℕ) (count states : ℕ) (old new : MirrorState) (wanted shown : NodeState) (stray : Stray)
-    (a : Agrees limits primary screen left count states old) → GoesOn limits screen behind a.notes stray.line new → wanted ≡ new.node → shown ≡ new.node
-    → IsStrange limits primary wanted → Some stray.token ≡ token_of shown.published
-    → (asked : NodeState) → asked ≡ new.node → ((state : Published) → asked.published ≡ Some state → Explains limits primary state stray.difference)
-    → stray.before ≡ states → Straying limits primary screen stray
-straying only limits primary screen left behind count states old new wanted shown stray a g is also strange token asked same why states_are =
+pub straying : OnlyOne → (start : Start) (primary screen left behind : List ℕ) (count states : ℕ) (old new : MirrorState) (wanted shown : NodeState) (stray : Stray)
+    (a : Agrees start primary screen left count states old) → GoesOn start screen behind a.notes stray.line new → wanted ≡ new.node → shown ≡ new.node
+    → IsStrange start.limits primary wanted → Some stray.token ≡ token_of shown.published
+    → (asked : NodeState) → asked ≡ new.node → ((state : Published) → asked.published ≡ Some state → Explains start.limits primary state stray.difference)
+    → stray.before ≡ states → StrayingFrom start primary screen stray
+straying only start primary screen left behind count states old new wanted shown stray a g is also strange token asked same why states_are =
     let its = named shown.published stray.token token in
     let shows : new.node.published ≡ Some its.0 = sym (ap (λ (n : NodeState). n.published) also) ∙ its.1 in
-    let here = brings only limits (IsStateOf limits primary) screen behind a.notes stray.line new its.0 a.all g shows in
+    let here = brings only start (IsStateOf start.limits primary) screen behind a.notes stray.line new its.0 a.all g shows in
     record {
       earlier = here.earlier;
       line = here.line;

@@ -4,11 +4,11 @@ use Rattle.feed_settings.specs.Limits.{Limits}
 use Rattle.feed_note.specs.Lines.{lines, ended}
 use Rattle.feed_note.specs.Publishing.{Published}
 use Rattle.feed_note.specs.declared.line.Line.{Line}
-use Rattle.feed_node.specs.Mirroring.{MirrorState, first_opening, publications}
+use Rattle.feed_node.specs.Mirroring.{MirrorState, first_opening, mirror_after, present_opening, publications}
 use Rattle.feed_node.specs.Reading.{AllGood, Reads}
 use Rattle.feed_node.specs.States.{NodeState}
 use Rattle.feed_audit.specs.Differences.{Explains}
-use Rattle.feed_audit.specs.States.{IsStateOf, AgreesWith}
+use Rattle.feed_audit.specs.States.{Start, afresh, IsStateFrom, IsStateOf, AgreesFrom}
 use Rattle.feed_audit.specs.Walks.{Walked, FaultsIn}
 use Rattle.feed_audit.specs.declared.verdict.AuditFault.{AuditFault}
 use Rattle.feed_audit.specs.declared.verdict.AuditFault.TheVariants as fault
@@ -17,39 +17,58 @@ use Rattle.feed_audit.specs.declared.verdict.Verdict.{Verdict}
 use Rattle.feed_audit.specs.declared.verdict.Verdict.TheVariants as verdict
 
 -- nothing is wrong with the screen's text, it publishes so many times, and each state of it is one of the primary's
-pub record Agreement (limits : Limits) (primary screen : List ℕ) (states : ℕ) : Type 0 where
+pub record AgreementFrom (start : Start) (primary screen : List ℕ) (states : ℕ) : Type 0 where
   pub notes : List Line
-  pub read : Reads limits first_opening screen notes
-  pub counted : states ≡ min (publications limits.history first_opening notes) 18446744073709551615
-  pub agrees : AgreesWith limits primary screen
+  pub read : Reads start.limits start.opening screen notes
+  pub counted : states ≡ min (publications start.limits.history start.opening notes) 18446744073709551615
+  pub agrees : AgreesFrom start primary screen
 
 -- A line of the screen's text brings a state that is none of the primary's; all those of the lines before it are.
-pub record Straying (limits : Limits) (primary screen : List ℕ) (stray : Stray) : Type 0 where
+pub record StrayingFrom (start : Start) (primary screen : List ℕ) (stray : Stray) : Type 0 where
   pub earlier : List (List ℕ)
   pub line : List ℕ
   pub later : List (List ℕ)
   pub whole : lines screen ≡ earlier ++ line ∷ later
   pub counted : stray.line ≡ min (length earlier + 1) 18446744073709551615
   pub notes : List Line
-  pub good : AllGood limits first_opening earlier notes
-  pub before : stray.before ≡ min (publications limits.history first_opening notes) 18446744073709551615
-  pub agrees : AgreesWith limits primary (ended earlier)
+  pub good : AllGood start.limits start.opening earlier notes
+  pub before : stray.before ≡ min (publications start.limits.history start.opening notes) 18446744073709551615
+  pub agrees : AgreesFrom start primary (ended earlier)
   pub state : Published
-  pub is : IsStateOf limits (ended (earlier ++ line ∷ [])) state
+  pub is : IsStateFrom start (ended (earlier ++ line ∷ [])) state
   pub named : stray.token ≡ state.token
-  pub strays : ¬ (IsStateOf limits primary state)
-  pub explained : Explains limits primary state stray.difference
+  pub strays : ¬ (IsStateOf start.limits primary state)
+  pub explained : Explains start.limits primary state stray.difference
 
-abbrev pub IsVerdict : Limits → List ℕ → List ℕ → Verdict → Type 0
-IsVerdict limits primary screen (verdict.Agrees states) = Agreement limits primary screen states
-IsVerdict limits primary screen (verdict.Strays stray) = Straying limits primary screen stray
+abbrev pub IsVerdictFrom : Start → List ℕ → List ℕ → Verdict → Type 0
+IsVerdictFrom start primary screen (verdict.Agrees states) = AgreementFrom start primary screen states
+IsVerdictFrom start primary screen (verdict.Strays stray) = StrayingFrom start primary screen stray
 
 -- the first lines of a text are good, up to one with this fault; a want of memory says nothing
+abbrev pub FailsFrom : Start → List ℕ → List ℕ → AuditFault → Type 0
+FailsFrom start primary screen (fault.Primary line why) = FaultsIn (afresh start.limits) primary line why
+FailsFrom start primary screen (fault.Screen line why) = FaultsIn start screen line why
+FailsFrom start primary screen (fault.Chunked line) = ⊥
+FailsFrom start primary screen (fault.OtherToken line) = ⊥
+FailsFrom start primary screen fault.Memory = Unit {0}
+
+-- on a connection of this mirror that begins now
+abbrev pub begun_by : Limits → MirrorState → Start
+begun_by limits mirror = record { limits = limits; opening = present_opening mirror }
+
+-- what is answered, and that the mirror has read all lines where the text agrees
+abbrev pub IsVerdictOn : Start → List ℕ → List ℕ → Verdict → MirrorState → Type 0
+IsVerdictOn start primary screen (verdict.Agrees states) mirror =
+    (a : AgreementFrom start primary screen states)
+    × (mirror ≡ mirror_after start.limits start.opening a.notes [])
+IsVerdictOn start primary screen (verdict.Strays stray) mirror = StrayingFrom start primary screen stray
+
+-- the same of a screen's text that a fresh connection carried
+abbrev pub IsVerdict : Limits → List ℕ → List ℕ → Verdict → Type 0
+IsVerdict limits primary screen verdict = IsVerdictFrom (afresh limits) primary screen verdict
+
 abbrev pub FailsToAudit : Limits → List ℕ → List ℕ → AuditFault → Type 0
-FailsToAudit limits primary screen (fault.Primary line why) = FaultsIn limits primary line why
-FailsToAudit limits primary screen (fault.Screen line why) = FaultsIn limits screen line why
-FailsToAudit limits primary screen (fault.Chunked line) = ⊥
-FailsToAudit limits primary screen fault.Memory = Unit {0}
+FailsToAudit limits primary screen fault = FailsFrom (afresh limits) primary screen fault
 
 -- nothing is wrong with the text, and it publishes so many times
 pub record HasStates (limits : Limits) (text : List ℕ) (states : ℕ) : Type 0 where
@@ -59,14 +78,16 @@ pub record HasStates (limits : Limits) (text : List ℕ) (states : ℕ) : Type 0
 
 -- the fault is that of the primary's first bad line
 abbrev pub FailsToCount : Limits → List ℕ → AuditFault → Type 0
-FailsToCount limits primary (fault.Primary line why) = FaultsIn limits primary line why
+FailsToCount limits primary (fault.Primary line why) = FaultsIn (afresh limits) primary line why
 FailsToCount limits primary (fault.Screen line why) = ⊥
 FailsToCount limits primary (fault.Chunked line) = ⊥
+FailsToCount limits primary (fault.OtherToken line) = ⊥
 FailsToCount limits primary fault.Memory = Unit {0}
 
--- a mirror has read some of the lines of a text
+-- a mirror has read some of the lines of a text on a fresh connection
 abbrev pub IsReading : Limits → List ℕ → List ℕ → ℕ → MirrorState → Type 0
-IsReading limits text behind lines mirror = (notes : List Line) × Walked limits text behind notes lines mirror
+IsReading limits text behind lines mirror =
+    (notes : List Line) × Walked (afresh limits) text behind notes lines mirror
 
 -- what the node shows is no state of the text
 abbrev pub IsStrange : Limits → List ℕ → NodeState → Type 0

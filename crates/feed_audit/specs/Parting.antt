@@ -1,17 +1,21 @@
 -- Where a record is cut, step by step.
-use Rattle.std.specs.Prelude.{◌≡◌, ℕ, ◌+◌, min, Bool, true, false, List, [], ◌∷◌, ◌++◌, length, Option, None, Some}
+use Rattle.std.specs.Prelude.{◌≡◌, ℕ, ◌+◌, min, Bool, true, false, List, [], ◌∷◌, ◌++◌, length, Option, None, Some, IfSome}
 use Rattle.std.specs.List.{AllByRecursion}
+use Rattle.std.specs.Option.{option_copied}
 use Rattle.feed_settings.specs.Limits.{Limits}
 use Rattle.feed_text.specs.Ascii.{line_feed}
 use Rattle.feed_note.specs.Lines.{HasNoLineFeed, lines, ended}
-use Rattle.feed_audit.specs.Answers.{IsVerdict}
-use Rattle.feed_audit.specs.Connections.{Cut, Part, part, OpensNone, IsFilled, is_blank, is_marked, is_success, status_in, IsCutAt}
-use Rattle.feed_audit.specs.Records.{AllAgree, BeginsInChunks}
+use Rattle.feed_node.specs.Mirroring.{MirrorState, new_mirror}
+use Rattle.feed_audit.specs.Answers.{StrayingFrom}
+use Rattle.feed_audit.specs.Connections.{Cut, Part, part, OpensNone, IsFilled, is_blank, is_marked, is_success, since_in, status_in, IsCutAt}
+use Rattle.feed_audit.specs.Records.{AllAgree, FeedAgrees, FaultsInFeed, BeginsInChunks, HasOtherToken, MayGoOn, start_of}
+use Rattle.feed_audit.specs.States.{afresh, IsStateOf}
 use Rattle.feed_audit.specs.Walks.{FaultsIn}
 use Rattle.feed_audit.specs.declared.connections.Body.{Body}
 use Rattle.feed_audit.specs.declared.connections.Next.{Next}
 use Rattle.feed_audit.specs.declared.connections.Opening.{Opening}
-use Rattle.feed_audit.specs.declared.connections.Opening.TheVariants.{Marked, Head}
+use Rattle.feed_audit.specs.declared.record.Carried.{Carried}
+use Rattle.feed_audit.specs.declared.connections.Opening.TheVariants.{Marked, Named, Head}
 use Rattle.feed_audit.specs.declared.verdict.AuditFault.{AuditFault}
 use Rattle.feed_audit.specs.declared.verdict.AuditFault.TheVariants as fault
 use Rattle.feed_audit.specs.declared.verdict.Verdict.{Verdict}
@@ -23,8 +27,10 @@ most = 18446744073709551615
 -- a connection begins on the line like this
 abbrev pub IsOpening : List ℕ → Opening → Type 0
 IsOpening line Marked = is_marked line ≡ true
+IsOpening line (Named token) = (is_marked line ≡ false) × (since_in line ≡ Some token.now)
 IsOpening line (Head is_feed) =
-    (is_marked line ≡ false) × ((status : List ℕ) × (status_in line ≡ Some status) × (is_feed ≡ is_success status))
+    (is_marked line ≡ false) × (since_in line ≡ None)
+    × ((status : List ℕ) × (status_in line ≡ Some status) × (is_feed ≡ is_success status))
 
 -- lines were passed on which no connection begins
 pub record Passed (text behind : List ℕ) (count : ℕ) : Type 0 where
@@ -84,43 +90,63 @@ pub record IsHeadCutOff (text : List ℕ) : Type 0 where
 -- the text is one connection
 abbrev pub EndsWith : List ℕ → List ℕ → Type 0
 EndsWith text body =
-    (before : ℕ) → (is_feed : Bool) → Cut before is_feed text (part before is_feed body ∷ [])
+    (before : ℕ) → (is_feed : Bool) → (since : Option (List ℕ))
+    → Cut before is_feed since text (part before is_feed since body ∷ [])
 
--- the text is one connection, and the others that stand behind it
-pub record GoesOnWith (text body : List ℕ) (next : Next) : Type 0 where
+-- the token that the next connection was asked for with
+abbrev pub since_of : Next → Option (List ℕ)
+since_of next = option_copied next.since
+
+-- the text is one connection, asked for with this token, and the others that stand behind it
+pub record GoesOnWith (since : Option (List ℕ)) (text body : List ℕ) (next : Next) : Type 0 where
   pub count : ℕ
   pub counted : next.lines ≡ min count most
   pub on : (before : ℕ) → (is_feed : Bool) → (parts : List Part)
-      → Cut (before + count) next.is_feed next.text.now parts
-      → Cut before is_feed text (part before is_feed body ∷ parts)
+      → Cut (before + count) next.is_feed (since_of next) next.text.now parts
+      → Cut before is_feed since text (part before is_feed since body ∷ parts)
 
 -- ---- the audit of one connection, and those so far
 
--- what is answered of a connection: where it is no feed, that it has no states
-abbrev pub IsPartVerdict : Limits → List ℕ → Bool → List ℕ → Verdict → Type 0
-IsPartVerdict limits primary true body answer = IsVerdict limits primary body answer
-IsPartVerdict limits primary false body answer = answer ≡ verdict.Agrees 0
+-- a connection, behind so many lines
+abbrev pub part_of : ℕ → Carried → Part
+part_of before carried =
+    part before carried.is_feed (option_copied carried.since) carried.body.now
 
-abbrev pub FailsInBody : Limits → List ℕ → List ℕ → AuditFault → Type 0
-FailsInBody limits primary body (fault.Primary line why) = FaultsIn limits primary line why
-FailsInBody limits primary body (fault.Screen line why) = FaultsIn limits body line why
-FailsInBody limits primary body (fault.Chunked line) = BeginsInChunks limits primary body line
-FailsInBody limits primary body fault.Memory = Unit {0}
+-- what is answered of a feed, and what is left of the mirror
+abbrev pub IsFeedVerdict : Limits → List ℕ → MirrorState → Part → Verdict → MirrorState → Type 0
+IsFeedVerdict limits primary old at (verdict.Agrees states) new = FeedAgrees limits primary old at states new
+IsFeedVerdict limits primary old at (verdict.Strays stray) new =
+    MayGoOn old at.since × StrayingFrom (start_of limits primary old at.since) primary at.body stray
 
--- the connections before this text agree
+-- of a connection: where it is no feed, that it has no states
+abbrev pub IsPartVerdict : Limits → List ℕ → Bool → MirrorState → Part → Verdict → MirrorState → Type 0
+IsPartVerdict limits primary true old at answer new = IsFeedVerdict limits primary old at answer new
+IsPartVerdict limits primary false old at answer new = (answer ≡ verdict.Agrees 0) × (new ≡ old)
+
+abbrev pub FailsInBody : Limits → List ℕ → MirrorState → Part → AuditFault → Type 0
+FailsInBody limits primary old at (fault.Primary line why) = FaultsIn (afresh limits) primary line why
+FailsInBody limits primary old at (fault.Screen line why) = FaultsInFeed limits primary why old at line
+FailsInBody limits primary old at (fault.Chunked line) = BeginsInChunks limits primary old at line
+FailsInBody limits primary old at (fault.OtherToken line) = HasOtherToken limits primary old at line
+FailsInBody limits primary old at fault.Memory = Unit {0}
+
+-- the connections before this text agree, and this is the mirror then
 pub record Reached (limits : Limits) (primary screen text : List ℕ) (before states : ℕ) (is_feed : Bool)
-    : Type 0 where
+    (since : Option (List ℕ)) (mirror : MirrorState) : Type 0 where
   pub parts : List Part
   pub at : ℕ
   pub before_is : before ≡ min at most
   pub all : ℕ
-  pub agree : AllAgree limits primary parts all
+  pub agree : AllAgree limits primary (new_mirror limits) parts all mirror
+  pub limits_are : mirror.limits ≡ limits
+  pub shown : IfSome mirror.node.published (IsStateOf limits primary)
   pub counted : states ≡ min all most
-  pub cut : (later : List Part) → Cut at is_feed text later → IsCutAt screen (parts ++ later)
+  pub cut : (later : List Part) → Cut at is_feed since text later → IsCutAt screen (parts ++ later)
 
 -- a fault of a connection, by its line in the record
 abbrev pub faults_behind : AuditFault → ℕ → AuditFault
 faults_behind (fault.Primary line why) before = fault.Primary line why
 faults_behind (fault.Screen line why) before = fault.Screen (min (before + line) most) why
 faults_behind (fault.Chunked line) before = fault.Chunked (min (before + line) most)
+faults_behind (fault.OtherToken line) before = fault.OtherToken (min (before + line) most)
 faults_behind fault.Memory before = fault.Memory

@@ -1,8 +1,13 @@
--- What an audit of a record of several connections answers. Each is read as a fresh one.
-use Rattle.std.specs.Prelude.{◌≡◌, ℕ, ◌+◌, min, Bool, true, false, List, [], ◌∷◌, ◌++◌}
+-- What an audit of a record of several connections answers. Each is read as a fresh one, or goes on
+-- where those before it ended.
+use Rattle.std.specs.Prelude.{◌≡◌, ℕ, ◌+◌, min, Bool, true, false, List, [], ◌∷◌, ◌++◌, Option, None, Some}
 use Rattle.feed_settings.specs.Limits.{Limits}
-use Rattle.feed_audit.specs.Answers.{Agreement, Straying}
+use Rattle.feed_node.specs.Mirroring.{MirrorState, new_mirror, mirror_after, first_opening, present_opening}
+use Rattle.feed_node.specs.Reading.{Opening}
+use Rattle.feed_node.specs.declared.fault.FeedFault.{FeedFault}
+use Rattle.feed_audit.specs.Answers.{AgreementFrom, StrayingFrom}
 use Rattle.feed_audit.specs.Connections.{IsCutAt, Part, is_chunked}
+use Rattle.feed_audit.specs.States.{Start, afresh}
 use Rattle.feed_audit.specs.Walks.{FaultsIn}
 use Rattle.feed_audit.specs.declared.verdict.AuditFault.{AuditFault}
 use Rattle.feed_audit.specs.declared.verdict.AuditFault.TheVariants as fault
@@ -14,38 +19,68 @@ use Rattle.feed_audit.specs.declared.verdict.Verdict.TheVariants as verdict
 abbrev pub most_counted : ℕ
 most_counted = 18446744073709551615
 
+-- how a connection begins: afresh, or as the one of a mirror that goes on
+abbrev pub opening_of : MirrorState → Option (List ℕ) → Opening
+opening_of mirror None = first_opening
+opening_of mirror (Some token) = present_opening mirror
+
+-- a mirror goes on with the token alone that it would ask with: that of the last state so far
+abbrev pub MayGoOn : MirrorState → Option (List ℕ) → Type 0
+MayGoOn mirror None = Unit {0}
+MayGoOn mirror (Some token) = mirror.since ≡ Some token
+
 module _ (limits : Limits) (primary : List ℕ) where
+  abbrev pub start_of : MirrorState → Option (List ℕ) → Start
+  start_of mirror since = record { limits = limits; opening = opening_of mirror since }
+
   -- nothing is wrong with what a feed carried, and each of its states, so many, is one of the
-  -- primary's; what is no feed has none
-  abbrev pub AgreesAt : Bool → List ℕ → ℕ → Type 0
-  AgreesAt true body states = Agreement limits primary body states
-  AgreesAt false body states = states ≡ 0
+  -- primary's; and this is what is left of the mirror that read on
+  pub record FeedAgrees (old : MirrorState) (at : Part) (states : ℕ) (new : MirrorState) : Type 0 where
+    pub may : MayGoOn old at.since
+    pub agrees : AgreementFrom (start_of old at.since) primary at.body states
+    pub left : new ≡ mirror_after limits (opening_of old at.since) agrees.notes []
+
+  -- the same of a connection; what is no feed has no states, and is not read
+  abbrev pub AgreesBy : Bool → MirrorState → Part → ℕ → MirrorState → Type 0
+  AgreesBy true old at states new = FeedAgrees old at states new
+  AgreesBy false old at states new = (states ≡ 0) × (new ≡ old)
+
+  abbrev pub AgreesAt : MirrorState → Part → ℕ → MirrorState → Type 0
+  AgreesAt old at states new = AgreesBy at.is_feed old at states new
 
   -- the same of each of these connections, and together they have so many states
-  abbrev pub AllAgree : List Part → ℕ → Type 0
-  AllAgree [] states = states ≡ 0
-  AllAgree (part ∷ parts) states =
-      (here : ℕ) × (later : ℕ) × AgreesAt part.is_feed part.body here × AllAgree parts later × (states ≡ here + later)
+  abbrev pub AllAgree : MirrorState → List Part → ℕ → MirrorState → Type 0
+  AllAgree old [] states new = (states ≡ 0) × (new ≡ old)
+  AllAgree old (part ∷ parts) states new =
+      (here : ℕ) × (later : ℕ) × (between : MirrorState) × AgreesAt old part here between
+      × AllAgree between parts later new × (states ≡ here + later)
 
   -- the same of each connection of a record
   pub record RecordAgrees (screen : List ℕ) (states : ℕ) : Type 0 where
     pub parts : List Part
     pub cut : IsCutAt screen parts
     pub all : ℕ
-    pub agree : AllAgree parts all
+    pub mirror : MirrorState
+    pub agree : AllAgree (new_mirror limits) parts all mirror
     pub counted : states ≡ min all most_counted
+
+  -- the connections before this feed of the record agree, and this is the mirror then
+  pub record Reaches (screen : List ℕ) (at : Part) (states : ℕ) (mirror : MirrorState) : Type 0 where
+    pub earlier : List Part
+    pub later : List Part
+    pub cut : IsCutAt screen (earlier ++ at ∷ later)
+    pub agree : AllAgree (new_mirror limits) earlier states mirror
+    pub is_feed : at.is_feed ≡ true
 
   -- A connection has this state, which is none of the primary's, and all those before it agree.
   pub record RecordStrays (screen : List ℕ) (stray : Stray) : Type 0 where
-    pub earlier : List Part
     pub at : Part
-    pub later : List Part
-    pub cut : IsCutAt screen (earlier ++ at ∷ later)
     pub states : ℕ
-    pub agree : AllAgree earlier states
-    pub is_feed : at.is_feed ≡ true
+    pub mirror : MirrorState
+    pub reaches : Reaches screen at states mirror
+    pub may : MayGoOn mirror at.since
     pub its_own : Stray
-    pub strays : Straying limits primary at.body its_own
+    pub strays : StrayingFrom (start_of mirror at.since) primary at.body its_own
     pub token : stray.token ≡ its_own.token
     pub difference : stray.difference ≡ its_own.difference
     pub before : stray.before ≡ min (states + its_own.before) most_counted
@@ -55,30 +90,37 @@ module _ (limits : Limits) (primary : List ℕ) where
   IsRecordVerdict screen (verdict.Agrees states) = RecordAgrees screen states
   IsRecordVerdict screen (verdict.Strays stray) = RecordStrays screen stray
 
-  -- a connection of the record is a feed, this is so of what it carried and of one of its lines, and
-  -- all connections before it agree
-  pub record FailsInPart (screen : List ℕ) (line : ℕ) (P : List ℕ → ℕ → Type 0) : Type 0 where
-    pub earlier : List Part
+  -- a connection of the record is a feed, this is so of the mirror, of what it carried and of one of
+  -- its lines, and all connections before it agree
+  pub record FailsInPart (screen : List ℕ) (line : ℕ) (P : MirrorState → Part → ℕ → Type 0) : Type 0 where
     pub at : Part
-    pub later : List Part
-    pub cut : IsCutAt screen (earlier ++ at ∷ later)
     pub states : ℕ
-    pub agree : AllAgree earlier states
-    pub is_feed : at.is_feed ≡ true
+    pub mirror : MirrorState
+    pub reaches : Reaches screen at states mirror
     pub its_own : ℕ
-    pub fails : P at.body its_own
+    pub fails : P mirror at its_own
     pub counted : line ≡ min (at.before + its_own) most_counted
 
+  -- a line of it is the first that can't be read
+  pub record FaultsInFeed (why : FeedFault) (mirror : MirrorState) (at : Part) (line : ℕ) : Type 0 where
+    pub may : MayGoOn mirror at.since
+    pub faults : FaultsIn (start_of mirror at.since) at.body line why
+
   -- what it carried begins with a chunk's size
-  pub record BeginsInChunks (body : List ℕ) (line : ℕ) : Type 0 where
-    pub chunked : is_chunked body ≡ true
+  pub record BeginsInChunks (mirror : MirrorState) (at : Part) (line : ℕ) : Type 0 where
+    pub chunked : is_chunked at.body ≡ true
+    pub first : line ≡ 1
+
+  -- it was asked for with another token than that of the last state so far
+  pub record HasOtherToken (mirror : MirrorState) (at : Part) (line : ℕ) : Type 0 where
+    pub other : ¬ (MayGoOn mirror at.since)
     pub first : line ≡ 1
 
   -- the first lines of the primary's record are good, or of a connection of the screen's, up to one
-  -- with this fault; or that was carried in chunks; a want of memory says nothing
+  -- with this fault; or that was carried in chunks, or can't go on; a want of memory says nothing
   abbrev pub FailsToAuditRecord : List ℕ → AuditFault → Type 0
-  FailsToAuditRecord screen (fault.Primary line why) = FaultsIn limits primary line why
-  FailsToAuditRecord screen (fault.Screen line why) =
-      FailsInPart screen line (λ body its_own. FaultsIn limits body its_own why)
+  FailsToAuditRecord screen (fault.Primary line why) = FaultsIn (afresh limits) primary line why
+  FailsToAuditRecord screen (fault.Screen line why) = FailsInPart screen line (FaultsInFeed why)
   FailsToAuditRecord screen (fault.Chunked line) = FailsInPart screen line BeginsInChunks
+  FailsToAuditRecord screen (fault.OtherToken line) = FailsInPart screen line HasOtherToken
   FailsToAuditRecord screen fault.Memory = Unit {0}

@@ -1,8 +1,9 @@
 //! Whether each state of a screen's record is a state of the primary's.
 
-ghost use Rattle.std.specs.Prelude.{◌≡◌, ℕ, List, IfOk, IfErr, IfSome, IfNone, Some};
+ghost use Rattle.std.specs.Prelude.{◌≡◌, IfOk, IfErr, IfSome, IfNone, Some};
 ghost use Rattle.feed_node.specs.States.{published_token};
-ghost use Rattle.feed_audit.specs.Answers.{IsVerdict, FailsToAudit, IsReading, IsStrange};
+ghost use Rattle.feed_audit.specs.Answers.{IsVerdict, IsVerdictOn, begun_by, FailsFrom, FailsToAudit, FailsToCount, IsReading, IsStrange};
+ghost use Rattle.feed_audit.specs.States.{afresh, IsStateOf};
 ghost use Rattle.feed_audit.specs.Walks.{Finds, IsSince};
 ghost use Rattle.feed_audit.specs.declared.verdict.AuditFault.TheVariants as told;
 
@@ -41,11 +42,10 @@ fn locate<'a>(
     requires reading { IsReading limits primary.now behind.now lines.old mirror.old }
     requires since { IsSince since.old mirror.old.node wanted.now.shown }
     ensures some { IfOk result (λ found. IfSome found (λ behind.
-        Finds limits primary.now behind.now lines.new mirror.new wanted.now.shown)) }
+        Finds (afresh limits) primary.now behind.now lines.new mirror.new wanted.now.shown)) }
     ensures none { IfOk result (λ found. IfNone found
         (IsStrange limits primary.now wanted.now.shown)) }
-    ensures err { (screen : List ℕ) → IfErr result (λ fault.
-        FailsToAudit limits primary.now screen fault) }
+    ensures err { IfErr result (λ fault. FailsToCount limits primary.now fault) }
 {
     // What `none` rests on.
     line_laws();
@@ -62,31 +62,36 @@ fn locate<'a>(
     }
 }
 
-/// Whether each state that the screen's record publishes is one that the primary's publishes under
-/// the same token, each read as a fresh connection.
-pub fn audit(
+/// Whether each state that a connection of the screen publishes is one that the primary's record
+/// publishes under the same token. The connection begins now on this mirror, and carries the
+/// screen's text.
+pub(crate) fn audit_on(
     alloc: Global,
     limits: Limits,
     primary: &[u8],
     screen: &[u8],
+    theirs: &mut Mirror,
 ) -> Result<Verdict, AuditFault>
-    ensures ok { IfOk result (λ verdict. IsVerdict limits primary.now screen.now verdict) }
-    ensures err { IfErr result (λ fault. FailsToAudit limits primary.now screen.now fault) }
+    requires limits { theirs.old.limits ≡ limits }
+    requires shown { IfSome theirs.old.node.published (IsStateOf limits primary.now) }
+    ensures ok { IfOk result (λ verdict.
+        IsVerdictOn (begun_by limits theirs.old) primary.now screen.now verdict theirs.new) }
+    ensures err { IfErr result (λ fault.
+        FailsFrom (begun_by limits theirs.old) primary.now screen.now fault) }
 {
     // What `ok` rests on.
     line_laws();
+    theirs.begin();
     let mut ours = Mirror::new(alloc, limits)?;
     ours.begin();
     let mut our_rest = primary;
     let mut our_lines = 0;
-    let mut theirs = Mirror::new(alloc, limits)?;
-    theirs.begin();
     let mut rest = screen;
     let mut lines = 0;
     let mut since = Since::unknown(alloc);
     let mut states: usize = 0;
     'states: loop {
-        match next_state(alloc, &mut theirs, rest, &mut lines) {
+        match next_state(alloc, theirs, rest, &mut lines) {
             Err(fault) => return Err(of_screen(fault, lines)),
             Ok(None) => return Ok(Verdict::Agrees(states)),
             Ok(Some(behind)) => {
@@ -120,4 +125,19 @@ pub fn audit(
             }
         }
     }
+}
+
+/// Whether each state that the screen's record publishes is one that the primary's publishes under
+/// the same token, each read as a fresh connection.
+pub fn audit(
+    alloc: Global,
+    limits: Limits,
+    primary: &[u8],
+    screen: &[u8],
+) -> Result<Verdict, AuditFault>
+    ensures ok { IfOk result (λ verdict. IsVerdict limits primary.now screen.now verdict) }
+    ensures err { IfErr result (λ fault. FailsToAudit limits primary.now screen.now fault) }
+{
+    let mut theirs = Mirror::new(alloc, limits)?;
+    audit_on(alloc, limits, primary, screen, &mut theirs)
 }

@@ -2,16 +2,20 @@
 
 ghost use Rattle.std.specs.Prelude.{◌≡◌, ◌≢◌, ◌<◌, ◌≤◌, ◌||◌, ◌==◌, ℕ, List, length, None, Some, IfSome, IfNone};
 ghost use Rattle.std.specs.List.{list_any};
-ghost use Rattle.feed_audit.specs.Connections.{is_status_line, is_success, is_blank, is_chunked, status_in, OpensNone};
+ghost use Rattle.std.specs.Option.{option_copied};
+ghost use Rattle.feed_note.specs.Lines.{ended};
+ghost use Rattle.feed_audit.specs.Connections.{is_since, is_status_line, is_success, is_blank, is_chunked, since_in, status_in, announced_by, OpensNone};
 ghost use Rattle.feed_audit.specs.Parting.{IsOpening, IsBody, IsHeadRest, IsHeadCutOff, GoesOnWith, EndsWith};
 
 use feed_note::split_line;
 
 /// What begins a connection on a line.
 #[derive(Clone, Copy)]
-pub(crate) enum Opening {
+pub(crate) enum Opening<'a> {
     /// A line that says so.
     Marked,
+    /// A line that says so, and the token that the connection was asked for with.
+    Named(&'a [u8]),
     /// The status line of a head, and whether the status is 200.
     Head(bool),
 }
@@ -21,7 +25,7 @@ pub(crate) enum Opening {
 pub(crate) struct Body<'a> {
     pub bytes: &'a [u8],
     pub lines: usize,
-    pub opening: Option<Opening>,
+    pub opening: Option<Opening<'a>>,
     pub behind: &'a [u8],
 }
 
@@ -31,6 +35,8 @@ pub(crate) struct Next<'a> {
     /// How many lines stand before it, of the one before and of its own head.
     pub lines: usize,
     pub is_feed: bool,
+    /// The token that it was asked for with, if one is said.
+    pub since: Option<&'a [u8]>,
     pub text: &'a [u8],
 }
 
@@ -53,6 +59,28 @@ fn ends_head_line(bytes: &[u8]) -> bool
     ensures { result ≡ is_status_line bytes.now }
 {
     bytes.starts_with(b"HTTP/") && !has_mark(&bytes[5..])
+}
+
+/// Whether the bytes end like a line that says the token of a connection.
+fn says_token(bytes: &[u8]) -> bool
+    ensures { result ≡ is_since bytes.now }
+{
+    bytes.starts_with(b"# connection since ") && !bytes[19..].contains(&b'"')
+}
+
+/// The token of a line that says that of a connection.
+fn find_token(line: &[u8]) -> Option<&[u8]>
+    ensures some { IfSome result (λ token. since_in line.now ≡ Some token.now) }
+    ensures none { IfNone result (since_in line.now ≡ None) }
+{
+    let mut rest = line;
+    'bytes: while !rest.is_empty() {
+        if says_token(rest) {
+            return Some(&rest[19..]);
+        }
+        rest = &rest[1..];
+    }
+    None
 }
 
 /// The version and the status of a line that ends like a status line.
@@ -85,12 +113,15 @@ fn succeeds(status: &[u8]) -> bool
 }
 
 /// What begins on the line.
-fn opening_of(line: &[u8]) -> Option<Opening>
+fn opening_of<'a>(line: &'a [u8]) -> Option<Opening<'a>>
     ensures some { IfSome result (λ opening. IsOpening line.now opening) }
     ensures none { IfNone result (OpensNone line.now) }
 {
     if line.ends_with(b"# connection") {
         return Some(Opening::Marked);
+    }
+    if let Some(token) = find_token(line) {
+        return Some(Opening::Named(token));
     }
     let status = find_status(line)?;
     Some(Opening::Head(succeeds(status)))
@@ -149,11 +180,21 @@ fn skip_head<'a>(text: &'a [u8]) -> Option<(usize, &'a [u8])>
     None
 }
 
-/// Where the connection behind this one begins; none where no other one does, or where it was cut
-/// off within its head.
-fn next_of<'a>(body: &Body<'a>) -> Option<Next<'a>>
+/// The token that a head behind what a connection carried is announced with: that of the connection,
+/// where it carried nothing.
+fn announced<'a>(body: &[u8], since: Option<&'a [u8]>) -> Option<&'a [u8]>
+    ensures { (lines : List (List ℕ)) → body.now ≡ ended lines
+        → option_copied result ≡ announced_by (option_copied since.entry) lines }
+{
+    if body.is_empty() { since } else { None }
+}
+
+/// Where the connection behind this one begins, which was asked for with a token, if one is said;
+/// none where no other one does, or where it was cut off within its head.
+fn next_of<'a>(body: &Body<'a>, since: Option<&'a [u8]>) -> Option<Next<'a>>
     ensures next { (text : List ℕ) → IsBody text body.now
-        → IfSome result (λ next. GoesOnWith text body.now.bytes.now next) }
+        → IfSome result (λ next.
+        GoesOnWith (option_copied since.entry) text body.now.bytes.now next) }
     ensures last { (text : List ℕ) → IsBody text body.now
         → IfNone result (EndsWith text body.now.bytes.now) }
     ensures within { IfSome result (λ next. length next.text.now ≤ length body.now.behind.now) }
@@ -164,12 +205,20 @@ fn next_of<'a>(body: &Body<'a>) -> Option<Next<'a>>
         Some(Opening::Marked) => Some(Next {
             lines: body.lines.saturating_add(1),
             is_feed: true,
+            since: None,
+            text: body.behind,
+        }),
+        Some(Opening::Named(token)) => Some(Next {
+            lines: body.lines.saturating_add(1),
+            is_feed: true,
+            since: Some(token),
             text: body.behind,
         }),
         Some(Opening::Head(is_feed)) => match skip_head(body.behind) {
             Some((count, text)) => Some(Next {
                 lines: body.lines.saturating_add(1).saturating_add(count),
                 is_feed,
+                since: announced(body.bytes, since),
                 text,
             }),
             None => None,
@@ -177,16 +226,17 @@ fn next_of<'a>(body: &Body<'a>) -> Option<Next<'a>>
     }
 }
 
-/// The first connection of a text, and the next.
-pub(crate) fn next_connection<'a>(text: &'a [u8]) -> Connection<'a>
-    ensures next { IfSome result.next (λ next. GoesOnWith text.now result.body.now next) }
+/// The first connection of a text, which was asked for with a token, if one is said, and the next.
+pub(crate) fn next_connection<'a>(text: &'a [u8], since: Option<&'a [u8]>) -> Connection<'a>
+    ensures next { IfSome result.next (λ next.
+        GoesOnWith (option_copied since.entry) text.now result.body.now next) }
     ensures last { IfNone result.next (EndsWith text.now result.body.now) }
     ensures shorter { IfSome result.next (λ next. length next.text.now < length text.now) }
 {
     let body = cut_body(text);
     Connection {
         body: body.bytes,
-        next: next_of(&body),
+        next: next_of(&body, since),
     }
 }
 

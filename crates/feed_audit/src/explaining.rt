@@ -1,8 +1,8 @@
 //! Why a state is none of the primary's.
 
-ghost use Rattle.std.specs.Prelude.{◌≡◌, ℕ, List, IfOk, IfErr, IsTrue, Some};
+ghost use Rattle.std.specs.Prelude.{◌≡◌, IfOk, IfErr, IsTrue, Some};
 ghost use Rattle.feed_note.specs.Publishing.{Published};
-ghost use Rattle.feed_audit.specs.Answers.{FailsToAudit, IsStrange};
+ghost use Rattle.feed_audit.specs.Answers.{FailsToCount, IsStrange};
 ghost use Rattle.feed_audit.specs.Differences.{Explains, Tells};
 
 use crate::difference::{Difference, difference_of};
@@ -54,8 +54,7 @@ pub(crate) fn explain(
     requires { IsStrange limits primary.now wanted.now.shown }
     ensures ok { IfOk result (λ told. (state : Published)
         → wanted.now.shown.published ≡ Some state → Explains limits primary.now state told) }
-    ensures err { (screen : List ℕ) → IfErr result (λ fault.
-        FailsToAudit limits primary.now screen fault) }
+    ensures err { IfErr result (λ fault. FailsToCount limits primary.now fault) }
 {
     // What `ok` rests on.
     line_laws();

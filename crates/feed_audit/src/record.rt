@@ -1,35 +1,95 @@
 //! An audit of a record of several connections.
 
-ghost use Rattle.std.specs.Prelude.{◌≡◌, ◌+◌, true, min, IfOk, IfErr};
-ghost use Rattle.feed_audit.specs.Parting.{IsPartVerdict, FailsInBody, faults_behind, most};
-ghost use Rattle.feed_audit.specs.Records.{IsRecordVerdict, FailsToAuditRecord};
+ghost use Rattle.std.specs.Prelude.{◌≡◌, ◌≢◌, ◌⊎◌, ◌+◌, ℕ, true, false, min, IfOk, IfErr, OnOk, IsTrue, IfSome, Some};
+ghost use Rattle.std.specs.Option.{option_copied};
+ghost use Rattle.feed_node.specs.Mirroring.{new_mirror, present_opening};
+ghost use Rattle.feed_audit.specs.Parting.{IsPartVerdict, FailsInBody, faults_behind, most, part_of};
+ghost use Rattle.feed_audit.specs.States.{IsStateOf};
+ghost use Rattle.feed_audit.specs.Records.{IsRecordVerdict, FailsToAuditRecord, MayGoOn, opening_of};
 
-use crate::auditing::audit;
+use crate::auditing::audit_on;
 use crate::connections::{begins_in_chunks, next_connection};
 use crate::verdict::{AuditFault, Stray, Verdict};
-use feed_node::Limits;
+use feed_node::{Limits, Mirror};
 use std::alloc::Global;
+
+/// What a connection carried, whether it is a feed, and the token that it was asked for with, if one
+/// is said.
+#[derive(Clone, Copy)]
+struct Carried<'a> {
+    is_feed: bool,
+    since: Option<&'a [u8]>,
+    body: &'a [u8],
+}
+
+/// Whether a mirror would ask with this token.
+fn asks_with(mirror: &Mirror, token: &[u8]) -> bool
+    ensures yes { IsTrue result → mirror.now.since ≡ Some token.now }
+    ensures no { result ≡ false → ¬ (mirror.now.since ≡ Some token.now) }
+{
+    match mirror.since() {
+        Some(since) => since.as_bytes() == token,
+        None => false,
+    }
+}
+
+/// The mirror of a connection is a new one, or where a token is said the one that read those before.
+fn choose(
+    alloc: Global,
+    limits: Limits,
+    since: Option<&[u8]>,
+    mirror: &mut Mirror,
+) -> Result<(), AuditFault>
+    requires { mirror.old.limits ≡ limits }
+    ensures chosen { OnOk result
+        ((mirror.new ≡ mirror.old) ⊎ (mirror.new ≡ new_mirror limits)) }
+    ensures may { OnOk result (MayGoOn mirror.old (option_copied since.entry)) }
+    ensures opening { OnOk result
+        (present_opening mirror.new ≡ opening_of mirror.old (option_copied since.entry)) }
+    ensures limits { OnOk result (mirror.new.limits ≡ limits) }
+    ensures err { IfErr result (λ fault. fault ≢ AuditFault.Memory
+        → (fault ≡ AuditFault.OtherToken 1) × ¬ (MayGoOn mirror.old (option_copied since.entry))) }
+{
+    match since {
+        None => {
+            *mirror = Mirror::new(alloc, limits)?;
+            Ok(())
+        }
+        Some(token) => {
+            if asks_with(mirror, token) {
+                Ok(())
+            } else {
+                Err(AuditFault::OtherToken(1))
+            }
+        }
+    }
+}
 
 /// Whether each state that a connection carried is one of the primary's; what is no feed has none.
 fn audit_connection(
     alloc: Global,
     limits: Limits,
     primary: &[u8],
-    body: &[u8],
-    is_feed: bool,
+    carried: Carried<'_>,
+    mirror: &mut Mirror,
 ) -> Result<Verdict, AuditFault>
-    ensures ok { IfOk result (λ verdict.
-        IsPartVerdict limits primary.now is_feed body.now verdict) }
-    ensures err { IfErr result (λ fault. FailsInBody limits primary.now body.now fault) }
-    ensures feed { IfErr result (λ _. is_feed ≡ true) }
+    requires limits { mirror.old.limits ≡ limits }
+    requires shown { IfSome mirror.old.node.published (IsStateOf limits primary.now) }
+    ensures ok { (before : ℕ) → IfOk result (λ verdict.
+        IsPartVerdict limits primary.now carried.entry.is_feed mirror.old
+        (part_of before carried.entry) verdict mirror.new) }
+    ensures err { (before : ℕ) → IfErr result (λ fault.
+        FailsInBody limits primary.now mirror.old (part_of before carried.entry) fault) }
+    ensures feed { IfErr result (λ _. carried.entry.is_feed ≡ true) }
 {
-    if !is_feed {
+    if !carried.is_feed {
         return Ok(Verdict::Agrees(0));
     }
-    if begins_in_chunks(body) {
+    if begins_in_chunks(carried.body) {
         return Err(AuditFault::Chunked(1));
     }
-    audit(alloc, limits, primary, body)
+    choose(alloc, limits, carried.since, mirror)?;
+    audit_on(alloc, limits, primary, carried.body, mirror)
 }
 
 /// A fault of a connection, by its line in the record.
@@ -39,6 +99,7 @@ fn fault_behind(fault: AuditFault, before: usize) -> AuditFault
     match fault {
         AuditFault::Screen(line, why) => AuditFault::Screen(before.saturating_add(line), why),
         AuditFault::Chunked(line) => AuditFault::Chunked(before.saturating_add(line)),
+        AuditFault::OtherToken(line) => AuditFault::OtherToken(before.saturating_add(line)),
         AuditFault::Primary(line, why) => AuditFault::Primary(line, why),
         AuditFault::Memory => AuditFault::Memory,
     }
@@ -67,7 +128,9 @@ fn stray_behind(stray: Stray, before: usize, states: usize) -> Stray
 
 /// Whether each state that the screen's record publishes is one that the primary's publishes under
 /// the same token. The screen's may have several connections, one after the other, with heads or
-/// lines `# connection` before them. Each is read as a fresh one, and so is the primary's record.
+/// lines `# connection` before them. Each is read as a fresh one, and so is the primary's record; but
+/// behind a line `# connection since TOKEN` it goes on where those before it ended, whose last
+/// state's token that has to be.
 pub fn audit_record(
     alloc: Global,
     limits: Limits,
@@ -79,13 +142,20 @@ pub fn audit_record(
     ensures err { IfErr result (λ fault.
         FailsToAuditRecord limits primary.now screen.now fault) }
 {
+    let mut mirror = Mirror::new(alloc, limits)?;
     let mut text = screen;
     let mut before: usize = 0;
     let mut is_feed = true;
+    let mut since: Option<&[u8]> = None;
     let mut states: usize = 0;
     'connections: loop {
-        let connection = next_connection(text);
-        match audit_connection(alloc, limits, primary, connection.body, is_feed) {
+        let connection = next_connection(text, since);
+        let carried = Carried {
+            is_feed,
+            since,
+            body: connection.body,
+        };
+        match audit_connection(alloc, limits, primary, carried, &mut mirror) {
             Err(fault) => return Err(fault_behind(fault, before)),
             Ok(Verdict::Strays(stray)) => {
                 return Ok(Verdict::Strays(stray_behind(stray, before, states)));
@@ -98,5 +168,6 @@ pub fn audit_record(
         text = next.text;
         before = before.saturating_add(next.lines);
         is_feed = next.is_feed;
+        since = next.since;
     }
 }

@@ -42,6 +42,9 @@ pub enum AuditFault {
     /// What a connection of the screen's record carried begins with a chunk's size.
     #[error("screen: line {0}: chunks of HTTP; record with curl, without --raw")]
     Chunked(usize),
+    /// A connection of the screen's record goes on from another token than the last one so far.
+    #[error("screen: line {0}: it goes on from another token than that of the last state")]
+    OtherToken(usize),
     #[error("out of memory")]
     Memory,
 }

@@ -1,12 +1,12 @@
 -- Lemmas on input that is read whole: where it isn't, a command fails so.
-use Rattle.std.proofs.Common.{◌≡◌, ◌≢◌, ◌⊎◌, inl, inr, refl, sym, subst, List, ℕ, Option}
+use Rattle.std.proofs.Common.{◌≡◌, ◌≢◌, ◌⊎◌, inl, inr, refl, sym, subst, List, ℕ, Option, None}
 use Rattle.std.specs.Io.KnownBytes.{Keeps}
 use Rattle.feed_settings.specs.Limits.{Limits}
 use Rattle.feed_note.specs.Counts.{StopsAt}
 use Rattle.feed_note.specs.declared.counts.SurveyFault.{SurveyFault}
 use Rattle.feed_note.specs.declared.stop.LineStop.{LineStop}
 use Rattle.feed_note.specs.declared.stop.LineStop.TheVariants as stop
-use Rattle.feed_commands.specs.Check.{IsWhole, InputStops, InputFails, FailsWithin, CountFails}
+use Rattle.feed_commands.specs.Check.{IsWhole, InputStops, InputStopsWithin, InputFails, FailsWithin, CountFails}
 use Rattle.feed_commands.specs.Fault.{fault_at, fault_behind, fault_of_survey, fault_of_batches}
 use Rattle.feed_commands.specs.Play.{PlayFails}
 use Rattle.feed_commands.specs.Pull.{FailsToStart}
@@ -42,6 +42,12 @@ module _ (old new : Option (List ℕ)) where
       → why.stop ≢ stop.Memory → InputStops old new why
   stops_so bytes why whole stops other = record { bytes = bytes; whole = whole; stops = stops other }
 
+  stops_within : (bytes : List ℕ) (why : SurveyFault) → IsWhole old new bytes
+      → (why.stop ≢ stop.Memory → StopsAt bytes why.line why.stop)
+      → why.stop ≢ stop.Memory → InputStopsWithin old new (record { fault = why; spot = None })
+  stops_within bytes why whole stops other =
+      record { bytes = bytes; whole = whole; stops = stops other; placed = tt }
+
   pub count_stops : (bytes : List ℕ) (why : SurveyFault) → IsWhole old new bytes
       → (why.stop ≢ stop.Memory → StopsAt bytes why.line why.stop)
       → CountFails (fault_of_survey why) old new
@@ -49,8 +55,8 @@ module _ (old new : Option (List ℕ)) where
     where
       by : (s : LineStop) → why.stop ≡ s → CountFails (fault_at s why) old new
       by stop.Memory e = tt
-      by stop.LongLine e = stops_so bytes why whole stops (λ m. absurd (cc))
-      by (stop.Line f) e = stops_so bytes why whole stops (λ m. absurd (cc))
+      by stop.LongLine e = stops_within bytes why whole stops (λ m. absurd (cc))
+      by (stop.Line f) e = stops_within bytes why whole stops (λ m. absurd (cc))
 
   pub start_stops : (turn : Option ℕ) (limits : Limits) (bytes : List ℕ) (why : SurveyFault)
       → IsWhole old new bytes → (why.stop ≢ stop.Memory → StopsAt bytes why.line why.stop)

@@ -4,6 +4,7 @@ mod CommandLemmas
 pub mod FindingsLemmas
 mod InputLemmas
 mod InTurnLemmas
+pub mod LineLemmas
 mod MappedLemmas
 pub mod PlacingLemmas
 mod PlayLemmas

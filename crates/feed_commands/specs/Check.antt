@@ -1,15 +1,19 @@
 -- What the command `check` reads and prints.
-use Rattle.std.specs.Prelude.{◌≡◌, ℕ, ◌<◌, ◌≤◌, Bool, true, false, List, [], ◌∷◌, ◌++◌, length, codes, decimal, Option}
+use Rattle.std.specs.Prelude.{◌≡◌, ℕ, ◌+◌, ◌<◌, ◌≤◌, Bool, true, false, List, [], ◌∷◌, ◌++◌, length, codes, decimal, Option, None, Some}
 use Rattle.std.specs.Io.KnownBytes.{Appends, Consumes, IsAtEnd, Keeps}
 use Rattle.feed_text.specs.Ascii.{line_feed}
 use Rattle.feed_note.specs.Counts.{Counted, StopsAt}
+use Rattle.feed_note.specs.Lines.{lines, rest}
 use Rattle.feed_note.specs.declared.counts.Counts.{Counts}
 use Rattle.feed_note.specs.declared.counts.SurveyFault.{SurveyFault}
 use Rattle.feed_http.specs.Device.{AppendsPrefix}
+use Rattle.feed_commands.specs.Fault.{IsWithin}
 use Rattle.feed_commands.specs.Findings.{AreFound, findings_text}
 use Rattle.feed_commands.specs.Streams.{Streams}
 use Rattle.feed_commands.specs.declared.commands.findings.Findings.{Findings}
 use Rattle.feed_arguments.specs.declared.request.CheckOptions.{CheckOptions}
+use Rattle.feed_commands.specs.declared.fault.SurveyStop.{SurveyStop}
+use Rattle.feed_commands.specs.declared.placing.Spot.{Spot}
 use Rattle.feed_commands.specs.declared.fault.Fault.{Fault}
 use Rattle.feed_commands.specs.declared.fault.Fault.TheVariants as fault
 
@@ -57,11 +61,32 @@ pub record InputCounted (options : CheckOptions) (old new : Option (List ℕ)) (
   pub whole : IsWhole old new bytes
   pub tells : TellsCounts options bytes text
 
+-- the line of this number of the text, counted from 1: behind the lines that are ended stands what
+-- is left
+pub record IsLineAt (text : List ℕ) (number : ℕ) (line : List ℕ) : Type 0 where
+  pub before : List (List ℕ)
+  pub later : List (List ℕ)
+  pub whole : lines text ++ rest text ∷ [] ≡ before ++ line ∷ later
+  pub is : number ≡ length before + 1
+
+-- the place, if one is told, is a byte of the line of this number, or the one behind its last
+abbrev pub IsPlaced : List ℕ → ℕ → Option Spot → Type 0
+IsPlaced text number None = Unit {0}
+IsPlaced text number (Some spot) =
+    (line : List ℕ) × IsLineAt text number line × IsWithin line (Some spot)
+
 -- the whole input was read, and stops at this line
 pub record InputStops (old new : Option (List ℕ)) (why : SurveyFault) : Type 0 where
   pub bytes : List ℕ
   pub whole : IsWhole old new bytes
   pub stops : StopsAt bytes why.line why.stop
+
+-- the same, and the place that is told is one in that line
+pub record InputStopsWithin (old new : Option (List ℕ)) (why : SurveyStop) : Type 0 where
+  pub bytes : List ℕ
+  pub whole : IsWhole old new bytes
+  pub stops : StopsAt bytes why.fault.line why.fault.stop
+  pub placed : IsPlaced bytes why.fault.line why.spot
 
 -- the input has more bytes than that
 pub record IsOver (most : ℕ) (old new : Option (List ℕ)) : Type 0 where
@@ -80,15 +105,16 @@ FailsWithin most why old new = ⊥
 abbrev pub InputFails : Fault → Option (List ℕ) → Option (List ℕ) → Type 0
 InputFails why old new = FailsWithin input_bytes why old new
 
--- the feed stops at this line, unless memory ran out
+-- the feed stops at this line, and the place that is told is one in it; unless memory ran out
 abbrev pub SurveyFails : Fault → List ℕ → Type 0
-SurveyFails (fault.Survey why) bytes = StopsAt bytes why.fault.line why.fault.stop
+SurveyFails (fault.Survey why) bytes =
+    StopsAt bytes why.fault.line why.fault.stop × IsPlaced bytes why.fault.line why.spot
 SurveyFails fault.Memory bytes = Unit {0}
 SurveyFails why bytes = ⊥
 
 -- what was read where the input can't be counted
 abbrev pub CountFails : Fault → Option (List ℕ) → Option (List ℕ) → Type 0
-CountFails (fault.Survey why) old new = InputStops old new why.fault
+CountFails (fault.Survey why) old new = InputStopsWithin old new why
 CountFails why old new = InputFails why old new
 
 -- the input was counted, and the counts were printed

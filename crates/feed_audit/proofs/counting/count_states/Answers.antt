@@ -1,5 +1,6 @@
 use Rattle.std.proofs.Common.{subst}
 use Rattle.std.specs.Prelude.{IfSome, IfNone}
+use Rattle.feed_audit.specs.States.{afresh}
 use Rattle.feed_audit.specs.Walks.{GoesOn, GoesToEnd}
 use Rattle.feed_audit.proofs.Agreeing.{walked_none}
 use Rattle.feed_audit.proofs.Tallying.{counts_none, counts_on, counts_all, count_fails}
@@ -12,20 +13,20 @@ states-init c =
 pub returns-in-Err-clause-err : goal.returns-in-Err-clause-err
 returns-in-Err-clause-err c =
     let a = c.states.invariant in
-    count_fails c.args.limits c.args.primary.now _ _ c.in-Err.fault (c.in-Err.ensures.err c.args.limits c.args.primary.now a.notes a.walked)
+    count_fails c.args.limits c.args.primary.now _ _ c.in-Err.fault (c.in-Err.ensures.err (afresh c.args.limits) c.args.primary.now a.notes a.walked)
     c.of_primary.ensures.memory c.of_primary.ensures.other
 
 pub returns-in-Ok-None-clause-ok : goal.returns-in-Ok-None-clause-ok
 returns-in-Ok-None-clause-ok c =
     let a = c.states.invariant in
     counts_all _ _ _ _ _ _ _ _ a
-    (subst (λ o. IfNone o (GoesToEnd c.args.limits c.args.primary.now a.notes c.next_state.new.lines c.next_state.new.mirror)) c.in-Ok-None.field-0-is
-    (c.in-Ok-None.ensures.none c.args.limits c.args.primary.now a.notes a.walked))
+    (subst (λ o. IfNone o (GoesToEnd (afresh c.args.limits) c.args.primary.now a.notes c.next_state.new.lines c.next_state.new.mirror)) c.in-Ok-None.field-0-is
+    (c.in-Ok-None.ensures.none (afresh c.args.limits) c.args.primary.now a.notes a.walked))
 
 pub states-preserved : goal.states-preserved
 states-preserved c =
     let a = c.states.invariant in
     counts_on _ _ _ _ _ _ _ _ _ _ a
-    (subst (λ o. IfSome o (λ behind. GoesOn c.args.limits c.args.primary.now behind.now a.notes c.next_state.new.lines c.next_state.new.mirror)) c.in-Ok-Some.field-0-is
-    (c.in-Ok-Some.ensures.some c.args.limits c.args.primary.now a.notes a.walked))
+    (subst (λ o. IfSome o (λ behind. GoesOn (afresh c.args.limits) c.args.primary.now behind.now a.notes c.next_state.new.lines c.next_state.new.mirror)) c.in-Ok-Some.field-0-is
+    (c.in-Ok-Some.ensures.some (afresh c.args.limits) c.args.primary.now a.notes a.walked))
     c.saturating_add-states.ensures

@@ -1,0 +1,67 @@
+-- A connection on the mirror that read those before it, or on a new one.
+use Rattle.std.proofs.Common.{◌≡◌, ◌≢◌, ◌⊎◌, inl, inr, refl, sym, subst, ℕ, List, [], Bool, true, false, true≢false}
+use Rattle.std.specs.Prelude.{IfSome}
+use Rattle.feed_settings.specs.Limits.{Limits}
+use Rattle.feed_note.specs.Publishing.{Published}
+use Rattle.feed_node.specs.Mirroring.{MirrorState, mirror_after, new_mirror, present_opening}
+use Rattle.feed_node.specs.Reading.{Opening}
+use Rattle.feed_audit.specs.Answers.{AgreementFrom, StrayingFrom, IsVerdictFrom, IsVerdictOn, FailsFrom, begun_by}
+use Rattle.feed_audit.specs.Connections.{Part, is_chunked}
+use Rattle.feed_audit.specs.Parting.{IsFeedVerdict, IsPartVerdict, FailsInBody}
+use Rattle.feed_audit.specs.Records.{MayGoOn, opening_of}
+use Rattle.feed_audit.specs.States.{Start}
+use Rattle.feed_audit.specs.Walks.{FaultsIn}
+use Rattle.feed_audit.specs.declared.verdict.AuditFault.{AuditFault}
+use Rattle.feed_audit.specs.declared.verdict.AuditFault.TheVariants as fault
+use Rattle.feed_audit.specs.declared.verdict.Verdict.{Verdict}
+use Rattle.feed_audit.specs.declared.verdict.Verdict.TheVariants as verdict
+
+-- what is answered of a text alone
+pub verdict_of : (start : Start) (primary screen : List ℕ) (mirror : MirrorState) (v : Verdict) → IsVerdictOn start primary screen v mirror → IsVerdictFrom start primary screen v
+verdict_of start primary screen mirror (verdict.Agrees n) h = h.0
+verdict_of start primary screen mirror (verdict.Strays s) h = h
+
+abbrev start_at : Limits → Opening → Start
+start_at limits opening = record { limits = limits; opening = opening }
+
+module _ (limits : Limits) (primary : List ℕ) (old begun : MirrorState) (at : Part) (same : present_opening begun ≡ opening_of old at.since) (may : MayGoOn old at.since) where
+  -- what is answered of a feed
+  pub feed_verdict : (new : MirrorState) (v : Verdict) → IsVerdictOn (begun_by limits begun) primary at.body v new → IsFeedVerdict limits primary old at v new
+  feed_verdict new (verdict.Agrees n) h =
+      let a = subst (λ o. (a : AgreementFrom (start_at limits o) primary at.body n) × (new ≡ mirror_after limits o a.notes [])) same h in
+      record { may = may; agrees = a.0; left = a.1 }
+  feed_verdict new (verdict.Strays s) h = (may, subst (λ o. StrayingFrom (start_at limits o) primary at.body s) same h)
+
+  pub feed_fails : (why : AuditFault) → FailsFrom (begun_by limits begun) primary at.body why → FailsInBody limits primary old at why
+  feed_fails (fault.Primary line why) f = f
+  feed_fails (fault.Screen line why) f = record { may = may; faults = subst (λ o. FaultsIn (start_at limits o) at.body line why) same f }
+  feed_fails (fault.Chunked line) f = absurd f
+  feed_fails (fault.OtherToken line) f = absurd f
+  feed_fails fault.Memory f = tt
+
+-- a feed that can't go on
+pub can_not_go_on : (limits : Limits) (primary : List ℕ) (old : MirrorState) (at : Part) (why : AuditFault)
+    → (why ≢ fault.Memory → (why ≡ fault.OtherToken 1) × ¬ (MayGoOn old at.since)) → FailsInBody limits primary old at why
+can_not_go_on limits primary old at (fault.Primary line why) f = let h = (f (λ e. absurd (cc))).0 in absurd (cc)
+can_not_go_on limits primary old at (fault.Screen line why) f = let h = (f (λ e. absurd (cc))).0 in absurd (cc)
+can_not_go_on limits primary old at (fault.Chunked line) f = let h = (f (λ e. absurd (cc))).0 in absurd (cc)
+can_not_go_on limits primary old at (fault.OtherToken line) f =
+    let h = f (λ e. absurd (cc)) in
+    let first = h.0 in
+    record { other = h.1; first = cc }
+can_not_go_on limits primary old at fault.Memory f = tt
+
+-- ---- a connection
+
+pub feed_part : (limits : Limits) (primary : List ℕ) (is_feed : Bool) (old new : MirrorState) (at : Part) (v : Verdict) → is_feed ≡ true → IsFeedVerdict limits primary old at v new
+    → IsPartVerdict limits primary is_feed old at v new
+feed_part limits primary true old new at v e h = h
+feed_part limits primary false old new at v e h = absurd (true≢false (sym e))
+
+pub in_chunks : (limits : Limits) (primary : List ℕ) (old : MirrorState) (at : Part) → is_chunked at.body ≡ true → FailsInBody limits primary old at (fault.Chunked 1)
+in_chunks limits primary old at e = record { chunked = e; first = refl }
+
+-- what the chosen mirror shows
+pub shown_on : (limits : Limits) (P : Published → Type 0) (old new : MirrorState) → (new ≡ old) ⊎ (new ≡ new_mirror limits) → IfSome old.node.published P → IfSome new.node.published P
+shown_on limits P old new (inl same) h = subst (λ m. IfSome m.node.published P) (sym same) h
+shown_on limits P old new (inr is) h = subst (λ m. IfSome m.node.published P) (sym is) tt
