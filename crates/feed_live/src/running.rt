@@ -55,7 +55,7 @@ fn step<S: Sockets, L: Link, D: Store, H: Host<S, L, D>>(
         (H.input host.new))
         (H.waited host.old) (H.waited host.new) 1) }
     ensures over { IfOk result (λ turn. turn.is_over ≡ true → live.new.ends_at ≢ None) }
-    // where the host failed, it did before the turn, or behind it
+    // where the host failed, there were turns before that, or none
     ensures err { OnErr result ((count : ℕ) × HasRun
         (moment_of live.old (L.exchanges devices.old.link) (S.socket devices.old.sockets)
         (D.files devices.old.store)
