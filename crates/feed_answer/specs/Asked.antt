@@ -20,7 +20,8 @@ form_text bytes = utf8_lossy (decode bytes)
 -- the value of the first parameter of this name
 abbrev pub parameter : List ℕ → List ℕ → Option (List ℕ)
 parameter name query =
-    option_map (λ pair. form_text pair.1) (find (λ pair. bytes_eq (form_text pair.0) name) (raw_pairs query))
+    option_map (λ pair. form_text pair.1)
+    (find (λ pair. bytes_eq (form_text pair.0) name) (raw_pairs query))
 
 -- the token after which the client wants the feed
 abbrev pub since_token : Option (List ℕ) → Option (List ℕ)
@@ -44,7 +45,8 @@ pub data Asked : Type 0 where
   feed : ℕ → Option (List ℕ) → Asked
 
 -- the request whose method, path, version and token these are
-pub record Requests (bytes method path : List ℕ) (minor : ℕ) (since : Option (List ℕ)) : Type 0 where
+pub record Requests (bytes method path : List ℕ) (minor : ℕ)
+    (since : Option (List ℕ)) : Type 0 where
   pub head : RequestHead
   pub target : Target
   pub is_request : IsRequestFor bytes head target

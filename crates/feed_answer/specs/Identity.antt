@@ -53,7 +53,8 @@ abbrev pub IsIdentity : Identity → Type 0
 IsIdentity identity =
     (user_pass : Option (List ℕ)) × (identity_of identity.host user_pass ≡ Ok identity)
 
--- why texts make no identity: the first of the reasons; or memory ran out, and nothing else is wrong
+-- why texts make no identity: the first of the reasons; or memory ran out, and nothing else is
+-- wrong
 abbrev pub RefusesIdentity : Option (List ℕ) → Option (List ℕ) → IdentityFault → Type 0
 RefusesIdentity host user_pass Memory =
     identity_of host user_pass ≡ Ok (make_identity host user_pass)

@@ -45,7 +45,8 @@ rule_by d =
     let valued = record (value_rule d.name.now d.value) { required = d.required } in
     tie_rule d.tie (default_rule d.default valued)
 
--- the other options that an option with this tie needs, has to be given unless they are, and excludes
+-- the other options that an option with this tie needs, has to be given unless they are, and
+-- excludes
 abbrev pub needs_by : Tie → List (ArgPredicate × Bor (List ℕ))
 needs_by (tie.Needs other) = (IsPresent, other) ∷ []
 needs_by other = []
@@ -58,8 +59,8 @@ abbrev pub conflicts_by : Tie → List (Bor (List ℕ))
 conflicts_by (tie.Excludes other) = other ∷ []
 conflicts_by other = []
 
--- clap's option is the one that is declared: its rule is, and it has to do with just the other option
--- of its tie; it counts for its own command alone
+-- clap's option is the one that is declared: its rule is, and it has to do with just the other
+-- option of its tie; it counts for its own command alone
 pub record IsDeclared (d : Declared) (option : Arg) : Type 0 where
   pub rule : rule_of option ≡ rule_by d
   pub needs : option.needs.items ≡ needs_by d.tie

@@ -3,4 +3,5 @@ pub mod Declaring
 pub mod Live
 pub mod Networks
 pub mod Options
+pub mod Upstream
 pub mod Words

@@ -7,6 +7,7 @@ use Rattle.feed_arguments.specs.Addresses.{most_port}
 use Rattle.feed_arguments.specs.Options as options
 use Rattle.feed_arguments.specs.Options.{flag, number_in, number_between, text_option, tied, with_default, with_rules, text_at}
 use Rattle.feed_arguments.specs.Options.{IsNumber, IsNumberUpTo, IsNumberIfGiven, IsGiven, IsFramed, AsksLimitsOr}
+use Rattle.feed_arguments.specs.Upstream.{AsksUpstream}
 use Rattle.feed_arguments.specs.declared.request.LiveOptions.{LiveOptions}
 use Rattle.feed_arguments.specs.declared.request.UpstreamOptions.{UpstreamOptions}
 use Rattle.feed_arguments.specs.declared.request.Verbosity.{Verbosity}
@@ -30,12 +31,13 @@ most_window = 1073741824
 abbrev pub most_pending : ℕ
 most_pending = 1099511627776
 
--- the most milliseconds that a feed which was asked for from the start may be quiet before it is shown
+-- the most milliseconds that a feed which was asked for from the start may be quiet before it is
+-- shown
 abbrev pub most_settle : ℕ
 most_settle = 60000
 
--- the most seconds without a publication after which another server is asked, and that a request may
--- wait for a server to be heard
+-- the most seconds without a publication after which another server is asked, and that a request
+-- may wait for a server to be heard
 abbrev pub most_return : ℕ
 most_return = 3600
 
@@ -158,21 +160,11 @@ watching = status ∷ status_address ∷ verbose ∷ quiet ∷ []
 
 abbrev pub live : App
 live =
-    with_rules (with_rules (with_rules (with_rules (with_rules (with_rules (with_rules (new_app (codes "live"))
+    with_rules (with_rules
+    (with_rules (with_rules (with_rules (with_rules (with_rules (new_app (codes "live"))
     upstream) settling) listener) pace) kept) limits) watching
 
 -- ---- what its options ask for
-
--- the server that is followed first, and those that are asked where it fails
-pub record AsksUpstream (rows : List Row) (upstream : UpstreamOptions) : Type 0 where
-  pub host_is : text_at (codes "host") rows ≡ Some upstream.host.now
-  pub port_is : IsNumber (codes "port") most_port rows upstream.port
-  pub from_is : text_at (codes "from") rows ≡ option_map (λ text. text.now) upstream.from
-  pub base_is : text_at (codes "base") rows ≡ Some upstream.base.now
-  pub host_header_is :
-      text_at (codes "host-header") rows ≡ option_map (λ text. text.now) upstream.host_header
-  pub user_file_is :
-      text_at (codes "user-file") rows ≡ option_map (λ text. text.now) upstream.user_file
 
 -- a server is followed where `--host` is given, and else standard input
 abbrev pub IsUpstream : List Row → Option UpstreamOptions → Type 0

@@ -56,7 +56,8 @@ is_alike (V6 base) bits (V4 number) = false
 abbrev pub is_within : Network → Origin → Bool
 is_within network origin = is_alike network.base network.bits origin
 
--- the first so many bits of an address, as it is written, make the network; the bits after them are 0
+-- the first so many bits of an address, as it is written, make the network; the bits after them are
+-- 0
 pub record IsNetworkOf (address : IpAddr) (written : ℕ) (network : Network) : Type 0 where
   pub base : network.base ≡ origin_of address
   pub counted : network.bits + written_bits address ≡ written + origin_bits network.base
@@ -138,8 +139,8 @@ pub record IsFirstNoNetwork (parts : List (List ℕ)) (number : ℕ) : Type 0 wh
 abbrev pub AreGoodNetworks : List (List ℕ) → Type 0
 AreGoodNetworks parts = AllWithin IsGoodNetwork parts 0 (length parts)
 
--- why parts are no list of networks: the first of the reasons; or memory ran out, and nothing else is
--- wrong
+-- why parts are no list of networks: the first of the reasons; or memory ran out, and nothing else
+-- is wrong
 abbrev pub RefusesNetworks : List (List ℕ) → AddressFault → Type 0
 RefusesNetworks parts (BadAddress number) = IsFirstNoNetwork parts number
 RefusesNetworks parts TooMany = AreGoodNetworks parts × (most_networks < length parts)

@@ -15,8 +15,8 @@ use Rattle.feed_arguments.specs.Addresses.{most_port}
 
 -- ---- the options
 
--- the greatest number of connections, rounds, reads and batches that may be asked for, and of seconds
--- that servers are compared for
+-- the greatest number of connections, rounds, reads and batches that may be asked for, and of
+-- seconds that servers are compared for
 abbrev pub most_rounds : ℕ
 most_rounds = 1000000
 

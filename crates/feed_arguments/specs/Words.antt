@@ -9,6 +9,7 @@ use Rattle.feed_arguments.specs.Addresses.{most_port}
 use Rattle.feed_arguments.specs.Live.{live, AsksLive}
 use Rattle.feed_arguments.specs.Options.{most_rounds, most_silence, at, stream, verbose, primary, screen, of, against, compared_contest, for_seconds, json, port, listen, contest, count, turn, chunked, back, host, from, base, host_header, user_file, turns, silence, resume, limits, with_rules}
 use Rattle.feed_arguments.specs.Options.{text_at, IsNumber, IsNumberUpTo, IsNumberIfGiven, IsGiven, IsFramed, AsksLimits}
+use Rattle.feed_arguments.specs.Upstream.{AsksUpstream}
 use Rattle.feed_arguments.specs.declared.request.Local.TheVariants as local
 use Rattle.clap.specs.declared.error.kind.ErrorKind.{ErrorKind}
 use Rattle.clap.specs.declared.error.kind.ErrorKind.TheVariants as kind
@@ -37,7 +38,8 @@ followed = base ∷ host_header ∷ user_file ∷ turns ∷ silence ∷ []
 -- a command with the options of `pull`
 abbrev pub with_pull : App → App
 with_pull command =
-    with_rules (with_rules (with_rules (with_rules command place) followed) (resume ∷ verbose ∷ [])) limits
+    with_rules (with_rules (with_rules (with_rules command place) followed) (resume ∷ verbose ∷ []))
+    limits
 
 -- the options that say what `serve` serves
 abbrev pub served : List Rule
@@ -83,7 +85,8 @@ program =
 -- the program, with the commands that open no connection
 abbrev pub local_program : App
 local_program =
-    with_subcommand (with_subcommand (with_subcommand (with_subcommand program tables.top) check.top) audit.top)
+    with_subcommand
+    (with_subcommand (with_subcommand (with_subcommand program tables.top) check.top) audit.top)
     play.top
 
 -- the program, with those and the commands for trying
@@ -159,14 +162,9 @@ pub record AsksServe (rows : List Row) (options : ServeOptions) : Type 0 where
 
 -- the values of the options of `pull`
 pub record AsksPull (rows : List Row) (options : PullOptions) : Type 0 where
-  pub host_is : text_at (codes "host") rows ≡ Some options.host.now
-  pub port_is : IsNumber (codes "port") most_port rows options.port
-  pub from_is : text_at (codes "from") rows ≡ option_map (λ text. text.now) options.from
-  pub base_is : text_at (codes "base") rows ≡ Some options.base.now
+  pub upstream_is : AsksUpstream rows options.upstream
   pub contest_is : text_at (codes "contest") rows ≡ Some options.contest.now
-  pub host_header_is : text_at (codes "host-header") rows ≡ option_map (λ text. text.now) options.host_header
-  pub user_file_is : text_at (codes "user-file") rows ≡ option_map (λ text. text.now) options.user_file
-  pub turns_are : IsNumber (codes "turns") most_rounds rows options.turns
+  pub most_reads_are : IsNumber (codes "turns") most_rounds rows options.most_reads
   pub silence_is : IsNumberIfGiven (codes "silence") most_silence rows options.silence
   pub resume_is : IsGiven (codes "resume") rows options.resume
   pub verbose_is : IsGiven (codes "verbose") rows options.verbose
@@ -209,8 +207,8 @@ abbrev pub AskInVain : List Text → Type 0
 AskInVain words = takes command_line words ≡ true → (asked : Request) → ¬ (Asks words asked)
 
 -- Why words are refused, as the crate clap states it (`takes`): memory ran out, or the command line
--- does not take them, or it takes them and yet they ask for nothing. Of no words of `live` does clap
--- say that they are taken, since options of it have rules on others.
+-- does not take them, or it takes them and yet they ask for nothing. Of no words of `live` does
+-- clap say that they are taken, since options of it have rules on others.
 abbrev pub RefusesBy : List Text → ErrorKind → Type 0
 RefusesBy words kind.OutOfMemory = Unit {0}
 RefusesBy words kind.ValueValidation = AskInVain words

@@ -78,9 +78,9 @@ pub struct ServeOptions<'a> {
     pub limits: Limits,
 }
 
-/// What `pull` follows, and how far.
+/// A server that is followed first, and those that are asked where it fails.
 #[derive(Clone, Copy)]
-pub struct PullOptions<'a> {
+pub struct UpstreamOptions<'a> {
     /// The server's address or name.
     pub host: &'a str,
     /// The server's port, 1 to 65,535.
@@ -89,14 +89,21 @@ pub struct PullOptions<'a> {
     pub from: Option<&'a str>,
     /// What stands before `/contests` in the path of the feed.
     pub base: &'a str,
-    /// The contest whose feed is followed.
-    pub contest: &'a str,
     /// What requests call the server, where that is not its host. Any text will do.
     pub host_header: Option<&'a str>,
     /// The name of the file with the user's name and password. Any text will do.
     pub user_file: Option<&'a str>,
+}
+
+/// What `pull` follows, and how far.
+#[derive(Clone, Copy)]
+pub struct PullOptions<'a> {
+    /// The servers that are asked.
+    pub upstream: UpstreamOptions<'a>,
+    /// The contest whose feed is followed.
+    pub contest: &'a str,
     /// The most reads of one connection, 1 to 1,000,000.
-    pub turns: u64,
+    pub most_reads: u64,
     /// After how many seconds without a connection or a byte a server is left, 1 to 3,600; without
     /// it there is no such time.
     pub silence: Option<u64>,
@@ -119,23 +126,6 @@ pub struct RelayOptions<'a> {
     pub count: u64,
     /// How the answers are framed.
     pub framing: Framing,
-}
-
-/// A server that is followed first, and those that are asked where it fails.
-#[derive(Clone, Copy)]
-pub struct UpstreamOptions<'a> {
-    /// The server's address or name.
-    pub host: &'a str,
-    /// The server's port, 1 to 65,535.
-    pub port: u16,
-    /// The addresses of further servers, as those of [`PullOptions`]. Any text will do.
-    pub from: Option<&'a str>,
-    /// What stands before `/contests` in the path of the feed.
-    pub base: &'a str,
-    /// What requests call each server, as that of [`PullOptions`].
-    pub host_header: Option<&'a str>,
-    /// The name of the file with the user's name and password, as that of [`PullOptions`].
-    pub user_file: Option<&'a str>,
 }
 
 /// How much `live` reports on standard error.

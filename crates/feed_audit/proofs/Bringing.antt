@@ -9,7 +9,7 @@ use Rattle.feed_note.specs.declared.line.Line.{Line}
 use Rattle.feed_node.specs.Mirroring.{MirrorState}
 use Rattle.feed_node.specs.Reading.{Opening, AllGood, AllGoodAfter}
 use Rattle.feed_audit.specs.States.{Start, IsStateFrom}
-use Rattle.feed_audit.specs.Walks.{GoesOn, AllAre}
+use Rattle.feed_audit.specs.Walks.{ReadsMore, AllAre}
 use Rattle.feed_audit.proofs.Agreeing.{agree_by, good_of, lines_walked}
 use Rattle.feed_audit.proofs.Walking.{published_is, all_end, lines_of_ended, walked_length}
 
@@ -43,7 +43,7 @@ pub record Brings (start : Start) (P : Published → Type 0) (text : List ℕ) (
   pub is : IsStateFrom start (ended (earlier ++ line ∷ [])) state
 
 pub brings : OnlyOne → (start : Start) (P : Published → Type 0) (text behind : List ℕ) (read : List Line) (count : ℕ) (mirror : MirrorState) (state : Published)
-    → AllAre start P read → (g : GoesOn start text behind read count mirror) → mirror.node.published ≡ Some state
+    → AllAre start P read → (g : ReadsMore start text behind read count mirror) → mirror.node.published ≡ Some state
     → Brings start P text (read ++ g.before) count state
 brings only start P text behind read count mirror state all g shows =
     let en = read ++ g.before in

@@ -4,7 +4,7 @@ use Rattle.std.specs.List.{AllByRecursion}
 use Rattle.feed_note.specs.Lines.{HasNoLineFeed, lines, rest, ended}
 use Rattle.feed_note.proofs.LinesCut.{lines_cut, lines_are_the_only_cut}
 use Rattle.feed_note.proofs.LinesInRow.{ended-append}
-use Rattle.feed_audit.specs.Connections.{Cut, Part, part, Opens, OpensNone, IsFilled, is_blank, is_marked, is_success, since_in, status_in, announced_by, last, opened, headless, marked, named, answered}
+use Rattle.feed_audit.specs.Connections.{Cut, Recorded, part, OpensFeed, OpensNone, IsFilled, is_blank, is_marked, is_success, since_in, status_in, announced_by, last, opened, headless, marked, named, answered}
 
 -- how a connection begins on a line
 pub data Begins (line : List ℕ) : Type 0 where
@@ -102,7 +102,7 @@ lines_behind text front later e = sym (lines_are_the_only_cut (behind text later
 -- ---- all of it
 
 abbrev Cuts : ℕ → Bool → Option (List ℕ) → List ℕ → Type 0
-Cuts before is_feed since text = (parts : List Part) × Cut before is_feed since text parts
+Cuts before is_feed since text = (parts : List Recorded) × Cut before is_feed since text parts
 
 -- texts of so many lines at most are cut
 abbrev CutsUpTo : ℕ → Type 0
@@ -110,7 +110,7 @@ CutsUpTo n = (at : ℕ) (feed : Bool) (token : Option (List ℕ)) (t : List ℕ)
 
 -- behind lines, where what follows is cut
 cut_behind : (n before : ℕ) (is_feed next : Bool) (since token : Option (List ℕ)) (text : List ℕ) (body head later : List (List ℕ)) → lines text ≡ body ++ (head ++ later)
-    → AllByRecursion OpensNone body → Opens (announced_by since body) head next token → length (lines text) ≤ suc n → 1 ≤ length head
+    → AllByRecursion OpensNone body → OpensFeed (announced_by since body) head next token → length (lines text) ≤ suc n → 1 ≤ length head
     → CutsUpTo n → Cuts before is_feed since text
 cut_behind n before is_feed next since token text body head later e none opens size some cuts =
     let whole = subst (AllByRecursion HasNoLineFeed) (e ∙ sym (append_assoc body head later)) (lines_cut text).whole in
@@ -167,5 +167,5 @@ cuts_all : (n before : ℕ) (is_feed : Bool) (since : Option (List ℕ)) (text :
 cuts_all zero before is_feed since text size = cuts_none before is_feed since text size (first_of (lines text))
 cuts_all (suc n) before is_feed since text size = cuts_by n before is_feed since text size (cuts_all n) (first_of (lines text))
 
-pub each_cuts : (before : ℕ) (is_feed : Bool) (since : Option (List ℕ)) (text : List ℕ) → (parts : List Part) × Cut before is_feed since text parts
+pub each_cuts : (before : ℕ) (is_feed : Bool) (since : Option (List ℕ)) (text : List ℕ) → (parts : List Recorded) × Cut before is_feed since text parts
 each_cuts before is_feed since text = cuts_all (length (lines text)) before is_feed since text (omega arith)

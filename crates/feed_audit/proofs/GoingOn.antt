@@ -6,7 +6,7 @@ use Rattle.feed_note.specs.Publishing.{Published}
 use Rattle.feed_node.specs.Mirroring.{MirrorState, mirror_after, new_mirror, present_opening}
 use Rattle.feed_node.specs.Reading.{Opening}
 use Rattle.feed_audit.specs.Answers.{AgreementFrom, StrayingFrom, IsVerdictFrom, IsVerdictOn, FailsFrom, begun_by}
-use Rattle.feed_audit.specs.Connections.{Part, is_chunked}
+use Rattle.feed_audit.specs.Connections.{Recorded, is_chunked}
 use Rattle.feed_audit.specs.Parting.{IsFeedVerdict, IsPartVerdict, FailsInBody}
 use Rattle.feed_audit.specs.Records.{MayGoOn, opening_of}
 use Rattle.feed_audit.specs.States.{Start}
@@ -24,7 +24,7 @@ verdict_of start primary screen mirror (verdict.Strays s) h = h
 abbrev start_at : Limits → Opening → Start
 start_at limits opening = record { limits = limits; opening = opening }
 
-module _ (limits : Limits) (primary : List ℕ) (old begun : MirrorState) (at : Part) (same : present_opening begun ≡ opening_of old at.since) (may : MayGoOn old at.since) where
+module _ (limits : Limits) (primary : List ℕ) (old begun : MirrorState) (at : Recorded) (same : present_opening begun ≡ opening_of old at.since) (may : MayGoOn old at.since) where
   -- what is answered of a feed
   pub feed_verdict : (new : MirrorState) (v : Verdict) → IsVerdictOn (begun_by limits begun) primary at.body v new → IsFeedVerdict limits primary old at v new
   feed_verdict new (verdict.Agrees n) h =
@@ -40,7 +40,7 @@ module _ (limits : Limits) (primary : List ℕ) (old begun : MirrorState) (at : 
   feed_fails fault.Memory f = tt
 
 -- a feed that can't go on
-pub can_not_go_on : (limits : Limits) (primary : List ℕ) (old : MirrorState) (at : Part) (why : AuditFault)
+pub can_not_go_on : (limits : Limits) (primary : List ℕ) (old : MirrorState) (at : Recorded) (why : AuditFault)
     → (why ≢ fault.Memory → (why ≡ fault.OtherToken 1) × ¬ (MayGoOn old at.since)) → FailsInBody limits primary old at why
 can_not_go_on limits primary old at (fault.Primary line why) f = let h = (f (λ e. absurd (cc))).0 in absurd (cc)
 can_not_go_on limits primary old at (fault.Screen line why) f = let h = (f (λ e. absurd (cc))).0 in absurd (cc)
@@ -53,12 +53,12 @@ can_not_go_on limits primary old at fault.Memory f = tt
 
 -- ---- a connection
 
-pub feed_part : (limits : Limits) (primary : List ℕ) (is_feed : Bool) (old new : MirrorState) (at : Part) (v : Verdict) → is_feed ≡ true → IsFeedVerdict limits primary old at v new
+pub feed_part : (limits : Limits) (primary : List ℕ) (is_feed : Bool) (old new : MirrorState) (at : Recorded) (v : Verdict) → is_feed ≡ true → IsFeedVerdict limits primary old at v new
     → IsPartVerdict limits primary is_feed old at v new
 feed_part limits primary true old new at v e h = h
 feed_part limits primary false old new at v e h = absurd (true≢false (sym e))
 
-pub in_chunks : (limits : Limits) (primary : List ℕ) (old : MirrorState) (at : Part) → is_chunked at.body ≡ true → FailsInBody limits primary old at (fault.Chunked 1)
+pub in_chunks : (limits : Limits) (primary : List ℕ) (old : MirrorState) (at : Recorded) → is_chunked at.body ≡ true → FailsInBody limits primary old at (fault.Chunked 1)
 in_chunks limits primary old at e = record { chunked = e; first = refl }
 
 -- what the chosen mirror shows

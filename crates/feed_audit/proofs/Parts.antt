@@ -8,8 +8,8 @@ use Rattle.feed_settings.specs.Limits.{Limits}
 use Rattle.feed_note.specs.Lines.{HasNoLineFeed, lines, ended}
 use Rattle.feed_note.proofs.LinesCut.{lines_are_the_only_cut}
 use Rattle.feed_note.proofs.LinesInRow.{ended-append}
-use Rattle.feed_audit.specs.Connections.{Cut, Part, part, Opens, OpensNone, IsFilled, is_blank, IsCutAt, is_marked, is_status_line, is_since, is_success, since_in, status_in, announced_by, last, opened, headless, marked, named, answered}
-use Rattle.feed_audit.specs.Parting.{Passed, PassedFields, PassedTo, IsBody, IsBodyBy, IsHeadRest, IsHeadCutOff, EndsWith, GoesOnWith, Reached, IsPartVerdict, FailsInBody, faults_behind, since_of, most}
+use Rattle.feed_audit.specs.Connections.{Cut, Recorded, part, OpensFeed, OpensNone, IsFilled, is_blank, AreConnectionsOf, is_marked, is_status_line, is_since, is_success, since_in, status_in, announced_by, last, opened, headless, marked, named, answered}
+use Rattle.feed_audit.specs.Parting.{Passed, PassedFields, PassedTo, IsRecordedBody, IsBodyBy, IsHeadRest, IsHeadCutOff, EndsWith, GoesOnWith, Reached, IsPartVerdict, FailsInBody, faults_behind, since_of, most}
 use Rattle.std.specs.Borrow.{Bor}
 use Rattle.feed_node.specs.Mirroring.{MirrorState, new_mirror}
 use Rattle.feed_audit.specs.Records.{AgreesBy, AgreesAt, AllAgree, Reaches, RecordAgrees, RecordStrays, FailsInPart, FailsToAuditRecord, FaultsInFeed, BeginsInChunks, HasOtherToken, start_of}
@@ -157,7 +157,7 @@ joined text behind line later seen head is more =
     (ap (λ t. line ++ 10 ∷ t) more ∙ sym (append_assoc line (10 ∷ []) (ended head ++ later)) ∙ sym (append_assoc (line ++ 10 ∷ []) (ended head) later))
 
 goes_on : (since token : Option (List ℕ)) (text bytes behind line later : List ℕ) (seen head : List (List ℕ)) (feed : Bool) (next : Next) → text ≡ ended seen ++ (line ++ 10 ∷ behind) → behind ≡ ended head ++ later
-    → bytes ≡ ended seen → AllByRecursion HasNoLineFeed (seen ++ line ∷ head) → AllByRecursion OpensNone seen → Opens (announced_by since seen) (line ∷ head) feed token
+    → bytes ≡ ended seen → AllByRecursion HasNoLineFeed (seen ++ line ∷ head) → AllByRecursion OpensNone seen → OpensFeed (announced_by since seen) (line ∷ head) feed token
     → next.is_feed ≡ feed → since_of next ≡ token → next.text.now ≡ later → next.lines ≡ min (length (seen ++ line ∷ head)) most → GoesOnWith since text bytes next
 goes_on since token text bytes behind line later seen head feed next is more bytes_are whole none opens feed_is token_is text_is counted = record {
   count = length (seen ++ line ∷ head);
@@ -173,7 +173,7 @@ goes_on since token text bytes behind line later seen head feed next is more byt
 -- behind a line that begins one by itself
 goes_on_alone : (since token : Option (List ℕ)) (text bytes behind : List ℕ) (count : ℕ) (next : Next) (seen : List (List ℕ)) (line : List ℕ) → AllByRecursion HasNoLineFeed seen → HasNoLineFeed line
     → text ≡ ended seen ++ (line ++ 10 ∷ behind) → bytes ≡ ended seen → AllByRecursion OpensNone seen → count ≡ min (length seen) most
-    → Opens (announced_by since seen) (line ∷ []) true token
+    → OpensFeed (announced_by since seen) (line ∷ []) true token
     → next.lines ≡ min (count + 1) most → next.is_feed ≡ true → since_of next ≡ token → next.text.now ≡ behind → GoesOnWith since text bytes next
 goes_on_alone since token text bytes behind count next seen line whole unbroken is bytes_are none counted opens lines_are feed_is token_is text_is =
     goes_on since token text bytes behind line behind seen [] true next is refl bytes_are (whole_both seen (line ∷ []) whole (unbroken, tt)) none opens feed_is token_is text_is
@@ -204,27 +204,27 @@ ends_last text bytes is none before is_feed since = subst (λ b. Cut before is_f
 
 -- ---- by what was found
 
-opened_by : (text : List ℕ) (body : Body) (o : Option Opening) → body.opening ≡ o → IsBody text body → IsBodyBy text body.bytes.now body.lines o body.behind.now
+opened_by : (text : List ℕ) (body : Body) (o : Option Opening) → body.opening ≡ o → IsRecordedBody text body → IsBodyBy text body.bytes.now body.lines o body.behind.now
 opened_by text body o e h = subst (λ t. IsBodyBy text body.bytes.now body.lines t body.behind.now) e h
 
-pub none_next : (text : List ℕ) (body : Body) → body.opening ≡ None → IsBody text body → EndsWith text body.bytes.now
+pub none_next : (text : List ℕ) (body : Body) → body.opening ≡ None → IsRecordedBody text body → EndsWith text body.bytes.now
 none_next text body e h = let (is, none) = opened_by text body None e h in ends_last text body.bytes.now is none
 
-pub marked_next : (since : Option (List ℕ)) (text : List ℕ) (body : Body) (next : Next) → body.opening ≡ Some Marked → IsBody text body → next.lines ≡ min (body.lines + 1) most
+pub marked_next : (since : Option (List ℕ)) (text : List ℕ) (body : Body) (next : Next) → body.opening ≡ Some Marked → IsRecordedBody text body → next.lines ≡ min (body.lines + 1) most
     → next.is_feed ≡ true → since_of next ≡ None → next.text.now ≡ body.behind.now → GoesOnWith since text body.bytes.now next
 marked_next since text body next e h lines_are feed_is token_is text_is =
     let p : PassedTo text body.bytes.now body.lines Marked body.behind.now = opened_by text body (Some Marked) e h in
     goes_on_alone since None text body.bytes.now body.behind.now body.lines next p.seen p.line p.whole p.unbroken p.text_is p.bytes_are p.none p.counted (marked p.line p.opens)
     lines_are feed_is token_is text_is
 
-pub named_next : (since : Option (List ℕ)) (text : List ℕ) (body : Body) (next : Next) (token : Bor (List ℕ)) → body.opening ≡ Some (Named token) → IsBody text body
+pub named_next : (since : Option (List ℕ)) (text : List ℕ) (body : Body) (next : Next) (token : Bor (List ℕ)) → body.opening ≡ Some (Named token) → IsRecordedBody text body
     → next.lines ≡ min (body.lines + 1) most → next.is_feed ≡ true → since_of next ≡ Some token.now → next.text.now ≡ body.behind.now → GoesOnWith since text body.bytes.now next
 named_next since text body next token e h lines_are feed_is token_is text_is =
     let p : PassedTo text body.bytes.now body.lines (Named token) body.behind.now = opened_by text body (Some (Named token)) e h in
     goes_on_alone since (Some token.now) text body.bytes.now body.behind.now body.lines next p.seen p.line p.whole p.unbroken p.text_is p.bytes_are p.none p.counted
     (named p.line token.now p.opens.0 p.opens.1) lines_are feed_is token_is text_is
 
-pub headed_next : (since : Option (List ℕ)) (text : List ℕ) (body : Body) (next : Next) (feed : Bool) (more found : ℕ) (later : List ℕ) → body.opening ≡ Some (Head feed) → IsBody text body
+pub headed_next : (since : Option (List ℕ)) (text : List ℕ) (body : Body) (next : Next) (feed : Bool) (more found : ℕ) (later : List ℕ) → body.opening ≡ Some (Head feed) → IsRecordedBody text body
     → IsHeadRest body.behind.now found later → more ≡ min (body.lines + 1) most → next.lines ≡ min (more + found) most
     → next.is_feed ≡ feed → ((ls : List (List ℕ)) → body.bytes.now ≡ ended ls → since_of next ≡ announced_by since ls) → next.text.now ≡ later → GoesOnWith since text body.bytes.now next
 headed_next since text body next feed more found later e h r more_is lines_are feed_is token_is text_is =
@@ -233,7 +233,7 @@ headed_next since text body next feed more found later e h r more_is lines_are f
     goes_on_answered since text body.bytes.now body.behind.now later body.lines more found next p.seen p.line status p.whole p.unbroken p.text_is p.bytes_are p.none p.counted
     unmarked unnamed has r more_is lines_are (feed_is ∙ success) (token_is p.seen p.bytes_are) text_is
 
-pub headed_last : (text : List ℕ) (body : Body) (feed : Bool) → body.opening ≡ Some (Head feed) → IsBody text body → IsHeadCutOff body.behind.now → EndsWith text body.bytes.now
+pub headed_last : (text : List ℕ) (body : Body) (feed : Bool) → body.opening ≡ Some (Head feed) → IsRecordedBody text body → IsHeadCutOff body.behind.now → EndsWith text body.bytes.now
 headed_last text body feed e h r =
     let p : PassedTo text body.bytes.now body.lines (Head feed) body.behind.now = opened_by text body (Some (Head feed)) e h in
     let (unmarked, unnamed, (status, has, success)) = p.opens in
@@ -251,28 +251,28 @@ announced_before since bytes (l ∷ ls) some is = refl
 -- ---- those that agree
 
 module _ (limits : Limits) (primary : List ℕ) where
-  agree_more : (parts : List Part) (all here : ℕ) (at : Part) (old between new : MirrorState) → AllAgree limits primary old parts all between → AgreesAt limits primary between at here new
+  agree_more : (parts : List Recorded) (all here : ℕ) (at : Recorded) (old between new : MirrorState) → AllAgree limits primary old parts all between → AgreesAt limits primary between at here new
       → AllAgree limits primary old (parts ++ at ∷ []) (all + here) new
   agree_more [] all here at old between new (none, same) k =
       (here, 0, new, subst (λ m. AgreesAt limits primary m at here new) same k, (refl, refl), (let e : all ≡ 0 = none in omega arith))
   agree_more (p ∷ ps) all here at old between new (a, b, m, agrees, more, is) k =
       (a, b + here, m, agrees, agree_more ps b here at m between new more k, omega arith)
 
-  agrees_by : (is_feed : Bool) (at : Part) (here : ℕ) (old new : MirrorState) → IsPartVerdict limits primary is_feed old at (verdict.Agrees here) new
+  agrees_by : (is_feed : Bool) (at : Recorded) (here : ℕ) (old new : MirrorState) → IsPartVerdict limits primary is_feed old at (verdict.Agrees here) new
       → AgreesBy limits primary is_feed old at here new
   agrees_by true at here old new v = v
   agrees_by false at here old new v = let none = v.0 in (cc, v.1)
 
-  pub agrees_at : (at : Part) (here : ℕ) (old new : MirrorState) → IsPartVerdict limits primary at.is_feed old at (verdict.Agrees here) new → AgreesAt limits primary old at here new
+  pub agrees_at : (at : Recorded) (here : ℕ) (old new : MirrorState) → IsPartVerdict limits primary at.is_feed old at (verdict.Agrees here) new → AgreesAt limits primary old at here new
   agrees_at at here old new v = agrees_by at.is_feed at here old new v
 
   -- what is shown then is one of the primary's, as it was before
-  shown_then : (is_feed : Bool) (at : Part) (here : ℕ) (old new : MirrorState) → IfSome old.node.published (IsStateOf limits primary)
+  shown_then : (is_feed : Bool) (at : Recorded) (here : ℕ) (old new : MirrorState) → IfSome old.node.published (IsStateOf limits primary)
       → IsPartVerdict limits primary is_feed old at (verdict.Agrees here) new → IfSome new.node.published (IsStateOf limits primary)
   shown_then true at here old new before f = shown_after (start_of limits primary old at.since) primary at.body here f.agrees new f.left
   shown_then false at here old new before v = subst (λ m. IfSome m.node.published (IsStateOf limits primary)) (sym v.1) before
 
-  limits_then : (is_feed : Bool) (at : Part) (here : ℕ) (old new : MirrorState) → old.limits ≡ limits
+  limits_then : (is_feed : Bool) (at : Recorded) (here : ℕ) (old new : MirrorState) → old.limits ≡ limits
       → IsPartVerdict limits primary is_feed old at (verdict.Agrees here) new → new.limits ≡ limits
   limits_then true at here old new same f = ap (λ (m : MirrorState). m.limits) f.left
   limits_then false at here old new same v = ap (λ (m : MirrorState). m.limits) v.1 ∙ same
@@ -306,7 +306,7 @@ module _ (limits : Limits) (primary : List ℕ) where
         limits_are = limits_then is_feed at here old new r.limits_are (v r.at);
         shown = shown_then is_feed at here old new r.shown (v r.at);
         counted = let a = r.counted in omega arith;
-        cut = λ later c. subst (IsCutAt screen) (sym (append_assoc r.parts (at ∷ []) later)) (r.cut (at ∷ later) (g.on r.at is_feed later c));
+        cut = λ later c. subst (AreConnectionsOf screen) (sym (append_assoc r.parts (at ∷ []) later)) (r.cut (at ∷ later) (g.on r.at is_feed later c));
       }
 
   pub record_agrees : (screen text body : List ℕ) (before states here new_states : ℕ) (is_feed : Bool) (since : Option (List ℕ)) (old new : MirrorState)
@@ -363,7 +363,7 @@ module _ (limits : Limits) (primary : List ℕ) where
     line = let a = r.before_is in omega arith;
   }
 
-  fails_part : (screen text body : List ℕ) (before states its_own : ℕ) (since : Option (List ℕ)) (mirror : MirrorState) (next : Option Next) (P : MirrorState → Part → ℕ → Type 0)
+  fails_part : (screen text body : List ℕ) (before states its_own : ℕ) (since : Option (List ℕ)) (mirror : MirrorState) (next : Option Next) (P : MirrorState → Recorded → ℕ → Type 0)
       (r : Reached limits primary screen text before states true since mirror) → IfNone next (EndsWith text body) → IfSome next (GoesOnWith since text body)
       → P mirror (part r.at true since body) its_own → FailsInPart limits primary screen (min (before + its_own) most) P
   fails_part screen text body before states its_own since mirror next P r ends on fails = record {

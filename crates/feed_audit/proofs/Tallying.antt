@@ -11,7 +11,7 @@ use Rattle.feed_audit.specs.declared.verdict.AuditFault.{AuditFault}
 use Rattle.feed_audit.specs.declared.verdict.AuditFault.TheVariants as told
 use Rattle.feed_audit.specs.Answers.{HasStates, FailsToCount}
 use Rattle.feed_audit.specs.States.{afresh}
-use Rattle.feed_audit.specs.Walks.{Walked, GoesOn, GoesToEnd, FaultsIn}
+use Rattle.feed_audit.specs.Walks.{Walked, ReadsMore, GoesToEnd, FaultsIn}
 use Rattle.feed_audit.proofs.Agreeing.{good_of, all_lines}
 
 -- the text was read so far, and its states are counted
@@ -24,7 +24,7 @@ pub counts_none : (limits : Limits) (text : List ℕ) (mirror : MirrorState) →
 counts_none limits text mirror w = record { notes = []; walked = w; counted = refl }
 
 pub counts_on : (limits : Limits) (text left behind : List ℕ) (count new_count states new_states : ℕ) (old new : MirrorState)
-    (a : Counts limits text left count states old) → GoesOn (afresh limits) text behind a.notes new_count new → new_states ≡ min (states + 1) 18446744073709551615
+    (a : Counts limits text left count states old) → ReadsMore (afresh limits) text behind a.notes new_count new → new_states ≡ min (states + 1) 18446744073709551615
     → Counts limits text behind new_count new_states new
 counts_on limits text left behind count new_count states new_states old new a g more = record {
   notes = a.notes ++ (g.before ++ g.note ∷ []);

@@ -8,9 +8,9 @@ use Rattle.feed_note.specs.declared.line.Line.{Line}
 use Rattle.feed_node.specs.Mirroring.{MirrorState, first_opening}
 use Rattle.feed_node.specs.Reading.{AllGood}
 use Rattle.feed_node.specs.States.{NodeState}
-use Rattle.feed_audit.specs.Differences.{Tells, Explains, IsFirstUnder}
+use Rattle.feed_audit.specs.Differences.{TellsDifference, Explains, IsFirstUnder}
 use Rattle.feed_audit.specs.States.{afresh, IsStateOf}
-use Rattle.feed_audit.specs.Walks.{Walked, GoesOn, GoesToEnd, AllAre}
+use Rattle.feed_audit.specs.Walks.{Walked, ReadsMore, GoesToEnd, AllAre}
 use Rattle.feed_audit.specs.declared.difference.Difference.{Difference}
 use Rattle.feed_audit.specs.declared.difference.Difference.TheVariants.{NoToken, At, Same}
 use Rattle.feed_audit.proofs.Agreeing.{agree_by, all_lines, good_of, state_of}
@@ -36,17 +36,17 @@ some_is None h = absurd (true≢false (sym h))
 some_is (Some shown) h = (shown, refl)
 
 explains : (limits : Limits) (primary : List ℕ) (state shown : Published) (told : Difference) → IsFirstUnder limits primary state.token shown
-    → ¬ (shown ≡ state) → Tells shown.tables state.tables told → Explains limits primary state told
+    → ¬ (shown ≡ state) → TellsDifference shown.tables state.tables told → Explains limits primary state told
 explains limits primary state shown NoToken is other t = absurd t
 explains limits primary state shown (At kind id side there) is other t = (shown, is, t)
 explains limits primary state shown Same is other t =
     absurd (other (λ i. record { tables = t i; token = is.named i }))
 
 pub found_token : OnlyOne → (limits : Limits) (primary left behind : List ℕ) (count new_count : ℕ) (old new : MirrorState) (node : NodeState) (state : Published) (told : Difference)
-    (l : Lacks limits primary left count old state) → GoesOn (afresh limits) primary behind l.0 new_count new → IsSome new.node.published → node ≡ new.node
+    (l : Lacks limits primary left count old state) → ReadsMore (afresh limits) primary behind l.0 new_count new → IsSome new.node.published → node ≡ new.node
     → ¬ (IsStateOf limits primary state)
     → ((shown : Published) → node.published ≡ Some shown → shown.token ≡ state.token)
-    → ((shown : Published) → node.published ≡ Some shown → Tells shown.tables state.tables told)
+    → ((shown : Published) → node.published ≡ Some shown → TellsDifference shown.tables state.tables told)
     → Explains limits primary state told
 found_token only limits primary left behind count new_count old new node state told l g some is strange same tells =
     let its = some_is new.node.published some in
@@ -71,7 +71,7 @@ other_token None state h = tt
 other_token (Some s) state h = h s refl
 
 pub lacks_on : (limits : Limits) (primary left behind : List ℕ) (count new_count : ℕ) (old new : MirrorState) (node : NodeState) (state : Published)
-    (l : Lacks limits primary left count old state) → (g : GoesOn (afresh limits) primary behind l.0 new_count new) → node ≡ new.node
+    (l : Lacks limits primary left count old state) → (g : ReadsMore (afresh limits) primary behind l.0 new_count new) → node ≡ new.node
     → ((shown : Published) → node.published ≡ Some shown → shown.token ≢ state.token)
     → AllAre (afresh limits) (λ shown. shown.token ≢ state.token) (l.0 ++ (g.before ++ g.note ∷ []))
 lacks_on limits primary left behind count new_count old new node state l g is other =

@@ -17,7 +17,7 @@ use Rattle.feed_audit.specs.declared.verdict.Stray.{Stray}
 use Rattle.feed_audit.specs.Answers.{AgreementFrom, StrayingFrom, IsStrange}
 use Rattle.feed_audit.specs.Differences.{Explains}
 use Rattle.feed_audit.specs.States.{Start, afresh, published_from, IsStateOf}
-use Rattle.feed_audit.specs.Walks.{Walked, GoesOn, GoesToEnd, AllAre, IsSince, Finds}
+use Rattle.feed_audit.specs.Walks.{Walked, ReadsMore, GoesToEnd, AllAre, IsSince, Finds}
 use Rattle.feed_audit.proofs.Agreeing.{agree_by, good_of, state_of, all_lines}
 use Rattle.feed_audit.proofs.Bringing.{brings}
 use Rattle.feed_audit.proofs.Walking.{all_end, all_goes}
@@ -83,7 +83,7 @@ shown_after start primary screen states a mirror left =
     }))
 
 pub agrees_on : (start : Start) (primary screen left behind our_behind : List ℕ) (count new_count our_count states new_states : ℕ) (old new ours : MirrorState) (wanted : NodeState)
-    (a : Agrees start primary screen left count states old) → GoesOn start screen behind a.notes new_count new → wanted ≡ new.node
+    (a : Agrees start primary screen left count states old) → ReadsMore start screen behind a.notes new_count new → wanted ≡ new.node
     → Finds (afresh start.limits) primary our_behind our_count ours wanted → new_states ≡ min (states + 1) 18446744073709551615
     → Agrees start primary screen behind new_count new_states new
 agrees_on start primary screen left behind our_behind count new_count our_count states new_states old new ours wanted a g is f more = record {
@@ -110,7 +110,7 @@ named None token e = absurd (cc)
 named (Some state) token e = (state, refl, cc)
 
 pub straying : OnlyOne → (start : Start) (primary screen left behind : List ℕ) (count states : ℕ) (old new : MirrorState) (wanted shown : NodeState) (stray : Stray)
-    (a : Agrees start primary screen left count states old) → GoesOn start screen behind a.notes stray.line new → wanted ≡ new.node → shown ≡ new.node
+    (a : Agrees start primary screen left count states old) → ReadsMore start screen behind a.notes stray.line new → wanted ≡ new.node → shown ≡ new.node
     → IsStrange start.limits primary wanted → Some stray.token ≡ token_of shown.published
     → (asked : NodeState) → asked ≡ new.node → ((state : Published) → asked.published ≡ Some state → Explains start.limits primary state stray.difference)
     → stray.before ≡ states → StrayingFrom start primary screen stray

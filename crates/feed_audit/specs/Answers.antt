@@ -16,14 +16,17 @@ use Rattle.feed_audit.specs.declared.verdict.Stray.{Stray}
 use Rattle.feed_audit.specs.declared.verdict.Verdict.{Verdict}
 use Rattle.feed_audit.specs.declared.verdict.Verdict.TheVariants as verdict
 
--- nothing is wrong with the screen's text, it publishes so many times, and each state of it is one of the primary's
+-- nothing is wrong with the screen's text, it publishes so many times, and each state of it is one
+-- of the primary's
 pub record AgreementFrom (start : Start) (primary screen : List ℕ) (states : ℕ) : Type 0 where
   pub notes : List Line
   pub read : Reads start.limits start.opening screen notes
-  pub counted : states ≡ min (publications start.limits.history start.opening notes) 18446744073709551615
+  pub counted : states
+      ≡ min (publications start.limits.history start.opening notes) 18446744073709551615
   pub agrees : AgreesFrom start primary screen
 
--- A line of the screen's text brings a state that is none of the primary's; all those of the lines before it are.
+-- A line of the screen's text brings a state that is none of the primary's; all those of the lines
+-- before it are.
 pub record StrayingFrom (start : Start) (primary screen : List ℕ) (stray : Stray) : Type 0 where
   pub earlier : List (List ℕ)
   pub line : List ℕ
@@ -32,7 +35,8 @@ pub record StrayingFrom (start : Start) (primary screen : List ℕ) (stray : Str
   pub counted : stray.line ≡ min (length earlier + 1) 18446744073709551615
   pub notes : List Line
   pub good : AllGood start.limits start.opening earlier notes
-  pub before : stray.before ≡ min (publications start.limits.history start.opening notes) 18446744073709551615
+  pub before : stray.before
+      ≡ min (publications start.limits.history start.opening notes) 18446744073709551615
   pub agrees : AgreesFrom start primary (ended earlier)
   pub state : Published
   pub is : IsStateFrom start (ended (earlier ++ line ∷ [])) state
@@ -41,12 +45,14 @@ pub record StrayingFrom (start : Start) (primary screen : List ℕ) (stray : Str
   pub explained : Explains start.limits primary state stray.difference
 
 abbrev pub IsVerdictFrom : Start → List ℕ → List ℕ → Verdict → Type 0
-IsVerdictFrom start primary screen (verdict.Agrees states) = AgreementFrom start primary screen states
+IsVerdictFrom start primary screen (verdict.Agrees states) =
+    AgreementFrom start primary screen states
 IsVerdictFrom start primary screen (verdict.Strays stray) = StrayingFrom start primary screen stray
 
 -- the first lines of a text are good, up to one with this fault; a want of memory says nothing
 abbrev pub FailsFrom : Start → List ℕ → List ℕ → AuditFault → Type 0
-FailsFrom start primary screen (fault.Primary line why) = FaultsIn (afresh start.limits) primary line why
+FailsFrom start primary screen (fault.Primary line why) =
+    FaultsIn (afresh start.limits) primary line why
 FailsFrom start primary screen (fault.Screen line why) = FaultsIn start screen line why
 FailsFrom start primary screen (fault.Chunked line) = ⊥
 FailsFrom start primary screen (fault.OtherToken line) = ⊥
@@ -61,7 +67,8 @@ abbrev pub IsVerdictOn : Start → List ℕ → List ℕ → Verdict → MirrorS
 IsVerdictOn start primary screen (verdict.Agrees states) mirror =
     (a : AgreementFrom start primary screen states)
     × (mirror ≡ mirror_after start.limits start.opening a.notes [])
-IsVerdictOn start primary screen (verdict.Strays stray) mirror = StrayingFrom start primary screen stray
+IsVerdictOn start primary screen (verdict.Strays stray) mirror =
+    StrayingFrom start primary screen stray
 
 -- the same of a screen's text that a fresh connection carried
 abbrev pub IsVerdict : Limits → List ℕ → List ℕ → Verdict → Type 0
@@ -85,8 +92,8 @@ FailsToCount limits primary (fault.OtherToken line) = ⊥
 FailsToCount limits primary fault.Memory = Unit {0}
 
 -- a mirror has read some of the lines of a text on a fresh connection
-abbrev pub IsReading : Limits → List ℕ → List ℕ → ℕ → MirrorState → Type 0
-IsReading limits text behind lines mirror =
+abbrev pub HasReadLines : Limits → List ℕ → List ℕ → ℕ → MirrorState → Type 0
+HasReadLines limits text behind lines mirror =
     (notes : List Line) × Walked (afresh limits) text behind notes lines mirror
 
 -- what the node shows is no state of the text

@@ -37,8 +37,8 @@ is_since bytes =
     starts_with (λ x y. x == y) bytes (codes "# connection since ")
     && not (list_any (λ b. b == 34) (drop 19 bytes))
 
--- the token of a line that ends in `# connection since TOKEN`, before which may stand what came of a
--- line that was cut off
+-- the token of a line that ends in `# connection since TOKEN`, before which may stand what came of
+-- a line that was cut off
 unfoldable pub since_in : List ℕ → Option (List ℕ)
 since_in [] = None
 since_in (b ∷ bs) = if is_since (b ∷ bs) then Some (drop 19 (b ∷ bs)) else since_in bs
@@ -60,28 +60,31 @@ is_blank line =
 abbrev pub IsFilled : List ℕ → Type 0
 IsFilled line = is_blank line ≡ false
 
--- These lines stand between two connections. A feed follows behind a line `# connection`, behind one
--- with the token that it was asked for with, and behind a head with the status 200, which may have
--- been announced with a token.
-pub data Opens (announced : Option (List ℕ)) : List (List ℕ) → Bool → Option (List ℕ) → Type 0 where
-  marked : (line : List ℕ) → is_marked line ≡ true → Opens announced (line ∷ []) true None
+-- These lines stand between two connections. A feed follows behind a line `# connection`, behind
+-- one with the token that it was asked for with, and behind a head with the status 200, which may
+-- have been announced with a token.
+pub data OpensFeed (announced : Option (List ℕ)) : List (List ℕ) → Bool → Option (List ℕ)
+    → Type 0 where
+  marked : (line : List ℕ) → is_marked line ≡ true → OpensFeed announced (line ∷ []) true None
   named : (line token : List ℕ) → is_marked line ≡ false → since_in line ≡ Some token
-      → Opens announced (line ∷ []) true (Some token)
-  answered : (line : List ℕ) (fields : List (List ℕ)) (blank status : List ℕ) → is_marked line ≡ false
-      → since_in line ≡ None → status_in line ≡ Some status → AllByRecursion IsFilled fields → is_blank blank ≡ true
-      → Opens announced (line ∷ (fields ++ blank ∷ [])) (is_success status) announced
+      → OpensFeed announced (line ∷ []) true (Some token)
+  answered : (line : List ℕ) (fields : List (List ℕ)) (blank status : List ℕ)
+      → is_marked line ≡ false
+      → since_in line ≡ None → status_in line ≡ Some status → AllByRecursion IsFilled fields
+      → is_blank blank ≡ true
+      → OpensFeed announced (line ∷ (fields ++ blank ∷ [])) (is_success status) announced
 
 -- ---- the connections
 
 -- a connection: how many lines stand before it, whether it is a feed, the token that it was asked
 -- for with, if one is said, and what it carried
-pub record Part : Type 0 where
+pub record Recorded : Type 0 where
   pub before : ℕ
   pub is_feed : Bool
   pub since : Option (List ℕ)
   pub body : List ℕ
 
-abbrev pub part : ℕ → Bool → Option (List ℕ) → List ℕ → Part
+abbrev pub part : ℕ → Bool → Option (List ℕ) → List ℕ → Recorded
 part before is_feed since body =
     record { before = before; is_feed = is_feed; since = since; body = body }
 
@@ -91,26 +94,31 @@ announced_by since [] = since
 announced_by since (line ∷ body) = None
 
 -- a text is these connections, the first of which has begun
-pub data Cut : ℕ → Bool → Option (List ℕ) → List ℕ → List Part → Type 0 where
+pub data Cut : ℕ → Bool → Option (List ℕ) → List ℕ → List Recorded → Type 0 where
   -- no other one begins
-  last : {before : ℕ} {is_feed : Bool} {since : Option (List ℕ)} {text : List ℕ} → AllByRecursion OpensNone (lines text)
+  last : {before : ℕ} {is_feed : Bool} {since : Option (List ℕ)} {text : List ℕ}
+      → AllByRecursion OpensNone (lines text)
       → Cut before is_feed since text (part before is_feed since text ∷ [])
   -- another one begins behind these lines
-  opened : {before : ℕ} {is_feed : Bool} {since : Option (List ℕ)} {text : List ℕ} (body head : List (List ℕ)) (next : Bool) (token : Option (List ℕ)) (behind : List ℕ) (parts : List Part)
+  opened : {before : ℕ} {is_feed : Bool} {since : Option (List ℕ)} {text : List ℕ}
+      (body head : List (List ℕ)) (next : Bool) (token : Option (List ℕ))
+      (behind : List ℕ) (parts : List Recorded)
       → text ≡ ended body ++ (ended head ++ behind) → AllByRecursion HasNoLineFeed (body ++ head)
-      → AllByRecursion OpensNone body → Opens (announced_by since body) head next token
+      → AllByRecursion OpensNone body → OpensFeed (announced_by since body) head next token
       → Cut (before + length (body ++ head)) next token behind parts
       → Cut before is_feed since text (part before is_feed since (ended body) ∷ parts)
   -- another one was cut off within its head
-  headless : {before : ℕ} {is_feed : Bool} {since : Option (List ℕ)} {text : List ℕ} (body fields : List (List ℕ)) (line status rest : List ℕ)
-      → text ≡ ended body ++ (ended (line ∷ fields) ++ rest) → AllByRecursion HasNoLineFeed (body ++ line ∷ fields)
+  headless : {before : ℕ} {is_feed : Bool} {since : Option (List ℕ)} {text : List ℕ}
+      (body fields : List (List ℕ)) (line status rest : List ℕ)
+      → text ≡ ended body ++ (ended (line ∷ fields) ++ rest)
+      → AllByRecursion HasNoLineFeed (body ++ line ∷ fields)
       → HasNoLineFeed rest → AllByRecursion OpensNone body → is_marked line ≡ false
       → since_in line ≡ None → status_in line ≡ Some status → AllByRecursion IsFilled fields
       → Cut before is_feed since text (part before is_feed since (ended body) ∷ [])
 
 -- the connections of a record
-abbrev pub IsCutAt : List ℕ → List Part → Type 0
-IsCutAt record_ parts = Cut 0 true None record_ parts
+abbrev pub AreConnectionsOf : List ℕ → List Recorded → Type 0
+AreConnectionsOf record_ parts = Cut 0 true None record_ parts
 
 -- Whether a connection carried chunks (RFC 9112, section 7.1): it begins with the digits of a size,
 -- with which no line of a feed begins.

@@ -25,13 +25,15 @@ type_side None false = Nothing
 
 -- what stands at a type, or at an id in its collection
 abbrev pub side_at : Contents → List ℕ → Option (List ℕ) → Side
-side_at contents kind None = type_side (singleton_at contents kind) (is_some (collection_of (get contents kind)))
+side_at contents kind None =
+    type_side (singleton_at contents kind) (is_some (collection_of (get contents kind)))
 side_at contents kind (Some id) = object_side (object_at contents kind id)
 
 -- the same stands on both sides at each place before this one
 abbrev pub AgreeBefore : Contents → Contents → PlaceAt → Type 0
 AgreeBefore contents others place =
-    (before : PlaceAt) → place_order before place ≡ Less → side_at contents before.0 before.1 ≡ side_at others before.0 before.1
+    (before : PlaceAt) → place_order before place ≡ Less
+    → side_at contents before.0 before.1 ≡ side_at others before.0 before.1
 
 -- this is the first place at which they differ
 pub record DifferFirst (contents others : Contents) (place : PlaceAt) : Type 0 where
@@ -39,19 +41,22 @@ pub record DifferFirst (contents others : Contents) (place : PlaceAt) : Type 0 w
   pub first : AgreeBefore contents others place
 
 -- these are what stands there on both sides
-pub record DifferAt (contents others : Contents) (kind : List ℕ) (id : Option (List ℕ)) (side other : Side) : Type 0 where
+pub record DifferAt (contents others : Contents) (kind : List ℕ) (id : Option (List ℕ))
+    (side other : Side) : Type 0 where
   pub ours : side ≡ side_at contents kind id
   pub theirs : other ≡ side_at others kind id
   pub place : DifferFirst contents others (kind, id)
 
 -- it is told where they differ, or that they are the same
-abbrev pub Tells : Contents → Contents → Difference → Type 0
-Tells contents others NoToken = ⊥
-Tells contents others (At kind id side other) = DifferAt contents others kind id side other
-Tells contents others Same = contents ≡ others
+abbrev pub TellsDifference : Contents → Contents → Difference → Type 0
+TellsDifference contents others NoToken = ⊥
+TellsDifference contents others (At kind id side other) =
+    DifferAt contents others kind id side other
+TellsDifference contents others Same = contents ≡ others
 
 -- a line of the primary's text brings this state, and no line before it one under its token
-pub record IsFirstUnder (limits : Limits) (primary : List ℕ) (token : List ℕ) (shown : Published) : Type 0 where
+pub record IsFirstUnder (limits : Limits) (primary : List ℕ) (token : List ℕ)
+    (shown : Published) : Type 0 where
   pub earlier : List (List ℕ)
   pub line : List ℕ
   pub later : List (List ℕ)
@@ -60,7 +65,8 @@ pub record IsFirstUnder (limits : Limits) (primary : List ℕ) (token : List ℕ
   pub is : IsStateOf limits (ended (earlier ++ line ∷ [])) shown
   pub named : shown.token ≡ token
 
--- the primary has no state under the token; or the first that it has differs from this one, at first here
+-- the primary has no state under the token; or the first that it has differs from this one, at
+-- first here
 abbrev pub Explains : Limits → List ℕ → Published → Difference → Type 0
 Explains limits primary state NoToken =
     (shown : Published) → IsStateOf limits primary shown → shown.token ≢ state.token

@@ -7,7 +7,7 @@ use Rattle.feed_text.specs.Ascii.{line_feed}
 use Rattle.feed_note.specs.Lines.{HasNoLineFeed, lines, ended}
 use Rattle.feed_node.specs.Mirroring.{MirrorState, new_mirror}
 use Rattle.feed_audit.specs.Answers.{StrayingFrom}
-use Rattle.feed_audit.specs.Connections.{Cut, Part, part, OpensNone, IsFilled, is_blank, is_marked, is_success, since_in, status_in, IsCutAt}
+use Rattle.feed_audit.specs.Connections.{Cut, Recorded, part, OpensNone, IsFilled, is_blank, is_marked, is_success, since_in, status_in, AreConnectionsOf}
 use Rattle.feed_audit.specs.Records.{AllAgree, FeedAgrees, FaultsInFeed, BeginsInChunks, HasOtherToken, MayGoOn, start_of}
 use Rattle.feed_audit.specs.States.{afresh, IsStateOf}
 use Rattle.feed_audit.specs.Walks.{FaultsIn}
@@ -41,7 +41,8 @@ pub record Passed (text behind : List ℕ) (count : ℕ) : Type 0 where
   pub counted : count ≡ min (length seen) most
 
 -- and these bytes stand before the line on which one does
-pub record PassedTo (text bytes : List ℕ) (count : ℕ) (opening : Opening) (behind : List ℕ) : Type 0 where
+pub record PassedTo (text bytes : List ℕ) (count : ℕ) (opening : Opening)
+    (behind : List ℕ) : Type 0 where
   pub seen : List (List ℕ)
   pub line : List ℕ
   pub whole : AllByRecursion HasNoLineFeed seen
@@ -56,8 +57,8 @@ abbrev pub IsBodyBy : List ℕ → List ℕ → ℕ → Option Opening → List 
 IsBodyBy text bytes count None behind = (bytes ≡ text) × AllByRecursion OpensNone (lines text)
 IsBodyBy text bytes count (Some opening) behind = PassedTo text bytes count opening behind
 
-abbrev pub IsBody : List ℕ → Body → Type 0
-IsBody text body = IsBodyBy text body.bytes.now body.lines body.opening body.behind.now
+abbrev pub IsRecordedBody : List ℕ → Body → Type 0
+IsRecordedBody text body = IsBodyBy text body.bytes.now body.lines body.opening body.behind.now
 
 -- lines of a head were passed
 pub record PassedFields (text behind : List ℕ) (count : ℕ) : Type 0 where
@@ -101,39 +102,44 @@ since_of next = option_copied next.since
 pub record GoesOnWith (since : Option (List ℕ)) (text body : List ℕ) (next : Next) : Type 0 where
   pub count : ℕ
   pub counted : next.lines ≡ min count most
-  pub on : (before : ℕ) → (is_feed : Bool) → (parts : List Part)
+  pub on : (before : ℕ) → (is_feed : Bool) → (parts : List Recorded)
       → Cut (before + count) next.is_feed (since_of next) next.text.now parts
       → Cut before is_feed since text (part before is_feed since body ∷ parts)
 
 -- ---- the audit of one connection, and those so far
 
 -- a connection, behind so many lines
-abbrev pub part_of : ℕ → Carried → Part
+abbrev pub part_of : ℕ → Carried → Recorded
 part_of before carried =
     part before carried.is_feed (option_copied carried.since) carried.body.now
 
 -- what is answered of a feed, and what is left of the mirror
-abbrev pub IsFeedVerdict : Limits → List ℕ → MirrorState → Part → Verdict → MirrorState → Type 0
-IsFeedVerdict limits primary old at (verdict.Agrees states) new = FeedAgrees limits primary old at states new
+abbrev pub IsFeedVerdict : Limits → List ℕ → MirrorState → Recorded → Verdict → MirrorState → Type 0
+IsFeedVerdict limits primary old at (verdict.Agrees states) new =
+    FeedAgrees limits primary old at states new
 IsFeedVerdict limits primary old at (verdict.Strays stray) new =
     MayGoOn old at.since × StrayingFrom (start_of limits primary old at.since) primary at.body stray
 
 -- of a connection: where it is no feed, that it has no states
-abbrev pub IsPartVerdict : Limits → List ℕ → Bool → MirrorState → Part → Verdict → MirrorState → Type 0
+abbrev pub IsPartVerdict : Limits → List ℕ → Bool → MirrorState → Recorded → Verdict → MirrorState
+    → Type 0
 IsPartVerdict limits primary true old at answer new = IsFeedVerdict limits primary old at answer new
 IsPartVerdict limits primary false old at answer new = (answer ≡ verdict.Agrees 0) × (new ≡ old)
 
-abbrev pub FailsInBody : Limits → List ℕ → MirrorState → Part → AuditFault → Type 0
-FailsInBody limits primary old at (fault.Primary line why) = FaultsIn (afresh limits) primary line why
-FailsInBody limits primary old at (fault.Screen line why) = FaultsInFeed limits primary why old at line
+abbrev pub FailsInBody : Limits → List ℕ → MirrorState → Recorded → AuditFault → Type 0
+FailsInBody limits primary old at (fault.Primary line why) =
+    FaultsIn (afresh limits) primary line why
+FailsInBody limits primary old at (fault.Screen line why) =
+    FaultsInFeed limits primary why old at line
 FailsInBody limits primary old at (fault.Chunked line) = BeginsInChunks limits primary old at line
 FailsInBody limits primary old at (fault.OtherToken line) = HasOtherToken limits primary old at line
 FailsInBody limits primary old at fault.Memory = Unit {0}
 
 -- the connections before this text agree, and this is the mirror then
-pub record Reached (limits : Limits) (primary screen text : List ℕ) (before states : ℕ) (is_feed : Bool)
+pub record Reached (limits : Limits) (primary screen text : List ℕ) (before states : ℕ)
+    (is_feed : Bool)
     (since : Option (List ℕ)) (mirror : MirrorState) : Type 0 where
-  pub parts : List Part
+  pub parts : List Recorded
   pub at : ℕ
   pub before_is : before ≡ min at most
   pub all : ℕ
@@ -141,7 +147,8 @@ pub record Reached (limits : Limits) (primary screen text : List ℕ) (before st
   pub limits_are : mirror.limits ≡ limits
   pub shown : IfSome mirror.node.published (IsStateOf limits primary)
   pub counted : states ≡ min all most
-  pub cut : (later : List Part) → Cut at is_feed since text later → IsCutAt screen (parts ++ later)
+  pub cut : (later : List Recorded) → Cut at is_feed since text later
+      → AreConnectionsOf screen (parts ++ later)
 
 -- a fault of a connection, by its line in the record
 abbrev pub faults_behind : AuditFault → ℕ → AuditFault

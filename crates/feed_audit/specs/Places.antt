@@ -1,4 +1,5 @@
--- Places of tables, in byte order (CLICS Contest API 2023-06: a notification names a type, and an id in its collection).
+-- Places of tables, in byte order (CLICS Contest API 2023-06: a notification names a type, and an
+-- id in its collection).
 use Rattle.std.specs.Prelude.{◌≡◌, ◌≢◌, ℕ, List, [], ◌∷◌, ◌++◌, Option, None, Some}
 use Rattle.std.specs.Option.{option_cmp}
 use Rattle.std.specs.Ordering.{ordering_then}
@@ -16,7 +17,8 @@ PlaceAt = List ℕ × Option (List ℕ)
 
 -- types in byte order; a type comes before its ids, and these in byte order
 abbrev pub place_order : PlaceAt → PlaceAt → Ordering
-place_order place other = ordering_then (byte_order place.0 other.0) (option_cmp byte_order place.1 other.1)
+place_order place other =
+    ordering_then (byte_order place.0 other.0) (option_cmp byte_order place.1 other.1)
 
 -- the place that a change is about
 abbrev pub place_of : Change → PlaceAt
@@ -34,7 +36,8 @@ put_by (Empty kind) = Collection
 put_by (Single kind object) = Object object
 put_by (Clear kind) = Nothing
 
--- of two changes, the one whose place comes first; at one place the first of them, if they put different things there
+-- of two changes, the one whose place comes first; at one place the first of them, if they put
+-- different things there
 abbrev pub IsFirstOf : Ordering → Change → Change → Change → Type 0
 IsFirstOf Less change other first = first ≡ change
 IsFirstOf Equal change other first = (first ≡ change) × (put_by change ≢ put_by other)

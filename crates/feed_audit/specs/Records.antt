@@ -6,7 +6,7 @@ use Rattle.feed_node.specs.Mirroring.{MirrorState, new_mirror, mirror_after, fir
 use Rattle.feed_node.specs.Reading.{Opening}
 use Rattle.feed_node.specs.declared.fault.FeedFault.{FeedFault}
 use Rattle.feed_audit.specs.Answers.{AgreementFrom, StrayingFrom}
-use Rattle.feed_audit.specs.Connections.{IsCutAt, Part, is_chunked}
+use Rattle.feed_audit.specs.Connections.{AreConnectionsOf, Recorded, is_chunked}
 use Rattle.feed_audit.specs.States.{Start, afresh}
 use Rattle.feed_audit.specs.Walks.{FaultsIn}
 use Rattle.feed_audit.specs.declared.verdict.AuditFault.{AuditFault}
@@ -35,21 +35,22 @@ module _ (limits : Limits) (primary : List ℕ) where
 
   -- nothing is wrong with what a feed carried, and each of its states, so many, is one of the
   -- primary's; and this is what is left of the mirror that read on
-  pub record FeedAgrees (old : MirrorState) (at : Part) (states : ℕ) (new : MirrorState) : Type 0 where
+  pub record FeedAgrees (old : MirrorState) (at : Recorded) (states : ℕ)
+      (new : MirrorState) : Type 0 where
     pub may : MayGoOn old at.since
     pub agrees : AgreementFrom (start_of old at.since) primary at.body states
     pub left : new ≡ mirror_after limits (opening_of old at.since) agrees.notes []
 
   -- the same of a connection; what is no feed has no states, and is not read
-  abbrev pub AgreesBy : Bool → MirrorState → Part → ℕ → MirrorState → Type 0
+  abbrev pub AgreesBy : Bool → MirrorState → Recorded → ℕ → MirrorState → Type 0
   AgreesBy true old at states new = FeedAgrees old at states new
   AgreesBy false old at states new = (states ≡ 0) × (new ≡ old)
 
-  abbrev pub AgreesAt : MirrorState → Part → ℕ → MirrorState → Type 0
+  abbrev pub AgreesAt : MirrorState → Recorded → ℕ → MirrorState → Type 0
   AgreesAt old at states new = AgreesBy at.is_feed old at states new
 
   -- the same of each of these connections, and together they have so many states
-  abbrev pub AllAgree : MirrorState → List Part → ℕ → MirrorState → Type 0
+  abbrev pub AllAgree : MirrorState → List Recorded → ℕ → MirrorState → Type 0
   AllAgree old [] states new = (states ≡ 0) × (new ≡ old)
   AllAgree old (part ∷ parts) states new =
       (here : ℕ) × (later : ℕ) × (between : MirrorState) × AgreesAt old part here between
@@ -57,24 +58,25 @@ module _ (limits : Limits) (primary : List ℕ) where
 
   -- the same of each connection of a record
   pub record RecordAgrees (screen : List ℕ) (states : ℕ) : Type 0 where
-    pub parts : List Part
-    pub cut : IsCutAt screen parts
+    pub parts : List Recorded
+    pub cut : AreConnectionsOf screen parts
     pub all : ℕ
     pub mirror : MirrorState
     pub agree : AllAgree (new_mirror limits) parts all mirror
     pub counted : states ≡ min all most_counted
 
   -- the connections before this feed of the record agree, and this is the mirror then
-  pub record Reaches (screen : List ℕ) (at : Part) (states : ℕ) (mirror : MirrorState) : Type 0 where
-    pub earlier : List Part
-    pub later : List Part
-    pub cut : IsCutAt screen (earlier ++ at ∷ later)
+  pub record Reaches (screen : List ℕ) (at : Recorded) (states : ℕ)
+      (mirror : MirrorState) : Type 0 where
+    pub earlier : List Recorded
+    pub later : List Recorded
+    pub cut : AreConnectionsOf screen (earlier ++ at ∷ later)
     pub agree : AllAgree (new_mirror limits) earlier states mirror
     pub is_feed : at.is_feed ≡ true
 
   -- A connection has this state, which is none of the primary's, and all those before it agree.
   pub record RecordStrays (screen : List ℕ) (stray : Stray) : Type 0 where
-    pub at : Part
+    pub at : Recorded
     pub states : ℕ
     pub mirror : MirrorState
     pub reaches : Reaches screen at states mirror
@@ -90,10 +92,11 @@ module _ (limits : Limits) (primary : List ℕ) where
   IsRecordVerdict screen (verdict.Agrees states) = RecordAgrees screen states
   IsRecordVerdict screen (verdict.Strays stray) = RecordStrays screen stray
 
-  -- a connection of the record is a feed, this is so of the mirror, of what it carried and of one of
-  -- its lines, and all connections before it agree
-  pub record FailsInPart (screen : List ℕ) (line : ℕ) (P : MirrorState → Part → ℕ → Type 0) : Type 0 where
-    pub at : Part
+  -- a connection of the record is a feed, this is so of the mirror, of what it carried and of one
+  -- of its lines, and all connections before it agree
+  pub record FailsInPart (screen : List ℕ) (line : ℕ)
+      (P : MirrorState → Recorded → ℕ → Type 0) : Type 0 where
+    pub at : Recorded
     pub states : ℕ
     pub mirror : MirrorState
     pub reaches : Reaches screen at states mirror
@@ -102,17 +105,18 @@ module _ (limits : Limits) (primary : List ℕ) where
     pub counted : line ≡ min (at.before + its_own) most_counted
 
   -- a line of it is the first that can't be read
-  pub record FaultsInFeed (why : FeedFault) (mirror : MirrorState) (at : Part) (line : ℕ) : Type 0 where
+  pub record FaultsInFeed (why : FeedFault) (mirror : MirrorState) (at : Recorded)
+      (line : ℕ) : Type 0 where
     pub may : MayGoOn mirror at.since
     pub faults : FaultsIn (start_of mirror at.since) at.body line why
 
   -- what it carried begins with a chunk's size
-  pub record BeginsInChunks (mirror : MirrorState) (at : Part) (line : ℕ) : Type 0 where
+  pub record BeginsInChunks (mirror : MirrorState) (at : Recorded) (line : ℕ) : Type 0 where
     pub chunked : is_chunked at.body ≡ true
     pub first : line ≡ 1
 
   -- it was asked for with another token than that of the last state so far
-  pub record HasOtherToken (mirror : MirrorState) (at : Part) (line : ℕ) : Type 0 where
+  pub record HasOtherToken (mirror : MirrorState) (at : Recorded) (line : ℕ) : Type 0 where
     pub other : ¬ (MayGoOn mirror at.since)
     pub first : line ≡ 1
 

@@ -69,7 +69,8 @@ side_json Collection = codes "[]"
 
 abbrev pub place_json : List ℕ → Option (List ℕ) → List ℕ
 place_json kind id =
-    codes "\"why\":\"tables\",\"type\":" ++ written_string kind ++ codes ",\"id\":" ++ written_name id
+    codes "\"why\":\"tables\",\"type\":" ++ written_string kind ++ codes ",\"id\":"
+    ++ written_name id
 
 abbrev pub sides_json : Side → Side → List ℕ
 sides_json primary screen =
@@ -82,11 +83,13 @@ difference_json (At kind id primary screen) = place_json kind id ++ sides_json p
 
 abbrev pub agreement_json : ℕ → ℕ → List ℕ
 agreement_json states primary =
-    codes "{\"verdict\":\"agrees\",\"states\":" ++ decimal states ++ codes ",\"of\":" ++ decimal primary ++ codes "}\n"
+    codes "{\"verdict\":\"agrees\",\"states\":" ++ decimal states ++ codes ",\"of\":"
+    ++ decimal primary ++ codes "}\n"
 
 abbrev pub state_json : Stray → List ℕ
 state_json stray =
-    codes "{\"verdict\":\"differs\",\"token\":" ++ written_string stray.token ++ codes ",\"line\":" ++ decimal stray.line
+    codes "{\"verdict\":\"differs\",\"token\":" ++ written_string stray.token ++ codes ",\"line\":"
+    ++ decimal stray.line
     ++ codes ",\"after\":" ++ decimal stray.before ++ codes ","
 
 abbrev pub stray_json : Stray → List ℕ

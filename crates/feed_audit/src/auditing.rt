@@ -2,7 +2,7 @@
 
 ghost use Rattle.std.specs.Prelude.{◌≡◌, IfOk, IfErr, IfSome, IfNone, Some};
 ghost use Rattle.feed_node.specs.States.{published_token};
-ghost use Rattle.feed_audit.specs.Answers.{IsVerdict, IsVerdictOn, begun_by, FailsFrom, FailsToAudit, FailsToCount, IsReading, IsStrange};
+ghost use Rattle.feed_audit.specs.Answers.{IsVerdict, IsVerdictOn, begun_by, FailsFrom, FailsToAudit, FailsToCount, HasReadLines, IsStrange};
 ghost use Rattle.feed_audit.specs.States.{afresh, IsStateOf};
 ghost use Rattle.feed_audit.specs.Walks.{Finds, IsSince};
 ghost use Rattle.feed_audit.specs.declared.verdict.AuditFault.TheVariants as told;
@@ -39,7 +39,7 @@ fn locate<'a>(
     wanted: &Node,
     since: &mut Since,
 ) -> Result<Option<&'a [u8]>, AuditFault>
-    requires reading { IsReading limits primary.now behind.now lines.old mirror.old }
+    requires reading { HasReadLines limits primary.now behind.now lines.old mirror.old }
     requires since { IsSince since.old mirror.old.node wanted.now.shown }
     ensures some { IfOk result (λ found. IfSome found (λ behind.
         Finds (afresh limits) primary.now behind.now lines.new mirror.new wanted.now.shown)) }

@@ -5,7 +5,7 @@ ghost use Rattle.std.specs.List.{list_any};
 ghost use Rattle.std.specs.Option.{option_copied};
 ghost use Rattle.feed_note.specs.Lines.{ended};
 ghost use Rattle.feed_audit.specs.Connections.{is_since, is_status_line, is_success, is_blank, is_chunked, since_in, status_in, announced_by, OpensNone};
-ghost use Rattle.feed_audit.specs.Parting.{IsOpening, IsBody, IsHeadRest, IsHeadCutOff, GoesOnWith, EndsWith};
+ghost use Rattle.feed_audit.specs.Parting.{IsOpening, IsRecordedBody, IsHeadRest, IsHeadCutOff, GoesOnWith, EndsWith};
 
 use feed_note::split_line;
 
@@ -136,7 +136,7 @@ fn is_empty_line(line: &[u8]) -> bool
 
 /// What a text has before the first line on which a connection begins.
 fn cut_body<'a>(text: &'a [u8]) -> Body<'a>
-    ensures body { IsBody text.now result }
+    ensures body { IsRecordedBody text.now result }
     ensures shorter { result.opening ≢ None → length result.behind.now < length text.now }
 {
     let mut rest = text;
@@ -192,10 +192,10 @@ fn announced<'a>(body: &[u8], since: Option<&'a [u8]>) -> Option<&'a [u8]>
 /// Where the connection behind this one begins, which was asked for with a token, if one is said;
 /// none where no other one does, or where it was cut off within its head.
 fn next_of<'a>(body: &Body<'a>, since: Option<&'a [u8]>) -> Option<Next<'a>>
-    ensures next { (text : List ℕ) → IsBody text body.now
+    ensures next { (text : List ℕ) → IsRecordedBody text body.now
         → IfSome result (λ next.
         GoesOnWith (option_copied since.entry) text body.now.bytes.now next) }
-    ensures last { (text : List ℕ) → IsBody text body.now
+    ensures last { (text : List ℕ) → IsRecordedBody text body.now
         → IfNone result (EndsWith text body.now.bytes.now) }
     ensures within { IfSome result (λ next. length next.text.now ≤ length body.now.behind.now) }
     ensures some { IfSome result (λ next. body.now.opening ≢ None) }

@@ -5,7 +5,7 @@ ghost use Rattle.std.specs.Option.{option_cmp, option_copied};
 ghost use Rattle.std.specs.FinMap.{entries};
 ghost use Rattle.feed_tables.specs.Bytes.{byte_order};
 ghost use Rattle.feed_tables.specs.Tables.{Contents, listed, listing};
-ghost use Rattle.feed_audit.specs.Differences.{side_at, DifferFirst, Tells};
+ghost use Rattle.feed_audit.specs.Differences.{side_at, DifferFirst, TellsDifference};
 ghost use Rattle.feed_audit.specs.Places.{place_of as place, put_by, place_order, PartAt};
 
 use feed_tables::{Change, Name, Tables, table_laws};
@@ -196,7 +196,7 @@ pub fn difference_of(
     primary: &Tables,
     screen: &Tables,
 ) -> Result<Difference, AllocError>
-    ensures { IfOk result (λ told. Tells primary.now.contents screen.now.contents told) }
+    ensures { IfOk result (λ told. TellsDifference primary.now.contents screen.now.contents told) }
 {
     let Some(place) = first_place(alloc, primary, screen)? else {
         return Ok(Difference::Same);

@@ -3,7 +3,7 @@
 ghost use Rattle.std.specs.Prelude.{◌≡◌, IfOk, IfErr, IsTrue, Some};
 ghost use Rattle.feed_note.specs.Publishing.{Published};
 ghost use Rattle.feed_audit.specs.Answers.{FailsToCount, IsStrange};
-ghost use Rattle.feed_audit.specs.Differences.{Explains, Tells};
+ghost use Rattle.feed_audit.specs.Differences.{Explains, TellsDifference};
 
 use crate::difference::{Difference, difference_of};
 use crate::verdict::{AuditFault, of_primary};
@@ -32,7 +32,7 @@ fn has_token(node: &Node, wanted: &Node) -> bool
 fn tell(alloc: Global, node: &Node, wanted: &Node) -> Result<Difference, AllocError>
     ensures { IfOk result (λ told. (shown state : Published)
         → node.now.shown.published ≡ Some shown → wanted.now.shown.published ≡ Some state
-        → Tells shown.tables state.tables told) }
+        → TellsDifference shown.tables state.tables told) }
 {
     let Some(tables) = node.published() else {
         return Ok(Difference::Same);

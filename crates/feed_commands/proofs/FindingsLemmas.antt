@@ -19,7 +19,7 @@ use Rattle.feed_note.specs.Notes.{token_in}
 use Rattle.feed_note.specs.Steps.{TakesNote}
 use Rattle.feed_note.specs.declared.line.Line.{Line}
 use Rattle.feed_note.specs.declared.stop.LineStop.{LineStop}
-use Rattle.feed_commands.specs.Findings.{has_this, comes_again, is_tokenless, of_each, is_true, is_in, is_with, first_or, IsOlder, IsMisnamed, OwnsId, IsFound, AreFound, TellsNothing, FindsOn, ReadsOn, finding_text}
+use Rattle.feed_commands.specs.Findings.{has_this, comes_again, is_tokenless, of_each, is_true, is_in, is_with, first_or, IsOlder, IsMisnamed, OwnsId, IsFound, AreFound, TellsNothing, FindsOn, ReadsOneLine, finding_text}
 use Rattle.feed_commands.specs.declared.commands.findings.Finding.{Finding}
 use Rattle.feed_commands.specs.declared.commands.findings.Reader.{Reader}
 
@@ -136,7 +136,7 @@ zip_push P (y ∷ ys) (c ∷ cs) x b h k = (h.0, zip_push P ys cs x b h.1 k)
 -- ---- all lines
 
 -- the lines before what is left were read, and this is known of them
-pub record Stands (text left : List ℕ) (reader : Reader) : Type 0 where
+pub record FedSoFar (text left : List ℕ) (reader : Reader) : Type 0 where
   pub notes : List Line
   pub older : List Bool
   pub misnamed : List Bool
@@ -156,7 +156,7 @@ pub record Stands (text left : List ℕ) (reader : Reader) : Type 0 where
 
 pub starts_with_none : (text : List ℕ) (reader : Reader) → reader.lines ≡ 0 → ((other : List ℕ) → contains_text reader.seen other ≡ false)
     → reader.has_token ≡ false → TellsNothing reader.findings.repeats → TellsNothing reader.findings.tokenless
-    → TellsNothing reader.findings.older → TellsNothing reader.findings.misnamed → Stands text text reader
+    → TellsNothing reader.findings.older → TellsNothing reader.findings.misnamed → FedSoFar text text reader
 unfolding HasAll of_each
 starts_with_none text reader no_lines_yet none no_token repeats tokenless older misnamed = record {
   notes = [];
@@ -189,8 +189,8 @@ token_more old new token notes note before is now =
     now ∙ ap₂ (λ a t. a || is_some t) before is ∙ or_none (list_any has_token notes) (has_token note)
     ∙ sym (list_any-append has_token notes (note ∷ []))
 
-pub one_more : (text left line behind : List ℕ) (old new : Reader) → Stands text left old → HasNoLineFeed line
-    → left ≡ line ++ line_feed ∷ behind → ReadsOn line old new → Stands text behind new
+pub one_more : (text left line behind : List ℕ) (old new : Reader) → FedSoFar text left old → HasNoLineFeed line
+    → left ≡ line ++ line_feed ∷ behind → ReadsOneLine line old new → FedSoFar text behind new
 one_more text left line behind old new h whole is (said, s, takes) =
     let note : Line = s.note in
     let again = is_again (contains_text old.seen) h.notes said.token h.seen
@@ -221,7 +221,7 @@ one_more text left line behind old new h whole is (said, s, takes) =
       misnamed_is = found_push h.misnamed said.is_misnamed (old.lines + 1) _ _ h.misnamed_is takes.misnamed (omega arith);
     }
 
-pub all_taken : (text left : List ℕ) (reader : Reader) → Stands text left reader → HasNoLineFeed left → AreFound text reader.findings
+pub all_taken : (text left : List ℕ) (reader : Reader) → FedSoFar text left reader → HasNoLineFeed left → AreFound text reader.findings
 all_taken text left reader h part =
     let all : lines text ≡ h.so_far.seen = h.so_far.lines_are ∙ ap (λ l. h.so_far.seen ++ l) (no_lines left part) ∙ append-nil h.so_far.seen in
     let passed : lines text ≡ h.passed = h.lines_are ∙ ap (λ l. h.passed ++ l) (no_lines left part) ∙ append-nil h.passed in
@@ -239,7 +239,7 @@ all_taken text left reader h part =
     }
 
 -- what was found is on no more lines than there are
-module _ (text left : List ℕ) (reader : Reader) (h : Stands text left reader) where
+module _ (text left : List ℕ) (reader : Reader) (h : FedSoFar text left reader) where
   pub repeats_fit : reader.findings.repeats.count ≤ reader.lines
   repeats_fit = found_fit _ _ reader.lines h.repeats_is (of_each_length comes_again [] h.notes ∙ sym h.count)
 
@@ -261,7 +261,7 @@ module _ (text left : List ℕ) (reader : Reader) (h : Stands text left reader) 
       found_fit h.misnamed _ reader.lines h.misnamed_is (omega arith)
 
 -- the next line stops the reading
-pub stops_at : (text left line behind : List ℕ) (reader : Reader) (why : LineStop) → Stands text left reader → HasNoLineFeed line
+pub stops_at : (text left line behind : List ℕ) (reader : Reader) (why : LineStop) → FedSoFar text left reader → HasNoLineFeed line
     → left ≡ line ++ line_feed ∷ behind → Stops line why → StopsAt text (reader.lines + 1) why
 stops_at text left line behind reader why h whole is so =
     stops text left h.notes (reader.lines + 1) why h.so_far (ap (λ n. n + 1) h.count)

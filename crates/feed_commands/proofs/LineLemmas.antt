@@ -8,7 +8,7 @@ use Rattle.feed_note.specs.declared.stop.LineStop.{LineStop}
 use Rattle.feed_note.specs.declared.stop.LineStop.TheVariants as stop
 use Rattle.feed_note.proofs.LinesCut.{one_line, no_lines, no_rest, rest_behind}
 use Rattle.feed_commands.specs.Check.{IsLineAt, IsPlaced, SurveyFails}
-use Rattle.feed_commands.specs.Fault.{IsWithin, SaysMore, fault_at, fault_of_survey}
+use Rattle.feed_commands.specs.Fault.{StandsInLine, SaysMore, fault_at, fault_of_survey}
 use Rattle.feed_commands.specs.declared.fault.Fault.{Fault}
 use Rattle.feed_commands.specs.declared.fault.Fault.TheVariants as fault
 use Rattle.feed_commands.specs.declared.fault.SurveyStop.{SurveyStop}
@@ -64,7 +64,7 @@ line_there text number why (inl s) = (
 )
 line_there text number why (inr s) = (rest text, record { before = lines text; later = []; whole = refl; is = s.is })
 
-placed_in : (text line : List ℕ) (number : ℕ) (spot : Option Spot) → IsLineAt text number line → IsWithin line spot → IsPlaced text number spot
+placed_in : (text line : List ℕ) (number : ℕ) (spot : Option Spot) → IsLineAt text number line → StandsInLine line spot → IsPlaced text number spot
 placed_in text line number None at within = tt
 placed_in text line number (Some spot) at within = (line, at, within)
 
@@ -93,4 +93,4 @@ survey_places bytes line found why told at is (inr (said, spot, e, said_is, with
     let same = fault_said found said found.stop (sym is ∙ e) in
     let here = at there.0 (subst (λ (f : SurveyFault). IsLineAt bytes f.line there.0) same there.1) in
     subst (λ w. SurveyFails w bytes) (sym said_is)
-    (stops, placed_in bytes there.0 said.fault.line spot there.1 (subst (λ x. IsWithin x spot) here within))
+    (stops, placed_in bytes there.0 said.fault.line spot there.1 (subst (λ x. StandsInLine x spot) here within))

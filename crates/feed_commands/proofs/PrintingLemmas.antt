@@ -16,7 +16,7 @@ use Rattle.feed_tables.specs.declared.change.Change.TheVariants.{Clear}
 use Rattle.feed_tables.specs.Listers.{FailsIn}
 use Rattle.feed_tables.specs.Tables.{Contents, or_clear, listed, listing}
 use Rattle.feed_commands.specs.Openings.{beginning}
-use Rattle.feed_commands.specs.Printing.{Sends, Tells, Prints, PrintsChange, end_before, end_with}
+use Rattle.feed_commands.specs.Printing.{FlushesSome, TellsText, PrintsText, PrintsChange, end_before, end_with}
 use Rattle.feed_commands.specs.declared.printing.Printer.{Printer}
 use Rattle.feed_commands.specs.declared.printing.Waiting.{Waiting}
 
@@ -29,13 +29,13 @@ carried : (p s t x q y r : List ℕ) → p ++ s ≡ x ++ q → q ++ t ≡ y ++ r
 carried p s t x q y r e f = regrouped p s t x q e ∙ ap (λ l. x ++ l) f ∙ sym (append_assoc x y r)
 
 -- what is told after something else
-sends_trans : (a b c : Option (List ℕ)) (p q r s t : List ℕ) → Sends a b p q s → Sends b c q r t
-    → Sends a c p r (s ++ t)
+sends_trans : (a b c : Option (List ℕ)) (p q r s t : List ℕ) → FlushesSome a b p q s → FlushesSome b c q r t
+    → FlushesSome a c p r (s ++ t)
 sends_trans a b c p q r s t (x, e, h) (y, f, k) =
     (x ++ y, carried p s t x q y r e f, Appends-trans a b c x y h k)
 
 -- what was sent before the prefix of what came
-prefix_before : (a b c : Option (List ℕ)) (p q s t : List ℕ) → Sends a b p q s
+prefix_before : (a b c : Option (List ℕ)) (p q s t : List ℕ) → FlushesSome a b p q s
     → AppendsPrefix b c (q ++ t) → AppendsPrefix a c (p ++ (s ++ t))
 prefix_before a b c p q s t (x, e, h) (prefix, rest, f, k) =
     (x ++ prefix, rest, carried p s t x q prefix rest e f, Appends-trans a b c x prefix h k)
@@ -47,7 +47,7 @@ prefix_behind a b p s t (prefix, rest, e, h) = (prefix, rest ++ t, regrouped p s
 
 fails_then : (a b c : Option (List ℕ)) (f g h : ℕ) (p q r : Waiting) (s t : List ℕ) (failed : Bool)
     → q.has_failed ≡ failed
-    → Tells a b f g p q s → Tells b c g h q r t → p.has_failed ≡ false → r.has_failed ≡ true
+    → TellsText a b f g p q s → TellsText b c g h q r t → p.has_failed ≡ false → r.has_failed ≡ true
     → AppendsPrefix a c (p.bytes ++ (s ++ t)) × HasFailed f h
 fails_then a b c f g h p q r s t true m first second begun ended =
     let (prefix, risen) = first.fails begun m in
@@ -61,7 +61,7 @@ fails_then a b c f g h p q r s t false m first second begun ended =
 
 -- a text and then another one
 pub tells_then : (a b c : Option (List ℕ)) (f g h : ℕ) (p q r : Waiting) (s t : List ℕ)
-    → Tells a b f g p q s → Tells b c g h q r t → Tells a c f h p r (s ++ t)
+    → TellsText a b f g p q s → TellsText b c g h q r t → TellsText a c f h p r (s ++ t)
 tells_then a b c f g h p q r s t first second =
     record {
       sends = λ ended.
@@ -77,7 +77,7 @@ tells_then a b c f g h p q r s t first second =
 
 -- a text that waits
 pub waits_told : (a : Option (List ℕ)) (f : ℕ) (p q : Waiting) (text : List ℕ)
-    → q.has_failed ≡ p.has_failed → q.bytes ≡ p.bytes ++ text → Tells a a f f p q text
+    → q.has_failed ≡ p.has_failed → q.bytes ≡ p.bytes ++ text → TellsText a a f f p q text
 waits_told a f p q text same more =
     record {
       sends = λ ended. (sym same ∙ ended, refl, ([], sym more, Appends-nil a));
@@ -87,8 +87,8 @@ waits_told a f p q text same more =
 
 -- the same text in other words
 pub tells_as : (a b : Option (List ℕ)) (f g : ℕ) (p q : Waiting) (s t : List ℕ) → s ≡ t
-    → Tells a b f g p q s → Tells a b f g p q t
-tells_as a b f g p q s t e told = subst (Tells a b f g p q) e told
+    → TellsText a b f g p q s → TellsText a b f g p q t
+tells_as a b f g p q s t e told = subst (TellsText a b f g p q) e told
 
 -- one more part
 pub flat_map_more : {X : Type 0} (f : X → List ℕ) (xs : List X) (i : ℕ) (d : X) → i < length xs
@@ -221,25 +221,25 @@ open_snapshot tables token = open_or_clear (flat_map listed (entries tables)) to
 
 module _ {W : Type 0} (contents : W → Option (List ℕ)) (failures : W → ℕ) where
   -- a text and then another one
-  pub prints_then : (a b c : Printer W) (s t : List ℕ) → Prints contents failures a b s
-      → Prints contents failures b c t → Prints contents failures a c (s ++ t)
+  pub prints_then : (a b c : Printer W) (s t : List ℕ) → PrintsText contents failures a b s
+      → PrintsText contents failures b c t → PrintsText contents failures a c (s ++ t)
   prints_then a b c s t first second =
       record {
         same_device = second.same_device ∙ first.same_device;
         told = tells_then _ _ _ _ _ _ _ _ _ s t first.told second.told;
       }
 
-  pub prints_as : (a b : Printer W) (s t : List ℕ) → s ≡ t → Prints contents failures a b s
-      → Prints contents failures a b t
-  prints_as a b s t e told = subst (Prints contents failures a b) e told
+  pub prints_as : (a b : Printer W) (s t : List ℕ) → s ≡ t → PrintsText contents failures a b s
+      → PrintsText contents failures a b t
+  prints_as a b s t e told = subst (PrintsText contents failures a b) e told
 
   -- what changes print one after the other
   printed : (a b : Printer W) (c : Change) (cs : List Change)
       → FoldsTo (PrintsChange contents failures false) a (c ∷ cs) b
-      → Prints contents failures a b (open_lines a.is_begun (c ∷ cs)) × (b.waiting.has_failed ≡ false)
+      → PrintsText contents failures a b (open_lines a.is_begun (c ∷ cs)) × (b.waiting.has_failed ≡ false)
   printed a b c [] (j, (line, begun, ok), same) =
       let text = end_before a.is_begun ++ written_change c in
-      subst (λ k. Prints contents failures a k (open_lines a.is_begun (c ∷ [])) × (k.waiting.has_failed ≡ false)) same
+      subst (λ k. PrintsText contents failures a k (open_lines a.is_begun (c ∷ [])) × (k.waiting.has_failed ≡ false)) same
       (prints_as a j text (text ++ []) (sym (append-nil text)) line, ok)
   printed a b c (d ∷ ds) (j, (line, begun, ok), more) =
       let (rest, ended) = printed j b d ds more in
@@ -249,7 +249,7 @@ module _ {W : Type 0} (contents : W → Option (List ℕ)) (failures : W → ℕ
 
   pub printed_some : (a b : Printer W) (cs : List Change)
       → FoldsTo (PrintsChange contents failures false) a (or_clear cs) b
-      → Prints contents failures a b (open_lines a.is_begun (or_clear cs)) × (b.waiting.has_failed ≡ false)
+      → PrintsText contents failures a b (open_lines a.is_begun (or_clear cs)) × (b.waiting.has_failed ≡ false)
   printed_some a b [] h = printed a b (Clear (codes "contest")) [] h
   printed_some a b (c ∷ cs) h = printed a b c cs h
 
@@ -258,11 +258,11 @@ module _ {W : Type 0} (contents : W → Option (List ℕ)) (failures : W → ℕ
       → FoldsTo (PrintsChange contents failures false) a taken between
       → PrintsChange contents failures true between c b
       → (text : List ℕ) × (rest : List ℕ) × (open_lines a.is_begun (taken ++ c ∷ left) ≡ text ++ rest)
-      × Prints contents failures a b text × (b.waiting.has_failed ≡ true)
+      × PrintsText contents failures a b text × (b.waiting.has_failed ≡ true)
   printed_prefix a between b [] c left same (line, begun, failed) =
       subst
       (λ k. (text : List ℕ) × (rest : List ℕ) × (open_lines k.is_begun (c ∷ left) ≡ text ++ rest)
-      × Prints contents failures k b text × (b.waiting.has_failed ≡ true))
+      × PrintsText contents failures k b text × (b.waiting.has_failed ≡ true))
       (sym same)
       (end_before between.is_begun ++ written_change c, open_lines true left, refl, line, failed)
   printed_prefix a between b (t ∷ ts) c left (j, (line, begun, ok), more) last =
@@ -278,7 +278,7 @@ module _ {W : Type 0} (contents : W → Option (List ℕ)) (failures : W → ℕ
 
 -- all of a text was written where nothing waited before and nothing waits after
 pub all_sent : (a b : Option (List ℕ)) (f g : ℕ) (p q : Waiting) (text : List ℕ) → p.bytes ≡ []
-    → q.bytes ≡ [] → q.has_failed ≡ false → Tells a b f g p q text → Appends a b text
+    → q.bytes ≡ [] → q.has_failed ≡ false → TellsText a b f g p q text → Appends a b text
 all_sent a b f g p q text none left ended told =
     let (begun, kept, (sent, is, h)) = told.sends ended in
     let same : text ≡ sent =
@@ -287,7 +287,7 @@ all_sent a b f g p q text none left ended told =
 
 -- a prefix of it was written where nothing waited before and a write failed
 pub prefix_sent : (a b : Option (List ℕ)) (f g : ℕ) (p q : Waiting) (text rest : List ℕ)
-    → p.bytes ≡ [] → p.has_failed ≡ false → q.has_failed ≡ true → Tells a b f g p q text
+    → p.bytes ≡ [] → p.has_failed ≡ false → q.has_failed ≡ true → TellsText a b f g p q text
     → AppendsPrefix a b (text ++ rest) × HasFailed f g
 prefix_sent a b f g p q text rest none begun failed told =
     let (prefix, risen) = told.fails begun failed in
@@ -302,10 +302,10 @@ module _ {W : Type 0} (contents : W → Option (List ℕ)) (failures : W → ℕ
   -- where all changes were taken
   module _ (listed_to ended : Printer W) (final : W)
       (taken : FoldsTo (PrintsChange contents failures false) new_printer (listing tables) listed_to)
-      (last : Prints contents failures listed_to ended (end_with token))
+      (last : PrintsText contents failures listed_to ended (end_with token))
       (left : ended.waiting.bytes ≡ [])
       (back : device.ghost_name ≡ ended.device.ghost_name → final ≡ ended.device.now) where
-    whole : Prints contents failures new_printer ended (snapshot_text tables token)
+    whole : PrintsText contents failures new_printer ended (snapshot_text tables token)
     whole =
         let lines = printed_some contents failures new_printer listed_to (flat_map listed (entries tables)) taken in
         prints_as contents failures new_printer ended _ _ (open_snapshot tables token)

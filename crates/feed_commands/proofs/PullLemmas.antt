@@ -81,27 +81,27 @@ last_out : (last : Option AttemptEnd) → unwrap_or (option_map outcome_of_attem
 last_out None e = absurd (cc)
 last_out (Some end) e = attempt_out end e
 
-module _ {D R W : Type 0} (dialer : Dialer D R W) (servers : List Server) (turns : ℕ)
+module _ {D R W : Type 0} (dialer : Dialer D R W) (servers : List Server) (most_reads : ℕ)
     (start end : Position D) (out : Wrote) (untold_old untold_new : ℕ) where
   abbrev FailsBy : Fault → Type 0
-  FailsBy why = PullFails dialer servers turns why start end out untold_old untold_new
+  FailsBy why = PullFails dialer servers most_reads why start end out untold_old untold_new
 
   fails : (why : Fault) → IsOfNetwork why → why ≢ fault.Memory
-      → PrintedPulled dialer servers turns start (Err why) end out → FailsBy why
+      → PrintedPulled dialer servers most_reads start (Err why) end out → FailsBy why
   fails why (inl e) other printed = absurd (other e)
   fails why (inr (r, e)) other printed = subst FailsBy (sym e)
-      (subst (λ w. PrintedPulled dialer servers turns start (Err w) end out) e printed)
+      (subst (λ w. PrintedPulled dialer servers most_reads start (Err w) end out) e printed)
 
   -- a pull of these attempts came to this, and the snapshot of what the mirror shows was printed
   pub printed_pulled : (attempts : List Attempt) (ended : Result (Unit {0}) Fault)
-      → FollowsFirst dialer servers turns start attempts end → ended ≡ outcome_of_pull attempts
+      → FollowsFirst dialer servers most_reads start attempts end → ended ≡ outcome_of_pull attempts
       → Appends out.old out.new (published_text end.mirror.node.published)
-      → PrintedPulled dialer servers turns start ended end out
+      → PrintedPulled dialer servers most_reads start ended end out
   printed_pulled attempts ended follows e printed =
       record { has = record { attempts = attempts; follows = follows; came = sym e }; printed = printed }
 
   pub pull_err : (attempts : List Attempt) (ended result : Result (Unit {0}) Fault) (is_published : Bool)
-      → FollowsFirst dialer servers turns start attempts end → ended ≡ outcome_of_pull attempts
+      → FollowsFirst dialer servers most_reads start attempts end → ended ≡ outcome_of_pull attempts
       → ended ≢ Err fault.Memory → Appends out.old out.new (published_text end.mirror.node.published)
       → is_published ≡ is_some (token_of end.mirror.node.published) → result ≡ outcome_of ended is_published
       → IfErr result FailsBy
@@ -118,14 +118,14 @@ module _ {D R W : Type 0} (dialer : Dialer D R W) (servers : List Server) (turns
 
   -- memory ran out at the last attempt
   pub pull_out : (attempts : List Attempt) (ended : Result (Unit {0}) Fault)
-      → FollowsFirst dialer servers turns start attempts end → ended ≡ outcome_of_pull attempts
+      → FollowsFirst dialer servers most_reads start attempts end → ended ≡ outcome_of_pull attempts
       → ended ≡ Err fault.Memory → Keeps out.old out.new → IfErr ended FailsBy
   pull_out attempts ended follows e is kept =
       subst (λ r. IfErr r FailsBy) (sym is)
       (inr (attempts, follows, last_out (last_outcome attempts) (sym e ∙ is)), kept)
 
   -- only a prefix of the snapshot was printed, or a fault could not be told
-  pub cut_short : (attempts : List Attempt) → FollowsFirst dialer servers turns start attempts end
+  pub cut_short : (attempts : List Attempt) → FollowsFirst dialer servers most_reads start attempts end
       → IsCutShort (published_text end.mirror.node.published) out untold_old untold_new
       → (why : Fault) → why ≡ fault.Write → FailsBy why
   cut_short attempts follows cut why is = subst FailsBy (sym is) (
@@ -134,7 +134,7 @@ module _ {D R W : Type 0} (dialer : Dialer D R W) (servers : List Server) (turns
   )
 
   -- all was printed, but a fault could not be told
-  pub untold : (attempts : List Attempt) → FollowsFirst dialer servers turns start attempts end
+  pub untold : (attempts : List Attempt) → FollowsFirst dialer servers most_reads start attempts end
       → (has_failed : Bool) → (has_failed ≡ true → HasFailed untold_old untold_new)
       → Appends out.old out.new (published_text end.mirror.node.published)
       → (r : Result (Unit {0}) Fault) → IfErr r (λ why. (why ≡ fault.Write) × (has_failed ≡ true))

@@ -27,23 +27,23 @@ keeps_same None = tt
 keeps_same (Some xs) = refl
 
 module _ {D R W A S T : Type 0} (dialer : Dialer D R W) (links : Links A S T)
-    (servers : List Server) (turns : ℕ) (service : Service) where
+    (servers : List Server) (most_reads : ℕ) (service : Service) where
   -- where there is no room for the attempts, nothing has changed
   pub no_room : (mirror now : MirrorState) (dial later : D) (listener : A) → now ≡ mirror → later ≡ dial
-      → EndsRounds dialer links servers turns service (relaying (position mirror dial) listener)
+      → EndsRounds dialer links servers most_reads service (relaying (position mirror dial) listener)
       fault.Memory (relaying (position now later) listener)
   no_room mirror now dial later listener e f =
       let same : relaying (position now later) listener ≡ relaying (position mirror dial) listener = cc in
-      subst (EndsRounds dialer links servers turns service (relaying (position mirror dial) listener) fault.Memory)
+      subst (EndsRounds dialer links servers most_reads service (relaying (position mirror dial) listener) fault.Memory)
       (sym same) has_no_room
 
   -- a follower was served so by what the mirror shows
   pub makes_round : (start end : Position D) (attempts : List Attempt) (called : Service)
       (node : NodeState) (old new : A) (served : Result Served NetworkFault)
-      → FollowsFirst dialer servers turns start attempts end → ran_out attempts ≡ false
+      → FollowsFirst dialer servers most_reads start attempts end → ran_out attempts ≡ false
       → called ≡ service → node ≡ end.mirror.node
       → ServesNext links (λ spoken came. ServesOnce called node spoken came) old served new
-      → MakesRound dialer links servers turns service (relaying start old) served (relaying end new)
+      → MakesRound dialer links servers most_reads service (relaying start old) served (relaying end new)
   makes_round start end attempts called node old new served follows memory same shown serves =
       record {
         attempts = attempts;
@@ -56,35 +56,35 @@ module _ {D R W A S T : Type 0} (dialer : Dialer D R W) (links : Links A S T)
   -- a round after which another one can be made
   pub round_on : (r : Result (Unit {0}) Fault) (start : Relaying D A)
       (served : Result Served NetworkFault) (end : Relaying D A)
-      → MakesRound dialer links servers turns service start served end
+      → MakesRound dialer links servers most_reads service start served end
       → OnOk r (goes_on served ≡ true)
-      → OnOk r ((came : Result Served NetworkFault) × MakesRoundOn dialer links servers turns service start came end)
+      → OnOk r ((came : Result Served NetworkFault) × MakesRoundOn dialer links servers most_reads service start came end)
   round_on (Ok all) start served end makes on = (served, (makes, on))
   round_on (Err why) start served end makes on = tt
 
   -- the last round
   pub round_ends : (r : Result (Unit {0}) Fault) (start : Relaying D A)
       (served : Result Served NetworkFault) (end : Relaying D A)
-      → MakesRound dialer links servers turns service start served end
+      → MakesRound dialer links servers most_reads service start served end
       → IfErr r (λ why. (goes_on served ≡ false) × FailsAs served why)
-      → IfErr r (λ why. EndsRounds dialer links servers turns service start why end)
+      → IfErr r (λ why. EndsRounds dialer links servers most_reads service start why end)
   round_ends (Ok all) start served end makes ends = tt
   round_ends (Err why) start served end makes (off, told) = has_not_served served why end makes off told
 
   module _ (count : ℕ) (start end : Relaying D A) (out : Wrote) (untold_old untold_new : ℕ) where
     -- the rounds broke off
     pub broke_off : (made : ℕ) (middle : Relaying D A) (why : Fault) → made < count
-        → MakesRounds dialer links servers turns service made start middle
-        → EndsRounds dialer links servers turns service middle why end → Keeps out.old out.new
-        → RelayFails dialer links servers turns service count why start end out untold_old untold_new
+        → MakesRounds dialer links servers most_reads service made start middle
+        → EndsRounds dialer links servers most_reads service middle why end → Keeps out.old out.new
+        → RelayFails dialer links servers most_reads service count why start end out untold_old untold_new
     broke_off made middle why fewer rounds ends kept =
         inr (record { made = made; fewer = fewer; middle = middle; rounds = rounds; ends = ends }, kept)
 
     -- all rounds were made
     pub came_short : (r : Result (Unit {0}) Fault)
-        → MakesRounds dialer links servers turns service count start end
+        → MakesRounds dialer links servers most_reads service count start end
         → IfErr r (λ why. why ≡ fault.Write)
         → IfErr r (λ why. IsCutShort (published_text end.follower.mirror.node.published) out untold_old untold_new)
-        → IfErr r (λ why. RelayFails dialer links servers turns service count why start end out untold_old untold_new)
+        → IfErr r (λ why. RelayFails dialer links servers most_reads service count why start end out untold_old untold_new)
     came_short (Ok all) rounds is cut = tt
     came_short (Err why) rounds is cut = inl (is, rounds, cut)

@@ -24,7 +24,7 @@ use Rattle.feed_commands.specs.Check.{IsWhole}
 use Rattle.feed_commands.specs.Fault.{fault_of_network, fault_of_commit, is_one_connections, goes_on}
 use Rattle.feed_commands.specs.InTurn.{InTurn, none_done, one_done}
 use Rattle.feed_commands.specs.Telling.{FailsAs}
-use Rattle.feed_commands.specs.Serve.{new_source, RefusedAtStart, StartFails, Takes, TakesAndDrops, EndsTaking, Serving, ServesOne, ServesOn, ServesAll, EndsServing, StopsServing}
+use Rattle.feed_commands.specs.Serve.{new_source, RefusedAtStart, StartFails, TakesBatches, TakesAndDrops, EndsTaking, ServingPrimary, ServesOne, ServesOn, ServesAll, EndsServing, StopsServing}
 use Rattle.feed_commands.specs.declared.fault.Fault.{Fault}
 use Rattle.feed_commands.specs.declared.fault.Fault.TheVariants as fault
 
@@ -39,10 +39,10 @@ accepts_more first earlier mid later last run (accepts_one before primary batch 
     (accepts_one (earlier ++ before) primary batch
     (accepts_more first earlier mid before primary run more) fine)
 
-pub takes_none : (start : Intake) → Takes start start
+pub takes_none : (start : Intake) → TakesBatches start start
 takes_none start = record { taken = []; accepted = accepts_none; batches = refl }
 
-pub takes_more : (start mid now : Intake) → Takes start mid → Takes mid now → Takes start now
+pub takes_more : (start mid now : Intake) → TakesBatches start mid → TakesBatches mid now → TakesBatches start now
 takes_more start mid now before after = record {
   taken = before.taken ++ after.taken;
   accepted = accepts_more start.primary before.taken mid.primary after.taken now.primary
@@ -51,7 +51,7 @@ takes_more start mid now before after = record {
       ∙ sym (append_assoc before.taken after.taken now.batches);
 }
 
-pub drops_later : (start mid : Intake) (why : CommitFault) (now : Intake) → Takes start mid
+pub drops_later : (start mid : Intake) (why : CommitFault) (now : Intake) → TakesBatches start mid
     → TakesAndDrops mid why now → TakesAndDrops start why now
 drops_later start mid why now before after = record {
   taken = before.taken ++ after.taken;
@@ -63,7 +63,7 @@ drops_later start mid why now before after = record {
   refused = after.refused;
 }
 
-takes_turn : (turn : ℕ) (before now : Intake) → TakesTurn turn before now → Takes before now
+takes_turn : (turn : ℕ) (before now : Intake) → TakesTurn turn before now → TakesBatches before now
 takes_turn turn before now takes = record {
   taken = take turn before.batches;
   accepted = takes.accepted;
@@ -72,7 +72,7 @@ takes_turn turn before now takes = record {
 }
 
 takes_sent : (turn : ℕ) (start : Intake) (opened : List ℕ) (sent : List Commit) (now : Intake)
-    (token : List ℕ) → HasSent turn start opened sent now token → Takes start now
+    (token : List ℕ) → HasSent turn start opened sent now token → TakesBatches start now
 takes_sent turn start opened sent now token none_sent = takes_none start
 takes_sent turn start opened sent now token (commit_sent earlier same at commit run is) =
     takes_sent turn start opened earlier now at run
@@ -81,21 +81,21 @@ takes_sent turn start opened sent now token (turn_taken same before later at run
     (takes_turn turn before now takes)
 
 takes_to : (turn : ℕ) (start : Intake) (session : Option (List ℕ)) (sent : List Commit)
-    (gone : Bool) (now : Intake) → SendsLiveTo turn start session sent gone now → Takes start now
+    (gone : Bool) (now : Intake) → SendsLiveTo turn start session sent gone now → TakesBatches start now
 takes_to turn start None sent gone now (_, _, same) =
-    subst (λ n. Takes start n) (sym same) (takes_none start)
+    subst (λ n. TakesBatches start n) (sym same) (takes_none start)
 takes_to turn start (Some opened) sent gone now (token, run, over) =
     takes_sent turn start opened sent now token run
 
 takes_wrote : (turn : ℕ) (start : Intake) (answer : AnswerParts) (now : Intake)
-    (old new : Option (List ℕ)) → WroteLive turn start answer now old new → Takes start now
+    (old new : Option (List ℕ)) → WroteLive turn start answer now old new → TakesBatches start now
 takes_wrote turn start answer now old new (inl (wrote, same)) =
-    subst (λ n. Takes start n) (sym same) (takes_none start)
+    subst (λ n. TakesBatches start n) (sym same) (takes_none start)
 takes_wrote turn start answer now old new (inr (opened, text, is, cut, wrote)) =
     takes_sent turn start opened cut.sent now cut.token cut.has_sent
 
 drops_in_turn : (turn : ℕ) (start before : Intake) (why : CommitFault) (now : Intake)
-    → Takes start before → RefusesInTurn turn before why now → TakesAndDrops start why now
+    → TakesBatches start before → RefusesInTurn turn before why now → TakesAndDrops start why now
 drops_in_turn turn start before why now takes refuses = drops_later start before why now takes (record {
   taken = refuses.earlier;
   batch = refuses.batch;
@@ -114,17 +114,17 @@ abbrev FailsTaking : NetworkFault → Intake → Intake → Type 0
 FailsTaking network.Accept start now = now ≡ start
 FailsTaking (network.Engine (engine.Commit why)) start now = TakesAndDrops start why now
 FailsTaking (network.Engine (engine.Follow why)) start now = ⊥
-FailsTaking (network.Engine engine.Memory) start now = Takes start now
+FailsTaking (network.Engine engine.Memory) start now = TakesBatches start now
 FailsTaking (network.Engine engine.Read) start now = now ≡ start
 FailsTaking (network.Engine engine.Turns) start now = now ≡ start
-FailsTaking (network.Engine engine.Write) start now = Takes start now
+FailsTaking (network.Engine engine.Write) start now = TakesBatches start now
 FailsTaking network.Connect start now = ⊥
 FailsTaking network.Bind start now = ⊥
 
 -- what was served says what was taken
 takes_served : (turn : ℕ) (service : Service) (spoken : Exchange) (start : Intake)
     (served : Served) (now : Intake) → ServesLive turn service spoken start (Ok served) now
-    → Takes start now
+    → TakesBatches start now
 takes_served turn service spoken start served now live =
     let ((answer, text, has, sends, wrote), left) = live.came in
     takes_to turn start answer.session sends.sent sends.gone now sends.sends
@@ -147,9 +147,9 @@ fails_served turn service spoken start (engine.Commit why) now live =
     refused.refuses
 fails_served turn service spoken start engine.Memory now live = unserved live.came
   where
-    unserved : ServedLive turn service.contest.now service.framing service.back service.turns spoken
-        start (Err engine.Memory) now → Takes start now
-    unserved (inl (wrote, same)) = subst (λ n. Takes start n) (sym same) (takes_none start)
+    unserved : ServedLive turn service spoken
+        start (Err engine.Memory) now → TakesBatches start now
+    unserved (inl (wrote, same)) = subst (λ n. TakesBatches start n) (sym same) (takes_none start)
     unserved (inr (answer, has, wrote)) =
         takes_wrote turn start answer now spoken.written_old spoken.written_new wrote
 fails_served turn service spoken start (engine.Follow why) now live =
@@ -158,14 +158,14 @@ fails_served turn service spoken start (engine.Follow why) now live =
 -- a fault of one connection drops nothing
 keeps_on : (why : NetworkFault) (start now : Intake)
     → is_one_connections (fault_of_network why) ≡ true → FailsTaking why start now
-    → Takes start now
+    → TakesBatches start now
 keeps_on network.Connect start now one fails = absurd fails
 keeps_on network.Bind start now one fails = absurd fails
 keeps_on network.Accept start now one fails = absurd (true≢false (sym one))
 keeps_on (network.Engine engine.Read) start now one fails =
-    subst (λ n. Takes start n) (sym fails) (takes_none start)
+    subst (λ n. TakesBatches start n) (sym fails) (takes_none start)
 keeps_on (network.Engine engine.Turns) start now one fails =
-    subst (λ n. Takes start n) (sym fails) (takes_none start)
+    subst (λ n. TakesBatches start n) (sym fails) (takes_none start)
 keeps_on (network.Engine engine.Write) start now one fails = fails
 keeps_on (network.Engine engine.Memory) start now one fails = absurd (true≢false (sym one))
 keeps_on (network.Engine (engine.Commit commit.EmptyBatch)) start now one fails = absurd (true≢false (sym one))
@@ -181,7 +181,7 @@ ends_it : (why : NetworkFault) (start now : Intake)
 ends_it network.Connect start now one fails = absurd fails
 ends_it network.Bind start now one fails = absurd fails
 ends_it network.Accept start now one fails =
-    subst (λ n. Takes start n) (sym fails) (takes_none start)
+    subst (λ n. TakesBatches start n) (sym fails) (takes_none start)
 ends_it (network.Engine engine.Read) start now one fails = absurd (true≢false one)
 ends_it (network.Engine engine.Turns) start now one fails = absurd (true≢false one)
 ends_it (network.Engine engine.Write) start now one fails = absurd (true≢false one)
@@ -193,7 +193,7 @@ ends_it (network.Engine (engine.Commit commit.Memory)) start now one fails = inr
 ends_it (network.Engine (engine.Follow why)) start now one fails = absurd fails
 
 -- and what was taken before it counts
-ends_later : (why : Fault) (start mid now : Intake) → Takes start mid
+ends_later : (why : Fault) (start mid now : Intake) → TakesBatches start mid
     → EndsTaking why mid now → EndsTaking why start now
 ends_later fault.Memory start mid now before (inl after) = inl (takes_more start mid now before after)
 ends_later fault.Memory start mid now before (inr after) =
@@ -228,11 +228,11 @@ ends_later (fault.Network (network.Engine (engine.Follow why))) start mid now be
 -- ---- connection by connection
 
 abbrev TakesBy : Result Served NetworkFault → Intake → Intake → Type 0
-TakesBy (Ok served) start now = Takes start now
+TakesBy (Ok served) start now = TakesBatches start now
 TakesBy (Err why) start now = FailsTaking why start now
 
 module _ {A R W : Type 0} (links : Links A R W) (turn : ℕ) (service : Service) where
-  takes_one : (start : Serving A) (served : Result Served NetworkFault) (end : Serving A)
+  takes_one : (start : ServingPrimary A) (served : Result Served NetworkFault) (end : ServingPrimary A)
       → ServesOne links turn service start served end → TakesBy served start.intake end.intake
   takes_one start (Ok served) end (on, none) =
       takes_served turn service (exchange links.devices on.reader on.left on.writer on.written)
@@ -244,32 +244,32 @@ module _ {A R W : Type 0} (links : Links A R W) (turn : ℕ) (service : Service)
   takes_one start (Err network.Connect) end (on, none) = absurd on
   takes_one start (Err network.Bind) end (on, none) = absurd on
 
-  takes_on : (start : Serving A) (served : Result Served NetworkFault) (end : Serving A)
-      → ServesOn links turn service start served end → Takes start.intake end.intake
+  takes_on : (start : ServingPrimary A) (served : Result Served NetworkFault) (end : ServingPrimary A)
+      → ServesOn links turn service start served end → TakesBatches start.intake end.intake
   takes_on start (Ok served) end (one, on) = takes_one start (Ok served) end one
   takes_on start (Err why) end (one, on) =
       keeps_on why start.intake end.intake on (takes_one start (Err why) end one)
 
-  takes_each : (start : Serving A) (all : List (Result Served NetworkFault)) (end : Serving A)
-      → InTurn (ServesOn links turn service) start all end → Takes start.intake end.intake
+  takes_each : (start : ServingPrimary A) (all : List (Result Served NetworkFault)) (end : ServingPrimary A)
+      → InTurn (ServesOn links turn service) start all end → TakesBatches start.intake end.intake
   takes_each start all end none_done = takes_none start.intake
   takes_each start all end (one_done before this middle _ run does) =
       takes_more start.intake middle.intake end.intake (takes_each start before middle run)
       (takes_on middle this end does)
 
-  pub takes_all : (count : ℕ) (start end : Serving A) → ServesAll links turn service count start end
-      → Takes start.intake end.intake
+  pub takes_all : (count : ℕ) (start end : ServingPrimary A) → ServesAll links turn service count start end
+      → TakesBatches start.intake end.intake
   takes_all count start end (all, many, run) = takes_each start all end run
 
-  takes_last : (start : Serving A) (why : Fault) (served : Result Served NetworkFault)
-      (end : Serving A) → ServesOne links turn service start served end → goes_on served ≡ false
+  takes_last : (start : ServingPrimary A) (why : Fault) (served : Result Served NetworkFault)
+      (end : ServingPrimary A) → ServesOne links turn service start served end → goes_on served ≡ false
       → FailsAs served why → EndsTaking why start.intake end.intake
   takes_last start why (Ok served) end one off told = absurd (true≢false off)
   takes_last start why (Err fault) end one off told =
       subst (λ w. EndsTaking w start.intake end.intake) (sym told)
       (ends_it fault start.intake end.intake off (takes_one start (Err fault) end one))
 
-  pub takes_some : (count : ℕ) (start : Serving A) (why : Fault) (end : Serving A)
+  pub takes_some : (count : ℕ) (start : ServingPrimary A) (why : Fault) (end : ServingPrimary A)
       → StopsServing links turn service count start why end
       → EndsTaking why start.intake end.intake
   takes_some count start why end stops =
@@ -279,7 +279,7 @@ module _ {A R W : Type 0} (links : Links A R W) (turn : ℕ) (service : Service)
       (takes_last stops.middle why served end one off told)
 
   -- fewer connections were served, and then the last one
-  pub stopped_at : (count made : ℕ) (start middle : Serving A) (why : Fault) (end : Serving A)
+  pub stopped_at : (count made : ℕ) (start middle : ServingPrimary A) (why : Fault) (end : ServingPrimary A)
       → made < count → ServesAll links turn service made start middle
       → EndsServing links turn service middle why end
       → StopsServing links turn service count start why end
@@ -292,7 +292,7 @@ on_ok (Err e) P h = tt
 
 -- all were served, but a fault was not told
 pub taken_untold : (r : Result (Unit {0}) Fault) (X : Type 0) (start now : Intake)
-    → IfErr r (λ why. (why ≡ fault.Write) × X) → Takes start now
+    → IfErr r (λ why. (why ≡ fault.Write) × X) → TakesBatches start now
     → IfErr r (λ why. EndsTaking why start now)
 taken_untold (Ok all) X start now is takes = tt
 taken_untold (Err why) X start now (is, _) takes =

@@ -26,8 +26,8 @@ use Rattle.feed_note.specs.declared.counts.Counts.{Counts}
 use Rattle.feed_note.specs.declared.line.Line.{Line}
 use Rattle.feed_note.specs.declared.stop.LineStop.{LineStop}
 use Rattle.feed_note.specs.declared.stop.LineStop.TheVariants as stop
-use Rattle.feed_commands.specs.Findings.{has_this, comes_again, is_tokenless, of_each, IsOlder, IsMisnamed, IsFound, AreFound, TellsNothing, findings_text, IsSaid, TakesSaid, ReadsOn}
-use Rattle.feed_commands.specs.Streamed.{StopsForGood, TakesLine, AreNoted, AreTallied, HasRoomFor, HasTaken, HasRoomOn, IsTaken, IsAllTaken, StreamStops, StreamReadOn, StreamFails, StreamCounted}
+use Rattle.feed_commands.specs.Findings.{has_this, comes_again, is_tokenless, of_each, IsOlder, IsMisnamed, IsFound, AreFound, TellsNothing, findings_text, IsSaid, TakesSaid, ReadsOneLine}
+use Rattle.feed_commands.specs.Streamed.{StopsForGood, CountsLine, AreNoted, AreTallied, HasRoomFor, HasTaken, HasRoomOn, WasTaken, IsAllTaken, StreamStops, StreamReadOn, StreamFails, StreamCounted}
 use Rattle.feed_commands.specs.Check.{TellsCounts, counts_text}
 use Rattle.feed_commands.specs.Fault.{fault_at, fault_of_survey}
 use Rattle.feed_commands.specs.declared.commands.findings.Findings.{Findings}
@@ -208,7 +208,7 @@ module _ (passed : List (List ℕ)) (notes : List Line) (reader : Reader) (read 
 -- ---- one line more
 
 noted_more : (passed : List (List ℕ)) (notes : List Line) (line : List ℕ) (note : Line) (old new : Reader) → AllZip IsRead passed notes → AreNoted passed notes old
-    → IsRead line note → ReadsOn line old new → AreNoted (passed ++ line ∷ []) (notes ++ note ∷ []) new
+    → IsRead line note → ReadsOneLine line old new → AreNoted (passed ++ line ∷ []) (notes ++ note ∷ []) new
 unfolding HasAll
 noted_more passed notes line note old new read h is (said, s, takes) =
     let same : s.note ≡ note = (only_one text_determines_object).meaning line s.note note (s.read).means is.means in
@@ -235,7 +235,7 @@ noted_more passed notes line note old new read h is (said, s, takes) =
       misnamed_is = found_push h.misnamed said.is_misnamed (old.lines + 1) _ _ h.misnamed_is takes.misnamed (omega arith);
     }
 
-pub tallied_more : (passed : List (List ℕ)) (notes : List Line) (line : List ℕ) (old new : Tally) (t : TakesLine line old new) → AreTallied passed notes old → HasNoLineFeed line
+pub tallied_more : (passed : List (List ℕ)) (notes : List Line) (line : List ℕ) (old new : Tally) (t : CountsLine line old new) → AreTallied passed notes old → HasNoLineFeed line
     → AreTallied (passed ++ line ∷ []) (notes ++ t.note ∷ []) new
 tallied_more passed notes line old new t h part = record {
   whole = each_push HasNoLineFeed passed line h.whole part;
@@ -369,7 +369,7 @@ module _ (verbose : Bool) (text : List ℕ) (old : Reading) (h : HasTaken verbos
         (is ∙ ap (λ n. n + 1) (lines_are h.passed h.notes old.tally h.tallied)) so)
 
     -- it is read
-    pub taken_line : (new : Reading) → new.left.items ≡ [] → TakesLine line old.tally new.tally → HasTaken verbose (text ++ (end ++ 10 ∷ [])) new
+    pub taken_line : (new : Reading) → new.left.items ≡ [] → CountsLine line old.tally new.tally → HasTaken verbose (text ++ (end ++ 10 ∷ [])) new
     taken_line new none t = record {
       passed = h.passed ++ line ∷ [];
       notes = h.notes ++ t.note ∷ [];
@@ -430,7 +430,7 @@ module _ (piece rest : List ℕ) (old now : Reading) (h : LinesTaken piece rest 
   line_of line = ap (λ l. l ++ line) (sym h.none)
 
   pub lines_more : (line behind : List ℕ) (new : Reading) → HasNoLineFeed line → rest ≡ line ++ 10 ∷ behind → new.left.items ≡ now.left.items
-      → TakesLine line now.tally new.tally → LinesTaken piece behind old new
+      → CountsLine line now.tally new.tally → LinesTaken piece behind old new
   lines_more line behind new part is same t = record {
     done = h.done ++ (line ++ 10 ∷ []);
     cut = h.cut ∙ ap (λ l. h.done ++ l) (is ∙ sym (append_assoc line (10 ∷ []) behind)) ∙ sym (append_assoc h.done (line ++ 10 ∷ []) behind);
@@ -478,17 +478,17 @@ module _ (piece end behind : List ℕ) (is : piece ≡ end ++ 10 ∷ behind) whe
 -- ---- the input
 
 -- nothing was read yet
-pub input_none : (verbose : Bool) (start : Option (List ℕ)) (reading : Reading) → HasTaken verbose [] reading → IsTaken verbose 0 start start reading
+pub input_none : (verbose : Bool) (start : Option (List ℕ)) (reading : Reading) → HasTaken verbose [] reading → WasTaken verbose 0 start start reading
 input_none verbose start reading h = record { bytes = []; read = Consumes-nil start; many = omega arith; few = omega arith; taken = h }
 
 -- a read that gave nothing more
-pub input_kept : (verbose : Bool) (reads : ℕ) (a b c : Option (List ℕ)) (reading : Reading) → Keeps b c → IsTaken verbose reads a b reading → IsTaken verbose reads a c reading
+pub input_kept : (verbose : Bool) (reads : ℕ) (a b c : Option (List ℕ)) (reading : Reading) → Keeps b c → WasTaken verbose reads a b reading → WasTaken verbose reads a c reading
 input_kept verbose reads a b c reading k h =
     record { bytes = h.bytes; read = Consumes-kept a b c h.bytes h.read k; many = h.many; few = h.few; taken = h.taken }
 
 -- a read that gave this piece
 pub input_more : (verbose : Bool) (reads : ℕ) (a b c : Option (List ℕ)) (piece : List ℕ) (old new : Reading) → 0 < length piece → length piece ≤ 4096 → Consumes b c piece
-    → (h : IsTaken verbose reads a b old) → HasTaken verbose (h.bytes ++ piece) new → IsTaken verbose (reads + 1) a c new
+    → (h : WasTaken verbose reads a b old) → HasTaken verbose (h.bytes ++ piece) new → WasTaken verbose (reads + 1) a c new
 input_more verbose reads a b c piece old new some short r h taken = record {
   bytes = h.bytes ++ piece;
   read = Consumes-trans a b c h.bytes piece h.read r;
@@ -501,7 +501,7 @@ pub short_take : (n : ℕ) (buf : List ℕ) → n ≤ length buf → length buf 
 short_take n buf fits full = let size : length (take n buf) ≡ n = length-take-le n buf fits in omega arith
 
 -- another piece fits
-pub input_room : (verbose : Bool) (reads : ℕ) (a b : Option (List ℕ)) (reading : Reading) → reads < 1099511627776 → IsTaken verbose reads a b reading → HasRoomOn 4097 reading
+pub input_room : (verbose : Bool) (reads : ℕ) (a b : Option (List ℕ)) (reading : Reading) → reads < 1099511627776 → WasTaken verbose reads a b reading → HasRoomOn 4097 reading
 input_room verbose reads a b reading few h = record {
   verbose = verbose;
   text = h.bytes;
@@ -514,7 +514,7 @@ room_less n m reading less r =
     record { verbose = r.verbose; text = r.text; taken = r.taken; few = let few : length r.text + n < 2 ^ 64 = r.few in omega arith }
 
 -- it stops at a line of the piece
-pub input_stops : (verbose : Bool) (reads : ℕ) (a b c : Option (List ℕ)) (piece : List ℕ) (old : Reading) (why : SurveyFault) → Consumes b c piece → (h : IsTaken verbose reads a b old)
+pub input_stops : (verbose : Bool) (reads : ℕ) (a b c : Option (List ℕ)) (piece : List ℕ) (old : Reading) (why : SurveyFault) → Consumes b c piece → (h : WasTaken verbose reads a b old)
     → (why.stop ≢ stop.Memory → StopsForGood (h.bytes ++ piece) why.line why.stop) → StreamFails (fault_of_survey why) a c
 input_stops verbose reads a b c piece old why r h stops = by why.stop refl
   where
@@ -526,11 +526,11 @@ input_stops verbose reads a b c piece old why r h stops = by why.stop refl
     by stop.LongLine e = so (λ m. absurd (cc))
     by (stop.Line f) e = so (λ m. absurd (cc))
 
-pub input_on : (verbose : Bool) (reads : ℕ) (a b : Option (List ℕ)) (reading : Reading) → 1099511627776 ≤ reads → IsTaken verbose reads a b reading → StreamReadOn a b
+pub input_on : (verbose : Bool) (reads : ℕ) (a b : Option (List ℕ)) (reading : Reading) → 1099511627776 ≤ reads → WasTaken verbose reads a b reading → StreamReadOn a b
 input_on verbose reads a b reading all h =
     record { bytes = h.bytes; read = h.read; many = let many : reads ≤ length h.bytes = h.many in omega arith }
 
-pub input_all : (verbose : Bool) (reads : ℕ) (a b : Option (List ℕ)) (reading : Reading) → IsAtEnd b → IsTaken verbose reads a b reading → IsAllTaken verbose a b reading
+pub input_all : (verbose : Bool) (reads : ℕ) (a b : Option (List ℕ)) (reading : Reading) → IsAtEnd b → WasTaken verbose reads a b reading → IsAllTaken verbose a b reading
 input_all verbose reads a b reading end h = record { bytes = h.bytes; read = h.read; end = end; taken = h.taken }
 
 -- what is told of the whole input

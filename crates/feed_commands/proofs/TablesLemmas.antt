@@ -16,7 +16,7 @@ use Rattle.feed_node.specs.Mirroring.{MirrorState, StandsAt, Fed, HasStopped, Fa
 use Rattle.feed_node.specs.Reading.{Reads, FaultsAt, reads}
 use Rattle.feed_relay.specs.Serving.{most_reads}
 use Rattle.feed_commands.specs.Fault.{fault_of_feed}
-use Rattle.feed_commands.specs.Tables.{first_opening, Stands, HasRead, HasReadOn, IsLeft, HasFaulted, IsFed, Printed, PrintedSome, PrintedPrefix, outcome_of, TablesFail}
+use Rattle.feed_commands.specs.Tables.{first_opening, FedSoFar, HasRead, HasReadOn, WasFed, HasFaulted, IsFed, Printed, PrintedSome, PrintedPrefix, outcome_of, TablesFail}
 use Rattle.feed_commands.specs.Streams.{Streams}
 use Rattle.feed_commands.specs.declared.fault.Fault.{Fault}
 use Rattle.feed_commands.specs.declared.fault.Fault.TheVariants as fault
@@ -26,17 +26,17 @@ pub positive : (n : ℕ) (buf : List ℕ) → n ≢ 0 → n ≤ length buf → 0
 positive n buf some fits = let long : length (take n buf) ≡ n = length-take-le n buf fits in omega arith
 
 -- nothing was read yet
-unfoldable pub stands_first : (a : Option (List ℕ)) (mirror : MirrorState) → StandsAt first_opening [] [] mirror → Stands mirror.limits 0 a a [] mirror
+unfoldable pub stands_first : (a : Option (List ℕ)) (mirror : MirrorState) → StandsAt first_opening [] [] mirror → FedSoFar mirror.limits 0 a a [] mirror
 stands_first a mirror s = record { bytes = []; notes = []; many = omega arith; read = Consumes-nil a; stands = s; limits_are = refl }
 
 -- a read that gave nothing more
-unfoldable pub stands_kept : (limits : Limits) (least : ℕ) (a b c : Option (List ℕ)) (mirror : MirrorState) → Keeps b c → Stands limits least a b [] mirror → Stands limits least a c [] mirror
+unfoldable pub stands_kept : (limits : Limits) (least : ℕ) (a b c : Option (List ℕ)) (mirror : MirrorState) → Keeps b c → FedSoFar limits least a b [] mirror → FedSoFar limits least a c [] mirror
 stands_kept limits least a b c mirror k s =
     record { bytes = s.bytes; notes = s.notes; many = s.many; read = Consumes-kept a b c (s.bytes ++ []) s.read k; stands = s.stands; limits_are = s.limits_are }
 
 -- a read that gave this piece, which is not fed yet
 unfoldable pub stands_read : (limits : Limits) (least : ℕ) (a b c : Option (List ℕ)) (piece : List ℕ) (mirror : MirrorState) → 0 < length piece → Consumes b c piece
-    → Stands limits least a b [] mirror → Stands limits (least + 1) a c piece mirror
+    → FedSoFar limits least a b [] mirror → FedSoFar limits (least + 1) a c piece mirror
 stands_read limits least a b c piece mirror some r s =
     let bytes_are : s.bytes ++ [] ≡ s.bytes = append-nil s.bytes in
     let many : least ≤ length (s.bytes ++ []) = s.many in
@@ -50,8 +50,8 @@ stands_read limits least a b c piece mirror some r s =
     }
 
 -- some of the bytes behind are fed
-unfoldable pub stands_on : (limits : Limits) (least : ℕ) (a b : Option (List ℕ)) (rest fed behind : List ℕ) (old new : MirrorState) (count : ℕ) (s : Stands limits least a b rest old)
-    → fed ++ behind ≡ rest → Fed first_opening s.bytes fed s.notes old new count → Stands limits least a b behind new
+unfoldable pub stands_on : (limits : Limits) (least : ℕ) (a b : Option (List ℕ)) (rest fed behind : List ℕ) (old new : MirrorState) (count : ℕ) (s : FedSoFar limits least a b rest old)
+    → fed ++ behind ≡ rest → Fed first_opening s.bytes fed s.notes old new count → FedSoFar limits least a b behind new
 stands_on limits least a b rest fed behind old new count s cut f =
     let whole : s.bytes ++ rest ≡ (s.bytes ++ fed) ++ behind = ap (λ l. s.bytes ++ l) (sym cut) ∙ sym (append_assoc s.bytes fed behind) in
     record {
@@ -64,7 +64,7 @@ stands_on limits least a b rest fed behind old new count s cut f =
     }
 
 -- what stands was read
-pub read_by : (limits : Limits) (least : ℕ) (a b : Option (List ℕ)) (mirror : MirrorState) → Stands limits least a b [] mirror → HasRead limits a b mirror.node.published
+pub read_by : (limits : Limits) (least : ℕ) (a b : Option (List ℕ)) (mirror : MirrorState) → FedSoFar limits least a b [] mirror → HasRead limits a b mirror.node.published
 read_by limits least a b mirror s = record {
   bytes = s.bytes;
   notes = s.notes;
@@ -75,7 +75,7 @@ read_by limits least a b mirror s = record {
 }
 
 -- all reads that are allowed gave something
-pub read_on_by : (limits : Limits) (least : ℕ) (a b : Option (List ℕ)) (mirror : MirrorState) → most_reads ≤ least → Stands limits least a b [] mirror
+pub read_on_by : (limits : Limits) (least : ℕ) (a b : Option (List ℕ)) (mirror : MirrorState) → most_reads ≤ least → FedSoFar limits least a b [] mirror
     → HasReadOn limits a b mirror.node.published
 unfolding read_by
 read_on_by limits least a b mirror all s = record {
@@ -84,8 +84,8 @@ read_on_by limits least a b mirror all s = record {
 }
 
 -- a bad line of what is fed
-faulted_at : (limits : Limits) (least : ℕ) (a b : Option (List ℕ)) (rest fed behind : List ℕ) (old new : MirrorState) (why : FeedFault) (line : Option ℕ) (s : Stands limits least a b rest old)
-    → fed ++ behind ≡ rest → IsLeft line behind → (notes : List Line) × HasStopped first_opening (s.bytes ++ fed) notes why old new
+faulted_at : (limits : Limits) (least : ℕ) (a b : Option (List ℕ)) (rest fed behind : List ℕ) (old new : MirrorState) (why : FeedFault) (line : Option ℕ) (s : FedSoFar limits least a b rest old)
+    → fed ++ behind ≡ rest → WasFed line behind → (notes : List Line) × HasStopped first_opening (s.bytes ++ fed) notes why old new
     → HasFaulted limits (record { fault = why; line = line }) a b new.node.published
 faulted_at limits least a b rest fed behind old new why line s cut left (notes, stopped) = record {
   bytes = s.bytes ++ fed;
@@ -99,8 +99,8 @@ faulted_at limits least a b rest fed behind old new why line s cut left (notes, 
 }
 
 -- the same of each fault but want of memory
-pub stopped_at : (limits : Limits) (least : ℕ) (a b : Option (List ℕ)) (rest fed behind : List ℕ) (old new : MirrorState) (why : FeedFault) (line : Option ℕ) (s : Stands limits least a b rest old)
-    → fed ++ behind ≡ rest → IsLeft line behind → Faulted first_opening s.bytes fed old new why → why ≢ feed.Memory
+pub stopped_at : (limits : Limits) (least : ℕ) (a b : Option (List ℕ)) (rest fed behind : List ℕ) (old new : MirrorState) (why : FeedFault) (line : Option ℕ) (s : FedSoFar limits least a b rest old)
+    → fed ++ behind ≡ rest → WasFed line behind → Faulted first_opening s.bytes fed old new why → why ≢ feed.Memory
     → HasFaulted limits (record { fault = why; line = line }) a b new.node.published
 stopped_at limits least a b rest fed behind old new feed.NotOpen line s cut left f n = faulted_at limits least a b rest fed behind old new feed.NotOpen line s cut left f
 stopped_at limits least a b rest fed behind old new feed.LongLine line s cut left f n = faulted_at limits least a b rest fed behind old new feed.LongLine line s cut left f

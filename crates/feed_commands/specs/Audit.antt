@@ -48,8 +48,10 @@ module _ (options : AuditOptions) (primary screen : List ℕ) where
   -- what was printed where the command fails
   abbrev pub AuditFails : Fault → Option (List ℕ) → Option (List ℕ) → Type 0
   AuditFails fault.Differs old new = (text : List ℕ) × TellsStray text × Appends old new text
-  AuditFails fault.Unpublished old new = RecordAgrees options.limits primary screen 0 × Keeps old new
-  AuditFails (fault.Audit why) old new = FailsToAuditRecord options.limits primary screen why × Keeps old new
+  AuditFails fault.Unpublished old new =
+      RecordAgrees options.limits primary screen 0 × Keeps old new
+  AuditFails (fault.Audit why) old new =
+      FailsToAuditRecord options.limits primary screen why × Keeps old new
   AuditFails fault.Write old new =
       (text : List ℕ) × (TellsAgreement text ⊎ TellsStray text) × AppendsPrefix old new text
   AuditFails fault.Memory old new = Keeps old new

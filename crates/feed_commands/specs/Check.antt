@@ -7,7 +7,7 @@ use Rattle.feed_note.specs.Lines.{lines, rest}
 use Rattle.feed_note.specs.declared.counts.Counts.{Counts}
 use Rattle.feed_note.specs.declared.counts.SurveyFault.{SurveyFault}
 use Rattle.feed_http.specs.Device.{AppendsPrefix}
-use Rattle.feed_commands.specs.Fault.{IsWithin}
+use Rattle.feed_commands.specs.Fault.{StandsInLine}
 use Rattle.feed_commands.specs.Findings.{AreFound, findings_text}
 use Rattle.feed_commands.specs.Streams.{Streams}
 use Rattle.feed_commands.specs.declared.commands.findings.Findings.{Findings}
@@ -56,7 +56,8 @@ pub record TellsCounts (options : CheckOptions) (bytes text : List ℕ) : Type 0
   pub is : text ≡ counts_text counts ++ more
 
 -- the whole input was read, and this tells what its lines are
-pub record InputCounted (options : CheckOptions) (old new : Option (List ℕ)) (text : List ℕ) : Type 0 where
+pub record InputCounted (options : CheckOptions) (old new : Option (List ℕ))
+    (text : List ℕ) : Type 0 where
   pub bytes : List ℕ
   pub whole : IsWhole old new bytes
   pub tells : TellsCounts options bytes text
@@ -73,7 +74,7 @@ pub record IsLineAt (text : List ℕ) (number : ℕ) (line : List ℕ) : Type 0 
 abbrev pub IsPlaced : List ℕ → ℕ → Option Spot → Type 0
 IsPlaced text number None = Unit {0}
 IsPlaced text number (Some spot) =
-    (line : List ℕ) × IsLineAt text number line × IsWithin line (Some spot)
+    (line : List ℕ) × IsLineAt text number line × StandsInLine line (Some spot)
 
 -- the whole input was read, and stops at this line
 pub record InputStops (old new : Option (List ℕ)) (why : SurveyFault) : Type 0 where
@@ -89,7 +90,7 @@ pub record InputStopsWithin (old new : Option (List ℕ)) (why : SurveyStop) : T
   pub placed : IsPlaced bytes why.fault.line why.spot
 
 -- the input has more bytes than that
-pub record IsOver (most : ℕ) (old new : Option (List ℕ)) : Type 0 where
+pub record IsTooLong (most : ℕ) (old new : Option (List ℕ)) : Type 0 where
   pub bytes : List ℕ
   pub read : Consumes old new bytes
   pub long : most < length bytes
@@ -98,7 +99,7 @@ pub record IsOver (most : ℕ) (old new : Option (List ℕ)) : Type 0 where
 abbrev pub FailsWithin : ℕ → Fault → Option (List ℕ) → Option (List ℕ) → Type 0
 FailsWithin most fault.Memory old new = Unit {0}
 FailsWithin most fault.Read old new = Unit {0}
-FailsWithin most fault.TooLong old new = IsOver most old new
+FailsWithin most fault.TooLong old new = IsTooLong most old new
 FailsWithin most why old new = ⊥
 
 -- the same of the limit

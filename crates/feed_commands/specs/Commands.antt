@@ -43,18 +43,18 @@ CheckNotPrinted false options why s = CheckFails options why s
 CheckNotPrinted true options why s = StreamCheckFails options why s
 
 -- the command did what was asked for
-abbrev pub Succeeds : Local → Streams → Type 0
-Succeeds (local.Tables options) s =
+abbrev pub CommandSucceeds : Local → Streams → Type 0
+CommandSucceeds (local.Tables options) s =
     TablesPrinted options.limits (option_map (λ text. text.now) options.at) s
-Succeeds (local.Check options) s = CheckPrinted options.stream options s
-Succeeds local.Play s = Played s
+CommandSucceeds (local.Check options) s = CheckPrinted options.stream options s
+CommandSucceeds local.Play s = Played s
 
 -- the command failed like this
-abbrev pub Fails : Local → Fault → Streams → Type 0
-Fails (local.Tables options) why s =
+abbrev pub CommandFails : Local → Fault → Streams → Type 0
+CommandFails (local.Tables options) why s =
     NotPrinted options.limits (option_map (λ text. text.now) options.at) why s
-Fails (local.Check options) why s = CheckNotPrinted options.stream options why s
-Fails local.Play why s = PlayFails why s
+CommandFails (local.Check options) why s = CheckNotPrinted options.stream options why s
+CommandFails local.Play why s = PlayFails why s
 
 -- where the fault is a device's, that one failed; where memory ran out, none did
 abbrev pub IsDeviceFault : Fault → Streams → Type 0
@@ -65,9 +65,9 @@ IsDeviceFault fault.Memory s =
 IsDeviceFault why s = Unit {0}
 
 -- the command failed, and this is the status that tells it, behind what was told of it
-pub record EndsBy (asked : Local) (status : ℕ) (s : Streams) (err : Wrote) : Type 0 where
+pub record EndsWithStatus (asked : Local) (status : ℕ) (s : Streams) (err : Wrote) : Type 0 where
   pub why : Fault
-  pub failed : Fails asked why s
+  pub failed : CommandFails asked why s
   pub device : IsDeviceFault why s
   pub told : IsToldStatus why err status
 
@@ -78,10 +78,10 @@ IsWritten text wrote =
     ⊎ (HasDeviceFailed wrote.failed_old wrote.failed_new × AppendsPrefix wrote.old wrote.new text)
 
 -- the status for words that ask for no command, and what was printed for them
-abbrev pub Replies : NoCommand → ℕ → Wrote → Type 0
-Replies reply.Memory status wrote = (status ≡ 5) × Keeps wrote.old wrote.new
-Replies (reply.Refused text) status wrote = (status ≡ 1) × Keeps wrote.old wrote.new
-Replies (reply.Shown text) status wrote =
+abbrev pub RepliesToWords : NoCommand → ℕ → Wrote → Type 0
+RepliesToWords reply.Memory status wrote = (status ≡ 5) × Keeps wrote.old wrote.new
+RepliesToWords (reply.Refused text) status wrote = (status ≡ 1) × Keeps wrote.old wrote.new
+RepliesToWords (reply.Shown text) status wrote =
     ((status ≡ 0) × Appends wrote.old wrote.new (string_bytes text))
     ⊎ ((status ≡ 4) × HasDeviceFailed wrote.failed_old wrote.failed_new
     × AppendsPrefix wrote.old wrote.new (string_bytes text))
@@ -124,8 +124,8 @@ module _ {R W E : Type 0} (words : List (List ℕ)) (status : ℕ) (s : Streams)
   pub record RunsLocal : Type 0 where
     pub asked : Local
     pub asks : Asks words (request.Local asked)
-    pub done : status ≡ 0 → Succeeds asked s × (new.err ≡ old.err)
-    pub failed : status ≢ 0 → EndsBy asked status s told
+    pub done : status ≡ 0 → CommandSucceeds asked s × (new.err ≡ old.err)
+    pub failed : status ≢ 0 → EndsWithStatus asked status s told
     pub unrefused : status ≢ 1
     pub greatest : status ≤ 5
 
@@ -138,13 +138,13 @@ module _ {R W E : Type 0} (words : List (List ℕ)) (status : ℕ) (s : Streams)
     pub untouched : new ≡ old
 
   -- the words ask for no command, and are replied to
-  pub record RepliesTo : Type 0 where
+  pub record StatusOfWords : Type 0 where
     pub reply : NoCommand
     pub asks : AsksNothing words reply
     pub unread : new.input ≡ old.input
-    pub replied : Replies reply status (printed_by s)
+    pub replied : RepliesToWords reply status (printed_by s)
     pub tells : TellsRefusal reply told
 
   -- what the words of a command line come to
   abbrev pub RunsBy : Type 0
-  RunsBy = RunsLocal ⊎ (LeavesOther ⊎ RepliesTo)
+  RunsBy = RunsLocal ⊎ (LeavesOther ⊎ StatusOfWords)

@@ -91,8 +91,9 @@ abbrev pub goes_on : Result Served NetworkFault → Bool
 goes_on (Ok served) = true
 goes_on (Err why) = is_one_connections (fault_of_network why)
 
--- 5 for want of memory, 4 for a device's fault, 2 for a faulty input or response and for records that
--- differ, 3 where nothing is published or no state has the token, 1 for servers that can't be named so
+-- 5 for want of memory, 4 for a device's fault, 2 for a faulty input or response and for records
+-- that differ, 3 where nothing is published or no state has the token, 1 for servers that can't be
+-- named so
 abbrev pub status_of : Fault → ℕ
 status_of fault.Memory = 5
 status_of fault.Read = 4
@@ -113,13 +114,13 @@ status_of (fault.Commit why) = 2
 status_of (fault.Network why) = status_of_network why
 
 -- the place is a byte of the line, counted from 1, or the one behind its last
-abbrev pub IsWithin : List ℕ → Option Spot → Type 0
-IsWithin line None = Unit {0}
-IsWithin line (Some spot) = (1 ≤ spot.byte) × (spot.byte ≤ length line + 1)
+abbrev pub StandsInLine : List ℕ → Option Spot → Type 0
+StandsInLine line None = Unit {0}
+StandsInLine line (Some spot) = (1 ≤ spot.byte) × (spot.byte ≤ length line + 1)
 
 -- the same fault; or that of a line, which says where in the line it is, or doesn't
 abbrev pub SaysMore : List ℕ → Fault → Fault → Type 0
 SaysMore line why told =
     (told ≡ why)
     ⊎ ((stop : SurveyStop) × (spot : Option Spot) × (why ≡ fault.Survey stop)
-    × (told ≡ fault.Survey (record { fault = stop.fault; spot = spot })) × IsWithin line spot)
+    × (told ≡ fault.Survey (record { fault = stop.fault; spot = spot })) × StandsInLine line spot)

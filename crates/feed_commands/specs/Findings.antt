@@ -1,5 +1,5 @@
--- What servers of the field get wrong on the lines of a feed (CLICS Contest API 2023-06 and 2020-03,
--- event feed).
+-- What servers of the field get wrong on the lines of a feed (CLICS Contest API 2023-06 and
+-- 2020-03, event feed).
 use Rattle.std.specs.Prelude.{◌≡◌, ◌+◌, ◌||◌, ◌&&◌, not, ℕ, Bool, true, false, List, [], ◌∷◌, ◌++◌, Option, None, Some, codes, decimal, count_by, bytes_eq, cond, is_some}
 use Rattle.std.specs.List.{AllZip, list_any, position_from}
 use Rattle.std.specs.Option.{option_map_or}
@@ -29,10 +29,11 @@ has_this token note = option_map_or (λ its_own. bytes_eq its_own token) (token_
 -- Whether the line's token stood on a line before: whoever resumes from such a token can't be told
 -- which of its lines is meant.
 abbrev pub comes_again : List Line → Line → Bool
-comes_again before note = option_map_or (λ token. list_any (has_this token) before) (token_in note) false
+comes_again before note =
+    option_map_or (λ token. list_any (has_this token) before) (token_in note) false
 
--- whether the line is a notification, and neither it nor a line before it has a token: nothing of it
--- can be shown yet
+-- whether the line is a notification, and neither it nor a line before it has a token: nothing of
+-- it can be shown yet
 abbrev pub is_tokenless : List Line → Line → Bool
 is_tokenless before note = is_note note && not (list_any has_token before || has_token note)
 
@@ -46,7 +47,8 @@ of_each is_so before (note ∷ notes) = is_so before note ∷ of_each is_so (bef
 -- the line holds an object, and this is whether a member of it has the name
 abbrev pub HasMember : List ℕ → List ℕ → Bool → Type 0
 HasMember name line has =
-    (members : List MemberSpelling) × HoldsMembers line members × (has ≡ is_some (last_spelt name members))
+    (members : List MemberSpelling) × HoldsMembers line members
+    × (has ≡ is_some (last_spelt name members))
 
 -- a notification in the format of 2020-03 has a member `op`; a keep-alive is in none
 abbrev pub IsOlderBy : List ℕ → Line → Bool → Type 0
@@ -67,7 +69,8 @@ OwnsId object id owns =
 
 -- the change puts an object under an id that isn't its own
 abbrev pub IsMisnamedSet : Change → Bool → Type 0
-IsMisnamedSet (Set kind id object) is_so = (owns : Bool) × OwnsId object id owns × (is_so ≡ not owns)
+IsMisnamedSet (Set kind id object) is_so =
+    (owns : Bool) × OwnsId object id owns × (is_so ≡ not owns)
 IsMisnamedSet (Remove kind id) is_so = is_so ≡ false
 IsMisnamedSet (Empty kind) is_so = is_so ≡ false
 IsMisnamedSet (Single kind object) is_so = is_so ≡ false
@@ -110,7 +113,8 @@ pub record AreFound (text : List ℕ) (findings : Findings) : Type 0 where
 -- the line that tells one of them
 abbrev pub finding_text : List ℕ → Finding → List ℕ
 finding_text name finding = option_map_or
-    (λ line. name ++ codes " " ++ decimal finding.count ++ codes ", first at line " ++ decimal line ++ line_feed ∷ [])
+    (λ line. name ++ codes " " ++ decimal finding.count ++ codes ", first at line " ++ decimal line
+    ++ line_feed ∷ [])
     finding.first (name ++ codes " 0\n")
 
 -- the lines that tell them
@@ -157,14 +161,18 @@ pub record FindsOn (is_so : Bool) (line : ℕ) (old new : Finding) : Type 0 wher
 
 -- what one line more says is taken
 pub record TakesSaid (said : Said) (old new : Reader) : Type 0 where
-  pub seen : (other : List ℕ) → contains_text new.seen other ≡ is_with said.token other (contains_text old.seen other)
+  pub seen : (other : List ℕ)
+      → contains_text new.seen other ≡ is_with said.token other (contains_text old.seen other)
   pub has_token : new.has_token ≡ (old.has_token || is_some said.token)
   pub lines : new.lines ≡ old.lines + 1
-  pub repeats : FindsOn (is_in (contains_text old.seen) said.token) (old.lines + 1) old.findings.repeats new.findings.repeats
-  pub tokenless : FindsOn (said.is_note && not (old.has_token || is_some said.token)) (old.lines + 1) old.findings.tokenless new.findings.tokenless
+  pub repeats : FindsOn (is_in (contains_text old.seen) said.token)
+      (old.lines + 1) old.findings.repeats new.findings.repeats
+  pub tokenless : FindsOn (said.is_note && not (old.has_token || is_some said.token))
+      (old.lines + 1) old.findings.tokenless new.findings.tokenless
   pub older : FindsOn said.is_older (old.lines + 1) old.findings.older new.findings.older
-  pub misnamed : FindsOn said.is_misnamed (old.lines + 1) old.findings.misnamed new.findings.misnamed
+  pub misnamed : FindsOn said.is_misnamed
+      (old.lines + 1) old.findings.misnamed new.findings.misnamed
 
 -- one line more is read, and taken
-abbrev pub ReadsOn : List ℕ → Reader → Reader → Type 0
-ReadsOn line old new = (said : Said) × IsSaid line said × TakesSaid said old new
+abbrev pub ReadsOneLine : List ℕ → Reader → Reader → Type 0
+ReadsOneLine line old new = (said : Said) × IsSaid line said × TakesSaid said old new

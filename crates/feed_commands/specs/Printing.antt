@@ -9,21 +9,23 @@ use Rattle.feed_commands.specs.declared.printing.Waiting.{Waiting}
 
 -- a prefix of what waited and of the text was written between these two contents of a device, and
 -- the rest waits
-abbrev pub Sends : Option (List ℕ) → Option (List ℕ) → List ℕ → List ℕ → List ℕ → Type 0
-Sends old new before after text =
+abbrev pub FlushesSome : Option (List ℕ) → Option (List ℕ) → List ℕ → List ℕ → List ℕ → Type 0
+FlushesSome old new before after text =
     (sent : List ℕ) × (before ++ text ≡ sent ++ after) × Appends old new sent
 
 -- a text was told to a device between these contents and counts of failures, by way of what waited
 -- before and waits after
-pub record Tells (old new : Option (List ℕ)) (failures failures_after : ℕ) (before after : Waiting) (text : List ℕ) : Type 0 where
+pub record TellsText (old new : Option (List ℕ)) (failures failures_after : ℕ)
+    (before after : Waiting) (text : List ℕ) : Type 0 where
   -- where no write has failed up to here, none of the text is lost
   pub sends : after.has_failed ≡ false → (before.has_failed ≡ false) × (failures_after ≡ failures)
-      × Sends old new before.bytes after.bytes text
+      × FlushesSome old new before.bytes after.bytes text
   -- where one fails here, a prefix was written
   pub fails : before.has_failed ≡ false → after.has_failed ≡ true
       → AppendsPrefix old new (before.bytes ++ text) × HasFailed failures failures_after
   -- and nothing is written after it
-  pub rests : before.has_failed ≡ true → (after.has_failed ≡ true) × (new ≡ old) × (failures_after ≡ failures)
+  pub rests : before.has_failed ≡ true → (after.has_failed ≡ true) × (new ≡ old)
+      × (failures_after ≡ failures)
 
 -- the end of the line before, where one is begun
 abbrev pub end_before : Bool → List ℕ
@@ -36,14 +38,14 @@ end_with token = written_token (Some token) ++ codes "}\n"
 
 module _ {W : Type 0} (contents : W → Option (List ℕ)) (failures : W → ℕ) where
   -- a text was told to the device of a printer between these two
-  pub record Prints (old new : Printer W) (text : List ℕ) : Type 0 where
+  pub record PrintsText (old new : Printer W) (text : List ℕ) : Type 0 where
     pub same_device : new.device.ghost_name ≡ old.device.ghost_name
-    pub told : Tells (contents old.device.now) (contents new.device.now)
+    pub told : TellsText (contents old.device.now) (contents new.device.now)
         (failures old.device.now) (failures new.device.now) old.waiting new.waiting text
 
   -- the line of a change was told to it between these two but for its end, and a write has failed
   -- by now or not
   abbrev pub PrintsChange : Bool → Printer W → Change → Printer W → Type 0
   PrintsChange has_failed old change new =
-      Prints old new (end_before old.is_begun ++ written_change change)
+      PrintsText old new (end_before old.is_begun ++ written_change change)
       × (new.is_begun ≡ true) × (new.waiting.has_failed ≡ has_failed)

@@ -26,7 +26,7 @@ use Rattle.feed_commands.specs.Fault.{fault_of_network}
 use Rattle.feed_http.specs.Exchange.{Wrote}
 use Rattle.feed_commands.specs.declared.fault.Fault.{Fault}
 use Rattle.feed_commands.specs.declared.fault.Fault.TheVariants as fault
-use Rattle.feed_arguments.specs.declared.request.PullOptions.{PullOptions}
+use Rattle.feed_arguments.specs.declared.request.UpstreamOptions.{UpstreamOptions}
 
 -- ---- what it asks, and starts from
 
@@ -34,24 +34,20 @@ use Rattle.feed_arguments.specs.declared.request.PullOptions.{PullOptions}
 abbrev pub server_text : List ℕ × ℕ → List ℕ
 server_text address = address.0 ++ codes ":" ++ decimal address.1
 
--- that of the first server
-abbrev pub host_text : PullOptions → List ℕ
-host_text options = options.host.now ++ codes ":" ++ decimal options.port
-
 -- the place that is asked for the feed at this address
-abbrev pub place_at : PullOptions → List ℕ × ℕ → Result Place PlaceFault
-place_at options address = place_of (server_text address) options.base.now options.contest.now
+abbrev pub place_at : UpstreamOptions → List ℕ → List ℕ × ℕ → Result Place PlaceFault
+place_at upstream contest address = place_of (server_text address) upstream.base.now contest
 
 -- why there is none
-abbrev pub RefusesServer : PullOptions → List ℕ × ℕ → Fault → Type 0
-RefusesServer options address fault.Memory = Unit {0}
-RefusesServer options address (fault.Place why) =
-    RefusesPlace (server_text address) options.base.now options.contest.now why
-RefusesServer options address why = ⊥
+abbrev pub RefusesServer : UpstreamOptions → List ℕ → List ℕ × ℕ → Fault → Type 0
+RefusesServer upstream contest address fault.Memory = Unit {0}
+RefusesServer upstream contest address (fault.Place why) =
+    RefusesPlace (server_text address) upstream.base.now contest why
+RefusesServer upstream contest address why = ⊥
 
 -- the first address
-abbrev pub first_address : PullOptions → List ℕ × ℕ
-first_address options = (options.host.now, options.port)
+abbrev pub first_address : UpstreamOptions → List ℕ × ℕ
+first_address upstream = (upstream.host.now, upstream.port)
 
 -- the addresses behind it
 abbrev pub AreFurther : Option (Bor (List ℕ)) → List (List ℕ × ℕ) → Type 0
@@ -66,38 +62,40 @@ RefusesFurther from (fault.Address why) =
 RefusesFurther from why = ⊥
 
 -- an address, the place that is asked there, and as whom
-abbrev pub Asked : Type 0
-Asked = (List ℕ × ℕ) × (Result Place PlaceFault × Identity)
+abbrev pub AskedServer : Type 0
+AskedServer = (List ℕ × ℕ) × (Result Place PlaceFault × Identity)
 
-abbrev pub asked_at : PullOptions → Identity → List ℕ × ℕ → Asked
-asked_at options identity address = (address, (place_at options address, identity))
+abbrev pub asked_at : UpstreamOptions → List ℕ → Identity → List ℕ × ℕ → AskedServer
+asked_at upstream contest identity address =
+    (address, (place_at upstream contest address, identity))
 
-abbrev pub asked_of : Server → Asked
+abbrev pub asked_of : Server → AskedServer
 asked_of server = ((string_bytes server.host, server.port), (Ok server.place, server.identity.now))
 
 -- the servers are those at the first address and the further ones, each with the place there, and
 -- are asked as this identity
-pub record AreServers (options : PullOptions) (identity : Identity) (servers : List Server)
-    : Type 0 where
+pub record AreServers (upstream : UpstreamOptions) (contest : List ℕ) (identity : Identity)
+    (servers : List Server) : Type 0 where
   pub further : List (List ℕ × ℕ)
-  pub listed : AreFurther options.from further
+  pub listed : AreFurther upstream.from further
   pub asked : map asked_of servers
-      ≡ map (asked_at options identity) (first_address options ∷ further)
+      ≡ map (asked_at upstream contest identity) (first_address upstream ∷ further)
 
 -- one of these addresses is refused
-abbrev pub RefusesOneOf : PullOptions → List (List ℕ × ℕ) → Fault → Type 0
-RefusesOneOf options addresses why =
-    (address : List ℕ × ℕ) × Contains addresses address × RefusesServer options address why
+abbrev pub RefusesOneOf : UpstreamOptions → List ℕ → List (List ℕ × ℕ) → Fault → Type 0
+RefusesOneOf upstream contest addresses why =
+    (address : List ℕ × ℕ) × Contains addresses address
+    × RefusesServer upstream contest address why
 
 -- why there are no such servers: the first address is refused; or it is not, but the list of the
 -- further ones, or one of those
-abbrev pub HasNoServers : PullOptions → Fault → Type 0
-HasNoServers options why =
-    RefusesServer options (first_address options) why
-    ⊎ ((place : Place) × (place_at options (first_address options) ≡ Ok place)
-    × (RefusesFurther options.from why
-    ⊎ ((further : List (List ℕ × ℕ)) × AreFurther options.from further
-    × RefusesOneOf options further why)))
+abbrev pub HasNoServers : UpstreamOptions → List ℕ → Fault → Type 0
+HasNoServers upstream contest why =
+    RefusesServer upstream contest (first_address upstream) why
+    ⊎ ((place : Place) × (place_at upstream contest (first_address upstream) ≡ Ok place)
+    × (RefusesFurther upstream.from why
+    ⊎ ((further : List (List ℕ × ℕ)) × AreFurther upstream.from further
+    × RefusesOneOf upstream contest further why)))
 
 -- the mirror is new; or, where it resumes, the whole input was read, and restores it
 abbrev pub StartsFrom : Bool → Limits → Option (List ℕ) → Option (List ℕ) → MirrorState → Type 0
@@ -136,39 +134,39 @@ IsCutShort text out untold_old untold_new =
 
 module _ {D R W : Type 0} where
   -- which servers were asked, what that came to, and what the mirror is then
-  pub record HasPulled (dialer : Dialer D R W) (servers : List Server) (turns : ℕ)
+  pub record HasPulled (dialer : Dialer D R W) (servers : List Server) (most_reads : ℕ)
       (start : Position D) (ended : Result (Unit {0}) Fault) (end : Position D) : Type 0 where
     pub attempts : List Attempt
-    pub follows : FollowsFirst dialer servers turns start attempts end
+    pub follows : FollowsFirst dialer servers most_reads start attempts end
     pub came : outcome_of_pull attempts ≡ ended
 
   -- the same, and the snapshot of what the mirror shows was printed
-  pub record PrintedPulled (dialer : Dialer D R W) (servers : List Server) (turns : ℕ)
+  pub record PrintedPulled (dialer : Dialer D R W) (servers : List Server) (most_reads : ℕ)
       (start : Position D) (ended : Result (Unit {0}) Fault) (end : Position D) (out : Wrote)
       : Type 0 where
-    pub has : HasPulled dialer servers turns start ended end
+    pub has : HasPulled dialer servers most_reads start ended end
     pub printed : Appends out.old out.new (published_text end.mirror.node.published)
 
   -- why memory ran out: there was no room for the attempts, and nobody was asked; or it ran out at
   -- the last of them
   abbrev pub RunsOut : Dialer D R W → List Server → ℕ → Position D → Position D → Type 0
-  RunsOut dialer servers turns start end =
+  RunsOut dialer servers most_reads start end =
       (end ≡ start)
-      ⊎ ((attempts : List Attempt) × FollowsFirst dialer servers turns start attempts end
+      ⊎ ((attempts : List Attempt) × FollowsFirst dialer servers most_reads start attempts end
       × (ran_out attempts ≡ true))
 
   -- What was pulled and printed where the command fails. What could not be told is counted between
   -- two counts.
   abbrev pub PullFails : Dialer D R W → List Server → ℕ → Fault → Position D → Position D → Wrote
       → ℕ → ℕ → Type 0
-  PullFails dialer servers turns fault.Memory start end out untold_old untold_new =
-      RunsOut dialer servers turns start end × Keeps out.old out.new
-  PullFails dialer servers turns fault.Write start end out untold_old untold_new =
-      ((ended : Result (Unit {0}) Fault) × HasPulled dialer servers turns start ended end)
+  PullFails dialer servers most_reads fault.Memory start end out untold_old untold_new =
+      RunsOut dialer servers most_reads start end × Keeps out.old out.new
+  PullFails dialer servers most_reads fault.Write start end out untold_old untold_new =
+      ((ended : Result (Unit {0}) Fault) × HasPulled dialer servers most_reads start ended end)
       × IsCutShort (published_text end.mirror.node.published) out untold_old untold_new
-  PullFails dialer servers turns fault.Unpublished start end out untold_old untold_new =
-      PrintedPulled dialer servers turns start (Ok tt) end out
+  PullFails dialer servers most_reads fault.Unpublished start end out untold_old untold_new =
+      PrintedPulled dialer servers most_reads start (Ok tt) end out
       × (end.mirror.node.published ≡ None)
-  PullFails dialer servers turns (fault.Network why) start end out untold_old untold_new =
-      PrintedPulled dialer servers turns start (Err (fault.Network why)) end out
-  PullFails dialer servers turns why start end out untold_old untold_new = ⊥
+  PullFails dialer servers most_reads (fault.Network why) start end out untold_old untold_new =
+      PrintedPulled dialer servers most_reads start (Err (fault.Network why)) end out
+  PullFails dialer servers most_reads why start end out untold_old untold_new = ⊥

@@ -27,7 +27,7 @@ relay_service options =
       contest = options.pull.contest;
       framing = options.framing;
       back = 0;
-      turns = most_reads;
+      most_reads = most_reads;
     }
 
 -- a mirror with what it connects to servers with, and what followers connect to
@@ -39,13 +39,13 @@ abbrev pub relaying : {D A : Type 0} → Position D → A → Relaying D A
 relaying follower listener = record { follower = follower; listener = listener }
 
 module _ {D R W A S T : Type 0} (dialer : Dialer D R W) (links : Links A S T)
-    (servers : List Server) (turns : ℕ) (service : Service) where
+    (servers : List Server) (most_reads : ℕ) (service : Service) where
   -- one round: the first of these servers that serves was followed, memory did not run out, and the
   -- next follower was served what the mirror shows then
   pub record MakesRound (start : Relaying D A) (served : Result Served NetworkFault)
       (end : Relaying D A) : Type 0 where
     pub attempts : List Attempt
-    pub follows : FollowsFirst dialer servers turns start.follower attempts end.follower
+    pub follows : FollowsFirst dialer servers most_reads start.follower attempts end.follower
     pub in_memory : ran_out attempts ≡ false
     pub serves : ServesNext links
         (λ spoken came. ServesOnce service end.follower.mirror.node spoken came)
@@ -60,7 +60,8 @@ module _ {D R W A S T : Type 0} (dialer : Dialer D R W) (links : Links A S T)
   pub data EndsRounds (start : Relaying D A) : Fault → Relaying D A → Type 0 where
     has_no_room : EndsRounds start fault.Memory start
     has_run_out : (attempts : List Attempt) (end : Position D)
-        → FollowsFirst dialer servers turns start.follower attempts end → ran_out attempts ≡ true
+        → FollowsFirst dialer servers most_reads start.follower attempts end
+        → ran_out attempts ≡ true
         → EndsRounds start fault.Memory (relaying end start.listener)
     has_not_served : (served : Result Served NetworkFault) (why : Fault) (end : Relaying D A)
         → MakesRound start served end → goes_on served ≡ false → FailsAs served why
@@ -73,7 +74,7 @@ module _ {D R W A S T : Type 0} (dialer : Dialer D R W) (links : Links A S T)
       × InTurn MakesRoundOn start rounds end
 
   -- fewer rounds were made, and then one that was the last for this fault
-  pub record BreaksOff (count : ℕ) (start : Relaying D A) (why : Fault) (end : Relaying D A)
+  pub record RelayBreaksOff (count : ℕ) (start : Relaying D A) (why : Fault) (end : Relaying D A)
       : Type 0 where
     pub made : ℕ
     pub fewer : made < count
@@ -87,10 +88,10 @@ module _ {D R W A S T : Type 0} (dialer : Dialer D R W) (links : Links A S T)
       MakesRounds count start end
       × Appends out.old out.new (published_text end.follower.mirror.node.published)
 
-  -- where the command fails: all rounds were made, but something was not printed or told; or it broke
-  -- off, and nothing was printed
+  -- where the command fails: all rounds were made, but something was not printed or told; or it
+  -- broke off, and nothing was printed
   abbrev pub RelayFails : ℕ → Fault → Relaying D A → Relaying D A → Wrote → ℕ → ℕ → Type 0
   RelayFails count why start end out untold_old untold_new =
       ((why ≡ fault.Write) × MakesRounds count start end
       × IsCutShort (published_text end.follower.mirror.node.published) out untold_old untold_new)
-      ⊎ (BreaksOff count start why end × Keeps out.old out.new)
+      ⊎ (RelayBreaksOff count start why end × Keeps out.old out.new)

@@ -36,7 +36,8 @@ TakesAtStart None limits all source =
 TakesAtStart (Some turn) limits all source = source ≡ new_source limits all
 
 -- the whole input was read, and its batches are taken
-pub record Starts (turn : Option ℕ) (limits : Limits) (old new : Option (List ℕ)) (source : Intake)
+pub record StartsServing (turn : Option ℕ) (limits : Limits) (old new : Option (List ℕ))
+    (source : Intake)
     : Type 0 where
   pub bytes : List ℕ
   pub notes : List Line
@@ -48,7 +49,7 @@ pub record Starts (turn : Option ℕ) (limits : Limits) (old new : Option (List 
 
 -- The batches that were taken, in order, each once, are what the primary committed. Those behind
 -- them are left.
-pub record Takes (start now : Intake) : Type 0 where
+pub record TakesBatches (start now : Intake) : Type 0 where
   pub taken : List (List Change)
   pub accepted : Accepts start.primary taken now.primary
   pub batches : start.batches ≡ taken ++ now.batches
@@ -63,9 +64,9 @@ pub record TakesAndDrops (start : Intake) (why : CommitFault) (now : Intake) : T
 
 -- what was taken where serving ended with this fault
 abbrev pub EndsTaking : Fault → Intake → Intake → Type 0
-EndsTaking fault.Memory start now = Takes start now ⊎ TakesAndDrops start commit.Memory now
-EndsTaking fault.Write start now = Takes start now
-EndsTaking (fault.Network network.Accept) start now = Takes start now
+EndsTaking fault.Memory start now = TakesBatches start now ⊎ TakesAndDrops start commit.Memory now
+EndsTaking fault.Write start now = TakesBatches start now
+EndsTaking (fault.Network network.Accept) start now = TakesBatches start now
 EndsTaking (fault.Network (network.Engine (engine.Commit why))) start now =
     TakesAndDrops start why now
 EndsTaking why start now = ⊥
@@ -83,49 +84,50 @@ serve_service options =
       contest = options.contest;
       framing = options.framing;
       back = options.back;
-      turns = most_reads;
+      most_reads = most_reads;
     }
 
 -- a primary with its batches, and what followers connect to
-pub record Serving (A : Type 0) : Type 0 where
+pub record ServingPrimary (A : Type 0) : Type 0 where
   pub intake : Intake
   pub listener : A
 
-abbrev pub serving : {A : Type 0} → Intake → A → Serving A
+abbrev pub serving : {A : Type 0} → Intake → A → ServingPrimary A
 serving intake listener = record { intake = intake; listener = listener }
 
 module _ {A R W : Type 0} (links : Links A R W) (turn : ℕ) (service : Service) where
   -- one connection was accepted and served
-  abbrev pub ServesOne : Serving A → Result Served NetworkFault → Serving A → Type 0
+  abbrev pub ServesOne : ServingPrimary A → Result Served NetworkFault → ServingPrimary A → Type 0
   ServesOne start served end =
       ServesLiveNext links turn service start.intake start.listener served end.intake end.listener
 
   -- and others can be served after it
-  abbrev pub ServesOn : Serving A → Result Served NetworkFault → Serving A → Type 0
+  abbrev pub ServesOn : ServingPrimary A → Result Served NetworkFault → ServingPrimary A → Type 0
   ServesOn start served end = ServesOne start served end × (goes_on served ≡ true)
 
   -- it was the last, for this fault
-  abbrev pub EndsServing : Serving A → Fault → Serving A → Type 0
+  abbrev pub EndsServing : ServingPrimary A → Fault → ServingPrimary A → Type 0
   EndsServing start why end =
       (served : Result Served NetworkFault) × ServesOne start served end
       × (goes_on served ≡ false) × FailsAs served why
 
   -- so many connections were served, one after another
-  abbrev pub ServesAll : ℕ → Serving A → Serving A → Type 0
+  abbrev pub ServesAll : ℕ → ServingPrimary A → ServingPrimary A → Type 0
   ServesAll count start end =
       (all : List (Result Served NetworkFault)) × (length all ≡ count)
       × InTurn ServesOn start all end
 
   -- fewer connections were served, and then the last one
-  pub record StopsServing (count : ℕ) (start : Serving A) (why : Fault) (end : Serving A) : Type 0 where
+  pub record StopsServing (count : ℕ) (start : ServingPrimary A) (why : Fault)
+      (end : ServingPrimary A) : Type 0 where
     pub served : ℕ
     pub fewer : served < count
-    pub middle : Serving A
+    pub middle : ServingPrimary A
     pub before : ServesAll served start middle
     pub last : EndsServing middle why end
 
   -- where the command fails: all connections were served, but a fault was not told; or it stopped
-  abbrev pub ServingFails : ℕ → Fault → Serving A → Serving A → ℕ → ℕ → Type 0
+  abbrev pub ServingFails : ℕ → Fault → ServingPrimary A → ServingPrimary A → ℕ → ℕ → Type 0
   ServingFails count why start end untold_old untold_new =
       ((why ≡ fault.Write) × ServesAll count start end × HasFailed untold_old untold_new)
       ⊎ StopsServing count start why end

@@ -12,7 +12,7 @@ use Rattle.feed_note.specs.declared.counts.SurveyFault.{SurveyFault}
 use Rattle.feed_note.specs.declared.stop.LineStop.{LineStop}
 use Rattle.feed_http.specs.Device.{AppendsPrefix}
 use Rattle.feed_commands.specs.Check.{TellsCounts}
-use Rattle.feed_commands.specs.Findings.{has_this, comes_again, is_tokenless, of_each, IsFound, IsOlder, IsMisnamed, ReadsOn}
+use Rattle.feed_commands.specs.Findings.{has_this, comes_again, is_tokenless, of_each, IsFound, IsOlder, IsMisnamed, ReadsOneLine}
 use Rattle.feed_commands.specs.Streams.{Streams}
 use Rattle.feed_commands.specs.declared.commands.findings.Reader.{Reader}
 use Rattle.feed_commands.specs.declared.commands.streamed.Tally.{Tally}
@@ -32,7 +32,8 @@ StopsForGood text line why = (more : List ℕ) → StopsAt (text ++ more) line w
 -- ---- what was read and printed
 
 -- the whole input was read, however long it is, and this tells what its lines are
-pub record StreamCounted (options : CheckOptions) (old new : Option (List ℕ)) (text : List ℕ) : Type 0 where
+pub record StreamCounted (options : CheckOptions) (old new : Option (List ℕ))
+    (text : List ℕ) : Type 0 where
   pub bytes : List ℕ
   pub read : Consumes old new bytes
   pub end : IsAtEnd new
@@ -82,15 +83,15 @@ StreamCheckFails options why s = StreamFails why s.input_old s.input_new × Keep
 pub record NotesFound (line : List ℕ) (old new : Tally) : Type 0 where
   pub counts : new.counts ≡ old.counts
   pub verbose : new.verbose ≡ old.verbose
-  pub found : old.verbose ≡ true → ReadsOn line old.reader new.reader
+  pub found : old.verbose ≡ true → ReadsOneLine line old.reader new.reader
 
 -- a line is read and counted, and what is found on it is noted where that is asked for
-pub record TakesLine (line : List ℕ) (old new : Tally) : Type 0 where
+pub record CountsLine (line : List ℕ) (old new : Tally) : Type 0 where
   pub note : Line
   pub read : IsRead line note
   pub counts : new.counts ≡ with_note old.counts note
   pub verbose : new.verbose ≡ old.verbose
-  pub found : old.verbose ≡ true → ReadsOn line old.reader new.reader
+  pub found : old.verbose ≡ true → ReadsOneLine line old.reader new.reader
 
 -- ---- all lines so far
 
@@ -140,7 +141,8 @@ pub record HasRoomOn (more : ℕ) (reading : Reading) : Type 0 where
   pub few : length text + more < 2 ^ 64
 
 -- This was read of the input in so many reads that each gave something, and taken.
-pub record IsTaken (verbose : Bool) (reads : ℕ) (old new : Option (List ℕ)) (reading : Reading) : Type 0 where
+pub record WasTaken (verbose : Bool) (reads : ℕ) (old new : Option (List ℕ))
+    (reading : Reading) : Type 0 where
   pub bytes : List ℕ
   pub read : Consumes old new bytes
   pub many : reads ≤ length bytes
@@ -148,7 +150,8 @@ pub record IsTaken (verbose : Bool) (reads : ℕ) (old new : Option (List ℕ)) 
   pub taken : HasTaken verbose bytes reading
 
 -- the same of the whole input
-pub record IsAllTaken (verbose : Bool) (old new : Option (List ℕ)) (reading : Reading) : Type 0 where
+pub record IsAllTaken (verbose : Bool) (old new : Option (List ℕ))
+    (reading : Reading) : Type 0 where
   pub bytes : List ℕ
   pub read : Consumes old new bytes
   pub end : IsAtEnd new

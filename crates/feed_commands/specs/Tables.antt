@@ -21,7 +21,7 @@ first_opening = record { before = nothing_published; fresh = true }
 
 -- At least so many bytes were read. But for those behind, they were fed to a mirror on its first
 -- connection, and nothing is wrong with them.
-pub record Stands (limits : Limits) (least : ℕ) (old new : Option (List ℕ)) (behind : List ℕ)
+pub record FedSoFar (limits : Limits) (least : ℕ) (old new : Option (List ℕ)) (behind : List ℕ)
     (mirror : MirrorState) : Type 0 where
   pub bytes : List ℕ
   pub notes : List Line
@@ -46,9 +46,9 @@ pub record HasReadOn (limits : Limits) (old new : Option (List ℕ)) (shown : Op
   pub many : most_reads ≤ length whole.bytes
 
 -- all that was read was fed; or, where the fault's line is told, what was read up to that line
-abbrev pub IsLeft : Option ℕ → List ℕ → Type 0
-IsLeft None behind = behind ≡ []
-IsLeft (Some line) behind = Unit {0}
+abbrev pub WasFed : Option ℕ → List ℕ → Type 0
+WasFed None behind = behind ≡ []
+WasFed (Some line) behind = Unit {0}
 
 -- these bytes and those behind were read, the fault is that of their first bad line, and this is
 -- what the lines before it publish
@@ -58,7 +58,7 @@ pub record HasFaulted (limits : Limits) (why : FeedStop) (old new : Option (List
   pub behind : List ℕ
   pub notes : List Line
   pub read : Consumes old new (bytes ++ behind)
-  pub left : IsLeft why.line behind
+  pub left : WasFed why.line behind
   pub first : FaultsAt limits first_opening bytes notes why.fault
   pub shown_is : shown ≡ (reads limits.history first_opening notes).published
 

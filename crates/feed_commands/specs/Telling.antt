@@ -18,7 +18,8 @@ IsEnded text = (front : List ℕ) × (text ≡ front ++ line_feed ∷ [])
 abbrev pub TellsLines : Option (List ℕ) → Option (List ℕ) → Type 0
 TellsLines old new = (text : List ℕ) × IsEnded text × Appends old new text
 
--- a fault was told, and this is the status for it; or the device failed, which the status tells, too
+-- a fault was told, and this is the status for it; or the device failed, which the status tells,
+-- too
 abbrev pub IsToldStatus : Fault → Wrote → ℕ → Type 0
 IsToldStatus why wrote status =
     ((status ≡ status_of why) × TellsLines wrote.old wrote.new

@@ -1,6 +1,6 @@
 //! The commands, as a command line asks for them.
 ghost use Rattle.std.specs.Prelude.{◌≡◌, ◌≢◌, ◌≤◌, None, false, map, IfErr, IfSome, IsErrOf, OnOk};
-ghost use Rattle.feed_commands.specs.Commands.{CheckPrinted, CheckNotPrinted, Succeeds, Fails, IsDeviceFault, EndsBy, Replies, TellsRefusal};
+ghost use Rattle.feed_commands.specs.Commands.{CheckPrinted, CheckNotPrinted, CommandSucceeds, CommandFails, IsDeviceFault, EndsWithStatus, RepliesToWords, TellsRefusal};
 ghost use Rattle.feed_commands.specs.Commands.{is_local, standard, RunsBy};
 ghost use Rattle.feed_arguments.specs.declared.request.Request.TheVariants as asked;
 ghost use Rattle.feed_commands.specs.Streams.{streams_of};
@@ -34,7 +34,7 @@ use tables::print_tables;
 /// refused, 4 where `out` failed, and 5 where memory had run out.
 fn answer_words<W: FeedWrite, E: FeedWrite>(reply: &NoCommand, out: &mut W, err: &mut E) -> u8
     ensures out { let wrote = wrote_by W.contents W.failures out.old out.new in
-        Replies reply.now result wrote }
+        RepliesToWords reply.now result wrote }
     ensures err { let wrote = wrote_by E.contents E.failures err.old err.new in
         TellsRefusal reply.now wrote }
 {
@@ -90,10 +90,10 @@ pub fn perform<R: FeedRead, W: FeedWrite>(
 ) -> Result<(), Fault>
     ensures ok { let streams = streams_of R.remaining R.failures W.contents W.failures
         input.old input.new out.old out.new in
-        OnOk result (Succeeds request.now streams) }
+        OnOk result (CommandSucceeds request.now streams) }
     ensures err { let streams = streams_of R.remaining R.failures W.contents W.failures
         input.old input.new out.old out.new in
-        IfErr result (λ why. Fails request.now why streams) }
+        IfErr result (λ why. CommandFails request.now why streams) }
 
     ensures device { let streams = streams_of R.remaining R.failures W.contents W.failures
         input.old input.new out.old out.new in
@@ -119,11 +119,11 @@ fn run_local<R: FeedRead, W: FeedWrite, E: FeedWrite>(
 ) -> u8
     ensures ok { let streams = streams_of R.remaining R.failures W.contents W.failures
         input.old input.new out.old out.new in
-        result ≡ 0 → Succeeds request.now streams }
+        result ≡ 0 → CommandSucceeds request.now streams }
     ensures err { let streams = streams_of R.remaining R.failures W.contents W.failures
         input.old input.new out.old out.new in
         let told = wrote_by E.contents E.failures err.old err.new in
-        result ≢ 0 → EndsBy request.now result streams told }
+        result ≢ 0 → EndsWithStatus request.now result streams told }
     ensures untold { result ≡ 0 → err.new ≡ err.old }
     ensures statuses { (result ≢ 1) × (result ≤ 5) }
 {

@@ -1,7 +1,7 @@
 //! Where in a line of a feed its fault is: the byte, and the member that this byte stands in.
 //! It is found by reading the line once more, and said to who reads: nothing rests on it.
 ghost use Rattle.std.specs.Prelude.{◌≡◌, None, IfOk};
-ghost use Rattle.feed_commands.specs.Fault.{IsWithin};
+ghost use Rattle.feed_commands.specs.Fault.{StandsInLine};
 
 mod scanner;
 
@@ -276,7 +276,7 @@ fn place_of(
 
 /// A place in a line, or behind its last byte, as it is told.
 fn spot_at(line: &[u8], place: usize, member: Option<Counting>) -> Option<Spot>
-    ensures { IsWithin line.now result }
+    ensures { StandsInLine line.now result }
 {
     if place > line.len() {
         return None;
@@ -290,7 +290,7 @@ fn spot_at(line: &[u8], place: usize, member: Option<Counting>) -> Option<Spot>
 /// other faults it is the first byte of the value of the member that has it, or of the object where
 /// a member is wanting.
 pub fn spot_of(alloc: Global, line: &[u8], stop: LineStop) -> Result<Option<Spot>, AllocError>
-    ensures within { IfOk result (λ spot. IsWithin line.now spot) }
+    ensures within { IfOk result (λ spot. StandsInLine line.now spot) }
     ensures memory { stop ≡ LineStop.Memory → IfOk result (λ spot. spot ≡ None) }
 {
     let place = match stop {

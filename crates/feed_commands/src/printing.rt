@@ -6,7 +6,7 @@ ghost use Rattle.feed_http.specs.Device.{AppendsPrefix, HasFailed};
 ghost use Rattle.feed_note.specs.Texts.{snapshot_text};
 ghost use Rattle.feed_note.specs.Written.{written_members};
 ghost use Rattle.feed_commands.specs.Openings.{beginning};
-ghost use Rattle.feed_commands.specs.Printing.{Tells, Prints, PrintsChange, end_before, end_with};
+ghost use Rattle.feed_commands.specs.Printing.{TellsText, PrintsText, PrintsChange, end_before, end_with};
 
 use crate::buffer::Buffer;
 use crate::opening::Opening;
@@ -25,7 +25,7 @@ struct Waiting {
 impl Waiting {
     /// Writes what waits.
     fn flush<W: FeedWrite>(&mut self, device: &mut W)
-        ensures told { Tells (W.contents device.old) (W.contents device.new)
+        ensures told { TellsText (W.contents device.old) (W.contents device.new)
             (W.failures device.old) (W.failures device.new) self.old self.new [] }
         ensures none { self.new.bytes ≡ [] }
     {
@@ -38,7 +38,7 @@ impl Waiting {
     /// Writes a text where nothing waits.
     fn send<W: FeedWrite>(&mut self, device: &mut W, text: &[u8])
         requires { self.old.bytes ≡ [] }
-        ensures { Tells (W.contents device.old) (W.contents device.new)
+        ensures { TellsText (W.contents device.old) (W.contents device.new)
             (W.failures device.old) (W.failures device.new) self.old self.new text.now }
     {
         if !self.has_failed {
@@ -49,7 +49,7 @@ impl Waiting {
     /// Has a text wait, and writes it where it is too long.
     #[inline(always)]
     fn put<W: FeedWrite>(&mut self, device: &mut W, text: &[u8])
-        ensures { Tells (W.contents device.old) (W.contents device.new)
+        ensures { TellsText (W.contents device.old) (W.contents device.new)
             (W.failures device.old) (W.failures device.new) self.old self.new text.now }
     {
         if !self.bytes.append(text) {
@@ -63,7 +63,7 @@ impl Waiting {
     #[inline(never)]
     #[tactic(auto, using(crate::proofs::PrintingLemmas::tells_then))]
     fn put_behind<W: FeedWrite>(&mut self, device: &mut W, text: &[u8])
-        ensures { Tells (W.contents device.old) (W.contents device.new)
+        ensures { TellsText (W.contents device.old) (W.contents device.new)
             (W.failures device.old) (W.failures device.new) self.old self.new text.now }
     {
         self.flush(device);
@@ -87,7 +87,7 @@ impl Waiting {
     #[cold]
     #[inline(never)]
     fn put_escaped<W: FeedWrite>(&mut self, device: &mut W, text: &[u8])
-        ensures { Tells (W.contents device.old) (W.contents device.new)
+        ensures { TellsText (W.contents device.old) (W.contents device.new)
             (W.failures device.old) (W.failures device.new) self.old self.new
             (flat_map byte_text text.now) }
     {
@@ -99,7 +99,7 @@ impl Waiting {
     /// Puts what stands between the quotation marks of the JSON string of a text.
     #[inline(always)]
     fn put_string<W: FeedWrite>(&mut self, device: &mut W, text: &str)
-        ensures { Tells (W.contents device.old) (W.contents device.new)
+        ensures { TellsText (W.contents device.old) (W.contents device.new)
             (W.failures device.old) (W.failures device.new) self.old self.new
             (flat_map byte_text text.now) }
     {
@@ -140,7 +140,7 @@ impl<'a, W: FeedWrite> Printer<'a, W> {
     /// Ends the line before, where there is one, and begins the next with its type.
     fn begin(&mut self, kind: &str)
         ensures begun { self.new.is_begun ≡ true }
-        ensures prints { Prints W.contents W.failures self.old self.new
+        ensures prints { PrintsText W.contents W.failures self.old self.new
             (end_before self.old.is_begun ++ codes "{\"type\":\""
             ++ flat_map byte_text kind.now) }
     {
@@ -158,7 +158,7 @@ impl<'a, W: FeedWrite> Printer<'a, W> {
     #[inline(always)]
     fn begin_object(&mut self, kind: &str)
         ensures begun { self.new.is_begun ≡ true }
-        ensures prints { Prints W.contents W.failures self.old self.new
+        ensures prints { PrintsText W.contents W.failures self.old self.new
             (end_before self.old.is_begun ++ beginning kind.now) }
     {
         match &self.opening {
@@ -174,7 +174,7 @@ impl<'a, W: FeedWrite> Printer<'a, W> {
     #[inline(never)]
     fn begin_first(&mut self, kind: &str)
         ensures begun { self.new.is_begun ≡ true }
-        ensures prints { Prints W.contents W.failures self.old self.new
+        ensures prints { PrintsText W.contents W.failures self.old self.new
             (end_before self.old.is_begun ++ beginning kind.now) }
     {
         self.begin(kind);
@@ -185,7 +185,7 @@ impl<'a, W: FeedWrite> Printer<'a, W> {
     /// Ends the line before, where there is one, and prints that of an object but for its end.
     fn print_object(&mut self, kind: &str, id: &str, content: &[u8]) -> Result<(), Failed>
         ensures begun { self.new.is_begun ≡ true }
-        ensures prints { Prints W.contents W.failures self.old self.new
+        ensures prints { PrintsText W.contents W.failures self.old self.new
             (end_before self.old.is_begun ++ written_members (written_string kind.now)
             (written_string id.now) content.now) }
         ensures ok { OnOk result (self.new.waiting.has_failed ≡ false) }
@@ -201,7 +201,7 @@ impl<'a, W: FeedWrite> Printer<'a, W> {
     /// Ends the line before, where there is one, and prints one without an id but for its end.
     fn print_without_id(&mut self, kind: &str, content: &[u8]) -> Result<(), Failed>
         ensures begun { self.new.is_begun ≡ true }
-        ensures prints { Prints W.contents W.failures self.old self.new
+        ensures prints { PrintsText W.contents W.failures self.old self.new
             (end_before self.old.is_begun ++ written_members (written_string kind.now)
             (codes "null") content.now) }
         ensures ok { OnOk result (self.new.waiting.has_failed ≡ false) }
@@ -215,7 +215,7 @@ impl<'a, W: FeedWrite> Printer<'a, W> {
 
     /// Ends the last line with the token on it, and writes what waits.
     fn end(&mut self, token: &str) -> Result<(), Failed>
-        ensures prints { Prints W.contents W.failures self.old self.new (end_with token.now) }
+        ensures prints { PrintsText W.contents W.failures self.old self.new (end_with token.now) }
         ensures none { self.new.waiting.bytes ≡ [] }
         ensures ok { OnOk result (self.new.waiting.has_failed ≡ false) }
         ensures err { OnErr result (self.new.waiting.has_failed ≡ true) }

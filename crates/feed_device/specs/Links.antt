@@ -65,13 +65,13 @@ shown_so how unread (latest ∷ before) =
     } ∷ before
 
 -- a connection to this server was begun, or nothing was
-abbrev pub Begins : {A E : Type 0} → Exchanges → Exchanges → Result A E → ℕ → Type 0
-Begins old new result server =
+abbrev pub BeginsLink : {A E : Type 0} → Exchanges → Exchanges → Result A E → ℕ → Type 0
+BeginsLink old new result server =
     MatchResult result (λ _. new ≡ option_map (one_more server) old) (λ _. new ≡ old)
 
 -- a write took so many of these bytes, from the first on, or it took nothing
-abbrev pub Asks : {E : Type 0} → Exchanges → Exchanges → Result ℕ E → List ℕ → Type 0
-Asks old new result bytes =
+abbrev pub WritesSome : {E : Type 0} → Exchanges → Exchanges → Result ℕ E → List ℕ → Type 0
+WritesSome old new result bytes =
     MatchResult result (λ count. new ≡ option_map (asked_more (take count bytes)) old)
     (λ _. new ≡ old)
 

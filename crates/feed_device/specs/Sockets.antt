@@ -1,13 +1,14 @@
 -- The sockets of screens, each at a number.
 use Rattle.std.specs.Prelude.{◌≡◌, ◌≢◌, ℕ, List, [], ◌∷◌, ◌++◌, take, Option, Some, None, option_map, Result, MatchResult}
 
--- what went over one connection: the bytes that were read from it, and those that were written to it
+-- what went over one connection: the bytes that were read from it, and those that were written to
+-- it
 pub record Traffic : Type 0 where
   pub came : List ℕ
   pub written : List ℕ
 
--- What is known of a number: what went over each connection there that is over, the latest one first;
--- and over the one that is open, where one is.
+-- What is known of a number: what went over each connection there that is over, the latest one
+-- first; and over the one that is open, where one is.
 pub record Socket : Type 0 where
   pub former : List Traffic
   pub current : Option Traffic
@@ -63,7 +64,8 @@ written_to bytes traffic = record { came = traffic.came; written = traffic.writt
 
 abbrev pub on_current : (Traffic → Traffic) → Option Socket → Option Socket
 on_current becomes socket =
-    option_map (λ known. record { former = known.former; current = option_map becomes known.current })
+    option_map (λ
+    known. record { former = known.former; current = option_map becomes known.current })
     socket
 
 -- a connection was taken, over which nothing went, or none was
@@ -72,8 +74,8 @@ IsAccept old new result =
     MatchResult result (λ _. new ≡ goes_on_with (opened [] []) old) (λ _. new ≡ old)
 
 -- a read gave so many of these bytes, from the first on, or it gave nothing
-abbrev pub IsRead : {E : Type 0} → Option Socket → Option Socket → Result ℕ E → List ℕ → Type 0
-IsRead old new result bytes =
+abbrev pub GivesBytes : {E : Type 0} → Option Socket → Option Socket → Result ℕ E → List ℕ → Type 0
+GivesBytes old new result bytes =
     MatchResult result (λ count. new ≡ on_current (came_to (take count bytes)) old) (λ _. new ≡ old)
 
 -- a write of these bytes took so many of them, from the first on, or it took nothing

@@ -3,10 +3,10 @@
 ghost use Rattle.std.specs.Prelude.{◌≡◌, ◌≢◌, ◌<◌, ◌≤◌, ℕ, List, [], Option, None, Some, length, take, option_map, IfOk, OnOk};
 ghost use Rattle.std.specs.Io.KnownBytes.{WriteAppends};
 ghost use Rattle.feed_device.specs.Calls.{CalledOnce, AllCalls, NotCalled, OthersNotCalled};
-ghost use Rattle.feed_device.specs.Files.{StateFiles, unknown_files, file_text, IsKnown, OtherFilesStay, HasMore, IsLeftOf, gone_on_from};
+ghost use Rattle.feed_device.specs.Files.{StateFiles, unknown_files, file_text, IsKnown, OtherFilesStay, HasAppended, IsLeftOf, gone_on_from};
 ghost use Rattle.feed_device.specs.declared.device.FileSlot.TheVariants.{Next};
-ghost use Rattle.feed_device.specs.Links.{Exchange, Begins, Asks, Receives, shown_so, once_at, all_from};
-ghost use Rattle.feed_device.specs.Sockets.{Socket, IsAccept, IsRead, IsWrite, closed, goes_on_with, SameSockets, OtherSockets};
+ghost use Rattle.feed_device.specs.Links.{Exchange, BeginsLink, WritesSome, Receives, shown_so, once_at, all_from};
+ghost use Rattle.feed_device.specs.Sockets.{Socket, IsAccept, GivesBytes, IsWrite, closed, goes_on_with, SameSockets, OtherSockets};
 
 use crate::told::Why;
 use std::alloc::AllocError;
@@ -53,7 +53,7 @@ pub trait Sockets {
         requires { 0 < length buf.old }
         ensures same { length buf.new ≡ length buf.old }
         ensures bound { IfOk result (λ n. n ≤ length buf.new) }
-        ensures bytes { IsRead (socket self.old at) (socket self.new at) result buf.new }
+        ensures bytes { GivesBytes (socket self.old at) (socket self.new at) result buf.new }
         ensures others { OtherSockets (socket self.old) (socket self.new) at }
         ensures asks { asked self.new ≡ asked self.old }
         ensures offers { NotCalled (offered self.old) (offered self.new) };
@@ -93,7 +93,7 @@ pub trait Link {
     /// Begins to connect to the server of this number. One that was open is closed. Why nothing was
     /// begun is told.
     fn connect(&mut self, server: usize) -> Result<(), Why>
-        ensures begins { Begins (exchanges self.old) (exchanges self.new) result server }
+        ensures begins { BeginsLink (exchanges self.old) (exchanges self.new) result server }
         ensures calls { CalledOnce (begun self.old) (begun self.new) };
 
     /// Each server failed: the addresses of names are asked for again before the next connection.
@@ -118,7 +118,7 @@ pub trait Link {
     /// Writes some of the bytes, from the first on, and answers how many.
     fn write(&mut self, bytes: &[u8]) -> Result<usize, Stop>
         ensures bound { IfOk result (λ n. n ≤ length bytes.now) }
-        ensures bytes { Asks (exchanges self.old) (exchanges self.new) result bytes.now }
+        ensures bytes { WritesSome (exchanges self.old) (exchanges self.new) result bytes.now }
         ensures calls { begun self.new ≡ begun self.old };
 
     /// Closes the connection, where there is one.
@@ -195,7 +195,7 @@ pub trait Store {
             (file_text slot (files self.new)) result bytes.now }
         ensures rest { OtherFilesStay slot (files self.old) (files self.new) }
         ensures had { (text : List ℕ) → file_text slot (files self.old) ≡ Some text
-            → HasMore (files self.old).had (files self.new).had text bytes.now
+            → HasAppended (files self.old).had (files self.new).had text bytes.now
             result };
 
     /// Begins the file that is to take its place.

@@ -27,8 +27,8 @@ abbrev pub BodyBrings : BodyFraming → List ℕ → List ℕ → Type 0
 BodyBrings framing bytes text =
     (standing : Standing) × StandsInBody framing bytes standing × HasPayload standing text
 
--- The bytes are a response of whatever head, whose body, as far as it came, brings this text: to the
--- end of the connection, of a length that the head says, or in chunks.
+-- The bytes are a response of whatever head, whose body, as far as it came, brings this text: to
+-- the end of the connection, of a length that the head says, or in chunks.
 pub record IsFeedOf (had_token : Bool) (bytes text : List ℕ) : Type 0 where
   pub head : ResponseHead
   pub body : List ℕ

@@ -1,7 +1,7 @@
 //! How servers are named: an address of IPv6 stands in brackets in a request, and in none where it
 //! is connected to.
 
-use feed_commands::{Fault, PullOptions};
+use feed_commands::{Fault, UpstreamOptions};
 use feed_http::PlaceFault;
 use std::alloc::{AllocError, Global};
 use std::net::Ipv6Addr;
@@ -52,29 +52,28 @@ fn list_with_brackets(alloc: Global, list: &str) -> Result<String, AllocError> {
 
 impl Hosts {
     /// The servers that these options name. The first one has a name.
-    pub fn new(alloc: Global, options: &PullOptions<'_>) -> Result<Hosts, Fault> {
-        if options.host.is_empty() {
+    pub fn new(alloc: Global, upstream: &UpstreamOptions<'_>) -> Result<Hosts, Fault> {
+        if upstream.host.is_empty() {
             return Err(Fault::from(PlaceFault::BadHost));
         }
         let mut host = String::new(alloc);
-        push_host(&mut host, options.host)?;
-        let from = match options.from {
+        push_host(&mut host, upstream.host)?;
+        let from = match upstream.from {
             Some(list) => Some(list_with_brackets(alloc, list)?),
             None => None,
         };
         Ok(Hosts { host, from })
     }
 
-    /// The first server's name.
-    pub fn host(&self) -> &str {
-        self.host.as_str()
-    }
-
-    /// The addresses of the further ones.
-    pub fn from(&self) -> Option<&str> {
-        match &self.from {
-            Some(list) => Some(list.as_str()),
-            None => None,
+    /// The same options, with these names.
+    pub fn named<'a>(&'a self, upstream: &UpstreamOptions<'a>) -> UpstreamOptions<'a> {
+        UpstreamOptions {
+            host: self.host.as_str(),
+            from: match &self.from {
+                Some(list) => Some(list.as_str()),
+                None => None,
+            },
+            ..*upstream
         }
     }
 }

@@ -3,7 +3,7 @@
 
 use crate::ending::Failure;
 use feed_answer::{Identity, IdentityFault, PlaceFault};
-use feed_commands::{Fault, PullOptions, servers_of};
+use feed_commands::{Fault, UpstreamOptions, servers_of};
 use libc::geteuid;
 use std::fs::{File, Metadata};
 use std::io;
@@ -94,9 +94,10 @@ pub fn identity_of(
 /// they are made once for nobody in particular, since each borrows the identity.
 pub(crate) fn identity_for(
     rt: &HostRuntime,
-    options: &PullOptions<'_>,
+    upstream: &UpstreamOptions<'_>,
+    contest: &str,
 ) -> Result<Identity, Failure> {
     let nobody = Identity::anonymous();
-    servers_of(rt.alloc(), options, &nobody)?;
-    identity_of(rt, options.host_header, options.user_file)
+    servers_of(rt.alloc(), upstream, contest, &nobody)?;
+    identity_of(rt, upstream.host_header, upstream.user_file)
 }

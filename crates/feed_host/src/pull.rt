@@ -12,15 +12,14 @@ use std::mem;
 /// Follows the feed of the first server that serves to the end of a connection, and prints the
 /// tables.
 pub fn pull_feed(rt: &HostRuntime, options: &PullOptions<'_>) -> Result<(), Failure> {
-    let hosts = Hosts::new(rt.alloc(), options)?;
+    let hosts = Hosts::new(rt.alloc(), &options.upstream)?;
     pull_from(rt, options, &hosts)
 }
 
 /// The same, of servers with these names.
 fn pull_from(rt: &HostRuntime, options: &PullOptions<'_>, hosts: &Hosts) -> Result<(), Failure> {
     let named = PullOptions {
-        host: hosts.host(),
-        from: hosts.from(),
+        upstream: hosts.named(&options.upstream),
         ..*options
     };
     pull_named(rt, &named)
@@ -28,8 +27,8 @@ fn pull_from(rt: &HostRuntime, options: &PullOptions<'_>, hosts: &Hosts) -> Resu
 
 /// The same, of servers whose names are as a request has them.
 fn pull_named(rt: &HostRuntime, options: &PullOptions<'_>) -> Result<(), Failure> {
-    let identity = identity_for(rt, options)?;
-    let servers = servers_of(rt.alloc(), options, &identity)?;
+    let identity = identity_for(rt, &options.upstream, options.contest)?;
+    let servers = servers_of(rt.alloc(), &options.upstream, options.contest, &identity)?;
     let mut mirror = match start_mirror(rt.alloc(), options, &mut Stream::new(rt.stdin())) {
         Ok(mirror) => mirror,
         Err(fault) => return Err(Failure::of_saved_tables(fault)),

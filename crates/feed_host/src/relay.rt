@@ -12,15 +12,14 @@ use std::mem;
 /// Follows the feed of the first server that serves, and serves it, in turns, and prints the tables
 /// at the end.
 pub fn relay_feed(rt: &HostRuntime, options: &RelayOptions<'_>) -> Result<(), Failure> {
-    let hosts = Hosts::new(rt.alloc(), &options.pull)?;
+    let hosts = Hosts::new(rt.alloc(), &options.pull.upstream)?;
     relay_from(rt, options, &hosts)
 }
 
 /// The same, of servers with these names.
 fn relay_from(rt: &HostRuntime, options: &RelayOptions<'_>, hosts: &Hosts) -> Result<(), Failure> {
     let pull = PullOptions {
-        host: hosts.host(),
-        from: hosts.from(),
+        upstream: hosts.named(&options.pull.upstream),
         ..options.pull
     };
     relay_named(rt, &RelayOptions { pull, ..*options })
@@ -29,8 +28,8 @@ fn relay_from(rt: &HostRuntime, options: &RelayOptions<'_>, hosts: &Hosts) -> Re
 /// The same, of servers whose names are as a request has them.
 fn relay_named(rt: &HostRuntime, options: &RelayOptions<'_>) -> Result<(), Failure> {
     let pull = &options.pull;
-    let identity = identity_for(rt, pull)?;
-    let servers = servers_of(rt.alloc(), pull, &identity)?;
+    let identity = identity_for(rt, &pull.upstream, pull.contest)?;
+    let servers = servers_of(rt.alloc(), &pull.upstream, pull.contest, &identity)?;
     let mut mirror = match start_mirror(rt.alloc(), &options.pull, &mut Stream::new(rt.stdin())) {
         Ok(mirror) => mirror,
         Err(fault) => return Err(Failure::of_saved_tables(fault)),

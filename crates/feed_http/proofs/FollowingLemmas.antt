@@ -251,19 +251,19 @@ met_is_cut source left start m fault met =
     subst (λ n. MetFault source left start n fault) (sym same) met
 
 -- how following ends is how the response came, and then the mirror is cut
-pub cut_behind : (turns : ℕ) (gave : Gave) (start m n : MirrorState)
-    (told : Result Followed EngineFault) → n ≡ cut_off m → Comes turns gave start told m
-    → Follows turns gave start told n
-cut_behind turns gave start m n (Ok f) is (standing, ends, came) = (standing, ends, (m, came, is))
-cut_behind turns gave start m n (Err fault.Read) is (standing, going, came) =
+pub cut_behind : (most_reads : ℕ) (gave : Gave) (start m n : MirrorState)
+    (told : Result Followed EngineFault) → n ≡ cut_off m → Comes most_reads gave start told m
+    → Follows most_reads gave start told n
+cut_behind most_reads gave start m n (Ok f) is (standing, ends, came) = (standing, ends, (m, came, is))
+cut_behind most_reads gave start m n (Err fault.Read) is (standing, going, came) =
     (standing, going, (m, came, is))
-cut_behind turns gave start m n (Err fault.Turns) is ((standing, going, came), count) =
+cut_behind most_reads gave start m n (Err fault.Turns) is ((standing, going, came), count) =
     ((standing, going, (m, came, is)), count)
-cut_behind turns gave start m n (Err (fault.Follow why)) is (other, has) = (
+cut_behind most_reads gave start m n (Err (fault.Follow why)) is (other, has) = (
   other,
   subst (λ k. MetFault gave.source gave.left start k why) (sym is)
       (met_is_cut gave.source gave.left start m why has),
 )
-cut_behind turns gave start m n (Err fault.Write) is none = absurd none
-cut_behind turns gave start m n (Err fault.Memory) is none = absurd none
-cut_behind turns gave start m n (Err (fault.Commit why)) is none = absurd none
+cut_behind most_reads gave start m n (Err fault.Write) is none = absurd none
+cut_behind most_reads gave start m n (Err fault.Memory) is none = absurd none
+cut_behind most_reads gave start m n (Err (fault.Commit why)) is none = absurd none

@@ -10,18 +10,18 @@ use Rattle.feed_http.specs.HeadReading.{IsStillNeeded, HeadFails}
 use Rattle.feed_http.proofs.DeviceLemmas.{taken_before}
 
 -- the read that fails, or for which there is no memory, leaves the bytes
-pub fails_at : (turns : ℕ) (gave : Gave) (middle : Option (List ℕ)) (before now : List ℕ)
+pub fails_at : (most_reads : ℕ) (gave : Gave) (middle : Option (List ℕ)) (before now : List ℕ)
     (why : EngineFault) → now ≡ before → Consumes gave.source middle before → IsStillNeeded before
     → (why ≡ fault.Read) ⊎ (why ≡ fault.Memory)
-    → (why ≡ fault.Read → Consumes middle gave.left []) → HeadFails turns gave now why
-fails_at turns gave middle before now why kept given still (inl is) unread =
-    subst (HeadFails turns gave now) (sym is) (
+    → (why ≡ fault.Read → Consumes middle gave.left []) → HeadFails most_reads gave now why
+fails_at most_reads gave middle before now why kept given still (inl is) unread =
+    subst (HeadFails most_reads gave now) (sym is) (
       subst (Consumes gave.source gave.left) (sym kept)
           (taken_before gave.source middle gave.left before given (unread is)),
       subst IsStillNeeded (sym kept) still,
     )
-fails_at turns gave middle before now why kept given still (inr is) unread =
-    subst (HeadFails turns gave now) (sym is) tt
+fails_at most_reads gave middle before now why kept given still (inr is) unread =
+    subst (HeadFails most_reads gave now) (sym is) tt
 
 counts : (old middle new : ℕ) (why : EngineFault) → middle ≡ old
     → new ≡ reads_failed middle why → new ≡ reads_failed old why

@@ -42,17 +42,17 @@ told_writes spoken All Part Refused reads (Err fault.Turns) (none, writes) = abs
 told_writes spoken All Part Refused reads (Err (fault.Follow why)) (none, writes) = absurd none
 
 -- where nothing was written, what failed is a read of the head
-told_reads : (spoken : Exchange) (turns : ℕ) (head : List ℕ) (why : EngineFault)
-    → HeadFails turns (gave_on spoken) head why
+told_reads : (spoken : Exchange) (most_reads : ℕ) (head : List ℕ) (why : EngineFault)
+    → HeadFails most_reads (gave_on spoken) head why
     → spoken.failed_reads_new ≡ reads_failed spoken.failed_reads_old why
     → spoken.failed_writes_new ≡ spoken.failed_writes_old
     → FailuresAreTold {A = Served} spoken (Err why)
-told_reads spoken turns head fault.Read fails reads writes = (reads, writes)
-told_reads spoken turns head fault.Turns fails reads writes = (reads, writes)
-told_reads spoken turns head fault.Memory fails reads writes = (reads, writes)
-told_reads spoken turns head fault.Write none reads writes = absurd none
-told_reads spoken turns head (fault.Commit why) none reads writes = absurd none
-told_reads spoken turns head (fault.Follow why) none reads writes = absurd none
+told_reads spoken most_reads head fault.Read fails reads writes = (reads, writes)
+told_reads spoken most_reads head fault.Turns fails reads writes = (reads, writes)
+told_reads spoken most_reads head fault.Memory fails reads writes = (reads, writes)
+told_reads spoken most_reads head fault.Write none reads writes = absurd none
+told_reads spoken most_reads head (fault.Commit why) none reads writes = absurd none
+told_reads spoken most_reads head (fault.Follow why) none reads writes = absurd none
 
 module _ (service : Service) (node : NodeState) (spoken : Exchange) where
   abbrev IsBrokenBehind : Type 0
@@ -62,8 +62,8 @@ module _ (service : Service) (node : NodeState) (spoken : Exchange) where
 
   unread_so : (head : List ℕ) (why : EngineFault) → IsReadAsNeeded head
       → Appends spoken.written_old spoken.written_new []
-      → HeadFails service.turns (gave_on spoken) head why
-      → ServedSo service.contest.now node service.framing service.back service.turns spoken (Err why)
+      → HeadFails service.most_reads (gave_on spoken) head why
+      → ServedSo service node spoken (Err why)
   unread_so head fault.Read needed nothing (given, still) = (head, given, needed, still, nothing)
   unread_so head fault.Turns needed nothing (given, still, rose) =
       ((head, given, needed, still, nothing), rose)
@@ -76,17 +76,17 @@ module _ (service : Service) (node : NodeState) (spoken : Exchange) where
   pub was_unread : (head : List ℕ) {r : Result Served EngineFault} {told why : EngineFault}
       → r ≡ Err told → told ≡ why → IsReadAsNeeded head
       → Appends spoken.written_old spoken.written_new []
-      → HeadFails service.turns (gave_on spoken) head why
+      → HeadFails service.most_reads (gave_on spoken) head why
       → spoken.failed_reads_new ≡ reads_failed spoken.failed_reads_old why
       → spoken.failed_writes_new ≡ spoken.failed_writes_old
-      → RoseAtMost spoken.reads_old spoken.reads_new service.turns
+      → RoseAtMost spoken.reads_old spoken.reads_new service.most_reads
       → ServesOnce service node spoken r
   was_unread head {r} {told} {why} is kept needed nothing fails failed quiet reads =
       subst (ServesOnce service node spoken) (sym (is ∙ ap Err kept))
       (record {
         came = unread_so head why needed nothing fails;
         reads = reads;
-        failures = told_reads spoken service.turns head why fails failed quiet;
+        failures = told_reads spoken service.most_reads head why fails failed quiet;
       })
 
   -- what came of writing a node's answer to what was read
@@ -108,7 +108,7 @@ module _ (service : Service) (node : NodeState) (spoken : Exchange) where
     answered_so : (r : Result Served EngineFault)
         → WritesAll (written_on spoken) (WroteAll node answer (written_on spoken))
         (WroteAnswer node answer spoken.written_old spoken.written_new) r
-        → ServedSo service.contest.now node service.framing service.back service.turns spoken r
+        → ServedSo service node spoken r
     answered_so (Ok served) (all, quiet) =
         let (text, sends, wrote) = all in (
           head,
@@ -126,7 +126,7 @@ module _ (service : Service) (node : NodeState) (spoken : Exchange) where
     answered_so (Err (fault.Commit why)) (none, quiet) = absurd none
     answered_so (Err (fault.Follow why)) (none, quiet) = absurd none
 
-    pub was_served : RoseAtMost spoken.reads_old spoken.reads_new service.turns
+    pub was_served : RoseAtMost spoken.reads_old spoken.reads_new service.most_reads
         → spoken.failed_reads_new ≡ spoken.failed_reads_old → (r : Result Served EngineFault)
         → WritesAll (written_on spoken) (WroteAll node answer (written_on spoken))
         (WroteAnswer node answer spoken.written_old spoken.written_new) r
@@ -152,8 +152,8 @@ module _ (turn : ℕ) (service : Service) (spoken : Exchange) (start now : Intak
 
   unread_live : (head : List ℕ) (why : EngineFault) → IsReadAsNeeded head → now ≡ start
       → Appends spoken.written_old spoken.written_new []
-      → HeadFails service.turns (gave_on spoken) head why
-      → ServedLive turn service.contest.now service.framing service.back service.turns spoken start
+      → HeadFails service.most_reads (gave_on spoken) head why
+      → ServedLive turn service spoken start
       (Err why) now
   unread_live head fault.Read needed same nothing (given, still) =
       ((head, given, needed, still, nothing), same)
@@ -168,17 +168,17 @@ module _ (turn : ℕ) (service : Service) (spoken : Exchange) (start now : Intak
   pub was_not_heard : (head : List ℕ) {r : Result Served EngineFault} {told why : EngineFault}
       → r ≡ Err told → told ≡ why → IsReadAsNeeded head → now ≡ start
       → Appends spoken.written_old spoken.written_new []
-      → HeadFails service.turns (gave_on spoken) head why
+      → HeadFails service.most_reads (gave_on spoken) head why
       → spoken.failed_reads_new ≡ reads_failed spoken.failed_reads_old why
       → spoken.failed_writes_new ≡ spoken.failed_writes_old
-      → RoseAtMost spoken.reads_old spoken.reads_new service.turns
+      → RoseAtMost spoken.reads_old spoken.reads_new service.most_reads
       → ServesLive turn service spoken start r now
   was_not_heard head {r} {told} {why} is kept needed same nothing fails failed quiet reads =
       subst (λ s. ServesLive turn service spoken start s now) (sym (is ∙ ap Err kept))
       (record {
         came = unread_live head why needed same nothing fails;
         reads = reads;
-        failures = told_reads spoken service.turns head why fails failed quiet;
+        failures = told_reads spoken service.most_reads head why fails failed quiet;
       })
 
   -- what came of writing a primary's answer to what was read
@@ -186,7 +186,7 @@ module _ (turn : ℕ) (service : Service) (spoken : Exchange) (start now : Intak
       → WritesBy (written_on spoken) (WroteAllLive turn start answer now (written_on spoken))
       (WroteLive turn start answer now spoken.written_old spoken.written_new)
       (λ why. WroteRefused turn start answer why now spoken.written_old spoken.written_new) r
-      → ServedLive turn service.contest.now service.framing service.back service.turns spoken start
+      → ServedLive turn service spoken start
       r now
   answered_live answer has (Ok served) (all, quiet) = (
     (answer, all.text, has, all.sends, all.wrote_it),
@@ -202,7 +202,7 @@ module _ (turn : ℕ) (service : Service) (spoken : Exchange) (start now : Intak
   answered_live answer has (Err (fault.Follow why)) (none, quiet) = absurd none
 
   pub was_live : (answer : AnswerParts) → Answers answer
-      → RoseAtMost spoken.reads_old spoken.reads_new service.turns
+      → RoseAtMost spoken.reads_old spoken.reads_new service.most_reads
       → spoken.failed_reads_new ≡ spoken.failed_reads_old → (r : Result Served EngineFault)
       → WritesBy (written_on spoken) (WroteAllLive turn start answer now (written_on spoken))
       (WroteLive turn start answer now spoken.written_old spoken.written_new)

@@ -69,33 +69,34 @@ pub record MetFault (source left : Option (List ℕ)) (start mirror : MirrorStat
   pub short : length piece ≤ read_bytes
   pub fails : Fails start (is_some start.since) before piece mirror fault
 
--- why a response was not followed to its end: a read failed or was one too many (of `turns`) where it
--- still went on, or it has a fault
-abbrev pub FollowFails : (Standing → Type 0) → (FollowFault → Type 0) → ℕ → Gave → EngineFault → Type 0
-FollowFails Came Met turns gave fault.Read =
+-- why a response was not followed to its end: a read failed or was one too many (of `most_reads`)
+-- where it still went on, or it has a fault
+abbrev pub FollowFails : (Standing → Type 0) → (FollowFault → Type 0) → ℕ → Gave → EngineFault
+    → Type 0
+FollowFails Came Met most_reads gave fault.Read =
     (standing : Standing) × IsGoingOn standing × Came standing
-FollowFails Came Met turns gave fault.Turns =
+FollowFails Came Met most_reads gave fault.Turns =
     ((standing : Standing) × IsGoingOn standing × Came standing)
-    × RoseBy gave.reads_old gave.reads_new turns
-FollowFails Came Met turns gave (fault.Follow why) = (why ≢ Closed) × Met why
-FollowFails Came Met turns gave fault.Write = ⊥
-FollowFails Came Met turns gave fault.Memory = ⊥
-FollowFails Came Met turns gave (fault.Commit why) = ⊥
+    × RoseBy gave.reads_old gave.reads_new most_reads
+FollowFails Came Met most_reads gave (fault.Follow why) = (why ≢ Closed) × Met why
+FollowFails Came Met most_reads gave fault.Write = ⊥
+FollowFails Came Met most_reads gave fault.Memory = ⊥
+FollowFails Came Met most_reads gave (fault.Commit why) = ⊥
 
 abbrev pub FollowEnds : (Standing → Type 0) → (FollowFault → Type 0) → ℕ → Gave
     → Result Followed EngineFault → Type 0
-FollowEnds Came Met turns gave (Ok followed) =
+FollowEnds Came Met most_reads gave (Ok followed) =
     (standing : Standing) × EndsAs standing gave.left followed × Came standing
-FollowEnds Came Met turns gave (Err why) = FollowFails Came Met turns gave why
+FollowEnds Came Met most_reads gave (Err why) = FollowFails Came Met most_reads gave why
 
--- a response came in at most so many reads (`turns`), and leaves this of the mirror
+-- a response came in at most so many reads (`most_reads`), and leaves this of the mirror
 abbrev pub Comes : ℕ → Gave → MirrorState → Result Followed EngineFault → MirrorState → Type 0
-Comes turns gave start followed mirror =
+Comes most_reads gave start followed mirror =
     FollowEnds (λ standing. HasCome gave.source gave.left start standing mirror)
-    (MetFault gave.source gave.left start mirror) turns gave followed
+    (MetFault gave.source gave.left start mirror) most_reads gave followed
 
 -- a response came so, and its mirror was then cut
 abbrev pub Follows : ℕ → Gave → MirrorState → Result Followed EngineFault → MirrorState → Type 0
-Follows turns gave start followed mirror =
+Follows most_reads gave start followed mirror =
     FollowEnds (λ standing. WasFollowed gave.source gave.left start standing mirror)
-    (MetFault gave.source gave.left start mirror) turns gave followed
+    (MetFault gave.source gave.left start mirror) most_reads gave followed

@@ -25,7 +25,8 @@ IsStillNeeded bytes = HasNoWholeRequest bytes × ¬ (IsPastLimits bytes)
 -- the bytes begin with a whole head, are too large, or never become a head
 abbrev pub IsEnough : List ℕ → Type 0
 IsEnough bytes =
-    ((head : RequestHead) × (rest : List ℕ) × BeginsWithRequest bytes head rest) ⊎ (IsTooLargeRequest bytes ⊎ NeverHasRequest bytes)
+    ((head : RequestHead) × (rest : List ℕ) × BeginsWithRequest bytes head rest)
+    ⊎ (IsTooLargeRequest bytes ⊎ NeverHasRequest bytes)
 
 -- the bytes are what reads gave, each of which was still needed and asked for no more than it may
 pub data IsReadAsNeeded : List ℕ → Type 0 where
@@ -33,21 +34,21 @@ pub data IsReadAsNeeded : List ℕ → Type 0 where
   more_read : (prefix last : List ℕ) → IsReadAsNeeded prefix → IsStillNeeded prefix
       → length last ≤ most_after (length prefix) → IsReadAsNeeded (prefix ++ last)
 
--- why a head was not read: a read failed, or was one too many (of `turns`), where it was still needed;
--- or memory ran out
+-- why a head was not read: a read failed, or was one too many (of `most_reads`), where it was still
+-- needed; or memory ran out
 abbrev pub HeadFails : ℕ → Gave → List ℕ → EngineFault → Type 0
-HeadFails turns gave head fault.Read =
+HeadFails most_reads gave head fault.Read =
     Consumes gave.source gave.left head × IsStillNeeded head
-HeadFails turns gave head fault.Turns =
+HeadFails most_reads gave head fault.Turns =
     Consumes gave.source gave.left head × IsStillNeeded head
-    × RoseBy gave.reads_old gave.reads_new turns
-HeadFails turns gave head fault.Memory = Unit {0}
-HeadFails turns gave head fault.Write = ⊥
-HeadFails turns gave head (fault.Commit why) = ⊥
-HeadFails turns gave head (fault.Follow why) = ⊥
+    × RoseBy gave.reads_old gave.reads_new most_reads
+HeadFails most_reads gave head fault.Memory = Unit {0}
+HeadFails most_reads gave head fault.Write = ⊥
+HeadFails most_reads gave head (fault.Commit why) = ⊥
+HeadFails most_reads gave head (fault.Follow why) = ⊥
 
 -- these bytes of a head were read: enough, or all that there were
 abbrev pub HeadEnds : {A : Type 0} → ℕ → Gave → List ℕ → Result A EngineFault → Type 0
-HeadEnds turns gave head (Ok _) =
+HeadEnds most_reads gave head (Ok _) =
     Consumes gave.source gave.left head × (IsEnough head ⊎ IsAtEnd gave.left)
-HeadEnds turns gave head (Err why) = HeadFails turns gave head why
+HeadEnds most_reads gave head (Err why) = HeadFails most_reads gave head why

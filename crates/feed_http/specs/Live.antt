@@ -43,7 +43,8 @@ pub record TakesTurn (turn : ℕ) (before now : Intake) : Type 0 where
 
 -- of a turn some batches were accepted, and the next one was refused; that one is taken, too, and
 -- those behind it are left
-pub record RefusesInTurn (turn : ℕ) (before : Intake) (fault : CommitFault) (now : Intake) : Type 0 where
+pub record RefusesInTurn (turn : ℕ) (before : Intake) (fault : CommitFault)
+    (now : Intake) : Type 0 where
   pub earlier : List (List Change)
   pub batch : List Change
   pub accepted : Accepts before.primary earlier now.primary
@@ -70,7 +71,8 @@ LosesItsToken turn start gone =
 
 -- A session that opened at this token was sent these commits, and is at that token. Each time that
 -- there was nothing new, a turn was taken.
-pub data HasSent (turn : ℕ) (start : Intake) (opened : List ℕ) : List Commit → Intake → List ℕ → Type 0 where
+pub data HasSent (turn : ℕ) (start : Intake) (opened : List ℕ) : List Commit → Intake → List ℕ
+    → Type 0 where
   none_sent : HasSent turn start opened [] start opened
   commit_sent : (earlier : List Commit) (now : Intake) (token : List ℕ) (commit : Commit)
       → HasSent turn start opened earlier now token
@@ -93,7 +95,8 @@ SendsLiveTo turn start (Some opened) sent gone now =
     (token : List ℕ) × HasSent turn start opened sent now token × IsOver now token gone
 
 -- all that is written with this answer, what `Served` tells of it, and what is left
-pub record SendsLive (turn : ℕ) (start : Intake) (answer : AnswerParts) (text : List ℕ) (served : Served) (now : Intake) : Type 0 where
+pub record SendsLive (turn : ℕ) (start : Intake) (answer : AnswerParts) (text : List ℕ)
+    (served : Served) (now : Intake) : Type 0 where
   pub sent : List Commit
   pub gone : Bool
   pub sends : SendsLiveTo turn start answer.session sent gone now
@@ -110,7 +113,8 @@ BeginsNext framing now token begun =
     × (farewell framing gone ++ frame_end framing ≡ begun ++ rest))
 
 -- the text is the frames of the commits that a session was sent, and a prefix of what comes next
-pub record IsCutShort (turn : ℕ) (start : Intake) (opened : List ℕ) (framing : Framing) (now : Intake) (text : List ℕ) : Type 0 where
+pub record IsCutShort (turn : ℕ) (start : Intake) (opened : List ℕ) (framing : Framing)
+    (now : Intake) (text : List ℕ) : Type 0 where
   pub sent : List Commit
   pub token : List ℕ
   pub has_sent : HasSent turn start opened sent now token
@@ -120,7 +124,8 @@ pub record IsCutShort (turn : ℕ) (start : Intake) (opened : List ℕ) (framing
 
 -- the text is the frames of the commits that a session was sent; then, with nothing new, a turn
 -- was begun in which a batch was refused
-pub record IsRefused (turn : ℕ) (start : Intake) (opened : List ℕ) (framing : Framing) (fault : CommitFault) (now : Intake) (text : List ℕ) : Type 0 where
+pub record IsRefused (turn : ℕ) (start : Intake) (opened : List ℕ) (framing : Framing)
+    (fault : CommitFault) (now : Intake) (text : List ℕ) : Type 0 where
   pub sent : List Commit
   pub before : Intake
   pub token : List ℕ
@@ -131,14 +136,16 @@ pub record IsRefused (turn : ℕ) (start : Intake) (opened : List ℕ) (framing 
 
 -- a prefix of the answer was written, and no batch taken; or the whole answer, and a part of what
 -- its session is sent
-abbrev pub WroteLive : ℕ → Intake → AnswerParts → Intake → Option (List ℕ) → Option (List ℕ) → Type 0
+abbrev pub WroteLive : ℕ → Intake → AnswerParts → Intake → Option (List ℕ) → Option (List ℕ)
+    → Type 0
 WroteLive turn start answer now old new =
     (AppendsPrefix old new answer.text × (now ≡ start))
     ⊎ ((opened : List ℕ) × (text : List ℕ) × (answer.session ≡ Some opened)
     × IsCutShort turn start opened answer.framing now text × Appends old new (answer.text ++ text))
 
 -- the whole answer was written, and what its session was sent before a batch was refused
-abbrev pub WroteRefused : ℕ → Intake → AnswerParts → CommitFault → Intake → Option (List ℕ) → Option (List ℕ) → Type 0
+abbrev pub WroteRefused : ℕ → Intake → AnswerParts → CommitFault → Intake → Option (List ℕ)
+    → Option (List ℕ) → Type 0
 WroteRefused turn start answer fault now old new =
     (opened : List ℕ) × (text : List ℕ) × (answer.session ≡ Some opened)
     × IsRefused turn start opened answer.framing fault now text
@@ -156,49 +163,52 @@ pub record HasAnswer (contest : List ℕ) (node : NodeState) (framing : Framing)
   pub answers : AnswersTo head contest node framing back answer
 
 -- what came of the session's token and of the batches: after a 200 the token was lost where a turn
--- was long, and else only where what is kept is limited in bytes; where it was not lost, no batch is
--- left; without a 200 all of them are
+-- was long, and else only where what is kept is limited in bytes; where it was not lost, no batch
+-- is left; without a 200 all of them are
 pub record TakesAll (turn : ℕ) (start : Intake) (served : Served) (now : Intake) : Type 0 where
   pub only_long : served.gone ≡ true → MayLoseTokens turn start
   pub each_long : served.status ≡ 200 → LosesItsToken turn start served.gone
   pub all_taken : served.status ≡ 200 → served.gone ≡ false → now.batches ≡ []
   pub none_taken : served.status ≢ 200 → now ≡ start
 
--- what was read, written and taken where a primary was served, in at most so many reads (`turns`)
-abbrev pub ServedLive : ℕ → List ℕ → Framing → ℕ → ℕ → Exchange → Intake
-    → Result Served EngineFault → Intake → Type 0
-ServedLive turn contest framing back turns spoken start (Ok served) now =
+-- what was read, written and taken where a primary was served
+abbrev pub ServedLive : ℕ → Service → Exchange → Intake → Result Served EngineFault → Intake
+    → Type 0
+ServedLive turn service spoken start (Ok served) now =
     ((answer : AnswerParts) × (text : List ℕ)
-    × HasAnswer contest start.primary.node framing back spoken.source spoken.left answer
+    × HasAnswer service.contest.now start.primary.node service.framing service.back
+        spoken.source spoken.left answer
     × SendsLive turn start answer text served now
     × Appends spoken.written_old spoken.written_new text)
     × TakesAll turn start served now
-ServedLive turn contest framing back turns spoken start (Err fault.Read) now =
+ServedLive turn service spoken start (Err fault.Read) now =
     BrokeInHead spoken.source spoken.left spoken.written_old spoken.written_new
     × (now ≡ start)
-ServedLive turn contest framing back turns spoken start (Err fault.Turns) now =
+ServedLive turn service spoken start (Err fault.Turns) now =
     BrokeInHead spoken.source spoken.left spoken.written_old spoken.written_new
     × (now ≡ start)
-    × RoseBy spoken.reads_old spoken.reads_new turns
-ServedLive turn contest framing back turns spoken start (Err fault.Write) now =
+    × RoseBy spoken.reads_old spoken.reads_new service.most_reads
+ServedLive turn service spoken start (Err fault.Write) now =
     (answer : AnswerParts)
-    × HasAnswer contest start.primary.node framing back spoken.source spoken.left answer
+    × HasAnswer service.contest.now start.primary.node service.framing service.back
+        spoken.source spoken.left answer
     × WroteLive turn start answer now spoken.written_old spoken.written_new
-ServedLive turn contest framing back turns spoken start (Err (fault.Commit why)) now =
+ServedLive turn service spoken start (Err (fault.Commit why)) now =
     (answer : AnswerParts)
-    × HasAnswer contest start.primary.node framing back spoken.source spoken.left answer
+    × HasAnswer service.contest.now start.primary.node service.framing service.back
+        spoken.source spoken.left answer
     × WroteRefused turn start answer why now spoken.written_old spoken.written_new
-ServedLive turn contest framing back turns spoken start (Err fault.Memory) now =
+ServedLive turn service spoken start (Err fault.Memory) now =
     (Appends spoken.written_old spoken.written_new [] × (now ≡ start))
     ⊎ ((answer : AnswerParts)
-    × HasAnswer contest start.primary.node framing back spoken.source spoken.left answer
+    × HasAnswer service.contest.now start.primary.node service.framing service.back
+        spoken.source spoken.left answer
     × WroteLive turn start answer now spoken.written_old spoken.written_new)
-ServedLive turn contest framing back turns spoken start (Err (fault.Follow why)) now = ⊥
+ServedLive turn service spoken start (Err (fault.Follow why)) now = ⊥
 
 -- a primary was served on a connection, and took batches in turns
 pub record ServesLive (turn : ℕ) (service : Service) (spoken : Exchange) (start : Intake)
     (served : Result Served EngineFault) (now : Intake) : Type 0 where
-  pub came : ServedLive turn service.contest.now service.framing service.back service.turns spoken
-      start served now
-  pub reads : RoseAtMost spoken.reads_old spoken.reads_new service.turns
+  pub came : ServedLive turn service spoken start served now
+  pub reads : RoseAtMost spoken.reads_old spoken.reads_new service.most_reads
   pub failures : FailuresAreTold spoken served

@@ -23,7 +23,8 @@ pub data Sent (node : NodeState) : List ℕ → List Commit → List ℕ → Typ
       → Sent node start (earlier ++ commit ∷ []) commit.token
 
 -- the frames of the commits that a session was sent were written, and a prefix of the next one's
-pub record WroteCommits (node : NodeState) (start : List ℕ) (framing : Framing) (old new : Option (List ℕ)) : Type 0 where
+pub record WroteCommits (node : NodeState) (start : List ℕ) (framing : Framing)
+    (old new : Option (List ℕ)) : Type 0 where
   pub sent : List Commit
   pub token : List ℕ
   pub run : Sent node start sent token
@@ -32,7 +33,8 @@ pub record WroteCommits (node : NodeState) (start : List ℕ) (framing : Framing
   pub wrote : Appends old new (commit_frames framing sent ++ begun)
 
 -- a prefix was written of what a session at this token is sent
-pub record WroteSome (node : NodeState) (token : List ℕ) (framing : Framing) (old new : Option (List ℕ)) : Type 0 where
+pub record WroteSome (node : NodeState) (token : List ℕ) (framing : Framing)
+    (old new : Option (List ℕ)) : Type 0 where
   pub sent : List Commit
   pub gone : Bool
   pub sends : Sends node token sent gone
@@ -67,8 +69,9 @@ WroteAll node answer wrote served =
 
 -- ---- what was written while batches were taken
 
--- the frames of the commits that a session was sent, which opened at this token; so many, and whether
--- its token is then lost: where a turn is long, and else only where what is kept is limited in bytes
+-- the frames of the commits that a session was sent, which opened at this token; so many, and
+-- whether its token is then lost: where a turn is long, and else only where what is kept is limited
+-- in bytes
 pub record WroteTurns (turn : ℕ) (start : Intake) (opened : List ℕ) (framing : Framing)
     (wrote : Wrote) (now : Intake) (token : List ℕ) (count : ℕ) (gone : Bool) : Type 0 where
   pub sent : List Commit

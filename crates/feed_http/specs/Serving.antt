@@ -54,7 +54,8 @@ answered_text answer sent gone =
     answer.text ++ written_behind answer.session answer.framing sent gone
 
 -- what `Served` tells
-pub record Tells (answer : AnswerParts) (sent : List Commit) (gone : Bool) (served : Served) : Type 0 where
+pub record Tells (answer : AnswerParts) (sent : List Commit) (gone : Bool)
+    (served : Served) : Type 0 where
   pub status : served.status ≡ answer.status
   pub commits : served.commits ≡ counted 0 (length sent)
   pub gone_is : served.gone ≡ gone
@@ -65,7 +66,8 @@ SendsTo node None sent gone = (sent ≡ []) × (gone ≡ false)
 SendsTo node (Some token) sent gone = Sends node token sent gone
 
 -- all that a node writes with this answer
-pub record SendsAnswer (node : NodeState) (answer : AnswerParts) (text : List ℕ) (served : Served) : Type 0 where
+pub record SendsAnswer (node : NodeState) (answer : AnswerParts) (text : List ℕ)
+    (served : Served) : Type 0 where
   pub sent : List Commit
   pub gone : Bool
   pub sends : SendsTo node answer.session sent gone
@@ -83,45 +85,45 @@ pub record Serves (head contest : List ℕ) (node : NodeState) (framing : Framin
 abbrev pub BrokeInHead : Option (List ℕ) → Option (List ℕ) → Option (List ℕ) → Option (List ℕ)
     → Type 0
 BrokeInHead source left old new =
-    (head : List ℕ) × Consumes source left head × IsReadAsNeeded head × IsStillNeeded head × Appends old new []
+    (head : List ℕ) × Consumes source left head × IsReadAsNeeded head × IsStillNeeded head
+    × Appends old new []
 
 -- these bytes were read, as far as the head took, and a prefix of what a node writes to a client
 -- that sent them was written
 abbrev pub BrokeBehindHead : List ℕ → NodeState → Framing → ℕ → Option (List ℕ)
     → Option (List ℕ) → Option (List ℕ) → Option (List ℕ) → Type 0
 BrokeBehindHead contest node framing back source left old new =
-    (head : List ℕ) × (text : List ℕ) × (served : Served) × Consumes source left head × IsReadAsNeeded head × (IsEnough head ⊎ IsAtEnd left)
+    (head : List ℕ) × (text : List ℕ) × (served : Served) × Consumes source left head
+    × IsReadAsNeeded head × (IsEnough head ⊎ IsAtEnd left)
     × Serves head contest node framing back text served × AppendsPrefix old new text
 
 -- ---- on a connection
 
--- what was read and written where a node was served, in at most so many reads (`turns`)
-abbrev pub ServedSo : List ℕ → NodeState → Framing → ℕ → ℕ → Exchange
-    → Result Served EngineFault → Type 0
-ServedSo contest node framing back turns spoken (Ok served) =
+-- what was read and written where a node was served
+abbrev pub ServedSo : Service → NodeState → Exchange → Result Served EngineFault → Type 0
+ServedSo service node spoken (Ok served) =
     (head : List ℕ) × (text : List ℕ) × Consumes spoken.source spoken.left head
     × IsReadAsNeeded head × (IsEnough head ⊎ IsAtEnd spoken.left)
-    × Serves head contest node framing back text served
+    × Serves head service.contest.now node service.framing service.back text served
     × Appends spoken.written_old spoken.written_new text
-ServedSo contest node framing back turns spoken (Err fault.Read) =
+ServedSo service node spoken (Err fault.Read) =
     BrokeInHead spoken.source spoken.left spoken.written_old spoken.written_new
-ServedSo contest node framing back turns spoken (Err fault.Turns) =
+ServedSo service node spoken (Err fault.Turns) =
     BrokeInHead spoken.source spoken.left spoken.written_old spoken.written_new
-    × RoseBy spoken.reads_old spoken.reads_new turns
-ServedSo contest node framing back turns spoken (Err fault.Write) =
-    BrokeBehindHead contest node framing back spoken.source spoken.left spoken.written_old
-    spoken.written_new
-ServedSo contest node framing back turns spoken (Err fault.Memory) =
+    × RoseBy spoken.reads_old spoken.reads_new service.most_reads
+ServedSo service node spoken (Err fault.Write) =
+    BrokeBehindHead service.contest.now node service.framing service.back spoken.source spoken.left
+    spoken.written_old spoken.written_new
+ServedSo service node spoken (Err fault.Memory) =
     Appends spoken.written_old spoken.written_new []
-    ⊎ BrokeBehindHead contest node framing back spoken.source spoken.left spoken.written_old
-    spoken.written_new
-ServedSo contest node framing back turns spoken (Err (fault.Commit why)) = ⊥
-ServedSo contest node framing back turns spoken (Err (fault.Follow why)) = ⊥
+    ⊎ BrokeBehindHead service.contest.now node service.framing service.back spoken.source
+    spoken.left spoken.written_old spoken.written_new
+ServedSo service node spoken (Err (fault.Commit why)) = ⊥
+ServedSo service node spoken (Err (fault.Follow why)) = ⊥
 
 -- a node was served on a connection
 pub record ServesOnce (service : Service) (node : NodeState) (spoken : Exchange)
     (served : Result Served EngineFault) : Type 0 where
-  pub came : ServedSo service.contest.now node service.framing service.back service.turns spoken
-      served
-  pub reads : RoseAtMost spoken.reads_old spoken.reads_new service.turns
+  pub came : ServedSo service node spoken served
+  pub reads : RoseAtMost spoken.reads_old spoken.reads_new service.most_reads
   pub failures : FailuresAreTold spoken served

@@ -19,20 +19,20 @@ fn push_response<R: FeedRead>(
     reader: &mut R,
     follower: &mut Follower,
     mirror: &mut Mirror,
-    turns: u64,
+    most_reads: u64,
 ) -> Result<Followed, EngineFault>
     requires { FollowsAt mirror.old [] in_head follower.old mirror.old }
     ensures came { let gave = gave_by R.remaining R.reads R.failures reader.old reader.new in
-        Comes turns gave mirror.old result mirror.new }
+        Comes most_reads gave mirror.old result mirror.new }
     ensures failures { R.failures reader.new
         ≡ failed_reads_after (R.failures reader.old) result }
-    ensures reads { RoseAtMost (R.reads reader.old) (R.reads reader.new) turns }
+    ensures reads { RoseAtMost (R.reads reader.old) (R.reads reader.new) most_reads }
 {
     // What no `Closed` rests on.
     follow_laws();
     let mut piece = [0u8; READ_BYTES];
     let mut at_end = Followed::Early;
-    'pieces: for _ in 0..turns {
+    'pieces: for _ in 0..most_reads {
         let len = match reader.read_some(&mut piece) {
             Ok(0) => return Ok(at_end),
             Ok(len) => len,
@@ -48,26 +48,27 @@ fn push_response<R: FeedRead>(
     Err(EngineFault::Turns)
 }
 
-/// Reads the response to what a mirror asked with, in at most so many reads (`turns`) of at most
-/// 4,096 bytes, and feeds what it carries to the mirror, which is then cut: until the reader ends,
-/// the body is whole, or the token is refused. Where a read fails or is one too many, the response
-/// still went on, and what it published stands. A fault of the response is that of the last piece;
-/// running out of memory is one of these, and leaves what the earlier pieces published, or more.
+/// Reads the response to what a mirror asked with, in at most so many reads (`most_reads`) of at
+/// most 4,096 bytes, and feeds what it carries to the mirror, which is then cut: until the reader
+/// ends, the body is whole, or the token is refused. Where a read fails or is one too many, the
+/// response still went on, and what it published stands. A fault of the response is that of the
+/// last piece; running out of memory is one of these, and leaves what the earlier pieces published,
+/// or more.
 pub fn follow<R: FeedRead>(
     alloc: Global,
     reader: &mut R,
     mirror: &mut Mirror,
-    turns: u64,
+    most_reads: u64,
 ) -> Result<Followed, EngineFault>
     ensures followed { let gave = gave_by R.remaining R.reads R.failures reader.old reader.new in
-        Follows turns gave mirror.old result mirror.new }
+        Follows most_reads gave mirror.old result mirror.new }
     ensures cut { mirror.new.connection ≡ None }
     ensures failures { R.failures reader.new
         ≡ failed_reads_after (R.failures reader.old) result }
-    ensures reads { RoseAtMost (R.reads reader.old) (R.reads reader.new) turns }
+    ensures reads { RoseAtMost (R.reads reader.old) (R.reads reader.new) most_reads }
 {
     let mut follower = Follower::new(mirror);
-    let followed = push_response(alloc, reader, &mut follower, mirror, turns);
+    let followed = push_response(alloc, reader, &mut follower, mirror, most_reads);
     follower.end(mirror);
     followed
 }

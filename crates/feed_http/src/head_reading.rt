@@ -72,19 +72,19 @@ pub fn is_needed(bytes: &[u8]) -> bool
 pub(crate) fn read_head<R: FeedRead>(
     reader: &mut R,
     bytes: &mut Vec<u8>,
-    turns: u64,
+    most_reads: u64,
 ) -> Result<(), EngineFault>
     requires { bytes.old.items ≡ [] }
     ensures ends { let gave = gave_by R.remaining R.reads R.failures reader.old reader.new in
-        HeadEnds turns gave bytes.new.items result }
+        HeadEnds most_reads gave bytes.new.items result }
     ensures failures { R.failures reader.new
         ≡ failed_reads_after (R.failures reader.old) result }
     ensures needed { IsReadAsNeeded bytes.new.items }
-    ensures reads { RoseAtMost (R.reads reader.old) (R.reads reader.new) turns }
+    ensures reads { RoseAtMost (R.reads reader.old) (R.reads reader.new) most_reads }
 {
     let mut made: u64 = 0;
     'pieces: while is_needed(bytes.as_slice()) {
-        if made == turns {
+        if made == most_reads {
             return Err(EngineFault::Turns);
         }
         made += 1;

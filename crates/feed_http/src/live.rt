@@ -146,10 +146,10 @@ pub fn serve_live<R: FeedRead, W: FeedWrite>(
         contest,
         framing,
         back,
-        turns,
+        most_reads,
     } = *service;
     let mut head = Vec::new(alloc);
-    read_head(reader, &mut head, turns)?;
+    read_head(reader, &mut head, most_reads)?;
     let node = primary.node();
     let answered = answer(alloc, head.as_slice(), node, contest, framing, back)?;
     send_live_answer(alloc, writer, primary, input, turn, answered)

@@ -13,5 +13,5 @@ pub struct Service<'c> {
     /// where there are fewer.
     pub back: usize,
     /// The most reads of a request's head.
-    pub turns: u64,
+    pub most_reads: u64,
 }

@@ -181,10 +181,10 @@ pub fn serve_node<R: FeedRead, W: FeedWrite>(
         contest,
         framing,
         back,
-        turns,
+        most_reads,
     } = *service;
     let mut head = Vec::new(alloc);
-    read_head(reader, &mut head, turns)?;
+    read_head(reader, &mut head, most_reads)?;
     let answered = answer(alloc, head.as_slice(), node, contest, framing, back)?;
     send_answer(alloc, writer, node, answered)
 }

@@ -28,7 +28,7 @@ use Rattle.feed_world.specs.Reading.{IsOpened, IsRead, PrefixesAreRead}
 use Rattle.feed_world.specs.States.{HasReached}
 use Rattle.feed_hub.specs.Told.{Told, told_none, told_commit, told_line_feed}
 use Rattle.feed_hub.specs.Laws.{AreInLog, StandInOrder}
-use Rattle.feed_hub.specs.Files.{BreaksOff, FilesBreakOff}
+use Rattle.feed_hub.specs.Files.{PublishesAsRecorded, FilesBreakOff}
 use Rattle.feed_hub.proofs.FileLemmas.{begun}
 use Rattle.feed_hub.proofs.LawLemmas.{screens_connect, connection, its_text, is_opened}
 
@@ -276,7 +276,7 @@ files_break_off g limits log nodes written before line behind r earlier notes is
     -- the parts up to there
     up_to : (parts later : List Part) → in_order.parts ≡ parts ++ later
         → length before < length (state_text log b.0 ++ parts_text log parts) → length (state_text log b.0 ++ parts_text log parts) ≤ length text
-        → BreaksOff limits nodes text notes
+        → PublishesAsRecorded limits nodes text notes
     up_to parts later is after within =
         let texts = part_texts log parts in
         let part : recorded.texts ≡ texts ++ part_texts log later =
@@ -305,7 +305,7 @@ files_break_off g limits log nodes written before line behind r earlier notes is
         )
 
     at : (parts later : List Part) → Snapshot b.0 ∷ in_order.parts ≡ parts ++ later → length before < length (parts_text log parts)
-        → length (parts_text log parts) ≤ length text → BreaksOff limits nodes text notes
+        → length (parts_text log parts) ≤ length text → PublishesAsRecorded limits nodes text notes
     at [] later is after within = absurd (omega (arith, after))
     at (p ∷ parts) later is after within =
         let first : Snapshot b.0 ≡ p = cc in
@@ -315,7 +315,7 @@ files_break_off g limits log nodes written before line behind r earlier notes is
         (subst (λ q. length (part_text log q ++ parts_text log parts) ≤ length text) (sym first) within)
 
     by : (blocks_within log its.parts (length before) ≡ blocks_within log its.parts (length text)) ⊎ EndsBetween log its.parts (length before) (length text)
-        → BreaksOff limits nodes text notes
+        → PublishesAsRecorded limits nodes text notes
     by (inl same) =
         let equal : publications limits.history first_opening earlier ≡ publications limits.history first_opening notes =
         count_before ∙ ap (count_new limits.history log None) same ∙ sym count_after in

@@ -22,11 +22,11 @@ use Rattle.feed_hub.specs.declared.seats.Seat.{Seat}
 use Rattle.feed_hub.specs.declared.seats.Seat.TheVariants.{Asks, Watches}
 use Rattle.feed_hub.specs.declared.seats.Seated.{Seated}
 use Rattle.feed_hub.specs.Broadcast.{IsServedBy, Gains, SaysNext}
-use Rattle.feed_hub.specs.Hub.{Takes, HearsOf, HearsAt, HoldsAt}
-use Rattle.feed_hub.specs.Log.{Log, Has, behind, end_of, oldest_in}
-use Rattle.feed_hub.specs.Screen.{IsOnLog, IsFollowed, IsNotBehind, IsServed}
-use Rattle.feed_hub.specs.Seats.{seat_at, AreOnLog, HasAll, ChangesSeat, KeepsThose, IsSeatNotBehind, IsLeastPlace, Watched, Ends, IsCutAt}
-use Rattle.feed_hub.specs.Steps.{opened, Gets, way_after, with_next, refilled, refilled_at, idled, idled_at, taken, way_from, FollowsLog, ended}
+use Rattle.feed_hub.specs.Hub.{TakesOfHead, HearsOf, HearsAt, HoldsAt}
+use Rattle.feed_hub.specs.Backlog.{Backlog, Has, behind, end_of, oldest_in}
+use Rattle.feed_hub.specs.Screen.{IsOnLog, IsSentFrom, IsNotBehind, IsServed}
+use Rattle.feed_hub.specs.Seats.{seat_at, AreOnLog, HasWhatIsDue, ChangesSeat, KeepsThose, IsSeatNotBehind, IsLeastPlace, Watched, EndsSeat, CutsSeat}
+use Rattle.feed_hub.specs.Steps.{opened, Gets, way_after, with_next, refilled, refilled_at, idled, idled_at, taken, way_from, TakesFromLog, ended}
 use Rattle.feed_hub.proofs.LoopLemmas.{left_off}
 use Rattle.feed_hub.proofs.SeatLemmas.{seat_found, removed_at}
 use Rattle.feed_hub.proofs.ServedLemmas.{served_opens, served_refused, ended_served}
@@ -66,42 +66,42 @@ watched Becomes old new s t was is becomes = subst (λ o. Watched Becomes o new)
 -- ---- who is on the log
 
 -- what sits here is as it should be, if it is on the log
-abbrev pub IsFine : Framing → Option (List ℕ) → Log → Seat → Type 0
-IsFine common told log seat = (s : Screen) (at : ℕ) → seat ≡ Watches s → s.way ≡ OnLog at → IsFollowed common told log s.framing at
+abbrev pub IsFine : Framing → Option (List ℕ) → Backlog → Seat → Type 0
+IsFine common told log seat = (s : Screen) (at : ℕ) → seat ≡ Watches s → s.way ≡ OnLog at → IsSentFrom common told log s.framing at
 
-pub fine_at : (common : Framing) (told : Option (List ℕ)) (log : Log) (seats : Slab Seated) (key : Key) (s : Screen)
-    → AreOnLog common told log seats → seat_at seats key ≡ Some (Watches s) → (at : ℕ) → s.way ≡ OnLog at → IsFollowed common told log s.framing at
+pub fine_at : (common : Framing) (told : Option (List ℕ)) (log : Backlog) (seats : Slab Seated) (key : Key) (s : Screen)
+    → AreOnLog common told log seats → seat_at seats key ≡ Some (Watches s) → (at : ℕ) → s.way ≡ OnLog at → IsSentFrom common told log s.framing at
 fine_at common told log seats key s on sits at way = on key s at sits way
 
-on_of_way : (log : Log) (way : Way) → ((at : ℕ) → way ≡ OnLog at → Has log at) → IsOnLog log way
+on_of_way : (log : Backlog) (way : Way) → ((at : ℕ) → way ≡ OnLog at → Has log at) → IsOnLog log way
 on_of_way log (CatchesUp token) has = tt
 on_of_way log (OnLog at) has = has at refl
 on_of_way log (Stops token) has = tt
 on_of_way log Over has = tt
 
-pub on_log : (common : Framing) (told : Option (List ℕ)) (log : Log) (seats : Slab Seated) (key : Key) (s : Screen)
+pub on_log : (common : Framing) (told : Option (List ℕ)) (log : Backlog) (seats : Slab Seated) (key : Key) (s : Screen)
     → AreOnLog common told log seats → seat_at seats key ≡ Some (Watches s) → IsOnLog log s.way
 on_log common told log seats key s on sits = on_of_way log s.way (λ at way. (on key s at sits way).has)
 
-pub has_all : (common : Framing) (told : Option (List ℕ)) (log : Log) (seats : Slab Seated) → AreOnLog common told log seats → HasAll log seats
+pub has_all : (common : Framing) (told : Option (List ℕ)) (log : Backlog) (seats : Slab Seated) → AreOnLog common told log seats → HasWhatIsDue log seats
 has_all common told log seats on key s at sits way = (on key s at sits way).has
 
-module _ (common : Framing) (told : Option (List ℕ)) (log : Log) (old new : Slab Seated) (key : Key) (on : AreOnLog common told log old) where
+module _ (common : Framing) (told : Option (List ℕ)) (log : Backlog) (old new : Slab Seated) (key : Key) (on : AreOnLog common told log old) where
   pub changed_on : (seat : Seat) → ChangesSeat old new key (Some seat) → IsFine common told log seat → AreOnLog common told log new
   changed_on seat ch fine k s at sits way = by (key_tells k key)
     where
-      by : (k ≡ key) ⊎ (k ≢ key) → IsFollowed common told log s.framing at
+      by : (k ≡ key) ⊎ (k ≢ key) → IsSentFrom common told log s.framing at
       by (inl same) = fine s at (same_seat seat (Watches s) (sym ch.changed ∙ ap (seat_at new) (sym same) ∙ sits)) way
       by (inr other) = on k s at (sym (ch.others k other) ∙ sits) way
 
   pub emptied_on : ChangesSeat old new key None → AreOnLog common told log new
   emptied_on ch k s at sits way = by (key_tells k key)
     where
-      by : (k ≡ key) ⊎ (k ≢ key) → IsFollowed common told log s.framing at
+      by : (k ≡ key) ⊎ (k ≢ key) → IsSentFrom common told log s.framing at
       by (inl same) = let none : None ≡ Some (Watches s) = sym ch.changed ∙ ap (seat_at new) (sym same) ∙ sits in absurd (cc)
       by (inr other) = on k s at (sym (ch.others k other) ∙ sits) way
 
-pub same_on : (common : Framing) (told : Option (List ℕ)) (log : Log) (old new : Slab Seated) → AreOnLog common told log old
+pub same_on : (common : Framing) (told : Option (List ℕ)) (log : Backlog) (old new : Slab Seated) → AreOnLog common told log old
     → ((key : Key) (seat : Seat) → seat_at new key ≡ Some seat → seat_at old key ≡ Some seat) → AreOnLog common told log new
 same_on common told log old new on same key s at sits way = on key s at (same key (Watches s) sits) way
 
@@ -153,26 +153,26 @@ way_after_off : (session : Option (List ℕ)) (at : ℕ) → way_after session �
 way_after_off None at e = cc
 way_after_off (Some token) at e = cc
 
-pub opened_fine : (common : Framing) (told : Option (List ℕ)) (log : Log) (answer : AnswerParts) (now : ℕ) → IsFine common told log (Watches (opened answer now))
+pub opened_fine : (common : Framing) (told : Option (List ℕ)) (log : Backlog) (answer : AnswerParts) (now : ℕ) → IsFine common told log (Watches (opened answer now))
 opened_fine common told log answer now s at is way =
     let same : opened answer now ≡ s = cc in
     absurd (way_after_off answer.session at (ap (λ x. x.way) same ∙ way))
 
-has_at : (log : Log) (way : Way) (at : ℕ) → IsOnLog log way → way ≡ OnLog at → Has log at
+has_at : (log : Backlog) (way : Way) (at : ℕ) → IsOnLog log way → way ≡ OnLog at → Has log at
 has_at log way at on e = subst (IsOnLog log) e on
 
-module _ (common : Framing) (told : Option (List ℕ)) (log : Log) (s : Screen)
-    (fine : (at : ℕ) → s.way ≡ OnLog at → IsFollowed common told log s.framing at) where
+module _ (common : Framing) (told : Option (List ℕ)) (log : Backlog) (s : Screen)
+    (fine : (at : ℕ) → s.way ≡ OnLog at → IsSentFrom common told log s.framing at) where
   pub idled_fine : (now : ℕ) (t : Screen) → t ≡ idled now s → IsFine common told log (Watches t)
   idled_fine now t e u at is way =
       let same : u ≡ idled now s = (let first : t ≡ u = cc in sym first ∙ e) in
       let kept : idled now s ≡ s = idled_way now s at (ap (λ x. x.way) (sym same) ∙ way) in
-      subst (λ x. IsFollowed common told log x.framing at) (sym (same ∙ kept)) (fine at (ap (λ x. x.way) (sym (same ∙ kept)) ∙ way))
+      subst (λ x. IsSentFrom common told log x.framing at) (sym (same ∙ kept)) (fine at (ap (λ x. x.way) (sym (same ∙ kept)) ∙ way))
 
   pub kept_fine : (t : Screen) → t.way ≡ s.way → t.framing ≡ s.framing → IsFine common told log (Watches t)
   kept_fine t same_way same_framing u at is way =
       let same : t ≡ u = cc in
-      subst (λ f. IsFollowed common told log f at) (sym same_framing ∙ ap (λ x. x.framing) same)
+      subst (λ f. IsSentFrom common told log f at) (sym same_framing ∙ ap (λ x. x.framing) same)
       (fine at (sym same_way ∙ ap (λ x. x.way) same ∙ way))
 
   -- one that got what comes next, or stays, is on the log only where it was there, or joined it
@@ -182,18 +182,18 @@ module _ (common : Framing) (told : Option (List ℕ)) (log : Log) (s : Screen)
   got_on_log node room now (Waits count) r at is way = is.0
 
   pub joined_fine : (node : NodeState) (room : Bool) (now : ℕ) (got : Refill) (r t : Screen) → Gets node room now got s r
-      → ((at : ℕ) → t.way ≡ OnLog at → (t ≡ r) ⊎ IsFollowed common told log t.framing at) → IsFine common told log (Watches t)
+      → ((at : ℕ) → t.way ≡ OnLog at → (t ≡ r) ⊎ IsSentFrom common told log t.framing at) → IsFine common told log (Watches t)
   joined_fine node room now got r t gets joins u at is way = by (joins at (ap (λ x. x.way) same ∙ way))
     where
       same : t ≡ u
       same = cc
 
-      by : (t ≡ r) ⊎ IsFollowed common told log t.framing at → IsFollowed common told log u.framing at
-      by (inr followed) = subst (λ x. IsFollowed common told log x.framing at) same followed
+      by : (t ≡ r) ⊎ IsSentFrom common told log t.framing at → IsSentFrom common told log u.framing at
+      by (inr followed) = subst (λ x. IsSentFrom common told log x.framing at) same followed
       by (inl e) =
           let is : u ≡ r = sym same ∙ e in
           let kept : r ≡ s = got_on_log node room now got r at gets (ap (λ x. x.way) (sym is) ∙ way) in
-          subst (λ x. IsFollowed common told log x.framing at) (sym (is ∙ kept)) (fine at (ap (λ x. x.way) (sym (is ∙ kept)) ∙ way))
+          subst (λ x. IsSentFrom common told log x.framing at) (sym (is ∙ kept)) (fine at (ap (λ x. x.way) (sym (is ∙ kept)) ∙ way))
 
   pub taken_fine : (count now : ℕ) (t : Screen) → t ≡ taken count now s → IsOnLog log t.way → IsFine common told log (Watches t)
   taken_fine count now t e on u at is way =
@@ -210,7 +210,7 @@ module _ (common : Framing) (told : Option (List ℕ)) (log : Log) (s : Screen)
 -- ---- what all are sent
 
 module _ (seats : Slab Seated) where
-  grown_on : (common : Framing) (told new_told : Option (List ℕ)) (log new_log : Log) (block : List ℕ) → AreOnLog common told log seats
+  grown_on : (common : Framing) (told new_told : Option (List ℕ)) (log new_log : Backlog) (block : List ℕ) → AreOnLog common told log seats
       → (IsSome told → IsSome new_told) → Gains log new_log block → AreOnLog common new_told new_log seats
   grown_on common told new_told log new_log block on some gains key s at sits way =
       let before = on key s at sits way in
@@ -229,7 +229,7 @@ module _ (seats : Slab Seated) where
       subst (λ f. AreOnLog f new.told new.log seats) (sym framing)
       (grown_on b.framing b.told new.told b.log new.log block on (λ some. subst IsSome (sym told) some) gains)
 
-  nobody : (b : Broadcast) → b.told ≡ None → AreOnLog b.framing b.told b.log seats → (common : Framing) (told : Option (List ℕ)) (log : Log) → AreOnLog common told log seats
+  nobody : (b : Broadcast) → b.told ≡ None → AreOnLog b.framing b.told b.log seats → (common : Framing) (told : Option (List ℕ)) (log : Backlog) → AreOnLog common told log seats
   nobody b none on common told log key s at sits way =
       let some : IsSome {T = List ℕ} None = subst IsSome none (on key s at sits way).going in absurd (true≢false (sym some))
 
@@ -249,8 +249,8 @@ module _ (seats : Slab Seated) where
   says_on node b new Gone on says = subst (λ x. AreOnLog x.framing x.told x.log seats) (sym says.same) on
 
 -- who is left once all have left is not on the log
-pub left_on : (log : Log) (was : Option (List ℕ)) (now : ℕ) (old new : Slab Seated) (common : Framing) (told : Option (List ℕ)) (later : Log)
-    → ((key : Key) → Ends log was now (seat_at old key) (seat_at new key) ⊎ (seat_at new key ≡ None)) → AreOnLog common told later new
+pub left_on : (log : Backlog) (was : Option (List ℕ)) (now : ℕ) (old new : Slab Seated) (common : Framing) (told : Option (List ℕ)) (later : Backlog)
+    → ((key : Key) → EndsSeat log was now (seat_at old key) (seat_at new key) ⊎ (seat_at new key ≡ None)) → AreOnLog common told later new
 left_on log was now old new common told later left key s at sits way =
     absurd (left_off log was now (seat_at old key) (seat_at new key) s at (left key) sits way)
 
@@ -263,7 +263,7 @@ pub still_there : (place least end : ℕ) (old new : Slab Seated) → KeepsThose
 still_there place least end old new keeps is key seat sits = ((keeps.kept key seat sits).0, is.all key seat sits)
 
 -- the log has that place, and not more than the window behind it
-module _ (common : Framing) (told : Option (List ℕ)) (log : Log) (window least : ℕ) (old new : Slab Seated) (on : AreOnLog common told log old)
+module _ (common : Framing) (told : Option (List ℕ)) (log : Backlog) (window least : ℕ) (old new : Slab Seated) (on : AreOnLog common told log old)
     (keeps : KeepsThose (IsSeatNotBehind (oldest_in window log)) old new) (is : IsLeastPlace new (end_of log) least) where
   pub has_least : Has log least
   has_least = record { from = by is.needed; to = is.within }
@@ -286,7 +286,7 @@ module _ (common : Framing) (told : Option (List ℕ)) (log : Log) (window least
           omega (arith, above, longer)
 
 -- the log forgets what lies before a place, and who lacks something of that is cut
-pub trims_on : (common : Framing) (told : Option (List ℕ)) (log : Log) (place : ℕ) (old new : Slab Seated) → AreOnLog common told log old
+pub trims_on : (common : Framing) (told : Option (List ℕ)) (log : Backlog) (place : ℕ) (old new : Slab Seated) → AreOnLog common told log old
     → Has log place → ((key : Key) (seat : Seat) → seat_at new key ≡ Some seat → (seat_at old key ≡ Some seat) × IsSeatNotBehind place seat) → AreOnLog common told (record { base = place; bytes = behind log place }) new
 trims_on common told log place old new on has keeps key s at sits way =
     let kept = keeps key (Watches s) sits in
@@ -302,7 +302,7 @@ trims_on common told log place old new on has keeps key s at sits way =
     }
 
 -- whoever stays has what it is to be sent of that log
-pub still_on : (log : Log) (place : ℕ) (way : Way) → IsOnLog log way → IsNotBehind place way → Has log place
+pub still_on : (log : Backlog) (place : ℕ) (way : Way) → IsOnLog log way → IsNotBehind place way → Has log place
     → IsOnLog (record { base = place; bytes = behind log place }) way
 still_on log place (CatchesUp token) on holds has = tt
 still_on log place (Stops token) on holds has = tt
@@ -316,7 +316,7 @@ still_on log place (OnLog at) on holds has =
 
 -- ---- a screen begins
 
-pub opened_served : (nodes : List NodeState) (common : Framing) (log : Log) (told : Option (List ℕ)) (answer : AnswerParts) (now : ℕ)
+pub opened_served : (nodes : List NodeState) (common : Framing) (log : Backlog) (told : Option (List ℕ)) (answer : AnswerParts) (now : ℕ)
     → length answer.text < 2 ^ 64 → IsServed nodes common log told answer [] (opened answer now)
 opened_served nodes common log told answer now fits = by answer.session refl
   where
@@ -328,14 +328,14 @@ opened_served nodes common log told answer now fits = by answer.session refl
 
 -- ---- a screen at an index
 
-pub on_at_index : (log : Log) (seats : Slab Seated) (index generation : ℕ) (s : Screen) → HasAll log seats
+pub on_at_index : (log : Backlog) (seats : Slab Seated) (index generation : ℕ) (s : Screen) → HasWhatIsDue log seats
     → get seats index ≡ Some (record { generation = generation; seat = Watches s }) → IsOnLog log s.way
 on_at_index log seats index generation s all at =
     let key : Key = record { index = index; generation = generation } in
     on_of_way log s.way (λ place way. all key s place (seat_found seats key (record { generation = generation; seat = Watches s }) at refl) way)
 
 pub cut_at_index : (old new : Slab Seated) (index generation : ℕ) (s : Screen)
-    → get old index ≡ Some (record { generation = generation; seat = Watches s }) → FollowsLog s → Updates old new index None → IsCutAt old new index
+    → get old index ≡ Some (record { generation = generation; seat = Watches s }) → TakesFromLog s → Updates old new index None → CutsSeat old new index
 cut_at_index old new index generation s at goes_on u =
     let key : Key = record { index = index; generation = generation } in
     record {
@@ -361,7 +361,7 @@ pub if_all : {E : Type 0} (r : Result Key E) (A B D : Key → Type 0) (C : Type 
 if_all (Ok k) A B D C a b c f = f k a b c
 if_all (Err e) A B D C a b c f = tt
 
-asks_fine : (b : Broadcast) (asking : Asking) (s : Screen) (at : ℕ) → Asks asking ≡ Watches s → IsFollowed b.framing b.told b.log s.framing at
+asks_fine : (b : Broadcast) (asking : Asking) (s : Screen) (at : ℕ) → Asks asking ≡ Watches s → IsSentFrom b.framing b.told b.log s.framing at
 asks_fine b asking s at is = absurd (cc)
 
 pub heard_fine : (b : Broadcast) (contest : List ℕ) (node : NodeState) (now : ℕ) (before : Asking) (head : List ℕ) (status : Option ℕ) (seat : Seat)
@@ -380,7 +380,7 @@ heard_served b contest node now before head status (Watches t) s h is =
     (a.answer, a.answers, λ nodes. subst (λ x. IsServedBy nodes b a.answer [] x) same (opened_served nodes b.framing b.log b.told a.answer now a.fits))
 
 pub heard_at : (b : Broadcast) (contest : List ℕ) (node : NodeState) (now : ℕ) (piece : List ℕ) (heard : Heard) (asking : Asking) (old new : Option Seat) (seat : Seat)
-    → old ≡ Some (Asks asking) → new ≡ Some seat → Takes asking.head.items piece heard.taken
+    → old ≡ Some (Asks asking) → new ≡ Some seat → TakesOfHead asking.head.items piece heard.taken
     → HearsOf b contest node now asking (asking.head.items ++ take heard.taken piece) heard.status seat
     → HearsAt b contest node now piece heard old new
 heard_at b contest node now piece heard asking old new seat was is takes hears =
@@ -388,28 +388,28 @@ heard_at b contest node now piece heard asking old new seat was is takes hears =
 
 -- a request that is held
 pub held_at : (until : ℕ) (piece : List ℕ) (count : ℕ) (asking held : Asking) (old new : Option Seat)
-    → old ≡ Some (Asks asking) → new ≡ Some (Asks held) → Takes asking.head.items piece count
+    → old ≡ Some (Asks asking) → new ≡ Some (Asks held) → TakesOfHead asking.head.items piece count
     → held.head.items ≡ asking.head.items ++ take count piece → held.until ≡ until → HoldsAt until piece count old new
 held_at until piece count asking held old new was is takes head until_is =
     subst (λ o. HoldsAt until piece count o new) (sym was) (takes, (held, is, head, until_is))
 
 -- ---- what is said
 
-pub joined_over : (t u r : Screen) (f g : Framing) (o p : Option (List ℕ)) (l m : Log) (at : ℕ) → g ≡ f → p ≡ o → m ≡ l → u ≡ r
-    → (t ≡ u) ⊎ IsFollowed g p m t.framing at → (t ≡ r) ⊎ IsFollowed f o l t.framing at
+pub joined_over : (t u r : Screen) (f g : Framing) (o p : Option (List ℕ)) (l m : Backlog) (at : ℕ) → g ≡ f → p ≡ o → m ≡ l → u ≡ r
+    → (t ≡ u) ⊎ IsSentFrom g p m t.framing at → (t ≡ r) ⊎ IsSentFrom f o l t.framing at
 joined_over t u r f g o p l m at ef eo el er (inl same) = inl (same ∙ er)
 joined_over t u r f g o p l m at ef eo el er (inr followed) =
-    inr (subst (λ x. IsFollowed x o l t.framing at) ef (subst (λ x. IsFollowed g x l t.framing at) eo (subst (λ x. IsFollowed g p x t.framing at) el followed)))
+    inr (subst (λ x. IsSentFrom x o l t.framing at) ef (subst (λ x. IsSentFrom g x l t.framing at) eo (subst (λ x. IsSentFrom g p x t.framing at) el followed)))
 
 -- whoever was seated and served is so once all have ended, or is cut
 pub ends_seated : (nodes : List NodeState) (b new : Broadcast) (now : ℕ) (old seats : Option Seat)
     → new.told ≡ None → new.framing ≡ b.framing
-    → Ends b.log b.told now old seats ⊎ (seats ≡ None)
+    → EndsSeat b.log b.told now old seats ⊎ (seats ≡ None)
     → ((answer : AnswerParts) (handed : List ℕ) → ((s : Screen) × (old ≡ Some (Watches s)) × IsServedBy nodes b answer handed s)
     → (s : Screen) × (seats ≡ Some (Watches s)) × IsServedBy nodes new answer handed s) ⊎ (seats ≡ None)
 ends_seated nodes b new now old seats told framing (inr none) = inr none
 ends_seated nodes b new now old seats told framing (inl ends) = inl (λ answer handed seated.
-    let here : Ends b.log b.told now (Some (Watches seated.0)) seats = subst (λ o. Ends b.log b.told now o seats) seated.1 ends in
+    let here : EndsSeat b.log b.told now (Some (Watches seated.0)) seats = subst (λ o. EndsSeat b.log b.told now o seats) seated.1 ends in
     let served = ended_served b.told seated.0 now new.log None seated.2 in
     let over : IsServedBy nodes new answer handed (ended b.log b.told now seated.0) =
     subst (λ o. IsServed nodes new.framing new.log o answer handed (ended b.log b.told now seated.0)) (sym told)
@@ -471,7 +471,7 @@ module _ (b new : Broadcast) (window place least end : ℕ) (old seats : Slab Se
       trims_seated nodes b new least key old seats on has_it (still_there place least end old seats keeps is) log served
 
 pub served_over : (nodes : List NodeState) (answer : AnswerParts) (handed : List ℕ) (s t : Screen)
-    (f g : Framing) (l m : Log) (o p : Option (List ℕ)) → g ≡ f → m ≡ l → p ≡ o
+    (f g : Framing) (l m : Backlog) (o p : Option (List ℕ)) → g ≡ f → m ≡ l → p ≡ o
     → (IsServed nodes g m p answer handed s → IsServed nodes g m p answer handed t)
     → IsServed nodes f l o answer handed s → IsServed nodes f l o answer handed t
 served_over nodes answer handed s t f g l m o p ef el eo step =

@@ -1,6 +1,6 @@
 -- Seats one after the other.
 use Rattle.std.proofs.Common.{◌≡◌, ◌≢◌, refl, sym, ap, ◌∙◌, subst, ℕ, ◌⊎◌, List, Bool, true, false, Option, Some, None, inl, inr, ◌≤◌, ◌<◌, ◌+◌, length, arith}
-use Rattle.std.specs.Prelude.{◌==◌}
+use Rattle.std.specs.Prelude.{◌==◌, if◌then◌else◌}
 use Rattle.std.proofs.lemmas.Bool.{cases_lt}
 use Rattle.std.proofs.lemmas.Bool.Decides.{eqb_tells}
 use Rattle.std.proofs.lemmas.List.{get_or_past}
@@ -12,9 +12,9 @@ use Rattle.feed_hub.specs.declared.seats.Key.{Key}
 use Rattle.feed_hub.specs.declared.seats.Seat.{Seat}
 use Rattle.feed_hub.specs.declared.seats.Seat.TheVariants.{Asks, Watches}
 use Rattle.feed_hub.specs.declared.seats.Seated.{Seated}
-use Rattle.feed_hub.specs.Log.{Log, Has}
+use Rattle.feed_hub.specs.Backlog.{Backlog, Has}
 use Rattle.feed_hub.specs.Screen.{IsNotBehind}
-use Rattle.feed_hub.specs.Seats.{seat_at, KeepsThose, IsSeatNotBehind, IsLeastPlace, HasAll, Ends, IsCut, IsCutAt, IsSomeCut}
+use Rattle.feed_hub.specs.Seats.{of_generation, seat_at, KeepsThose, IsSeatNotBehind, IsLeastPlace, HasWhatIsDue, EndsSeat, IsCut, CutsSeat, IsSomeCut}
 use Rattle.feed_hub.proofs.SeatLemmas.{found_at, seat_found, key_at, empty_at, updated_elsewhere, removed_at}
 use Rattle.feed_hub.proofs.StepLemmas.{ended_is_off}
 
@@ -169,33 +169,39 @@ module _ (seats : Slab Seated) (end index least : ℕ) (so_far : LeastBelow seat
 -- ---- whose body ends
 
 -- so far below an index
-pub record LeaveBelow (log : Log) (told : Option (List ℕ)) (now index : ℕ) (old seats : Slab Seated) (failed : Bool) : Type 0 where
-  pub ok : failed ≡ false → (key : Key) → key.index < index → Ends log told now (seat_at old key) (seat_at seats key)
-  pub left : (key : Key) → key.index < index → Ends log told now (seat_at old key) (seat_at seats key) ⊎ (seat_at seats key ≡ None)
+pub record LeaveBelow (log : Backlog) (told : Option (List ℕ)) (now index : ℕ) (old seats : Slab Seated) (failed : Bool) : Type 0 where
+  pub ok : failed ≡ false → (key : Key) → key.index < index → EndsSeat log told now (seat_at old key) (seat_at seats key)
+  pub left : (key : Key) → key.index < index → EndsSeat log told now (seat_at old key) (seat_at seats key) ⊎ IsCut old seats key
   pub later : (key : Key) → index ≤ key.index → seat_at seats key ≡ seat_at old key
   pub err : failed ≡ true → IsSomeCut old seats
   pub len : slab_len seats ≤ slab_len old
 
 -- whoever ends is not on the log
-ends_off : (log : Log) (told : Option (List ℕ)) (now : ℕ) (old : Option Seat) (s : Screen) (at : ℕ) → Ends log told now old (Some (Watches s)) → s.way ≡ OnLog at → ⊥
+ends_off : (log : Backlog) (told : Option (List ℕ)) (now : ℕ) (old : Option Seat) (s : Screen) (at : ℕ) → EndsSeat log told now old (Some (Watches s)) → s.way ≡ OnLog at → ⊥
 ends_off log told now None s at e w = cc
 ends_off log told now (Some (Asks asking)) s at e w = cc
 ends_off log told now (Some (Watches t)) s at e w =
     let same : s ≡ e.0 = (let is : Some (Watches s) ≡ Some (Watches e.0) = e.1 in cc) in
     ended_is_off log told now t at (ap (λ x. x.way) (sym (same ∙ e.2)) ∙ w)
 
-pub left_off : (log : Log) (told : Option (List ℕ)) (now : ℕ) (old new : Option Seat) (s : Screen) (at : ℕ) → Ends log told now old new ⊎ (new ≡ None) → new ≡ Some (Watches s) → s.way ≡ OnLog at → ⊥
-left_off log told now old new s at (inl e) is w = ends_off log told now old s at (subst (Ends log told now old) is e) w
+-- who is cut is gone
+pub or_gone : (log : Backlog) (told : Option (List ℕ)) (now : ℕ) (old seats : Slab Seated) (key : Key) → EndsSeat log told now (seat_at old key) (seat_at seats key) ⊎ IsCut old seats key
+    → EndsSeat log told now (seat_at old key) (seat_at seats key) ⊎ (seat_at seats key ≡ None)
+or_gone log told now old seats key (inl ends) = inl ends
+or_gone log told now old seats key (inr cut) = inr cut.cut
+
+pub left_off : (log : Backlog) (told : Option (List ℕ)) (now : ℕ) (old new : Option Seat) (s : Screen) (at : ℕ) → EndsSeat log told now old new ⊎ (new ≡ None) → new ≡ Some (Watches s) → s.way ≡ OnLog at → ⊥
+left_off log told now old new s at (inl e) is w = ends_off log told now old s at (subst (EndsSeat log told now old) is e) w
 left_off log told now old new s at (inr none) is w = let no : None ≡ Some (Watches s) = sym none ∙ is in cc
 
-pub still_has_all : (log : Log) (told : Option (List ℕ)) (now index : ℕ) (old seats : Slab Seated) (failed : Bool) → LeaveBelow log told now index old seats failed → HasAll log old → HasAll log seats
+pub still_has_all : (log : Backlog) (told : Option (List ℕ)) (now index : ℕ) (old seats : Slab Seated) (failed : Bool) → LeaveBelow log told now index old seats failed → HasWhatIsDue log old → HasWhatIsDue log seats
 still_has_all log told now index old seats failed so_far all key s at sits way = by (cases_lt key.index index)
   where
     by : (key.index < index) ⊎ (index ≤ key.index) → Has log at
-    by (inl less) = absurd (left_off log told now (seat_at old key) (seat_at seats key) s at (so_far.left key less) sits way)
+    by (inl less) = absurd (left_off log told now (seat_at old key) (seat_at seats key) s at (or_gone log told now old seats key (so_far.left key less)) sits way)
     by (inr past) = all key s at (sym (so_far.later key past) ∙ sits) way
 
-pub none_left : (log : Log) (told : Option (List ℕ)) (now : ℕ) (old : Slab Seated) → LeaveBelow log told now 0 old old false
+pub none_left : (log : Backlog) (told : Option (List ℕ)) (now : ℕ) (old : Slab Seated) → LeaveBelow log told now 0 old old false
 none_left log told now old =
     record {
       ok = λ _ key less. absurd (omega (arith, less));
@@ -205,7 +211,26 @@ none_left log told now old =
       len = omega arith;
     }
 
-module _ (log : Log) (told : Option (List ℕ)) (now index : ℕ) (old seats new : Slab Seated) (failed : Bool) (so_far : LeaveBelow log told now index old seats failed)
+nobody_ends : (log : Backlog) (told : Option (List ℕ)) (now : ℕ) (old new : Option Seat) → old ≡ None → new ≡ old → EndsSeat log told now old new
+nobody_ends log told now old new none same = subst (λ o. EndsSeat log told now o new) (sym none) (same ∙ none)
+
+-- no two sit at one index
+at_one : (a b : ℕ) (found : Option Seated) (seat : Seat) → a ≢ b → of_generation b found ≡ Some seat → of_generation a found ≡ None
+at_one a b None seat differ sits = refl
+at_one a b (Some seated) seat differ sits = by (eqb_tells seated.generation a) (eqb_tells seated.generation b)
+  where
+    by : (((seated.generation == a) ≡ true) × (seated.generation ≡ a)) ⊎ (((seated.generation == a) ≡ false) × (seated.generation ≢ a))
+        → (((seated.generation == b) ≡ true) × (seated.generation ≡ b)) ⊎ (((seated.generation == b) ≡ false) × (seated.generation ≢ b))
+        → of_generation a (Some seated) ≡ None
+    by (inr (differs, _)) _ = ap (λ t. if t then Some seated.seat else None) differs
+    by (inl (_, is)) (inl (_, too)) = absurd (differ (sym is ∙ too))
+    by (inl _) (inr (differs, _)) = let none : None ≡ Some seat = sym (ap (λ t. if t then Some seated.seat else None) differs) ∙ sits in absurd (cc)
+
+lone : (seats : Slab Seated) (key other : Key) (seat : Seat) → key.index ≡ other.index → key.generation ≢ other.generation → seat_at seats other ≡ Some seat → seat_at seats key ≡ None
+lone seats key other seat there differ sits =
+    at_one key.generation other.generation (get seats key.index) seat differ (ap (λ x. of_generation other.generation (get seats x)) there ∙ sits)
+
+module _ (log : Backlog) (told : Option (List ℕ)) (now index : ℕ) (old seats new : Slab Seated) (failed : Bool) (so_far : LeaveBelow log told now index old seats failed)
     (others : (key : Key) → key.index ≢ index → seat_at new key ≡ seat_at seats key) (fewer : slab_len new ≤ slab_len seats) where
   shorter : slab_len new ≤ slab_len old
   shorter = (let a : slab_len new ≤ slab_len seats = fewer in let b : slab_len seats ≤ slab_len old = so_far.len in omega arith)
@@ -217,8 +242,8 @@ module _ (log : Log) (told : Option (List ℕ)) (now index : ℕ) (old seats new
   below_it key less differ = (let far : key.index ≢ index = differ in grind (arith, less, far))
 
   -- the one at this index has ended
-  ended_here : ((key : Key) → key.index ≡ index → Ends log told now (seat_at seats key) (seat_at new key)) → (key : Key) → key.index ≡ index → Ends log told now (seat_at old key) (seat_at new key)
-  ended_here here key same = subst (λ o. Ends log told now o (seat_at new key)) (so_far.later key (omega (arith, same))) (here key same)
+  ended_here : ((key : Key) → key.index ≡ index → EndsSeat log told now (seat_at seats key) (seat_at new key)) → (key : Key) → key.index ≡ index → EndsSeat log told now (seat_at old key) (seat_at new key)
+  ended_here here key same = subst (λ o. EndsSeat log told now o (seat_at new key)) (so_far.later key (omega (arith, same))) (here key same)
 
   still_cut : (key : Key) → IsCut old seats key → key.index ≢ index → IsCut old new key
   still_cut key c differ = record { screen = c.screen; sat = c.sat; follows_log = c.follows_log; cut = others key differ ∙ c.cut }
@@ -231,12 +256,35 @@ module _ (log : Log) (told : Option (List ℕ)) (now index : ℕ) (old seats new
       by (inl (_, same)) = gone key same
       by (inr (_, differ)) = others key differ ∙ c.cut
 
+  stays_left : (key : Key) → key.index ≢ index → EndsSeat log told now (seat_at old key) (seat_at seats key) ⊎ IsCut old seats key
+      → EndsSeat log told now (seat_at old key) (seat_at new key) ⊎ IsCut old new key
+  stays_left key differ (inl ends) = inl (subst (λ n. EndsSeat log told now (seat_at old key) n) (sym (others key differ)) ends)
+  stays_left key differ (inr cut) = inr (still_cut key cut differ)
+
+  -- where the one at this index is cut, nobody else sat there
+  cut_or_nobody : CutsSeat seats new index → (key : Key) → key.index ≡ index → EndsSeat log told now (seat_at old key) (seat_at new key) ⊎ IsCut old new key
+  cut_or_nobody c key same = by (eqb_tells key.generation c.some.0.generation)
+    where
+      one : IsCut old new c.some.0
+      one = (let k = c.some.0 in let is = c.some.1.0 in let cut = c.some.1.1 in
+          record { screen = cut.screen; sat = sym (so_far.later k (omega (arith, is))) ∙ cut.sat; follows_log = cut.follows_log; cut = cut.cut })
+
+      there : key.index ≡ c.some.0.index
+      there = same ∙ sym c.some.1.0
+
+      by : (((key.generation == c.some.0.generation) ≡ true) × (key.generation ≡ c.some.0.generation)) ⊎ (((key.generation == c.some.0.generation) ≡ false) × (key.generation ≢ c.some.0.generation))
+          → EndsSeat log told now (seat_at old key) (seat_at new key) ⊎ IsCut old new key
+      by (inl (_, alike)) =
+          inr (subst (IsCut old new) (sym (ap (λ x. record { index = x; generation = key.generation }) there ∙ ap (λ x. record { index = c.some.0.index; generation = x }) alike)) one)
+      by (inr (_, differ)) = inl (nobody_ends log told now (seat_at old key) (seat_at new key) (lone old key c.some.0 (Watches one.screen) there differ one.sat)
+          (c.all key same ∙ sym (lone old key c.some.0 (Watches one.screen) there differ one.sat)))
+
   -- whoever was cut sat below this index
   cut_before : (key : Key) → IsCut old seats key → key.index ≢ index
   cut_before key c same =
       let none : Some (Watches c.screen) ≡ None = sym c.sat ∙ sym (so_far.later key (omega (arith, same))) ∙ c.cut in absurd (cc)
 
-  pub one_leaves : ((key : Key) → key.index ≡ index → Ends log told now (seat_at seats key) (seat_at new key)) → LeaveBelow log told now (index + 1) old new failed
+  pub one_leaves : ((key : Key) → key.index ≡ index → EndsSeat log told now (seat_at seats key) (seat_at new key)) → LeaveBelow log told now (index + 1) old new failed
   one_leaves here =
       record {
         ok = λ f key less. ok_by f key less (eqb_tells key.index index);
@@ -247,16 +295,16 @@ module _ (log : Log) (told : Option (List ℕ)) (now index : ℕ) (old seats new
       }
     where
       ok_by : failed ≡ false → (key : Key) → key.index < index + 1
-          → (((key.index == index) ≡ true) × (key.index ≡ index)) ⊎ (((key.index == index) ≡ false) × (key.index ≢ index)) → Ends log told now (seat_at old key) (seat_at new key)
+          → (((key.index == index) ≡ true) × (key.index ≡ index)) ⊎ (((key.index == index) ≡ false) × (key.index ≢ index)) → EndsSeat log told now (seat_at old key) (seat_at new key)
       ok_by f key less (inl (_, same)) = ended_here here key same
-      ok_by f key less (inr (_, differ)) = subst (λ n. Ends log told now (seat_at old key) n) (sym (others key differ)) (so_far.ok f key (below_it key less differ))
+      ok_by f key less (inr (_, differ)) = subst (λ n. EndsSeat log told now (seat_at old key) n) (sym (others key differ)) (so_far.ok f key (below_it key less differ))
 
       left_by : (key : Key) → key.index < index + 1
-          → (((key.index == index) ≡ true) × (key.index ≡ index)) ⊎ (((key.index == index) ≡ false) × (key.index ≢ index)) → Ends log told now (seat_at old key) (seat_at new key) ⊎ (seat_at new key ≡ None)
+          → (((key.index == index) ≡ true) × (key.index ≡ index)) ⊎ (((key.index == index) ≡ false) × (key.index ≢ index)) → EndsSeat log told now (seat_at old key) (seat_at new key) ⊎ IsCut old new key
       left_by key less (inl (_, same)) = inl (ended_here here key same)
-      left_by key less (inr (_, differ)) = subst (λ n. Ends log told now (seat_at old key) n ⊎ (n ≡ None)) (sym (others key differ)) (so_far.left key (below_it key less differ))
+      left_by key less (inr (_, differ)) = stays_left key differ (so_far.left key (below_it key less differ))
 
-  pub one_is_cut : IsCutAt seats new index → LeaveBelow log told now (index + 1) old new true
+  pub one_is_cut : CutsSeat seats new index → LeaveBelow log told now (index + 1) old new true
   one_is_cut c =
       record {
         ok = λ f. absurd (let no : true ≡ false = f in cc);
@@ -268,33 +316,30 @@ module _ (log : Log) (told : Option (List ℕ)) (now index : ℕ) (old seats new
       }
     where
       left_by : (key : Key) → key.index < index + 1
-          → (((key.index == index) ≡ true) × (key.index ≡ index)) ⊎ (((key.index == index) ≡ false) × (key.index ≢ index)) → Ends log told now (seat_at old key) (seat_at new key) ⊎ (seat_at new key ≡ None)
-      left_by key less (inl (_, same)) = inr (c.all key same)
-      left_by key less (inr (_, differ)) = subst (λ n. Ends log told now (seat_at old key) n ⊎ (n ≡ None)) (sym (others key differ)) (so_far.left key (below_it key less differ))
+          → (((key.index == index) ≡ true) × (key.index ≡ index)) ⊎ (((key.index == index) ≡ false) × (key.index ≢ index)) → EndsSeat log told now (seat_at old key) (seat_at new key) ⊎ IsCut old new key
+      left_by key less (inl (_, same)) = cut_or_nobody c key same
+      left_by key less (inr (_, differ)) = stays_left key differ (so_far.left key (below_it key less differ))
 
-nobody_ends : (log : Log) (told : Option (List ℕ)) (now : ℕ) (old new : Option Seat) → old ≡ None → new ≡ old → Ends log told now old new
-nobody_ends log told now old new none same = subst (λ o. Ends log told now o new) (sym none) (same ∙ none)
-
-module _ (log : Log) (told : Option (List ℕ)) (now index : ℕ) (old seats : Slab Seated) (failed : Bool) (so_far : LeaveBelow log told now index old seats failed) (short : length old.slots ≤ index) where
-  past_end : (key : Key) → index ≤ key.index → Ends log told now (seat_at old key) (seat_at seats key)
+module _ (log : Backlog) (told : Option (List ℕ)) (now index : ℕ) (old seats : Slab Seated) (failed : Bool) (so_far : LeaveBelow log told now index old seats failed) (short : length old.slots ≤ index) where
+  past_end : (key : Key) → index ≤ key.index → EndsSeat log told now (seat_at old key) (seat_at seats key)
   past_end key past = nobody_ends log told now (seat_at old key) (seat_at seats key) (nobody_past old key index short past) (so_far.later key past)
 
-  pub all_ended : failed ≡ false → (key : Key) → Ends log told now (seat_at old key) (seat_at seats key)
+  pub all_ended : failed ≡ false → (key : Key) → EndsSeat log told now (seat_at old key) (seat_at seats key)
   all_ended f key = by (cases_lt key.index index)
     where
-      by : (key.index < index) ⊎ (index ≤ key.index) → Ends log told now (seat_at old key) (seat_at seats key)
+      by : (key.index < index) ⊎ (index ≤ key.index) → EndsSeat log told now (seat_at old key) (seat_at seats key)
       by (inl less) = so_far.ok f key less
       by (inr past) = past_end key past
 
-  pub all_left : (key : Key) → Ends log told now (seat_at old key) (seat_at seats key) ⊎ (seat_at seats key ≡ None)
+  pub all_left : (key : Key) → EndsSeat log told now (seat_at old key) (seat_at seats key) ⊎ IsCut old seats key
   all_left key = by (cases_lt key.index index)
     where
-      by : (key.index < index) ⊎ (index ≤ key.index) → Ends log told now (seat_at old key) (seat_at seats key) ⊎ (seat_at seats key ≡ None)
+      by : (key.index < index) ⊎ (index ≤ key.index) → EndsSeat log told now (seat_at old key) (seat_at seats key) ⊎ IsCut old seats key
       by (inl less) = so_far.left key less
       by (inr past) = inl (past_end key past)
 
 -- whoever ends sat there before
-pub ends_was : (log : Log) (told : Option (List ℕ)) (now : ℕ) (old new : Option Seat) (seat : Seat) → Ends log told now old new ⊎ (new ≡ None) → new ≡ Some seat → (was : Seat) × (old ≡ Some was)
+pub ends_was : (log : Backlog) (told : Option (List ℕ)) (now : ℕ) (old new : Option Seat) (seat : Seat) → EndsSeat log told now old new ⊎ (new ≡ None) → new ≡ Some seat → (was : Seat) × (old ≡ Some was)
 ends_was log told now old new seat (inr none) is = let no : None ≡ Some seat = sym none ∙ is in absurd (cc)
 ends_was log told now None new seat (inl e) is = let no : None ≡ Some seat = sym e ∙ is in absurd (cc)
 ends_was log told now (Some was) new seat (inl e) is = (was, refl)

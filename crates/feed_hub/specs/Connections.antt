@@ -1,5 +1,5 @@
--- THE PROMISE on one connection: what a mirror makes of what was written for its request, by a node,
--- or by a primary that took batches meanwhile (CLICS Contest API 2023-06, event feed and
+-- THE PROMISE on one connection: what a mirror makes of what was written for its request, by a
+-- node, or by a primary that took batches meanwhile (CLICS Contest API 2023-06, event feed and
 -- reconnection; RFC 9112).
 use Rattle.std.specs.Prelude.{◌≡◌, ◌⊎◌, ℕ, ◌<◌, ◌^◌, false, List, [], length, Some}
 use Rattle.feed_settings.specs.Limits.{Limits}

@@ -18,7 +18,7 @@ use Rattle.feed_world.specs.Position.{Position, IsPlace, node_where}
 use Rattle.feed_world.specs.States.{HasAsked, HasReached}
 use Rattle.feed_world.specs.Step.{IsMemory}
 use Rattle.feed_hub.specs.declared.screen.Screen.{Screen}
-use Rattle.feed_hub.specs.Log.{Log as Shared}
+use Rattle.feed_hub.specs.Backlog.{Backlog}
 use Rattle.feed_hub.specs.Screen.{pending, token_at, IsServed}
 use Rattle.feed_hub.specs.Laws.{IsInLog, StandsInLog, AreInLog}
 
@@ -66,7 +66,7 @@ abbrev pub ScreensFollow : Type 0
 ScreensFollow =
     (limits : Limits) (log : Log) (nodes : List NodeState) (node : NodeState)
     (head contest : List ℕ) (framing : Framing) (answer : AnswerParts) (begun : MirrorState)
-    (common : Framing) (lines : Shared) (told : Option (List ℕ)) (handed : List ℕ) (s : Screen)
+    (common : Framing) (lines : Backlog) (told : Option (List ℕ)) (handed : List ℕ) (s : Screen)
     → IsLog limits log → AreInLog log nodes → StandsInLog log node
     → HasAskedSo limits log head contest begun
     → AnswersTo head contest node framing 0 answer
@@ -89,7 +89,7 @@ abbrev pub ScreensArrive : Type 0
 ScreensArrive =
     (limits : Limits) (log : Log) (nodes : List NodeState) (node : NodeState)
     (head contest : List ℕ) (framing : Framing) (answer : AnswerParts) (begun : MirrorState)
-    (common : Framing) (lines : Shared) (told : Option (List ℕ)) (handed token : List ℕ)
+    (common : Framing) (lines : Backlog) (told : Option (List ℕ)) (handed token : List ℕ)
     (s : Screen) (standing : Standing) (follower : FollowerState) (mirror : MirrorState)
     → IsLog limits log → AreInLog log nodes → StandsInLog log node
     → HasAskedSo limits log head contest begun

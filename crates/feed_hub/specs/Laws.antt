@@ -18,7 +18,7 @@ use Rattle.feed_answer.specs.FollowLaws.{StandsOnly}
 use Rattle.feed_answer.specs.Answered.{AnswerParts}
 use Rattle.feed_answer.specs.Served.{opening_text}
 use Rattle.feed_hub.specs.declared.screen.Screen.{Screen}
-use Rattle.feed_hub.specs.Log.{Log as Shared}
+use Rattle.feed_hub.specs.Backlog.{Backlog}
 use Rattle.feed_hub.specs.Screen.{IsServed}
 use Rattle.feed_hub.specs.Told.{Told, told_text}
 
@@ -138,6 +138,6 @@ DueIsResponse =
 abbrev pub ServedGrows : Type 0
 ServedGrows =
     (nodes more : List NodeState) → ((node : NodeState) → Contains nodes node → Contains more node)
-    → (common : Framing) (lines : Shared) (told : Option (List ℕ)) (answer : AnswerParts)
+    → (common : Framing) (lines : Backlog) (told : Option (List ℕ)) (answer : AnswerParts)
     (handed : List ℕ) (s : Screen) → IsServed nodes common lines told answer handed s
     → IsServed more common lines told answer handed s

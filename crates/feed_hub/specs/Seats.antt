@@ -8,9 +8,9 @@ use Rattle.feed_hub.specs.declared.seats.Key.{Key}
 use Rattle.feed_hub.specs.declared.seats.Seat.{Seat}
 use Rattle.feed_hub.specs.declared.seats.Seat.TheVariants.{Asks, Watches}
 use Rattle.feed_hub.specs.declared.seats.Seated.{Seated}
-use Rattle.feed_hub.specs.Log.{Log, Has}
-use Rattle.feed_hub.specs.Screen.{IsFollowed, IsNotBehind, IsMoving}
-use Rattle.feed_hub.specs.Steps.{ended, FollowsLog}
+use Rattle.feed_hub.specs.Backlog.{Backlog, Has}
+use Rattle.feed_hub.specs.Screen.{IsSentFrom, IsNotBehind, IsMoving}
+use Rattle.feed_hub.specs.Steps.{ended, TakesFromLog}
 
 -- what sits there, if it is of this generation
 abbrev pub of_generation : ℕ → Option Seated → Option Seat
@@ -28,10 +28,10 @@ AreBelow next seats =
     (index : ℕ) (seated : Seated) → get seats index ≡ Some seated → seated.generation < next
 
 -- so it is for each screen on the log
-abbrev pub AreOnLog : Framing → Option (List ℕ) → Log → Slab Seated → Type 0
+abbrev pub AreOnLog : Framing → Option (List ℕ) → Backlog → Slab Seated → Type 0
 AreOnLog common told log seats = (key : Key) (s : Screen) (at : ℕ)
     → seat_at seats key ≡ Some (Watches s) → s.way ≡ OnLog at
-    → IsFollowed common told log s.framing at
+    → IsSentFrom common told log s.framing at
 
 -- no other key's seat changed
 abbrev pub Others : Slab Seated → Slab Seated → Key → Type 0
@@ -96,26 +96,26 @@ pub record IsLeastPlace (seats : Slab Seated) (end least : ℕ) : Type 0 where
 -- ---- whose body ends
 
 -- the log has what each screen on it is to be sent
-abbrev pub HasAll : Log → Slab Seated → Type 0
-HasAll log seats = (key : Key) (s : Screen) (at : ℕ)
+abbrev pub HasWhatIsDue : Backlog → Slab Seated → Type 0
+HasWhatIsDue log seats = (key : Key) (s : Screen) (at : ℕ)
     → seat_at seats key ≡ Some (Watches s) → s.way ≡ OnLog at → Has log at
 
 -- a screen is sent what it has, what the log has for it and the end of the body, and no more
-abbrev pub Ends : Log → Option (List ℕ) → ℕ → Option Seat → Option Seat → Type 0
-Ends log told now old new = Watched (λ s t. t ≡ ended log told now s) old new
+abbrev pub EndsSeat : Backlog → Option (List ℕ) → ℕ → Option Seat → Option Seat → Type 0
+EndsSeat log told now old new = Watched (λ s t. t ≡ ended log told now s) old new
 
 -- a screen whose body hadn't ended sat at this key, and is cut
 pub record IsCut (old new : Slab Seated) (key : Key) : Type 0 where
   pub screen : Screen
   pub sat : seat_at old key ≡ Some (Watches screen)
-  pub follows_log : FollowsLog screen
+  pub follows_log : TakesFromLog screen
   pub cut : seat_at new key ≡ None
 
 abbrev pub IsSomeCut : Slab Seated → Slab Seated → Type 0
 IsSomeCut old new = (key : Key) × IsCut old new key
 
 -- so it was at this index
-pub record IsCutAt (old new : Slab Seated) (index : ℕ) : Type 0 where
+pub record CutsSeat (old new : Slab Seated) (index : ℕ) : Type 0 where
   pub some : (key : Key) × ((key.index ≡ index) × IsCut old new key)
   pub all : (key : Key) → key.index ≡ index → seat_at new key ≡ None
 

@@ -3,7 +3,7 @@
 ghost use Rattle.std.specs.Prelude.{◌≡◌, ◌<◌, ◌^◌, None, Some, IsTrue, IfOk, is_some, length};
 ghost use Rattle.feed_note.specs.Texts.{published_text};
 ghost use Rattle.feed_answer.specs.Served.{opening_text};
-ghost use Rattle.feed_hub.specs.Answering.{IsOpeningOf};
+ghost use Rattle.feed_hub.specs.Answering.{IsOpeningOf, NumbersText};
 
 use crate::screen::bytes_of;
 use bytes::Bytes;
@@ -107,6 +107,7 @@ impl Answering {
         ensures fits { IfOk result (λ opened. length opened.0 < 2 ^ 64) }
         ensures shared { IfOk result (λ opened. IsTrue opened.1
             → self.new.opening ≡ Some opened.0) }
+        ensures made { NumbersText self.old.opening self.new.opening self.old.made self.new.made }
         ensures mirror { self.new.mirror ≡ self.old.mirror }
         ensures framing { self.new.framing ≡ self.old.framing }
     {

@@ -1,6 +1,6 @@
 //! Long texts that several screens are sent, each kept once.
 
-ghost use Rattle.std.specs.Prelude.{◌≡◌, None, false, IfSome};
+ghost use Rattle.std.specs.Prelude.{◌≡◌, ◌≤◌, None, false, IfSome, length};
 
 use bytes::Bytes;
 use std::alloc::Global;
@@ -84,7 +84,7 @@ impl Frames {
     /// long one that nobody has yet needs room.
     pub(crate) fn share(&mut self, text: Bytes, has_room: bool) -> Option<Shared>
         ensures text { IfSome result (λ shared. shared.text ≡ text) }
-        ensures none { result ≡ None → has_room ≡ false }
+        ensures none { result ≡ None → (has_room ≡ false) × (65536 ≤ length text) }
     {
         if text.len() < LONG {
             return Some(Shared { text, number: None });

@@ -7,31 +7,31 @@ use Rattle.feed_hub.specs.declared.screen.Way.TheVariants.{CatchesUp, OnLog, Sto
 use Rattle.feed_hub.specs.declared.seats.Key.{Key}
 use Rattle.feed_hub.specs.declared.seats.Seat.{Seat}
 use Rattle.feed_hub.specs.declared.seats.Seat.TheVariants.{Asks, Watches}
-use Rattle.feed_hub.specs.Log.{Log}
-use Rattle.feed_hub.specs.Seats.{seat_at, KeepsThose, Ends}
+use Rattle.feed_hub.specs.Backlog.{Backlog}
+use Rattle.feed_hub.specs.Seats.{seat_at, KeepsThose, EndsSeat, IsCut}
 use Rattle.feed_hub.specs.Steps.{ended_at}
 use Rattle.feed_live.specs.Serving.{HasEnd, IsEnding, AllEnd}
 
-ended_ends : (way : Way) (log : Log) (told : Option (List ℕ)) (now : ℕ) (s : Screen) → s.way ≡ way → HasEnd (ended_at way log told now s).way
+ended_ends : (way : Way) (log : Backlog) (told : Option (List ℕ)) (now : ℕ) (s : Screen) → s.way ≡ way → HasEnd (ended_at way log told now s).way
 ended_ends (CatchesUp token) log told now s is = tt
 ended_ends (OnLog at) log None now s is = tt
 ended_ends (OnLog at) log (Some token) now s is = tt
 ended_ends (Stops token) log told now s is = subst HasEnd (sym is) tt
 ended_ends Over log told now s is = subst HasEnd (sym is) tt
 
-seat_ends : (log : Log) (told : Option (List ℕ)) (now : ℕ) (old new : Option Seat) → Ends log told now old new → IsEnding new
+seat_ends : (log : Backlog) (told : Option (List ℕ)) (now : ℕ) (old new : Option Seat) → EndsSeat log told now old new → IsEnding new
 seat_ends log told now None new ends = subst IsEnding (sym ends) tt
 seat_ends log told now (Some (Asks asking)) new ends = subst IsEnding (sym ends) tt
 seat_ends log told now (Some (Watches s)) new (t, is, becomes) =
     subst IsEnding (sym is) (subst (λ u. HasEnd u.way) (sym becomes) (ended_ends s.way log told now s refl))
 
-pub all_ended : (old new : Hub) (log : Log) (told : Option (List ℕ)) (now : ℕ)
-    → ((key : Key) → Ends log told now (seat_at old.seats.slab key) (seat_at new.seats.slab key) ⊎ (seat_at new.seats.slab key ≡ None)) → AllEnd new
+pub all_ended : (old new : Hub) (log : Backlog) (told : Option (List ℕ)) (now : ℕ)
+    → ((key : Key) → EndsSeat log told now (seat_at old.seats.slab key) (seat_at new.seats.slab key) ⊎ IsCut old.seats.slab new.seats.slab key) → AllEnd new
 all_ended old new log told now left key = by (left key)
   where
-    by : Ends log told now (seat_at old.seats.slab key) (seat_at new.seats.slab key) ⊎ (seat_at new.seats.slab key ≡ None) → IsEnding (seat_at new.seats.slab key)
+    by : EndsSeat log told now (seat_at old.seats.slab key) (seat_at new.seats.slab key) ⊎ IsCut old.seats.slab new.seats.slab key → IsEnding (seat_at new.seats.slab key)
     by (inl ends) = seat_ends log told now (seat_at old.seats.slab key) (seat_at new.seats.slab key) ends
-    by (inr none) = subst IsEnding (sym none) tt
+    by (inr cut) = subst IsEnding (sym cut.cut) tt
 
 pub end_same : (old new : Hub) → new.seats ≡ old.seats → AllEnd old → AllEnd new
 end_same old new same all key = subst IsEnding (sym (ap (λ s. seat_at s.slab key) same)) (all key)

@@ -26,7 +26,7 @@ use Rattle.feed_hub.specs.Told.{IsDue}
 use Rattle.feed_device.specs.Links.{Exchange}
 use Rattle.feed_device.specs.Sockets.{traffic_of}
 use Rattle.feed_live.specs.Laws.{HandedIsFollowed, RelaysShowTheLog, ShowsTheLog}
-use Rattle.feed_live.specs.Network.{Relay, Network, IsOfNetwork, inside, outside, OthersStay, IsNetwork, no_relays, one_starts, one_turns, NetworksShowTheLog, RelayedIsHonest, RequestsAreMeant}
+use Rattle.feed_live.specs.Network.{Relay, Network, IsOfNetwork, inside, outside, OthersStay, IsRelayNetwork, no_relays, one_starts, one_turns, NetworksShowTheLog, RelayedIsHonest, RequestsAreMeant}
 use Rattle.feed_live.specs.Relaying.{IsRelaying}
 use Rattle.feed_live.specs.Serving.{WasServed, IsFaithful, nothing, refused as too_many, served, WasFaithful, full_text}
 use Rattle.feed_live.specs.States.{states_of}
@@ -144,7 +144,7 @@ module _ (relays : RelaysShowTheLog) (relayed : RelayedIsHonest) (log : Log) whe
   all_honest network reader (latest ∷ before) is_log sound all =
       (one_honest network reader latest is_log sound all.0, all_honest network reader before is_log sound all.1)
 
-  are_sound : (network : Network) → IsNetwork log network → AreSound log network
+  are_sound : (network : Network) → IsRelayNetwork log network → AreSound log network
   are_sound network (no_relays new none) = λ at relay is. let no : None ≡ Some relay = sym (none at) ∙ is in absurd (cc)
   are_sound network (one_starts old new at relay so_far free here others start) =
       one_more log old new at relay here others (are_sound old so_far)

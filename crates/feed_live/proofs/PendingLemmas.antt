@@ -7,7 +7,7 @@ use Rattle.std.proofs.lemmas.List.Sums.{sum_by-set, sum_by-remove, sum_by_push, 
 use Rattle.feed_live.specs.declared.screens.pending.Text.{Text}
 use Rattle.feed_live.specs.declared.screens.pending.TextId.{TextId}
 use Rattle.feed_live.specs.declared.screens.pending.TextId.TheVariants.{Opening, Own, Commit}
-use Rattle.feed_live.specs.Pending.{total, is_same, is_taker, takers, readers, text_at, text_of, IsTextAt, HasNone, Adds, Removes, AreRead, AreCounted}
+use Rattle.feed_live.specs.Pending.{total, is_same, is_taker, takers, readers, text_at, text_of, IsTextAt, HasNone, Adds, Removes, HaveReaders, AreCounted}
 
 -- ---- ids
 
@@ -185,7 +185,7 @@ counted_less id old new places at (inr (inr (none, is))) within held counted =
 
 -- ---- nobody
 
-pub counted_nothing : (texts : List Text) (places : List (Option TextId)) → AreRead texts → AreCounted texts places → ((at : ℕ) → text_at places at ≡ None) → total texts ≡ 0
+pub counted_nothing : (texts : List Text) (places : List (Option TextId)) → HaveReaders texts → AreCounted texts places → ((at : ℕ) → text_at places at ≡ None) → total texts ≡ 0
 counted_nothing [] places read counted none = refl
 counted_nothing (text ∷ texts) places read counted none =
     let there : IsTextAt (text ∷ texts) text 0 = record { within = omega arith; is = λ d. refl } in

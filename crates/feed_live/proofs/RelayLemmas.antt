@@ -29,8 +29,8 @@ use Rattle.feed_live.specs.declared.screens.Screens.{Screens}
 use Rattle.feed_live.specs.declared.source.Reach.{Reach}
 use Rattle.feed_live.specs.declared.source.Reach.TheVariants.{Away, Connects, Asks, Reads}
 use Rattle.feed_live.specs.declared.source.Source.{Source}
-use Rattle.feed_live.specs.Relaying.{servers_of, IsShownSo, Follows, MayFollow, MayShow, FollowsLog, IsToShow, Shows, SameSource, IsKeeping, IsLeft, KeepsShown, PushesOnly, IsNowShown, ShowsAlone, followed, followed_by}
-use Rattle.feed_live.specs.Serving.{Serving}
+use Rattle.feed_live.specs.Relaying.{servers_of, IsShownSo, FollowsResponse, MayFollow, MayShow, FollowsServers, IsToShow, AnswersFromLog, SameSource, SameButUnread, WasLeft, KeepsShown, PushesOnly, IsNowShown, ShowsAlone, followed, followed_by}
+use Rattle.feed_live.specs.Serving.{ServesScreens}
 use Rattle.feed_live.specs.States.{states_of}
 use Rattle.feed_live.specs.Upstream.{AsksInLog, Servers, IsRequestOf, IsOfLog, wants_memory, StaysInLog, EndsInLog, IsHonestAs, IsHonest, AreHonest, AreKnownHonest}
 use Rattle.feed_live.proofs.StateLemmas.{among_states, of_log, has_read, has_read_all}
@@ -74,24 +74,24 @@ module _ (limits : Limits) (log : Log) where
   -- ---- what is shown
 
   pub among_shown : {contest : List ℕ} {shown blank : MirrorState} {hub : Hub} {conns : Slab Conn} {sockets : AllSockets}
-      → Shows limits log contest shown blank hub conns sockets → Contains (states_of limits log) shown.node
+      → AnswersFromLog limits log contest shown blank hub conns sockets → Contains (states_of limits log) shown.node
   among_shown {shown = shown} shows = among_states limits log shown.node shows.shown_is
 
   pub among_blank : {contest : List ℕ} {shown blank : MirrorState} {hub : Hub} {conns : Slab Conn} {sockets : AllSockets}
-      → Shows limits log contest shown blank hub conns sockets → Contains (states_of limits log) blank.node
+      → AnswersFromLog limits log contest shown blank hub conns sockets → Contains (states_of limits log) blank.node
   among_blank {blank = blank} shows = among_states limits log blank.node shows.blank_is
 
   -- the screens changed, and are served as before
   pub shows_still : {contest : List ℕ} {shown blank : MirrorState} {hub hub_new : Hub} {conns conns_new : Slab Conn} {sockets sockets_new : AllSockets}
-      → (Serving (states_of limits log) contest hub conns sockets → Serving (states_of limits log) contest hub_new conns_new sockets_new)
-      → Shows limits log contest shown blank hub conns sockets → Shows limits log contest shown blank hub_new conns_new sockets_new
+      → (ServesScreens (states_of limits log) contest hub conns sockets → ServesScreens (states_of limits log) contest hub_new conns_new sockets_new)
+      → AnswersFromLog limits log contest shown blank hub conns sockets → AnswersFromLog limits log contest shown blank hub_new conns_new sockets_new
   shows_still still shows =
       record { limits_are = shows.limits_are; shown_is = shows.shown_is; blank_is = shows.blank_is; serving = still shows.serving }
 
   -- the mirror changed, and is at a place of the log
   pub shows_at : {contest : List ℕ} {shown shown_new blank blank_new : MirrorState} {hub : Hub} {conns : Slab Conn} {sockets : AllSockets}
       → shown_new.limits ≡ shown.limits → IsInLog limits log shown_new.node → blank_new ≡ blank
-      → Shows limits log contest shown blank hub conns sockets → Shows limits log contest shown_new blank_new hub conns sockets
+      → AnswersFromLog limits log contest shown blank hub conns sockets → AnswersFromLog limits log contest shown_new blank_new hub conns sockets
   shows_at bounds at same shows =
       record {
         limits_are = bounds ∙ shows.limits_are;
@@ -104,11 +104,11 @@ module _ (limits : Limits) (log : Log) where
 
   pub same_shows : {old new : Source} → SameSource old new
       → {contest : List ℕ} {hub : Hub} {conns : Slab Conn} {sockets : AllSockets}
-      → Shows limits log contest old.answers.shown.mirror old.answers.blank.mirror hub conns sockets
-      → Shows limits log contest new.answers.shown.mirror new.answers.blank.mirror hub conns sockets
+      → AnswersFromLog limits log contest old.answers.shown.mirror old.answers.blank.mirror hub conns sockets
+      → AnswersFromLog limits log contest new.answers.shown.mirror new.answers.blank.mirror hub conns sockets
   same_shows {old} {new} same {contest} {hub} {conns} {sockets} shows =
-      subst (λ m. Shows limits log contest m new.answers.blank.mirror hub conns sockets) (sym same.shown)
-      (subst (λ m. Shows limits log contest old.answers.shown.mirror m hub conns sockets) (sym same.blank) shows)
+      subst (λ m. AnswersFromLog limits log contest m new.answers.blank.mirror hub conns sockets) (sym same.shown)
+      (subst (λ m. AnswersFromLog limits log contest old.answers.shown.mirror m hub conns sockets) (sym same.blank) shows)
 
 -- the same mirror follows
 pub same_followed : {before after : Option MirrorState} {old new : MirrorState} → after ≡ before → new ≡ old → followed after new ≡ followed before old
@@ -159,18 +159,18 @@ module _ (limits : Limits) (log : Log) (servers : Servers) where
 
   -- ---- a server is left
 
-  pub left_shows : {old new : Source} {before after : Exchanges} → IsLeft old new before after
+  pub left_shows : {old new : Source} {before after : Exchanges} → WasLeft old new before after
       → {contest : List ℕ} {hub : Hub} {conns : Slab Conn} {sockets : AllSockets}
-      → Shows limits log contest old.answers.shown.mirror old.answers.blank.mirror hub conns sockets
-      → Shows limits log contest new.answers.shown.mirror new.answers.blank.mirror hub conns sockets
+      → AnswersFromLog limits log contest old.answers.shown.mirror old.answers.blank.mirror hub conns sockets
+      → AnswersFromLog limits log contest new.answers.shown.mirror new.answers.blank.mirror hub conns sockets
   left_shows left shows =
       shows_at limits log left.limits (subst (λ n. IsInLog limits log n) (sym left.node) shows.shown_is) left.blank shows
 
-  pub left_honest : {old new : Source} {before after : Exchanges} → IsLeft old new before after
+  pub left_honest : {old new : Source} {before after : Exchanges} → WasLeft old new before after
       → AreKnownHonest limits log servers after → AreKnownHonest limits log servers before
   left_honest left honest = subst (λ e. AreKnownHonest limits log servers e) left.exchanges honest
 
-  pub left_follows : {old new : Source} {before after : Exchanges} → IsLeft old new before after
+  pub left_follows : {old new : Source} {before after : Exchanges} → WasLeft old new before after
       → (request unread : List ℕ) (mirror : MirrorState)
       → MayFollow limits log servers (is_none new.coming) new.reach request unread after new.upstream.follower mirror
   left_follows {old} {new} {before} {after} left request unread mirror =
@@ -442,7 +442,7 @@ module _ (limits : Limits) (log : Log) (servers : Servers) where
 
   -- what is followed and shown stays in the log, since the exchange is honest
   stays_in_log : {is_shown : Bool} (request unread : List ℕ) (exchanges : Exchanges) (follower : FollowerState) (mirror : MirrorState) → is_shown ≡ true
-      → AreKnownHonest limits log servers exchanges → (follows : Follows limits log servers is_shown Reads request unread exchanges follower mirror)
+      → AreKnownHonest limits log servers exchanges → (follows : FollowsResponse limits log servers is_shown Reads request unread exchanges follower mirror)
       → StaysFrom follows.start (length follows.bytes) (follows.bytes ++ unread)
   stays_in_log request unread exchanges follower mirror is honest follows =
       let all : AreKnownHonest limits log servers (Some (follows.latest ∷ follows.before)) = subst (λ e. AreKnownHonest limits log servers e) follows.exchanges_are honest in
@@ -537,25 +537,25 @@ module _ (limits : Limits) (log : Log) (servers : Servers) where
 
   -- the screens changed, and are served as before
   pub with_screens : (exchanges : Exchanges) {contest : List ℕ} {X : Type 0} {shown blank : MirrorState} {hub hub_new : Hub} {conns conns_new : Slab Conn} {sockets sockets_new : AllSockets}
-      → (Shows limits log contest shown blank hub conns sockets → Serving (states_of limits log) contest hub conns sockets → Serving (states_of limits log) contest hub_new conns_new sockets_new)
-      → (AreKnownHonest limits log servers exchanges → Shows limits log contest shown blank hub conns sockets) × X
-      → (AreKnownHonest limits log servers exchanges → Shows limits log contest shown blank hub_new conns_new sockets_new) × X
+      → (AnswersFromLog limits log contest shown blank hub conns sockets → ServesScreens (states_of limits log) contest hub conns sockets → ServesScreens (states_of limits log) contest hub_new conns_new sockets_new)
+      → (AreKnownHonest limits log servers exchanges → AnswersFromLog limits log contest shown blank hub conns sockets) × X
+      → (AreKnownHonest limits log servers exchanges → AnswersFromLog limits log contest shown blank hub_new conns_new sockets_new) × X
   with_screens exchanges still follows = (λ honest. let here = follows.0 honest in shows_still limits log (still here) here, follows.1)
 
   -- what is followed and shown is the same
   pub with_same : {contest : List ℕ} {old new : Source} → SameSource old new
       → (exchanges : Exchanges) {hub : Hub} {conns : Slab Conn} {sockets : AllSockets} (unread left : List ℕ) → left ≡ unread
-      → (AreKnownHonest limits log servers exchanges → Shows limits log contest old.answers.shown.mirror old.answers.blank.mirror hub conns sockets)
+      → (AreKnownHonest limits log servers exchanges → AnswersFromLog limits log contest old.answers.shown.mirror old.answers.blank.mirror hub conns sockets)
       × (IsSome exchanges → MayFollow limits log servers (is_none old.coming) old.reach old.request.items unread exchanges old.upstream.follower (followed_by old))
-      → (AreKnownHonest limits log servers exchanges → Shows limits log contest new.answers.shown.mirror new.answers.blank.mirror hub conns sockets)
+      → (AreKnownHonest limits log servers exchanges → AnswersFromLog limits log contest new.answers.shown.mirror new.answers.blank.mirror hub conns sockets)
       × (IsSome exchanges → MayFollow limits log servers (is_none new.coming) new.reach new.request.items left exchanges new.upstream.follower (followed_by new))
   with_same same exchanges unread left rest follows = (λ honest. same_shows limits log same (follows.0 honest), λ known. same_follows same exchanges unread left rest (follows.1 known))
 
   -- the server is left
-  pub with_left : {contest : List ℕ} {old new : Source} {before after : Exchanges} → IsLeft old new before after
+  pub with_left : {contest : List ℕ} {old new : Source} {before after : Exchanges} → WasLeft old new before after
       → {hub : Hub} {conns : Slab Conn} {sockets : AllSockets} (unread : List ℕ)
-      → (AreKnownHonest limits log servers before → Shows limits log contest old.answers.shown.mirror old.answers.blank.mirror hub conns sockets)
-      → (AreKnownHonest limits log servers after → Shows limits log contest new.answers.shown.mirror new.answers.blank.mirror hub conns sockets)
+      → (AreKnownHonest limits log servers before → AnswersFromLog limits log contest old.answers.shown.mirror old.answers.blank.mirror hub conns sockets)
+      → (AreKnownHonest limits log servers after → AnswersFromLog limits log contest new.answers.shown.mirror new.answers.blank.mirror hub conns sockets)
       × (IsSome after → MayFollow limits log servers (is_none new.coming) new.reach new.request.items unread after new.upstream.follower (followed_by new))
   with_left {old} {new} left unread shows =
       (λ honest. left_shows left (shows (left_honest left honest)), λ known. left_follows left new.request.items unread (followed_by new))
@@ -568,14 +568,14 @@ module _ (limits : Limits) (log : Log) (servers : Servers) where
       (follows.0, λ known. subst (λ u. MayFollow limits log servers is_shown reach request u exchanges follower mirror) (sym is) (follows.1 known))
 
   -- what is kept changed alone
-  pub with_kept : {contest : List ℕ} {hub : Hub} {conns : Slab Conn} {sockets : AllSockets} {old new : Source} → IsKeeping old new
+  pub with_kept : {contest : List ℕ} {hub : Hub} {conns : Slab Conn} {sockets : AllSockets} {old new : Source} → SameButUnread old new
       → (exchanges : Exchanges) (unread left : List ℕ) → left ≡ unread
-      → (AreKnownHonest limits log servers exchanges → Shows limits log contest old.answers.shown.mirror old.answers.blank.mirror hub conns sockets)
+      → (AreKnownHonest limits log servers exchanges → AnswersFromLog limits log contest old.answers.shown.mirror old.answers.blank.mirror hub conns sockets)
       × (IsSome exchanges → MayFollow limits log servers (is_none old.coming) old.reach old.request.items unread exchanges old.upstream.follower (followed_by old))
-      → (AreKnownHonest limits log servers exchanges → Shows limits log contest new.answers.shown.mirror new.answers.blank.mirror hub conns sockets)
+      → (AreKnownHonest limits log servers exchanges → AnswersFromLog limits log contest new.answers.shown.mirror new.answers.blank.mirror hub conns sockets)
       × (IsSome exchanges → MayFollow limits log servers (is_none new.coming) new.reach new.request.items left exchanges new.upstream.follower (followed_by new))
   with_kept {contest} {hub} {conns} {sockets} {old} {new} same exchanges unread left rest follows = (
-    λ honest. subst (λ a. Shows limits log contest a.shown.mirror a.blank.mirror hub conns sockets) (sym same.answers) (follows.0 honest),
+    λ honest. subst (λ a. AnswersFromLog limits log contest a.shown.mirror a.blank.mirror hub conns sockets) (sym same.answers) (follows.0 honest),
     λ known. follows_as exchanges (ap is_none same.coming) (ap (λ r. r.items) same.request) rest same.reach (ap (λ u. u.follower) same.upstream) (same_followed same.coming (ap (λ a. a.shown.mirror) same.answers)) (follows.1 known),
   )
 
@@ -584,7 +584,7 @@ module _ (limits : Limits) (log : Log) (servers : Servers) where
   -- what follows is at a place of the log then: so is what is shown
   shown_after : (coming now : Option MirrorState) {contest : List ℕ} {hub : Hub} {conns : Slab Conn} {sockets : AllSockets} (old new blank blank_new : MirrorState)
       → KeepsShown coming now old new → (followed now new).limits ≡ (followed coming old).limits → (is_none coming ≡ true → IsInLog limits log (followed now new).node) → blank_new ≡ blank
-      → Shows limits log contest old blank hub conns sockets → Shows limits log contest new blank_new hub conns sockets
+      → AnswersFromLog limits log contest old blank hub conns sockets → AnswersFromLog limits log contest new blank_new hub conns sockets
   shown_after None now {contest} {hub} {conns} {sockets} old new blank blank_new keeps bounds at same shows =
       shows_at limits log (subst (λ n. (followed n new).limits ≡ old.limits) keeps bounds) (subst (λ n. IsInLog limits log (followed n new).node) keeps (at refl)) same shows
   shown_after (Some coming) now {contest} {hub} {conns} {sockets} old new blank blank_new keeps bounds at same shows =
@@ -592,8 +592,8 @@ module _ (limits : Limits) (log : Log) (servers : Servers) where
 
   pub with_shown : (exchanges : Exchanges) {contest : List ℕ} {hub : Hub} {conns : Slab Conn} {sockets : AllSockets} {old new : Source} → PushesOnly old new
       → (AreKnownHonest limits log servers exchanges → is_none old.coming ≡ true → IsInLog limits log (followed_by new).node)
-      → (AreKnownHonest limits log servers exchanges → Shows limits log contest old.answers.shown.mirror old.answers.blank.mirror hub conns sockets)
-      → AreKnownHonest limits log servers exchanges → Shows limits log contest new.answers.shown.mirror new.answers.blank.mirror hub conns sockets
+      → (AreKnownHonest limits log servers exchanges → AnswersFromLog limits log contest old.answers.shown.mirror old.answers.blank.mirror hub conns sockets)
+      → AreKnownHonest limits log servers exchanges → AnswersFromLog limits log contest new.answers.shown.mirror new.answers.blank.mirror hub conns sockets
   with_shown exchanges {old = old} {new = new} only at shows honest =
       shown_after old.coming new.coming old.answers.shown.mirror new.answers.shown.mirror old.answers.blank.mirror new.answers.blank.mirror only.shown only.limits (at honest) only.blank (shows honest)
 
@@ -601,9 +601,9 @@ module _ (limits : Limits) (log : Log) (servers : Servers) where
   pub with_taken : (exchanges : Exchanges) {contest : List ℕ} {hub : Hub} {conns : Slab Conn} {sockets : AllSockets} {old new : Source} (line next : List ℕ) (progress : Progress)
       → old.reach ≡ Reads → PushesOnly old new → (progress ≡ reached.TokenRefused → ⊥)
       → ((start : MirrorState) (bytes : List ℕ) (standing : Standing) → IsFollowing start bytes standing old.upstream.follower (followed_by old) → IsPushed start (bytes ++ line) new.upstream.follower (followed_by new) progress)
-      → (AreKnownHonest limits log servers exchanges → Shows limits log contest old.answers.shown.mirror old.answers.blank.mirror hub conns sockets)
+      → (AreKnownHonest limits log servers exchanges → AnswersFromLog limits log contest old.answers.shown.mirror old.answers.blank.mirror hub conns sockets)
       × (IsSome exchanges → MayFollow limits log servers (is_none old.coming) old.reach old.request.items (line ++ next) exchanges old.upstream.follower (followed_by old))
-      → (AreKnownHonest limits log servers exchanges → Shows limits log contest new.answers.shown.mirror new.answers.blank.mirror hub conns sockets)
+      → (AreKnownHonest limits log servers exchanges → AnswersFromLog limits log contest new.answers.shown.mirror new.answers.blank.mirror hub conns sockets)
       × (IsSome exchanges → MayFollow limits log servers (is_none new.coming) new.reach new.request.items next exchanges new.upstream.follower (followed_by new))
   with_taken exchanges {old = old} {new = new} line next progress reads only on push follows = (
     with_shown exchanges only (λ honest. (is_taken (known_of exchanges honest)).at honest) follows.0,
@@ -619,9 +619,9 @@ module _ (limits : Limits) (log : Log) (servers : Servers) where
   pub with_refused : (exchanges : Exchanges) {contest : List ℕ} {hub : Hub} {conns : Slab Conn} {sockets : AllSockets} {old new : Source} (line next : List ℕ) (progress : Progress)
       → old.reach ≡ Reads → PushesOnly old new → progress ≡ reached.TokenRefused
       → ((start : MirrorState) (bytes : List ℕ) (standing : Standing) → IsFollowing start bytes standing old.upstream.follower (followed_by old) → IsPushed start (bytes ++ line) new.upstream.follower (followed_by new) progress)
-      → (AreKnownHonest limits log servers exchanges → Shows limits log contest old.answers.shown.mirror old.answers.blank.mirror hub conns sockets)
+      → (AreKnownHonest limits log servers exchanges → AnswersFromLog limits log contest old.answers.shown.mirror old.answers.blank.mirror hub conns sockets)
       × (IsSome exchanges → MayFollow limits log servers (is_none old.coming) old.reach old.request.items (line ++ next) exchanges old.upstream.follower (followed_by old))
-      → AreKnownHonest limits log servers exchanges → Shows limits log contest new.answers.shown.mirror new.answers.blank.mirror hub conns sockets
+      → AreKnownHonest limits log servers exchanges → AnswersFromLog limits log contest new.answers.shown.mirror new.answers.blank.mirror hub conns sockets
   with_refused exchanges {old = old} {new = new} line next progress reads only is push follows =
       with_shown exchanges only (λ honest. refused_at old.request.items line next exchanges old.upstream.follower new.upstream.follower (followed_by old) (followed_by new) progress is push honest
       (subst (λ r. MayFollow limits log servers (is_none old.coming) r old.request.items (line ++ next) exchanges old.upstream.follower (followed_by old)) reads (follows.1 (known_of exchanges honest)))) follows.0
@@ -631,9 +631,9 @@ module _ (limits : Limits) (log : Log) (servers : Servers) where
       → old.reach ≡ Reads → PushesOnly old new
       → ((start : MirrorState) (bytes : List ℕ) (standing : Standing) → IsFollowing start bytes standing old.upstream.follower (followed_by old)
       → (had_token : Bool) × (had_token ≡ is_some start.since) × Fails start had_token bytes line (followed_by new) fault)
-      → (AreKnownHonest limits log servers exchanges → Shows limits log contest old.answers.shown.mirror old.answers.blank.mirror hub conns sockets)
+      → (AreKnownHonest limits log servers exchanges → AnswersFromLog limits log contest old.answers.shown.mirror old.answers.blank.mirror hub conns sockets)
       × (IsSome exchanges → MayFollow limits log servers (is_none old.coming) old.reach old.request.items (line ++ next) exchanges old.upstream.follower (followed_by old))
-      → AreKnownHonest limits log servers exchanges → Shows limits log contest new.answers.shown.mirror new.answers.blank.mirror hub conns sockets
+      → AreKnownHonest limits log servers exchanges → AnswersFromLog limits log contest new.answers.shown.mirror new.answers.blank.mirror hub conns sockets
   with_failed exchanges {old = old} {new = new} line next fault reads only fail follows =
       with_shown exchanges only (λ honest. failed_at old.request.items line next exchanges old.upstream.follower (followed_by old) (followed_by new) fault fail honest
       (subst (λ r. MayFollow limits log servers (is_none old.coming) r old.request.items (line ++ next) exchanges old.upstream.follower (followed_by old)) reads (follows.1 (known_of exchanges honest)))) follows.0
@@ -715,16 +715,16 @@ module _ (limits : Limits) (log : Log) (servers : Servers) where
             );
       }
     where
-      read : Follows limits log servers is_shown reach request unread exchanges follower mirror → Follows limits log servers is_shown Reads request unread exchanges follower mirror
-      read here = subst (λ r. Follows limits log servers is_shown r request unread exchanges follower mirror) reads here
+      read : FollowsResponse limits log servers is_shown reach request unread exchanges follower mirror → FollowsResponse limits log servers is_shown Reads request unread exchanges follower mirror
+      read here = subst (λ r. FollowsResponse limits log servers is_shown r request unread exchanges follower mirror) reads here
 
-      bounds : (here : Follows limits log servers is_shown Reads request unread exchanges follower mirror) → AsksInLog limits log here.start → mirror.limits ≡ limits
+      bounds : (here : FollowsResponse limits log servers is_shown Reads request unread exchanges follower mirror) → AsksInLog limits log here.start → mirror.limits ≡ limits
       bounds here asks = limits_stay here.bytes here.standing here.follows ∙ asks.asks.limits_are
 
-      shows : (here : Follows limits log servers is_shown Reads request unread exchanges follower mirror) (least : ℕ) → least ≤ length here.bytes → StaysInLog limits log here.start least here.latest.received → IsInLog limits log mirror.node
+      shows : (here : FollowsResponse limits log servers is_shown Reads request unread exchanges follower mirror) (least : ℕ) → least ≤ length here.bytes → StaysInLog limits log here.start least here.latest.received → IsInLog limits log mirror.node
       shows here least within stays = stays.shows here.bytes unread here.standing follower mirror (sym here.received) within here.follows
 
-      ends : (here : Follows limits log servers is_shown Reads request unread exchanges follower mirror) → EndsInLog log here.start (length here.bytes) here.latest.received → IsOfLog log mirror.node.published
+      ends : (here : FollowsResponse limits log servers is_shown Reads request unread exchanges follower mirror) → EndsInLog log here.start (length here.bytes) here.latest.received → IsOfLog log mirror.node.published
       ends here end = end.shows here.bytes unread here.standing follower mirror (sym here.received) refl here.follows
 
   -- so may what failed: what the good lines before that published
@@ -762,22 +762,22 @@ module _ (limits : Limits) (log : Log) (servers : Servers) where
             );
       }
     where
-      read : Follows limits log servers is_shown reach request (line ++ next) exchanges follower before → Follows limits log servers is_shown Reads request (line ++ next) exchanges follower before
-      read here = subst (λ r. Follows limits log servers is_shown r request (line ++ next) exchanges follower before) reads here
+      read : FollowsResponse limits log servers is_shown reach request (line ++ next) exchanges follower before → FollowsResponse limits log servers is_shown Reads request (line ++ next) exchanges follower before
+      read here = subst (λ r. FollowsResponse limits log servers is_shown r request (line ++ next) exchanges follower before) reads here
 
-      bounds : (here : Follows limits log servers is_shown Reads request (line ++ next) exchanges follower before) → AsksInLog limits log here.start → after.limits ≡ limits
+      bounds : (here : FollowsResponse limits log servers is_shown Reads request (line ++ next) exchanges follower before) → AsksInLog limits log here.start → after.limits ≡ limits
       bounds here asks = same ∙ limits_stay here.bytes here.standing here.follows ∙ asks.asks.limits_are
 
-      came : (here : Follows limits log servers is_shown Reads request (line ++ next) exchanges follower before) → here.latest.received ≡ (here.bytes ++ line) ++ next
+      came : (here : FollowsResponse limits log servers is_shown Reads request (line ++ next) exchanges follower before) → here.latest.received ≡ (here.bytes ++ line) ++ next
       came here = here.received ∙ sym (append_assoc here.bytes line next)
 
-      failed : (here : Follows limits log servers is_shown Reads request (line ++ next) exchanges follower before) → Fails here.start (is_some here.start.since) here.bytes line after fault
+      failed : (here : FollowsResponse limits log servers is_shown Reads request (line ++ next) exchanges follower before) → Fails here.start (is_some here.start.since) here.bytes line after fault
       failed here = let f = fail here.start here.bytes here.standing here.follows in subst (λ had. Fails here.start had here.bytes line after fault) f.1 f.2
 
-      shows : (here : Follows limits log servers is_shown Reads request (line ++ next) exchanges follower before) (least : ℕ) → least ≤ length (here.bytes ++ line) → StaysInLog limits log here.start least here.latest.received → IsInLog limits log after.node
+      shows : (here : FollowsResponse limits log servers is_shown Reads request (line ++ next) exchanges follower before) (least : ℕ) → least ≤ length (here.bytes ++ line) → StaysInLog limits log here.start least here.latest.received → IsInLog limits log after.node
       shows here least within stays = stays.fails here.bytes line next after fault (sym (came here)) (has_read_all least here.bytes line fault bytes_fail within) (failed here)
 
-      ends : (here : Follows limits log servers is_shown Reads request (line ++ next) exchanges follower before) → EndsInLog log here.start (length (here.bytes ++ line)) here.latest.received → IsOfLog log after.node.published
+      ends : (here : FollowsResponse limits log servers is_shown Reads request (line ++ next) exchanges follower before) → EndsInLog log here.start (length (here.bytes ++ line)) here.latest.received → IsOfLog log after.node.published
       ends here end = end.fails here.bytes line next after fault (sym (came here)) refl bytes_fail (failed here)
 
   now_shown : (is_shown : Bool) (shown : Shown) (bytes unread received : List ℕ) → received ≡ bytes ++ unread → IsShownSo is_shown shown (length bytes)
@@ -819,9 +819,9 @@ module _ (limits : Limits) (log : Log) (servers : Servers) where
 
   pub shows_now : {contest : List ℕ} {hub : Hub} {conns : Slab Conn} {sockets : AllSockets} {old new : Source} (unread : ℕ) (before after : Exchanges)
       → after ≡ option_map (shown_so all_from unread) before → IsNowShown old new
-      → (AreKnownHonest limits log servers before → Shows limits log contest old.answers.shown.mirror old.answers.blank.mirror hub conns sockets)
+      → (AreKnownHonest limits log servers before → AnswersFromLog limits log contest old.answers.shown.mirror old.answers.blank.mirror hub conns sockets)
       → MayShow limits log servers unread before (followed_by old)
-      → AreKnownHonest limits log servers after → Shows limits log contest new.answers.shown.mirror new.answers.blank.mirror hub conns sockets
+      → AreKnownHonest limits log servers after → AnswersFromLog limits log contest new.answers.shown.mirror new.answers.blank.mirror hub conns sockets
   shows_now {old = old} unread before after is now shows may honest =
       let here = shows (shown_so_honest all_from unread before after is honest) in
       let at = may.all (subst (λ e. AreKnownHonest limits log servers e) is honest) in
@@ -834,9 +834,9 @@ module _ (limits : Limits) (log : Log) (servers : Servers) where
 
   pub with_now_shown : {contest : List ℕ} {hub : Hub} {conns : Slab Conn} {sockets : AllSockets} {old new : Source} (unread : List ℕ) (before after : Exchanges)
       → after ≡ option_map (shown_so all_from (length unread)) before → old.reach ≡ Reads → IsNowShown old new
-      → (AreKnownHonest limits log servers before → Shows limits log contest old.answers.shown.mirror old.answers.blank.mirror hub conns sockets)
+      → (AreKnownHonest limits log servers before → AnswersFromLog limits log contest old.answers.shown.mirror old.answers.blank.mirror hub conns sockets)
       × (IsSome before → MayFollow limits log servers (is_none old.coming) old.reach old.request.items unread before old.upstream.follower (followed_by old))
-      → (AreKnownHonest limits log servers after → Shows limits log contest new.answers.shown.mirror new.answers.blank.mirror hub conns sockets)
+      → (AreKnownHonest limits log servers after → AnswersFromLog limits log contest new.answers.shown.mirror new.answers.blank.mirror hub conns sockets)
       × (IsSome after → MayFollow limits log servers (is_none new.coming) new.reach new.request.items unread after new.upstream.follower (followed_by new))
   with_now_shown {old = old} {new = new} unread before after is reads now follows = (
     shows_now (length unread) before after is now follows.0
@@ -870,16 +870,16 @@ module _ (limits : Limits) (log : Log) (servers : Servers) where
 
   pub with_alone : {contest : List ℕ} {hub : Hub} {conns : Slab Conn} {sockets : AllSockets} {old new : Source} (unread : ℕ) (before after : Exchanges)
       → after ≡ option_map (shown_so once_at unread) before → ShowsAlone old new
-      → (AreKnownHonest limits log servers before → Shows limits log contest old.answers.shown.mirror old.answers.blank.mirror hub conns sockets)
+      → (AreKnownHonest limits log servers before → AnswersFromLog limits log contest old.answers.shown.mirror old.answers.blank.mirror hub conns sockets)
       → MayShow limits log servers unread before (followed_by old)
-      → AreKnownHonest limits log servers after → Shows limits log contest new.answers.shown.mirror new.answers.blank.mirror hub conns sockets
+      → AreKnownHonest limits log servers after → AnswersFromLog limits log contest new.answers.shown.mirror new.answers.blank.mirror hub conns sockets
   with_alone {contest} {hub} {conns} {sockets} {old} {new} unread before after is alone shows may honest =
       by (may.once (subst (λ e. AreKnownHonest limits log servers e) is honest)) alone.shown (shows (shown_so_honest once_at unread before after is honest))
     where
       by : (followed_by old).limits ≡ limits × IsOfLog log (followed_by old).node.published
           → (new.answers.shown.mirror ≡ old.answers.shown.mirror) ⊎ (new.answers.shown.mirror ≡ restored_from (followed_by old).limits (followed_by old).node.published)
-          → Shows limits log contest old.answers.shown.mirror old.answers.blank.mirror hub conns sockets
-          → Shows limits log contest new.answers.shown.mirror new.answers.blank.mirror hub conns sockets
+          → AnswersFromLog limits log contest old.answers.shown.mirror old.answers.blank.mirror hub conns sockets
+          → AnswersFromLog limits log contest new.answers.shown.mirror new.answers.blank.mirror hub conns sockets
       by at (inl same) here = shows_at limits log (ap (λ m. m.limits) same) (subst (λ m. IsInLog limits log m.node) (sym same) here.shown_is) alone.blank here
       by at (inr is_it) here =
           shows_at limits log (ap (λ m. m.limits) is_it ∙ restored_limits _ (followed_by old).node.published ∙ at.0 ∙ sym here.limits_are)
@@ -888,7 +888,7 @@ module _ (limits : Limits) (log : Log) (servers : Servers) where
   -- ---- what follows may be shown
 
   pub to_show : {contest : List ℕ} (source : Source) (screens : Screens) {sockets : AllSockets} (exchanges : Exchanges) (unread : List ℕ) → source.reach ≡ Reads
-      → FollowsLog limits log servers contest exchanges source unread screens sockets → IsToShow limits log servers contest exchanges source (length unread) screens sockets
+      → FollowsServers limits log servers contest exchanges source unread screens sockets → IsToShow limits log servers contest exchanges source (length unread) screens sockets
   to_show source screens exchanges unread reads follows = (
     follows.0,
     follows.1.0,

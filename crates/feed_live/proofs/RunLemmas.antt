@@ -15,7 +15,7 @@ use Rattle.feed_live.specs.declared.turn.Live.{Live}
 use Rattle.feed_live.specs.Laws.{ShowsTheLog}
 use Rattle.feed_live.specs.Relaying.{IsRelaying, StillRelaying}
 use Rattle.feed_live.specs.Running.{Moment, moment_of, shown_at, KeepsFilesAt, came_more, IsTurn, IsRun, HasRun, AreNodesOf, KeepsToTheLog, RunsKeepToTheLog, IsKnownHonestInput, InputRunsKeepToTheLog}
-use Rattle.feed_live.specs.Saved.{AreParts, KeepsFiles}
+use Rattle.feed_live.specs.Saved.{ArePartsOfRecords, KeepsFiles}
 use Rattle.feed_live.specs.Taking.{IsTakingInput, StillTaking}
 use Rattle.feed_live.specs.Upstream.{Servers, AreKnownHonest}
 use Rattle.feed_live.proofs.HonestLemmas.{relays_show_the_log, input_shows_the_log}
@@ -125,8 +125,8 @@ module _ (limits : Limits) (log : Log) where
 
   -- what the files have at the last moment
   files_to : (nodes : List NodeState) → AreNodesOf limits log nodes → (first last : Moment) (earlier : List Moment) → IsRun first earlier last
-      → AllByRecursion ShowsAt (last ∷ earlier) → KeepsFilesAt nodes first → AreParts nodes first.files.had → KeepsFilesAt nodes last × AreParts nodes last.files.had
-  files_to nodes of first last [] run shows keeps parts = (subst (KeepsFilesAt nodes) (sym run) keeps, subst (λ m. AreParts nodes m.files.had) (sym run) parts)
+      → AllByRecursion ShowsAt (last ∷ earlier) → KeepsFilesAt nodes first → ArePartsOfRecords nodes first.files.had → KeepsFilesAt nodes last × ArePartsOfRecords nodes last.files.had
+  files_to nodes of first last [] run shows keeps parts = (subst (KeepsFilesAt nodes) (sym run) keeps, subst (λ m. ArePartsOfRecords nodes m.files.had) (sym run) parts)
   files_to nodes of first last (before ∷ earlier) run shows keeps parts =
       let files = files_to nodes of first before earlier run.1 shows.1 keeps parts in
       let has = has_shown nodes of last shows.0 in
@@ -134,7 +134,7 @@ module _ (limits : Limits) (log : Log) where
 
   -- and at each
   all_files : (nodes : List NodeState) → AreNodesOf limits log nodes → (first last : Moment) (earlier : List Moment) → IsRun first earlier last
-      → AllByRecursion ShowsAt (last ∷ earlier) → KeepsFilesAt nodes first → AreParts nodes first.files.had → AllByRecursion (λ m. AreParts nodes m.files.had) (last ∷ earlier)
+      → AllByRecursion ShowsAt (last ∷ earlier) → KeepsFilesAt nodes first → ArePartsOfRecords nodes first.files.had → AllByRecursion (λ m. ArePartsOfRecords nodes m.files.had) (last ∷ earlier)
   all_files nodes of first last [] run shows keeps parts = ((files_to nodes of first last [] run shows keeps parts).1, tt)
   all_files nodes of first last (before ∷ earlier) run shows keeps parts = (
     (files_to nodes of first last (before ∷ earlier) run shows keeps parts).1,

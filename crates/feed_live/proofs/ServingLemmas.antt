@@ -16,16 +16,16 @@ use Rattle.feed_hub.specs.declared.seats.Seat.TheVariants.{Asks, Watches}
 use Rattle.feed_hub.specs.Broadcast.{IsServedBy}
 use Rattle.feed_hub.specs.declared.hub.Heard.{Heard}
 use Rattle.feed_hub.specs.Hub.{IsSeated, IsStillSeated, ChangesOnly, prefix_of, prefix_at, IsAnsweredBy, HearsAt, HearsOf, HoldsAt}
-use Rattle.feed_hub.specs.Log.{Log}
-use Rattle.feed_hub.specs.Seats.{seat_at, Watched, KeepsThose, Ends, IsAskingSeat}
+use Rattle.feed_hub.specs.Backlog.{Backlog}
+use Rattle.feed_hub.specs.Seats.{seat_at, Watched, KeepsThose, EndsSeat, IsCut, IsAskingSeat}
 use Rattle.feed_hub.specs.Steps.{taken}
 use Rattle.feed_live.specs.declared.conn.Conn.{Conn}
 use Rattle.feed_live.specs.declared.screens.Screens.{Screens}
 use Rattle.feed_live.specs.declared.screens.Hearing.{Hearing}
-use Rattle.feed_device.specs.Sockets.{Socket, Traffic, AllSockets, IsSocket, IsUnused, opened, closed, traffic_of, with_current, former_of, goes_on_with, came_to, written_to, on_current, IsRead, IsWrite, SameSockets, OtherSockets}
+use Rattle.feed_device.specs.Sockets.{Socket, Traffic, AllSockets, IsSocket, IsUnused, opened, closed, traffic_of, with_current, former_of, goes_on_with, came_to, written_to, on_current, GivesBytes, IsWrite, SameSockets, OtherSockets}
 use Rattle.feed_live.specs.Held.{answerer}
 use Rattle.feed_live.specs.Laws.{SocketsAreFaithful}
-use Rattle.feed_live.specs.Serving.{IsGiven, WasServed, IsFaithful, WasFaithful, WereFaithful, nothing, refused, served, IsSent, Sits, asks, watches, cut, key_of, key_at, Stands, Serving, SameKeys, Leaves, keyless, IsGreeted, SameSeating, full_text, ServesBut, HearsSo, HearsSome, HearsAll}
+use Rattle.feed_live.specs.Serving.{IsAnswerOf, WasServed, IsFaithful, WasFaithful, WereFaithful, nothing, refused, served, IsSent, Sits, asks, watches, cut, key_of, key_at, SocketStands, ServesScreens, SameKeys, LeavesSeat, keyless, IsGreeted, SameSeating, full_text, ServesBut, HearsSo, HearsSome, HearsAll}
 
 -- ---- numbers and keys
 
@@ -47,7 +47,7 @@ key_tells a b = by (number_tells a.index b.index) (number_tells a.generation b.g
 -- ---- one socket
 
 pub was_served : {nodes : List NodeState} {contest came : List ℕ} (hub : Hub) (key : Key) (answer : AnswerParts) (handed : List ℕ)
-    → IsGiven nodes contest came answer → IsSeated nodes hub key answer handed → WasServed nodes contest came handed
+    → IsAnswerOf nodes contest came answer → IsSeated nodes hub key answer handed → WasServed nodes contest came handed
 was_served hub key answer handed given seated =
     record {
       answer = answer;
@@ -135,14 +135,14 @@ cut_stays nodes old new key none = record { gone = λ _. none; asked = λ _ _. i
 -- ---- all numbers
 
 stands_on : (nodes : List NodeState) (contest : List ℕ) (old new : Hub) (held : Option (Option Key)) (socket : Option Socket)
-    → ((key : Key) → held ≡ Some (Some key) → StillSits nodes contest old new key) → Stands nodes contest old held socket → Stands nodes contest new held socket
+    → ((key : Key) → held ≡ Some (Some key) → StillSits nodes contest old new key) → SocketStands nodes contest old held socket → SocketStands nodes contest new held socket
 stands_on nodes contest old new None socket still s = s
 stands_on nodes contest old new (Some None) socket still s = s
 stands_on nodes contest old new (Some (Some key)) socket still s = still key refl socket s
 
 -- each connection stands as before
 pub serving_on : {nodes : List NodeState} {contest : List ℕ} {old new : Hub} {conns : Slab Conn} {sockets : AllSockets}
-    → ((key : Key) → StillSits nodes contest old new key) → old.seats.next ≤ new.seats.next → Serving nodes contest old conns sockets → Serving nodes contest new conns sockets
+    → ((key : Key) → StillSits nodes contest old new key) → old.seats.next ≤ new.seats.next → ServesScreens nodes contest old conns sockets → ServesScreens nodes contest new conns sockets
 serving_on {nodes} {contest} {old} {new} {conns} {sockets} still next serving =
     record {
       each = λ at. stands_on nodes contest old new (key_at conns at) (sockets at) (λ key _. still key) (serving.each at);
@@ -154,12 +154,12 @@ serving_on {nodes} {contest} {old} {new} {conns} {sockets} still next serving =
 -- nothing changed that the sockets' bytes hang on
 pub serving_same : {nodes : List NodeState} {contest : List ℕ} {old new : Hub} {conns conns_new : Slab Conn} {sockets sockets_new : AllSockets}
     → new ≡ old → SameKeys conns conns_new → SameSockets sockets sockets_new
-    → Serving nodes contest old conns sockets → Serving nodes contest new conns_new sockets_new
+    → ServesScreens nodes contest old conns sockets → ServesScreens nodes contest new conns_new sockets_new
 serving_same {nodes} {contest} {old} {new} {conns} {conns_new} {sockets} {sockets_new} hub keys same serving =
-    subst (λ h. Serving nodes contest h conns_new sockets_new) (sym hub)
+    subst (λ h. ServesScreens nodes contest h conns_new sockets_new) (sym hub)
     (record {
-      each = λ at. subst (λ k. Stands nodes contest old k (sockets_new at)) (sym (keys at))
-          (subst (λ s. Stands nodes contest old (key_at conns at) s) (sym (same at)) (serving.each at));
+      each = λ at. subst (λ k. SocketStands nodes contest old k (sockets_new at)) (sym (keys at))
+          (subst (λ s. SocketStands nodes contest old (key_at conns at) s) (sym (same at)) (serving.each at));
       former = λ at. subst (WereFaithful nodes contest) (sym (same at)) (serving.former at);
       one = λ at other key is is_too. serving.one at other key (sym (keys at) ∙ is) (sym (keys other) ∙ is_too);
       below = λ at key is. serving.below at key (sym (keys at) ∙ is);
@@ -171,17 +171,17 @@ pub serving_at : {nodes : List NodeState} {contest : List ℕ} {old new : Hub} {
     → ((other : ℕ) → other ≢ at → key_at conns_new other ≡ key_at conns other) → OtherSockets sockets sockets_new at
     → ((other : ℕ) (key : Key) → other ≢ at → key_at conns other ≡ Some (Some key) → Stays nodes old new key)
     → old.seats.next ≤ new.seats.next
-    → Stands nodes contest new (key_at conns_new at) (sockets_new at) → WereFaithful nodes contest (sockets_new at)
+    → SocketStands nodes contest new (key_at conns_new at) (sockets_new at) → WereFaithful nodes contest (sockets_new at)
     → ((key : Key) → key_at conns_new at ≡ Some (Some key) → (key.generation < new.seats.next) × ((other : ℕ) → other ≢ at → key_at conns other ≢ Some (Some key)))
-    → Serving nodes contest old conns sockets → Serving nodes contest new conns_new sockets_new
+    → ServesScreens nodes contest old conns sockets → ServesScreens nodes contest new conns_new sockets_new
 serving_at {nodes} {contest} {old} {new} {conns} {conns_new} {sockets} {sockets_new} at keys same stays next stands former own serving =
     record { each = λ other. each_at other (number_tells other at); former = λ other. former_at other (number_tells other at); one = λ a b key is is_too. one_at a b key is is_too (number_tells a at) (number_tells b at); below = λ other key is. below_at other key is (number_tells other at) }
   where
-    each_at : (other : ℕ) → (other ≡ at) ⊎ (other ≢ at) → Stands nodes contest new (key_at conns_new other) (sockets_new other)
-    each_at other (inl here) = subst (λ n. Stands nodes contest new (key_at conns_new n) (sockets_new n)) (sym here) stands
+    each_at : (other : ℕ) → (other ≡ at) ⊎ (other ≢ at) → SocketStands nodes contest new (key_at conns_new other) (sockets_new other)
+    each_at other (inl here) = subst (λ n. SocketStands nodes contest new (key_at conns_new n) (sockets_new n)) (sym here) stands
     each_at other (inr away) =
-        subst (λ k. Stands nodes contest new k (sockets_new other)) (sym (keys other away))
-        (subst (λ s. Stands nodes contest new (key_at conns other) s) (sym (same other away))
+        subst (λ k. SocketStands nodes contest new k (sockets_new other)) (sym (keys other away))
+        (subst (λ s. SocketStands nodes contest new (key_at conns other) s) (sym (same other away))
         (stands_on nodes contest old new (key_at conns other) (sockets other) (λ key is. still_sits contest (stays other key away is)) (serving.each other)))
 
     former_at : (other : ℕ) → (other ≡ at) ⊎ (other ≢ at) → WereFaithful nodes contest (sockets_new other)
@@ -199,7 +199,7 @@ serving_at {nodes} {contest} {old} {new} {conns} {conns_new} {sockets} {sockets_
     below_at other key is (inr away) = let under = serving.below other key (sym (keys other away) ∙ is) in omega arith
 
 -- another number's key is another key
-pub apart : {nodes : List NodeState} {contest : List ℕ} {hub : Hub} {conns : Slab Conn} {sockets : AllSockets} → Serving nodes contest hub conns sockets
+pub apart : {nodes : List NodeState} {contest : List ℕ} {hub : Hub} {conns : Slab Conn} {sockets : AllSockets} → ServesScreens nodes contest hub conns sockets
     → (at other : ℕ) (key other_key : Key) → key_at conns at ≡ Some (Some key) → other ≢ at → key_at conns other ≡ Some (Some other_key) → other_key ≢ key
 apart {conns = conns} serving at other key other_key is away is_too = λ same. away (serving.one other at key (subst (λ k. key_at conns other ≡ Some (Some k)) same is_too) is)
 
@@ -261,7 +261,7 @@ sent_sits old new key now count before after exact serves after_is (cut none sen
     })
 
 -- what a number has now is its own, where it has what it had
-own_still : {nodes : List NodeState} {contest : List ℕ} {hub : Hub} {conns : Slab Conn} {sockets : AllSockets} → Serving nodes contest hub conns sockets
+own_still : {nodes : List NodeState} {contest : List ℕ} {hub : Hub} {conns : Slab Conn} {sockets : AllSockets} → ServesScreens nodes contest hub conns sockets
     → (at : ℕ) (key : Key) → key_at conns at ≡ Some (Some key) → (other : ℕ) → other ≢ at → key_at conns other ≢ Some (Some key)
 own_still serving at key is other away is_too = away (serving.one other at key is_too is)
 
@@ -274,14 +274,14 @@ pub serving_sent : {nodes : List NodeState} {contest : List ℕ} (old new : Hub)
     → ((answer : AnswerParts) (handed : List ℕ) → IsSeated nodes old key answer handed → IsSeated nodes new key answer (handed ++ take count (prefix_at old key)))
     → ChangesOnly old new key
     → after at ≡ on_current (written_to (take count (prefix_at old key))) (before at) → OtherSockets before after at
-    → Serving nodes contest old conns before → Serving nodes contest new conns after
+    → ServesScreens nodes contest old conns before → ServesScreens nodes contest new conns after
 serving_sent {nodes} {contest} old new conns before after at key now count keyed exact serves changes after_is others serving =
     serving_at at (λ other _. refl) others
     (λ other k away is. others_stay nodes old new key k changes (apart serving at other key k keyed away is))
     (same_next _ _ changes.next)
-    (subst (λ k. Stands nodes contest new k (after at)) (sym keyed)
+    (subst (λ k. SocketStands nodes contest new k (after at)) (sym keyed)
     (sent_sits old new key now count (before at) (after at) exact serves after_is
-    (subst (λ k. Stands nodes contest old k (before at)) keyed (serving.each at))))
+    (subst (λ k. SocketStands nodes contest old k (before at)) keyed (serving.each at))))
     (former_same _ _ (before at) (after at) (former_becomes _ (before at) (after at) after_is) (serving.former at))
     (λ k is. (subst (λ n. k.generation < n) (sym changes.next) (serving.below at k is), own_still serving at k is))
     serving
@@ -289,7 +289,7 @@ serving_sent {nodes} {contest} old new conns before after at key now count keyed
 -- ---- what was written is faithful
 
 -- more of what came changes nothing
-given_further : {nodes : List NodeState} {contest : List ℕ} {answer : AnswerParts} (came bytes : List ℕ) → IsGiven nodes contest came answer → IsGiven nodes contest (came ++ bytes) answer
+given_further : {nodes : List NodeState} {contest : List ℕ} {answer : AnswerParts} (came bytes : List ℕ) → IsAnswerOf nodes contest came answer → IsAnswerOf nodes contest (came ++ bytes) answer
 given_further came bytes given =
     record {
       node = given.node;
@@ -334,23 +334,23 @@ current_faithful nodes contest (Some traffic) former is were = (is, were)
 sent_current : {nodes : List NodeState} {contest : List ℕ} (known : Socket) → IsSent nodes contest (Some known) → IfSome known.current (WasFaithful nodes contest)
 sent_current {nodes} {contest} known sent = subst (λ c. IfSome c (WasFaithful nodes contest)) (sym sent.socket_is) sent.faithful
 
-stands_current : (nodes : List NodeState) (contest : List ℕ) (hub : Hub) (held : Option (Option Key)) (known : Socket) → Stands nodes contest hub held (Some known) → IfSome known.current (WasFaithful nodes contest)
+stands_current : (nodes : List NodeState) (contest : List ℕ) (hub : Hub) (held : Option (Option Key)) (known : Socket) → SocketStands nodes contest hub held (Some known) → IfSome known.current (WasFaithful nodes contest)
 stands_current nodes contest hub None known stands = subst (λ c. IfSome c (WasFaithful nodes contest)) (sym stands) tt
 stands_current nodes contest hub (Some None) known stands = sent_current known stands
 stands_current nodes contest hub (Some (Some key)) known stands = sent_current known (sent_of stands)
 
-stands_all : (nodes : List NodeState) (contest : List ℕ) (hub : Hub) (held : Option (Option Key)) (known : Socket) → Stands nodes contest hub held (Some known) → WereFaithful nodes contest (Some known)
+stands_all : (nodes : List NodeState) (contest : List ℕ) (hub : Hub) (held : Option (Option Key)) (known : Socket) → SocketStands nodes contest hub held (Some known) → WereFaithful nodes contest (Some known)
     → AllByRecursion (WasFaithful nodes contest) (traffic_of known)
 stands_all nodes contest hub held known stands were = current_faithful nodes contest known.current known.former (stands_current nodes contest hub held known stands) were
 
 -- a connection is over, and its traffic is still known
-former_over : (nodes : List NodeState) (contest : List ℕ) (hub : Hub) (held : Option (Option Key)) (current : Option Traffic) (socket : Option Socket) → Stands nodes contest hub held socket → WereFaithful nodes contest socket
+former_over : (nodes : List NodeState) (contest : List ℕ) (hub : Hub) (held : Option (Option Key)) (current : Option Traffic) (socket : Option Socket) → SocketStands nodes contest hub held socket → WereFaithful nodes contest socket
     → WereFaithful nodes contest (goes_on_with current socket)
 former_over nodes contest hub held current None stands were = tt
 former_over nodes contest hub held current (Some known) stands were = stands_all nodes contest hub held known stands were
 
 over_so : {nodes : List NodeState} {contest : List ℕ} {hub : Hub} {conns : Slab Conn} {sockets : AllSockets} (at : ℕ) (current : Option Traffic) (after : Option Socket) → after ≡ goes_on_with current (sockets at)
-    → Serving nodes contest hub conns sockets → WereFaithful nodes contest after
+    → ServesScreens nodes contest hub conns sockets → WereFaithful nodes contest after
 over_so {nodes} {contest} {hub} {conns} {sockets} at current after is serving =
     subst (WereFaithful nodes contest) (sym is) (former_over nodes contest hub (key_at conns at) current (sockets at) (serving.each at) (serving.former at))
 
@@ -366,7 +366,7 @@ goes_on current socket after is = subst (λ s. IsSocket s current) (sym is) (by 
 -- what left the hub, where a number had this
 abbrev pub LeavesAt : Option (Option Key) → Hub → Hub → Type 0
 LeavesAt None old new = new ≡ old
-LeavesAt (Some held) old new = Leaves held old new
+LeavesAt (Some held) old new = LeavesSeat held old new
 
 pub hub_stays : (nodes : List NodeState) (old new : Hub) (key : Key) → new ≡ old → Stays nodes old new key
 hub_stays nodes old new key same = same_stays nodes old new key (ap (λ h. seat_at h.seats.slab key) same) (ap (λ h. h.broadcast) same)
@@ -385,12 +385,12 @@ left_next old new (Some (Some gone)) left = left.1.next
 pub serving_ended : {nodes : List NodeState} {contest : List ℕ} (old new : Hub) (conns conns_new : Slab Conn) (before after : AllSockets) (at : ℕ)
     → ((other : ℕ) → other ≢ at → key_at conns_new other ≡ key_at conns other) → key_at conns_new at ≡ None
     → LeavesAt (key_at conns at) old new → after at ≡ goes_on_with closed (before at) → OtherSockets before after at
-    → Serving nodes contest old conns before → Serving nodes contest new conns_new after
+    → ServesScreens nodes contest old conns before → ServesScreens nodes contest new conns_new after
 serving_ended {nodes} {contest} old new conns conns_new before after at keys free left over others serving =
     serving_at at keys others
     (λ other k away is. left_stays nodes old new (key_at conns at) k left (λ gone was. apart serving at other gone k was away is))
     (same_next _ _ (left_next old new (key_at conns at) left))
-    (subst (λ k. Stands nodes contest new k (after at)) (sym free) (goes_on closed (before at) (after at) over))
+    (subst (λ k. SocketStands nodes contest new k (after at)) (sym free) (goes_on closed (before at) (after at) over))
     (over_so at closed (after at) over serving)
     (λ k is. let no : None ≡ Some (Some k) = sym free ∙ is in absurd (cc))
     serving
@@ -400,14 +400,14 @@ pub serving_finished : {nodes : List NodeState} {contest : List ℕ} (old new : 
     → key_at conns at ≡ Some (Some key)
     → ((other : ℕ) → other ≢ at → key_at conns_new other ≡ key_at conns other) → key_at conns_new at ≡ keyless (key_at conns at)
     → ChangesOnly old new key → SameSockets before after
-    → Serving nodes contest old conns before → Serving nodes contest new conns_new after
+    → ServesScreens nodes contest old conns before → ServesScreens nodes contest new conns_new after
 serving_finished {nodes} {contest} old new conns conns_new before after at key keyed keys without changes same serving =
     let free : key_at conns_new at ≡ Some None = without ∙ ap keyless keyed in
-    let sits : Sits nodes contest old key (before at) = subst (λ k. Stands nodes contest old k (before at)) keyed (serving.each at) in
+    let sits : Sits nodes contest old key (before at) = subst (λ k. SocketStands nodes contest old k (before at)) keyed (serving.each at) in
     serving_at at keys (λ other _. same other)
     (λ other k away is. others_stay nodes old new key k changes (apart serving at other key k keyed away is))
     (same_next _ _ changes.next)
-    (subst (λ k. Stands nodes contest new k (after at)) (sym free) (subst (λ s. IsSent nodes contest s) (sym (same at)) (sent_of sits)))
+    (subst (λ k. SocketStands nodes contest new k (after at)) (sym free) (subst (λ s. IsSent nodes contest s) (sym (same at)) (sent_of sits)))
     (subst (WereFaithful nodes contest) (sym (same at)) (serving.former at))
     (λ k is. let no : Some None ≡ Some (Some k) = sym free ∙ is in absurd (cc))
     serving
@@ -424,17 +424,17 @@ pub serving_refused : {nodes : List NodeState} {contest : List ℕ} (old new : S
     → key_at old.conns at ≡ Some (Some key) → IsAskingSeat (seat_at old.hub.seats.slab key)
     → ((other : ℕ) → other ≢ at → key_at new.conns other ≡ key_at old.conns other) → key_at new.conns at ≡ keyless (key_at old.conns at)
     → ChangesOnly old.hub new.hub key → ((came : List ℕ) → IsSocket (middle at) (opened came []) → IsSent nodes contest (after at)) → former_of (after at) ≡ former_of (middle at) → OtherSockets middle after at
-    → ServesBut nodes contest old.hub old.conns middle at unheard → Serving nodes contest new.hub new.conns after
+    → ServesBut nodes contest old.hub old.conns middle at unheard → ServesScreens nodes contest new.hub new.conns after
 serving_refused {nodes} {contest} old new middle after at key unheard keyed asked keys without changes sent former others serves =
     let before = serves.before in
     let serving = serves.serving in
     let free : key_at new.conns at ≡ Some None = without ∙ ap keyless keyed in
-    let sits : Sits nodes contest old.hub key (before at) = subst (λ k. Stands nodes contest old.hub k (before at)) keyed (serving.each at) in
+    let sits : Sits nodes contest old.hub key (before at) = subst (λ k. SocketStands nodes contest old.hub k (before at)) keyed (serving.each at) in
     let (came, is) = asks_opened sits asked in
     serving_at at keys (λ other away. others other away ∙ serves.came.others other away)
     (λ other k away is. others_stay nodes old.hub new.hub key k changes (apart serving at other key k keyed away is))
     (same_next _ _ changes.next)
-    (subst (λ k. Stands nodes contest new.hub k (after at)) (sym free) (sent (came ++ unheard) (subst (λ s. IsSocket s (opened (came ++ unheard) [])) (sym serves.came.more) (more_came (before at) came [] unheard is))))
+    (subst (λ k. SocketStands nodes contest new.hub k (after at)) (sym free) (sent (came ++ unheard) (subst (λ s. IsSocket s (opened (came ++ unheard) [])) (sym serves.came.more) (more_came (before at) came [] unheard is))))
     (former_same _ _ (before at) (after at) (former ∙ former_becomes _ (before at) (middle at) serves.came.more) (serving.former at))
     (λ k is. let no : Some None ≡ Some (Some k) = sym free ∙ is in absurd (cc))
     serving
@@ -444,12 +444,12 @@ serving_refused {nodes} {contest} old new middle after at key unheard keyed aske
 pub serving_accepted : {nodes : List NodeState} {contest : List ℕ} (old new : Hub) (conns conns_new : Slab Conn) (before after : AllSockets) (at : ℕ) (held : Option Key)
     → ((other : ℕ) → other ≢ at → key_at conns_new other ≡ key_at conns other) → key_at conns_new at ≡ Some held
     → IsGreeted nodes contest old new held (after at) → WereFaithful nodes contest (after at) → OtherSockets before after at
-    → Serving nodes contest old conns before → Serving nodes contest new conns_new after
+    → ServesScreens nodes contest old conns before → ServesScreens nodes contest new conns_new after
 serving_accepted {nodes} {contest} old new conns conns_new before after at held keys keyed greeted were others serving =
     serving_at at keys others
     (λ other k away is. same_stays nodes old new k (greeted.others k (serving.below other k is)) greeted.broadcast)
     greeted.kept
-    (subst (λ k. Stands nodes contest new k (after at)) (sym keyed) greeted.stands)
+    (subst (λ k. SocketStands nodes contest new k (after at)) (sym keyed) greeted.stands)
     were
     (λ k is. let mine : held ≡ Some k = of_some (sym keyed ∙ is) in
     (greeted.next k mine, λ other away is_too. let below = serving.below other k is_too in let same = greeted.is_new k mine in absurd (omega arith)))
@@ -492,12 +492,12 @@ late_stays nodes old new key keeps broadcast = by (kept_was old new key (seat_at
     by (inl same) = same_stays nodes old new key same broadcast
     by (inr none) = cut_stays nodes old new key none
 
-pub ended_stays : (nodes : List NodeState) (old new : Hub) (key : Key) (log : Log) (told : Option (List ℕ)) (now : ℕ)
-    → (Ends log told now (seat_at old.seats.slab key) (seat_at new.seats.slab key) ⊎ (seat_at new.seats.slab key ≡ None))
+pub ended_stays : (nodes : List NodeState) (old new : Hub) (key : Key) (log : Backlog) (told : Option (List ℕ)) (now : ℕ)
+    → (EndsSeat log told now (seat_at old.seats.slab key) (seat_at new.seats.slab key) ⊎ IsCut old.seats.slab new.seats.slab key)
     → (IsStillSeated nodes old new key ⊎ (seat_at new.seats.slab key ≡ None)) → Stays nodes old new key
 ended_stays nodes old new key log told now (inl ends) (inl still) = watched_stays nodes old new key _ ends still
 ended_stays nodes old new key log told now (inl ends) (inr none) = cut_stays nodes old new key none
-ended_stays nodes old new key log told now (inr none) still = cut_stays nodes old new key none
+ended_stays nodes old new key log told now (inr cut) still = cut_stays nodes old new key cut.cut
 
 -- the seats stay
 pub said_stays : (nodes : List NodeState) (old new : Hub) (key : Key) → new.seats ≡ old.seats → IsStillSeated nodes old new key → Stays nodes old new key
@@ -521,24 +521,24 @@ each_sits {nodes} contest old new key changes still other = by (key_tells other 
 
 -- the seats stay, and whoever is served still is
 pub serving_said : {nodes : List NodeState} {contest : List ℕ} {old new : Hub} {conns : Slab Conn} {sockets : AllSockets} → new.seats ≡ old.seats → ((key : Key) → IsStillSeated nodes old new key)
-    → Serving nodes contest old conns sockets → Serving nodes contest new conns sockets
+    → ServesScreens nodes contest old conns sockets → ServesScreens nodes contest new conns sockets
 serving_said {nodes} {contest} {old} {new} seats still serving =
     serving_on (λ key. still_sits contest (said_stays nodes old new key seats (still key))) (same_next _ _ (ap (λ s. s.next) seats)) serving
 
 -- one key changes, and what sat there stays
 pub serving_changed : {nodes : List NodeState} {contest : List ℕ} {old new : Hub} {conns : Slab Conn} {sockets : AllSockets} (key : Key) → ChangesOnly old new key → StillSits nodes contest old new key
-    → Serving nodes contest old conns sockets → Serving nodes contest new conns sockets
+    → ServesScreens nodes contest old conns sockets → ServesScreens nodes contest new conns sockets
 serving_changed {nodes} {contest} {old} {new} key changes still serving =
     serving_on (each_sits contest old new key changes still) (same_next _ _ changes.next) serving
 
 -- nothing changed that a socket's bytes hang on
 pub serving_seated : {nodes : List NodeState} {contest : List ℕ} {old new : Screens} {sockets sockets_new : AllSockets} → SameSeating old new → SameSockets sockets sockets_new
-    → Serving nodes contest old.hub old.conns sockets → Serving nodes contest new.hub new.conns sockets_new
+    → ServesScreens nodes contest old.hub old.conns sockets → ServesScreens nodes contest new.hub new.conns sockets_new
 serving_seated {nodes} {contest} {old} {new} same sockets serving = serving_same {conns = old.conns} {conns_new = new.conns} same.hub same.keys sockets serving
 
 -- the same, where no socket is touched
 pub serving_noted : {nodes : List NodeState} {contest : List ℕ} {old new : Screens} {sockets : AllSockets} → SameSeating old new
-    → Serving nodes contest old.hub old.conns sockets → Serving nodes contest new.hub new.conns sockets
+    → ServesScreens nodes contest old.hub old.conns sockets → ServesScreens nodes contest new.hub new.conns sockets
 serving_noted {nodes} {contest} {old} {new} same serving = serving_seated same (λ _. refl) serving
 
 same_sockets : (before after : AllSockets) (at : ℕ) → after at ≡ before at → OtherSockets before after at → SameSockets before after
@@ -559,7 +559,7 @@ further_sits bytes socket not_asked (watches came answer handed given seated is)
 further_sits bytes socket not_asked (cut none sent) = cut none (sent_further socket bytes sent)
 
 further_stands : (nodes : List NodeState) (contest : List ℕ) (hub : Hub) (held : Option (Option Key)) (bytes : List ℕ) (socket : Option Socket)
-    → ((key : Key) → held ≡ Some (Some key) → IsAskingSeat (seat_at hub.seats.slab key) → ⊥) → Stands nodes contest hub held socket → Stands nodes contest hub held (on_current (came_to bytes) socket)
+    → ((key : Key) → held ≡ Some (Some key) → IsAskingSeat (seat_at hub.seats.slab key) → ⊥) → SocketStands nodes contest hub held socket → SocketStands nodes contest hub held (on_current (came_to bytes) socket)
 further_stands nodes contest hub None bytes socket not_asked stands = on_socket (came_to bytes) socket closed stands
 further_stands nodes contest hub (Some None) bytes socket not_asked stands = sent_further socket bytes stands
 further_stands nodes contest hub (Some (Some key)) bytes socket not_asked stands = further_sits bytes socket (not_asked key refl) stands
@@ -567,12 +567,12 @@ further_stands nodes contest hub (Some (Some key)) bytes socket not_asked stands
 -- nothing of it is a request
 pub serving_further : {nodes : List NodeState} {contest : List ℕ} (hub : Hub) (conns : Slab Conn) (sockets : AllSockets) (at : ℕ) (bytes : List ℕ)
     → ((key : Key) → key_at conns at ≡ Some (Some key) → IsAskingSeat (seat_at hub.seats.slab key) → ⊥)
-    → ServesBut nodes contest hub conns sockets at bytes → Serving nodes contest hub conns sockets
+    → ServesBut nodes contest hub conns sockets at bytes → ServesScreens nodes contest hub conns sockets
 serving_further {nodes} {contest} hub conns sockets at bytes not_asked serves =
     let before = serves.before in
     serving_at {old = hub} {new = hub} {conns = conns} {conns_new = conns} at (λ other _. refl) serves.came.others
     (λ other k away is. hub_stays nodes hub hub k refl) (same_next _ _ refl)
-    (subst (Stands nodes contest hub (key_at conns at)) (sym serves.came.more) (further_stands nodes contest hub (key_at conns at) bytes (before at) not_asked (serves.serving.each at)))
+    (subst (SocketStands nodes contest hub (key_at conns at)) (sym serves.came.more) (further_stands nodes contest hub (key_at conns at) bytes (before at) not_asked (serves.serving.each at)))
     (former_same _ _ (before at) (sockets at) (former_becomes _ (before at) (sockets at) serves.came.more) (serves.serving.former at))
     (λ k is. (serves.serving.below at k is, own_still serves.serving at k is))
     serves.serving
@@ -587,7 +587,7 @@ came_nothing (Some known) = ap (λ c. Some (record { former = known.former; curr
     by (Some traffic) = ap (λ c. Some (record { came = c; written = traffic.written })) (append-nil traffic.came)
 
 pub serving_nothing : {nodes : List NodeState} {contest : List ℕ} (hub : Hub) (conns : Slab Conn) (sockets : AllSockets) (at : ℕ) (bytes : List ℕ) → bytes ≡ []
-    → ServesBut nodes contest hub conns sockets at bytes → Serving nodes contest hub conns sockets
+    → ServesBut nodes contest hub conns sockets at bytes → ServesScreens nodes contest hub conns sockets
 serving_nothing {nodes} {contest} hub conns sockets at bytes none serves =
     let before = serves.before in
     let here : sockets at ≡ before at = serves.came.more ∙ ap (λ b. on_current (came_to b) (before at)) none ∙ came_nothing (before at) in
@@ -673,7 +673,7 @@ module _ {nodes : List NodeState} {contest : List ℕ} (until : ℕ) (piece : Li
 
 -- nothing came
 pub but_nothing : {nodes : List NodeState} {contest : List ℕ} {hub : Hub} {conns : Slab Conn} {sockets : AllSockets} (at : ℕ)
-    → Serving nodes contest hub conns sockets → ServesBut nodes contest hub conns sockets at []
+    → ServesScreens nodes contest hub conns sockets → ServesBut nodes contest hub conns sockets at []
 but_nothing {sockets = sockets} at serving =
     record {
       before = sockets;
@@ -683,7 +683,7 @@ but_nothing {sockets = sockets} at serving =
 
 -- memory ran out
 pub hears_nothing_more : {nodes : List NodeState} {contest : List ℕ} {E : Type 0} (new : Screens) (sockets : AllSockets) (at : ℕ) (Q : E → Type 0) (result : Result Hearing E) → IsErrAnd result Q
-    → Serving nodes contest new.hub new.conns sockets → HearsAll nodes contest new sockets at result
+    → ServesScreens nodes contest new.hub new.conns sockets → HearsAll nodes contest new sockets at result
 hears_nothing_more new sockets at Q (Ok hearing) failed serving = absurd failed
 hears_nothing_more new sockets at Q (Err why) failed serving = serving
 
@@ -726,9 +726,9 @@ serving_heard {nodes} {contest} old new conns sockets at key bytes count keyed c
           serving_at at (λ other _. refl) (not_updated before at part)
           (λ other k away is. others_stay nodes old new key k changes (apart serving at other key k keyed away is))
           (same_next _ _ changes.next)
-          (subst (λ k. Stands nodes contest new k (middle at)) (sym keyed)
+          (subst (λ k. SocketStands nodes contest new k (middle at)) (sym keyed)
           (subst (Sits nodes contest new key) (sym here)
-          (sits (before at) (subst (λ k. Stands nodes contest old k (before at)) keyed (serving.each at)))))
+          (sits (before at) (subst (λ k. SocketStands nodes contest old k (before at)) keyed (serving.each at)))))
           (former_same _ _ (before at) (middle at) (former_becomes _ (before at) (middle at) here) (serving.former at))
           (λ k is. (subst (λ n. k.generation < n) (sym changes.next) (serving.below at k is), own_still serving at k is))
           serving;
@@ -757,19 +757,19 @@ keyed_unasked hub conns at key keyed not_asked other is asked = not_asked (subst
 -- all that is ever heard of the bytes was
 pub serving_all : {nodes : List NodeState} {contest : List ℕ} (hub : Hub) (conns : Slab Conn) (sockets : AllSockets) (at : ℕ) (key : Key) (bytes : List ℕ)
     → key_at conns at ≡ Some (Some key) → (IsAskingSeat (seat_at hub.seats.slab key) → ⊥) ⊎ (bytes ≡ [])
-    → ServesBut nodes contest hub conns sockets at bytes → Serving nodes contest hub conns sockets
+    → ServesBut nodes contest hub conns sockets at bytes → ServesScreens nodes contest hub conns sockets
 serving_all hub conns sockets at key bytes keyed (inl not_asked) serves = serving_further hub conns sockets at bytes (keyed_unasked hub conns at key keyed not_asked) serves
 serving_all hub conns sockets at key bytes keyed (inr none) serves = serving_nothing hub conns sockets at bytes none serves
 
 -- memory ran out
 pub hears_failed : {nodes : List NodeState} {contest : List ℕ} {E : Type 0} (new : Screens) (sockets : AllSockets) (at : ℕ) (bytes : List ℕ) (Q : E → Type 0) (result : Result ℕ E) → IsErrAnd result Q
-    → Serving nodes contest new.hub new.conns sockets → HearsSome nodes contest new sockets at bytes result
+    → ServesScreens nodes contest new.hub new.conns sockets → HearsSome nodes contest new sockets at bytes result
 hears_failed new sockets at bytes Q (Ok count) failed serving = absurd failed
 hears_failed new sockets at bytes Q (Err why) failed serving = serving
 
 -- by how many were taken
 pub hears_none : {nodes : List NodeState} {contest : List ℕ} (new : Screens) (sockets : AllSockets) (at : ℕ) (bytes : List ℕ) (count : ℕ) → count ≡ 0
-    → HearsSo nodes contest new sockets at bytes count → Serving nodes contest new.hub new.conns sockets
+    → HearsSo nodes contest new sockets at bytes count → ServesScreens nodes contest new.hub new.conns sockets
 hears_none new sockets at bytes zero is hears = hears
 hears_none new sockets at bytes (suc n) is hears = absurd (omega (arith, is))
 
@@ -779,7 +779,7 @@ hears_more new sockets at bytes zero is hears = absurd (is refl)
 hears_more new sockets at bytes (suc n) is hears = hears
 
 pub hears_so : {nodes : List NodeState} {contest : List ℕ} (new : Screens) (sockets : AllSockets) (at : ℕ) (bytes : List ℕ) (count : ℕ)
-    → (count ≡ 0 → Serving nodes contest new.hub new.conns sockets) → ServesBut nodes contest new.hub new.conns sockets at (drop count bytes)
+    → (count ≡ 0 → ServesScreens nodes contest new.hub new.conns sockets) → ServesBut nodes contest new.hub new.conns sockets at (drop count bytes)
     → HearsSo nodes contest new sockets at bytes count
 hears_so new sockets at bytes zero none serves = none refl
 hears_so new sockets at bytes (suc n) none serves = serves
@@ -798,7 +798,7 @@ pub serving_handed : {nodes : List NodeState} {contest : List ℕ} {E : Type 0} 
     → ((among : List NodeState) (answer : AnswerParts) (handed : List ℕ) → IsSeated among old key answer handed → IfOk result (λ count. IsSeated among new key answer (handed ++ take count (prefix_at old key))))
     → IfOk result (λ count. Watched (λ s t. t ≡ taken count now s) (seat_at old.seats.slab key) (seat_at new.seats.slab key))
     → OtherSockets before after at → IfOk result (λ _. ChangesOnly old new key) → OnErr result (new ≡ old)
-    → Serving nodes contest old conns before → Serving nodes contest new conns after
+    → ServesScreens nodes contest old conns before → ServesScreens nodes contest new conns after
 serving_handed {nodes} old new conns before after at key now (Ok count) keyed bytes serves exact others changes same serving =
     serving_sent old new conns before after at key now count keyed exact (serves nodes) changes bytes others serving
 serving_handed {nodes} {contest} old new conns before after at key now (Err _) keyed bytes serves exact others changes same serving =
@@ -806,8 +806,8 @@ serving_handed {nodes} {contest} old new conns before after at key now (Err _) k
 
 -- the connection at a number was taken out, and its socket is closed
 pub serving_removed : {nodes : List NodeState} {contest : List ℕ} (old new : Hub) (conns conns_new : Slab Conn) (before after : AllSockets) (at : ℕ) (conn : Conn)
-    → get conns at ≡ Some conn → Updates conns conns_new at None → Leaves conn.key old new → after at ≡ goes_on_with closed (before at) → OtherSockets before after at
-    → Serving nodes contest old conns before → Serving nodes contest new conns_new after
+    → get conns at ≡ Some conn → Updates conns conns_new at None → LeavesSeat conn.key old new → after at ≡ goes_on_with closed (before at) → OtherSockets before after at
+    → ServesScreens nodes contest old conns before → ServesScreens nodes contest new conns_new after
 serving_removed old new conns conns_new before after at conn was updates leaves over others serving =
     serving_ended old new conns conns_new before after at (λ other away. ap key_of (updates.others other away)) (ap key_of updates.changed)
     (subst (λ k. LeavesAt k old new) (sym (ap key_of was)) leaves) over others serving
@@ -817,7 +817,7 @@ pub serving_inserted : {nodes : List NodeState} {contest : List ℕ} (old new : 
     → ((other : ℕ) → get reserved other ≡ get conns other) → place ≡ at → Updates reserved conns_new place (Some conn)
     → mid at ≡ goes_on_with (opened [] []) (before at) → former_of (after at) ≡ former_of (mid at)
     → OtherSockets before mid at → OtherSockets mid after at → IsGreeted nodes contest old new conn.key (after at)
-    → Serving nodes contest old conns before → Serving nodes contest new conns_new after
+    → ServesScreens nodes contest old conns before → ServesScreens nodes contest new conns_new after
 serving_inserted {nodes} {contest} old new conns reserved conns_new before mid after at place conn same here updates accepts former others more greeted serving =
     serving_accepted old new conns conns_new before after at conn.key
     (λ other away. ap key_of (updates.others other (λ e. away (e ∙ here))) ∙ ap key_of (same other))
@@ -843,19 +843,19 @@ refused_former before after (Err _) text writes = ap former_of writes
 -- what a read gave is to be heard
 pub read_so : {nodes : List NodeState} {contest : List ℕ} (hub : Hub) (conns : Slab Conn) (before after : AllSockets) (at : ℕ) (bytes : List ℕ)
     → after at ≡ on_current (came_to bytes) (before at) → OtherSockets before after at
-    → Serving nodes contest hub conns before → ServesBut nodes contest hub conns after at bytes
+    → ServesScreens nodes contest hub conns before → ServesBut nodes contest hub conns after at bytes
 read_so hub conns before after at bytes more others serving = record { before = before; came = record { more = more; others = others }; serving = serving }
 
 -- nothing came
 pub serving_unread : {nodes : List NodeState} {contest : List ℕ} (hub : Hub) (conns : Slab Conn) (before after : AllSockets) (at : ℕ) → after at ≡ before at → OtherSockets before after at
-    → Serving nodes contest hub conns before → Serving nodes contest hub conns after
+    → ServesScreens nodes contest hub conns before → ServesScreens nodes contest hub conns after
 serving_unread hub conns before after at here others serving =
     serving_same {old = hub} {new = hub} {conns = conns} {conns_new = conns} refl (λ _. refl) (same_sockets before after at here others) serving
 
 -- what came of a connection without a key is read and forgotten
 pub serving_forgotten : {nodes : List NodeState} {contest : List ℕ} {E : Type 0} (hub : Hub) (conns : Slab Conn) (before after : AllSockets) (at : ℕ) (result : Result ℕ E) (bytes : List ℕ)
-    → IsRead (before at) (after at) result bytes → OtherSockets before after at → key_at conns at ≡ Some None
-    → Serving nodes contest hub conns before → Serving nodes contest hub conns after
+    → GivesBytes (before at) (after at) result bytes → OtherSockets before after at → key_at conns at ≡ Some None
+    → ServesScreens nodes contest hub conns before → ServesScreens nodes contest hub conns after
 serving_forgotten hub conns before after at (Ok count) bytes reads others keyless_at serving =
     serving_further hub conns after at (take count bytes) (λ key keyed asked. let none : Some None ≡ Some (Some key) = sym keyless_at ∙ keyed in absurd (cc))
     (read_so hub conns before after at (take count bytes) reads others serving)
@@ -878,10 +878,10 @@ unused_former nodes contest None is = tt
 unused_former nodes contest (Some known) is = subst (λ s. AllByRecursion (WasFaithful nodes contest) s.former) (sym is) tt
 
 -- no connection, and no socket that was ever used
-pub serving_none : {nodes : List NodeState} {contest : List ℕ} (hub : Hub) (conns : Slab Conn) (sockets : AllSockets) → ((at : ℕ) → get conns at ≡ None) → ((at : ℕ) → IsUnused (sockets at)) → Serving nodes contest hub conns sockets
+pub serving_none : {nodes : List NodeState} {contest : List ℕ} (hub : Hub) (conns : Slab Conn) (sockets : AllSockets) → ((at : ℕ) → get conns at ≡ None) → ((at : ℕ) → IsUnused (sockets at)) → ServesScreens nodes contest hub conns sockets
 serving_none {nodes} {contest} hub conns sockets empty unused =
     record {
-      each = λ at. subst (λ k. Stands nodes contest hub k (sockets at)) (sym (ap key_of (empty at))) (unused_closed (sockets at) (unused at));
+      each = λ at. subst (λ k. SocketStands nodes contest hub k (sockets at)) (sym (ap key_of (empty at))) (unused_closed (sockets at) (unused at));
       former = λ at. unused_former nodes contest (sockets at) (unused at);
       one = λ at other key is _. let no : None ≡ Some (Some key) = sym (ap key_of (empty at)) ∙ is in absurd (cc);
       below = λ at key is. let no : None ≡ Some (Some key) = sym (ap key_of (empty at)) ∙ is in absurd (cc);
@@ -889,4 +889,4 @@ serving_none {nodes} {contest} hub conns sockets empty unused =
 
 pub sockets_are_faithful : SocketsAreFaithful
 sockets_are_faithful nodes contest hub conns sockets at socket serving is =
-    stands_all nodes contest hub (key_at conns at) socket (subst (Stands nodes contest hub (key_at conns at)) is (serving.each at)) (subst (WereFaithful nodes contest) is (serving.former at))
+    stands_all nodes contest hub (key_at conns at) socket (subst (SocketStands nodes contest hub (key_at conns at)) is (serving.each at)) (subst (WereFaithful nodes contest) is (serving.former at))

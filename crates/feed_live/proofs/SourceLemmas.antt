@@ -8,17 +8,17 @@ use Rattle.feed_node.specs.Mirroring.{MirrorState}
 use Rattle.feed_node.specs.States.{NodeState, nothing_published, published_token, IsConsistent, HoldsItsTokens}
 use Rattle.feed_follow.specs.Follower.{FollowerState}
 use Rattle.feed_world.specs.Log.{Log}
-use Rattle.feed_device.specs.Links.{Exchanges, Begins, one_more}
+use Rattle.feed_device.specs.Links.{Exchanges, BeginsLink, one_more}
 use Rattle.feed_live.specs.declared.screens.Screens.{Screens}
 use Rattle.feed_live.specs.declared.source.Reach.{Reach}
 use Rattle.feed_live.specs.declared.source.Reach.TheVariants.{Connects, Asks}
 use Rattle.feed_live.specs.declared.source.Source.{Source}
-use Rattle.feed_live.specs.Relaying.{MayFollow, IsLeft, StillFollows}
+use Rattle.feed_live.specs.Relaying.{MayFollow, WasLeft, StillFollows}
 use Rattle.feed_live.specs.Upstream.{Servers, AreKnownHonest}
 use Rattle.feed_live.proofs.RelayLemmas.{with_left, opens_follows}
 
 -- the server was left
-pub left_still : {old new : Source} {before after : Exchanges} → IsLeft old new before after
+pub left_still : {old new : Source} {before after : Exchanges} → WasLeft old new before after
     → (screens : Screens) → StillFollows old new before after old.rest.items new.rest.items screens screens
 left_still {old} {new} left screens limits log servers contest sockets follows =
     (left.servers ∙ follows.0, with_left limits log servers left new.rest.items follows.1.0)
@@ -38,12 +38,12 @@ with_open limits log servers is_shown reach request unread before after since fo
 )
 
 -- a connection was begun, which did not fail
-pub begins_so : {A E : Type 0} (result : Result A E) (old new : Exchanges) (server : ℕ) → is_err result ≡ false → Begins old new result server → new ≡ option_map (one_more server) old
+pub begins_so : {A E : Type 0} (result : Result A E) (old new : Exchanges) (server : ℕ) → is_err result ≡ false → BeginsLink old new result server → new ≡ option_map (one_more server) old
 begins_so (Ok a) old new server none begins = begins
 begins_so (Err e) old new server none begins = absurd (cc)
 
 -- none was begun
-pub fails_so : {A E : Type 0} (result : Result A E) (old new : Exchanges) (server : ℕ) → is_err result ≡ true → Begins old new result server → new ≡ old
+pub fails_so : {A E : Type 0} (result : Result A E) (old new : Exchanges) (server : ℕ) → is_err result ≡ true → BeginsLink old new result server → new ≡ old
 fails_so (Ok a) old new server is begins = absurd (cc)
 fails_so (Err e) old new server is begins = begins
 

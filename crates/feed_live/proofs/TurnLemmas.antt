@@ -18,8 +18,8 @@ use Rattle.feed_live.specs.declared.source.Reach.TheVariants.{Away}
 use Rattle.feed_live.specs.declared.source.Source.{Source}
 use Rattle.feed_live.specs.declared.told.Telling.{Telling}
 use Rattle.feed_live.specs.declared.turn.Live.{Live}
-use Rattle.feed_live.specs.Relaying.{MayFollow, Shows, FollowsLog, IsRelaying, SameSource, OnlyServes, followed_by}
-use Rattle.feed_live.specs.Serving.{Serving, StillServing}
+use Rattle.feed_live.specs.Relaying.{MayFollow, AnswersFromLog, FollowsServers, IsRelaying, SameSource, OnlyServes, followed_by}
+use Rattle.feed_live.specs.Serving.{ServesScreens, StillServing}
 use Rattle.feed_live.specs.States.{states_of}
 use Rattle.feed_live.specs.Taking.{IsTakingInput, ShowsInput, BeginsInput}
 use Rattle.feed_live.specs.Upstream.{Servers, AreKnownHonest}
@@ -80,8 +80,8 @@ module _ (limits : Limits) (log : Log) where
   -- its feed is its input
   pub input_begun : {contest : List ℕ} {hub : Hub} {conns : Slab Conn} {sockets : AllSockets} {old new : Source} (mirror blank : MirrorState)
       → BeginsInput old new → old.answers.shown.mirror ≡ mirror → old.answers.blank.mirror ≡ blank
-      → mirror.limits ≡ limits → IsInLog limits log mirror.node → IsInLog limits log blank.node → Serving (states_of limits log) contest hub conns sockets
-      → Shows limits log contest new.answers.shown.mirror new.answers.blank.mirror hub conns sockets
+      → mirror.limits ≡ limits → IsInLog limits log mirror.node → IsInLog limits log blank.node → ServesScreens (states_of limits log) contest hub conns sockets
+      → AnswersFromLog limits log contest new.answers.shown.mirror new.answers.blank.mirror hub conns sockets
   input_begun mirror blank begins shown blank_is bounds at blank_at serving =
       record {
         limits_are = begins.limits ∙ ap (λ m. m.limits) shown ∙ bounds;
@@ -113,8 +113,8 @@ module _ (limits : Limits) (log : Log) (servers : Servers) where
   -- a relay begins: no server is followed
   pub with_begun : (exchanges : Exchanges) {contest : List ℕ} {hub : Hub} {conns : Slab Conn} {sockets : AllSockets} (source : Source) (mirror blank : MirrorState)
       → source.answers.shown.mirror ≡ mirror → source.answers.blank.mirror ≡ blank → source.upstream.follower ≡ None → source.reach ≡ Away
-      → mirror.limits ≡ limits → IsInLog limits log mirror.node → IsInLog limits log blank.node → Serving (states_of limits log) contest hub conns sockets
-      → (AreKnownHonest limits log servers exchanges → Shows limits log contest source.answers.shown.mirror source.answers.blank.mirror hub conns sockets)
+      → mirror.limits ≡ limits → IsInLog limits log mirror.node → IsInLog limits log blank.node → ServesScreens (states_of limits log) contest hub conns sockets
+      → (AreKnownHonest limits log servers exchanges → AnswersFromLog limits log contest source.answers.shown.mirror source.answers.blank.mirror hub conns sockets)
       × (IsSome exchanges → MayFollow limits log servers (is_none source.coming) source.reach source.request.items source.rest.items exchanges source.upstream.follower (followed_by source))
   with_begun exchanges source mirror blank shown blank_is follower away bounds at blank_at serving = (
     λ honest. record {
@@ -130,13 +130,13 @@ module _ (limits : Limits) (log : Log) (servers : Servers) where
   pub relays_on : {old new : Live} {before after : AllSockets} (exchanges : Exchanges) → OnlyServes old new before after
       → IsRelaying limits log servers exchanges old before → IsRelaying limits log servers exchanges new after
   relays_on {old} {new} {before} {after} exchanges only is =
-      let follows : FollowsLog limits log servers (string_bytes old.contest) exchanges new.source new.source.rest.items new.screens after = (
+      let follows : FollowsServers limits log servers (string_bytes old.contest) exchanges new.source new.source.rest.items new.screens after = (
         only.source.servers ∙ is.1.0,
         with_same limits log servers only.source exchanges old.source.rest.items new.source.rest.items only.source.rest
             (with_screens limits log servers exchanges (λ shows serving. only.serves (states_of limits log) (among_shown limits log shows) (among_blank limits log shows) serving) is.1.1),
       ) in (
         only.feeds ∙ is.0,
-        subst (λ c. FollowsLog limits log servers (string_bytes c) exchanges new.source new.source.rest.items new.screens after) (sym only.contest) follows,
+        subst (λ c. FollowsServers limits log servers (string_bytes c) exchanges new.source new.source.rest.items new.screens after) (sym only.contest) follows,
       )
 
 -- a list that is not empty is not found to be

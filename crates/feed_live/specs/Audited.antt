@@ -15,7 +15,8 @@ state_at log k = record { tables = state_after log k; token = log.token k }
 
 -- the text has each state of the log
 abbrev pub HasStatesOf : Limits → Log → List ℕ → Type 0
-HasStatesOf limits log text = (k : ℕ) → k ≤ length log.commits → IsStateOf limits text (state_at log k)
+HasStatesOf limits log text =
+    (k : ℕ) → k ≤ length log.commits → IsStateOf limits text (state_at log k)
 
 -- each state of the text is one of the log
 abbrev pub IsOfLog : Limits → Log → List ℕ → Type 0

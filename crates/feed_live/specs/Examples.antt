@@ -14,7 +14,8 @@ use Rattle.feed_live.specs.Telling.{tokened_log, Replays}
 use Rattle.feed_live.specs.Upstream.{IsHonestInput}
 
 abbrev pub text : List ℕ
-text = codes "{\"type\":\"teams\",\"id\":\"1\",\"data\":{\"id\":\"1\"},\"token\":\"cds7\"}\n{\"type\":\"teams\",\"id\":\"1\",\"data\":{\"id\":\"1\"},\"token\":\"cds1495\"}\n"
+text = codes
+    "{\"type\":\"teams\",\"id\":\"1\",\"data\":{\"id\":\"1\"},\"token\":\"cds7\"}\n{\"type\":\"teams\",\"id\":\"1\",\"data\":{\"id\":\"1\"},\"token\":\"cds1495\"}\n"
 
 abbrev pub object : List ℕ
 object = codes "{\"id\":\"1\"}"
@@ -29,8 +30,8 @@ one = (change, codes "cds7")
 abbrev pub other : Change × List ℕ
 other = (change, codes "cds1495")
 
--- As a feed they tell a log of two states, and are honest (that the object's text is one is computed by
--- tests).
+-- As a feed they tell a log of two states, and are honest (that the object's text is one is
+-- computed by tests).
 abbrev pub TheirFeedIsHonest : Type 0
 TheirFeedIsHonest =
     (limits : Limits) → IsObjectText object

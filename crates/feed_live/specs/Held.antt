@@ -22,7 +22,8 @@ is_over true until now = nat_le until now
 abbrev pub IsAnswering : Bool → ℕ → ℕ → ℕ → Type 0
 IsAnswering held hold since now = is_over held (min (since + hold) (2 ^ 64 - 1)) now ≡ true
 
--- the request of this connection waits: it is not answered yet, and none that came when it did is now
+-- the request of this connection waits: it is not answered yet, and none that came when it did is
+-- now
 abbrev pub Waits : Option Conn → Bool → ℕ → ℕ → Type 0
 Waits None held hold now = ⊥
 Waits (Some conn) held hold now =
@@ -35,7 +36,8 @@ IsAt (Some conn) stage = conn.stage ≡ stage
 
 -- nothing was shown yet, and what comes is to settle
 abbrev pub is_first_start : Source → Bool
-is_first_start source = is_some source.coming && is_none (published_token source.answers.shown.mirror.node)
+is_first_start source =
+    is_some source.coming && is_none (published_token source.answers.shown.mirror.node)
 
 -- Requests may be answered: a server was heard, and what comes at a first start has settled.
 abbrev pub has_heard : Source → Bool

@@ -23,7 +23,7 @@ use Rattle.feed_device.specs.Links.{Exchange, Exchanges}
 use Rattle.feed_live.specs.declared.conn.Conn.{Conn}
 use Rattle.feed_live.specs.declared.turn.Live.{Live}
 use Rattle.feed_live.specs.Relaying.{IsRelaying}
-use Rattle.feed_live.specs.Serving.{WasServed, WasFaithful, Serving}
+use Rattle.feed_live.specs.Serving.{WasServed, WasFaithful, ServesScreens}
 use Rattle.feed_live.specs.States.{states_of}
 use Rattle.feed_live.specs.Taking.{IsTakingInput}
 use Rattle.feed_live.specs.Upstream.{Servers, IsRequestOf, IsHonest, AreKnownHonest, IsHonestInput}
@@ -34,11 +34,11 @@ abbrev pub SocketsAreFaithful : Type 0
 SocketsAreFaithful =
     (nodes : List NodeState) (contest : List ℕ) (hub : Hub) (conns : Slab Conn)
     (sockets : AllSockets) (at : ℕ) (socket : Socket)
-    → Serving nodes contest hub conns sockets → sockets at ≡ Some socket
+    → ServesScreens nodes contest hub conns sockets → sockets at ≡ Some socket
     → AllByRecursion (WasFaithful nodes contest) (traffic_of socket)
 
--- Where the nodes are at places of a log, and a mirror at a place of it asked with the head that was
--- answered, any prefix of what a screen was handed leaves the mirror at a place of that log.
+-- Where the nodes are at places of a log, and a mirror at a place of it asked with the head that
+-- was answered, any prefix of what a screen was handed leaves the mirror at a place of that log.
 abbrev pub HandedIsFollowed : Type 0
 HandedIsFollowed =
     (limits : Limits) (log : Log) (nodes : List NodeState) (contest came handed : List ℕ)
@@ -50,8 +50,8 @@ HandedIsFollowed =
 -- ---- a relay that follows servers
 
 -- A relay whose servers were honest so far shows nothing or a state of the log at its token. What
--- was written to each connection of a screen, also to one that is over, is faithful, for nodes that are
--- at places of the log, within the relay's own limits.
+-- was written to each connection of a screen, also to one that is over, is faithful, for nodes that
+-- are at places of the log, within the relay's own limits.
 pub record ShowsTheLog (limits : Limits) (log : Log) (live : Live) (sockets : AllSockets)
     : Type 0 where
   pub shown : IsInLog limits log live.source.answers.shown.mirror.node
@@ -120,7 +120,8 @@ SentIsHonest =
 
 -- ---- state files
 
--- A prefix of what a record was written to is an honest input to a mirror that has published nothing.
+-- A prefix of what a record was written to is an honest input to a mirror that has published
+-- nothing.
 abbrev pub FilesAreHonest : Type 0
 FilesAreHonest =
     (limits : Limits) (log : Log) (nodes : List NodeState) (written text behind : List ℕ)

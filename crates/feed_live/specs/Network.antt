@@ -44,8 +44,8 @@ IsReadAsWritten log limits servers exchange contest came =
     → exchange.asked ≡ request ++ more → came ≡ head ++ behind
     → Asks head contest (feed minor since) → since ≡ is.since
 
--- What somebody with these limits read of a relay, who is given these servers: a prefix of what that
--- has written on a connection, over which it read the request as it was meant.
+-- What somebody with these limits read of a relay, who is given these servers: a prefix of what
+-- that has written on a connection, over which it read the request as it was meant.
 pub record IsOfRelay (log : Log) (writer : Relay) (limits : Limits) (servers : Servers)
     (exchange : Exchange) : Type 0 where
   pub traffic : Traffic
@@ -67,7 +67,7 @@ pub data IsOfNetwork (log : Log) (before : Network) (reader : Relay) (exchange :
 
 -- A relay as it starts, by `Live::new`, with nothing or a state of the log: its limits are such
 -- that it can take the log, and it has connected to no server.
-pub record Starts (log : Log) (relay : Relay) : Type 0 where
+pub record StartsFromLog (log : Log) (relay : Relay) : Type 0 where
   pub is_log : IsLog relay.limits log
   pub none_asked : relay.exchanges ≡ []
   pub relaying : IsRelaying relay.limits log relay.servers (Some relay.exchanges) relay.live
@@ -88,14 +88,14 @@ OthersStay old new at = (other : ℕ) → other ≢ at → new other ≡ old oth
 
 -- A network, as it may become: no relay is there at first. Then, in any order, one more starts, or
 -- one has a turn.
-pub data IsNetwork (log : Log) : Network → Type 0 where
-  no_relays : (new : Network) → ((at : ℕ) → new at ≡ None) → IsNetwork log new
-  one_starts : (old new : Network) (at : ℕ) (relay : Relay) → IsNetwork log old
-      → old at ≡ None → new at ≡ Some relay → OthersStay old new at → Starts log relay
-      → IsNetwork log new
-  one_turns : (old new : Network) (at : ℕ) (was now : Relay) → IsNetwork log old
+pub data IsRelayNetwork (log : Log) : Network → Type 0 where
+  no_relays : (new : Network) → ((at : ℕ) → new at ≡ None) → IsRelayNetwork log new
+  one_starts : (old new : Network) (at : ℕ) (relay : Relay) → IsRelayNetwork log old
+      → old at ≡ None → new at ≡ Some relay → OthersStay old new at → StartsFromLog log relay
+      → IsRelayNetwork log new
+  one_turns : (old new : Network) (at : ℕ) (was now : Relay) → IsRelayNetwork log old
       → old at ≡ Some was → new at ≡ Some now → OthersStay old new at → Turns log old was now
-      → IsNetwork log new
+      → IsRelayNetwork log new
 
 -- ---- laws
 
@@ -117,7 +117,7 @@ pub record TellsTheLog (log : Log) (relay : Relay) : Type 0 where
 -- THE PROMISE: so it is with each relay of a network, whatever happened in it
 abbrev pub NetworksShowTheLog : Type 0
 NetworksShowTheLog =
-    (log : Log) (network : Network) (at : ℕ) (relay : Relay) → IsNetwork log network
+    (log : Log) (network : Network) (at : ℕ) (relay : Relay) → IsRelayNetwork log network
     → network at ≡ Some relay → TellsTheLog log relay
 
 -- Where a request has no base path and no user, and what came is a prefix of what was asked, it is

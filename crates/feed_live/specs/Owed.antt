@@ -20,8 +20,8 @@ pub record HasYetToTake (screens : Screens) (id : TextId) : Type 0 where
   pub held : held_at screens place ≡ Some id
   pub connected : get screens.conns place ≢ None
 
--- Each text that counts is one that a connection has yet to take, and the text that a screen has yet
--- to take counts; none counts twice. So where nobody is connected nothing is owed.
+-- Each text that counts is one that a connection has yet to take, and the text that a screen has
+-- yet to take counts; none counts twice. So where nobody is connected nothing is owed.
 pub record OwesWhatIsKept (screens : Screens) : Type 0 where
   pub taken : (at : ℕ) → at < length (texts_of screens)
       → HoldsAt (λ text. HasYetToTake screens text.id) (texts_of screens) at

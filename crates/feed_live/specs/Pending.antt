@@ -11,8 +11,8 @@ abbrev pub total : List Text → ℕ
 total texts = sum_by (λ text. text.length) texts
 
 -- each has a reader
-abbrev pub AreRead : List Text → Type 0
-AreRead texts = (at : ℕ) → at < length texts → HoldsAt (λ text. text.readers ≢ 0) texts at
+abbrev pub HaveReaders : List Text → Type 0
+HaveReaders texts = (at : ℕ) → at < length texts → HoldsAt (λ text. text.readers ≢ 0) texts at
 
 -- none of them is there twice
 abbrev pub AreDistinct : List Text → Type 0
@@ -47,7 +47,7 @@ Adds id bytes old new = (HasNone old id × (new ≡ old ++ text_of id bytes 1 �
     ⊎ Counts id (λ before after. after ≡ min (before + 1) (2 ^ 64 - 1)) old new
 
 -- the last reader of a text went, and so it did
-pub record Goes (id : TextId) (old new : List Text) : Type 0 where
+pub record DropsText (id : TextId) (old new : List Text) : Type 0 where
   pub text : Text
   pub at : ℕ
   pub there : IsTextAt old text at
@@ -57,7 +57,7 @@ pub record Goes (id : TextId) (old new : List Text) : Type 0 where
 
 -- A screen took a text, or left: it goes, or has one reader less; or it isn't there.
 abbrev pub Removes : TextId → List Text → List Text → Type 0
-Removes id old new = Goes id old new
+Removes id old new = DropsText id old new
     ⊎ (Counts id (λ before after. before ≡ after + 1) old new ⊎ (HasNone old id × (new ≡ old)))
 
 -- ---- who has them

@@ -1,5 +1,5 @@
--- THE PROMISE of a relay that follows servers: what it shows, and what each socket was handed, is of
--- the primary's log, as long as the servers are honest.
+-- THE PROMISE of a relay that follows servers: what it shows, and what each socket was handed, is
+-- of the primary's log, as long as the servers are honest.
 use Rattle.std.specs.Prelude.{◌≡◌, ◌⊎◌, ℕ, ◌≤◌, Bool, false, true, List, [], ◌∷◌, ◌++◌, length, take, Option, Some, None, option_map, is_none, IsSome, Contains, string_bytes}
 use Rattle.slab.specs.Slab.{Slab}
 use Rattle.feed_settings.specs.Limits.{Limits}
@@ -20,16 +20,16 @@ use Rattle.feed_live.specs.declared.source.Reach.{Reach}
 use Rattle.feed_live.specs.declared.source.Reach.TheVariants.{Away, Connects, Asks, Reads}
 use Rattle.feed_live.specs.declared.source.Source.{Source}
 use Rattle.feed_live.specs.declared.turn.Live.{Live}
-use Rattle.feed_live.specs.Serving.{Serving, StillServing}
+use Rattle.feed_live.specs.Serving.{ServesScreens, StillServing}
 use Rattle.feed_live.specs.States.{states_of}
 use Rattle.feed_live.specs.Upstream.{AsksInLog, Servers, IsRequestOf, AreHonest, AreKnownHonest, IsOfLog}
 
 -- so much of the request was written where the connection has come so far
-abbrev pub IsAsked : Reach → List ℕ → List ℕ → Type 0
-IsAsked Away request asked = ⊥
-IsAsked (Connects since) request asked = asked ≡ []
-IsAsked (Asks count) request asked = asked ≡ take count request
-IsAsked Reads request asked = asked ≡ request
+abbrev pub WasWritten : Reach → List ℕ → List ℕ → Type 0
+WasWritten Away request asked = ⊥
+WasWritten (Connects since) request asked = asked ≡ []
+WasWritten (Asks count) request asked = asked ≡ take count request
+WasWritten Reads request asked = asked ≡ request
 
 -- the mirror that follows is what is shown, and was so from some byte on; or nothing of it is shown
 abbrev pub IsShownSo : Bool → Shown → ℕ → Type 0
@@ -39,10 +39,11 @@ IsShownSo true (once_at at) count = ⊥
 IsShownSo true nothing_shown count = ⊥
 
 -- A response is followed: that to the request of a mirror, which was written on the latest
--- connection, as it is asked of that server. What was read there, whatever it is, came to the mirror
--- in its order, but for what is still unread. The mirror is the one that is shown, or nothing of it is
--- shown. Where the servers before were honest, the mirror that asked was at a place of the log.
-pub record Follows (limits : Limits) (log : Log) (servers : Servers) (is_shown : Bool)
+-- connection, as it is asked of that server. What was read there, whatever it is, came to the
+-- mirror in its order, but for what is still unread. The mirror is the one that is shown, or
+-- nothing of it is shown. Where the servers before were honest, the mirror that asked was at a
+-- place of the log.
+pub record FollowsResponse (limits : Limits) (log : Log) (servers : Servers) (is_shown : Bool)
     (reach : Reach) (request unread : List ℕ) (exchanges : Exchanges) (follower : FollowerState)
     (mirror : MirrorState) : Type 0 where
   pub start : MirrorState
@@ -51,7 +52,7 @@ pub record Follows (limits : Limits) (log : Log) (servers : Servers) (is_shown :
   pub before : List Exchange
   pub exchanges_are : exchanges ≡ Some (latest ∷ before)
   pub asks : AreHonest limits log servers before → AsksInLog limits log start
-  pub asked : IsAsked reach request latest.asked
+  pub asked : WasWritten reach request latest.asked
   pub bytes : List ℕ
   pub received : latest.received ≡ bytes ++ unread
   pub standing : Standing
@@ -63,16 +64,17 @@ abbrev pub MayFollow : Limits → Log → Servers → Bool → Reach → List �
     → Option FollowerState → MirrorState → Type 0
 MayFollow limits log servers is_shown reach request unread exchanges None mirror = reach ≡ Away
 MayFollow limits log servers is_shown reach request unread exchanges (Some follower) mirror =
-    Follows limits log servers is_shown reach request unread exchanges follower mirror
+    FollowsResponse limits log servers is_shown reach request unread exchanges follower mirror
 
 -- What requests are answered with is at places of the log. So each socket was handed a prefix of
 -- what is due to an answer that a state of the log gave.
-pub record Shows (limits : Limits) (log : Log) (contest : List ℕ) (shown blank : MirrorState)
+pub record AnswersFromLog (limits : Limits) (log : Log) (contest : List ℕ)
+    (shown blank : MirrorState)
     (hub : Hub) (conns : Slab Conn) (sockets : AllSockets) : Type 0 where
   pub limits_are : shown.limits ≡ limits
   pub shown_is : IsInLog limits log shown.node
   pub blank_is : IsInLog limits log blank.node
-  pub serving : Serving (states_of limits log) contest hub conns sockets
+  pub serving : ServesScreens (states_of limits log) contest hub conns sockets
 
 -- the servers that are asked
 abbrev pub servers_of : Source → Servers
@@ -88,12 +90,13 @@ followed_by source = followed source.coming source.answers.shown.mirror
 
 -- A relay of this contest asks these servers. It shows the log where all of them were honest so
 -- far. Whether they were or not, it follows one as it should, of whose response this is unread.
-abbrev pub FollowsLog : Limits → Log → Servers → List ℕ → Exchanges → Source → List ℕ → Screens
+abbrev pub FollowsServers : Limits → Log → Servers → List ℕ → Exchanges → Source → List ℕ → Screens
     → AllSockets → Type 0
-FollowsLog limits log servers contest exchanges source unread screens sockets =
+FollowsServers limits log servers contest exchanges source unread screens sockets =
     (servers_of source ≡ servers)
     × ((AreKnownHonest limits log servers exchanges
-    → Shows limits log contest source.answers.shown.mirror source.answers.blank.mirror screens.hub
+    → AnswersFromLog limits log contest source.answers.shown.mirror source.answers.blank.mirror
+    screens.hub
     screens.conns sockets)
     × (IsSome exchanges
     → MayFollow limits log servers (is_none source.coming) source.reach source.request.items unread
@@ -103,7 +106,7 @@ FollowsLog limits log servers contest exchanges source unread screens sockets =
 abbrev pub IsRelaying : Limits → Log → Servers → Exchanges → Live → AllSockets → Type 0
 IsRelaying limits log servers exchanges live sockets =
     (live.feeds ≡ false)
-    × FollowsLog limits log servers (string_bytes live.contest) exchanges live.source
+    × FollowsServers limits log servers (string_bytes live.contest) exchanges live.source
     live.source.rest.items live.screens sockets
 
 -- ---- steps
@@ -113,8 +116,8 @@ abbrev pub StillFollows : Source → Source → Exchanges → Exchanges → List
     → Screens → Type 0
 StillFollows old new before after unread left screens later =
     (limits : Limits) (log : Log) (servers : Servers) (contest : List ℕ) (sockets : AllSockets)
-    → FollowsLog limits log servers contest before old unread screens sockets
-    → FollowsLog limits log servers contest after new left later sockets
+    → FollowsServers limits log servers contest before old unread screens sockets
+    → FollowsServers limits log servers contest after new left later sockets
 
 -- What follows may be shown: where the servers are honest in that, too, it is of the log. So may be
 -- what it has published, at its token alone, or all of it. So many bytes that came are unread.
@@ -131,7 +134,8 @@ abbrev pub IsToShow : Limits → Log → Servers → List ℕ → Exchanges → 
 IsToShow limits log servers contest exchanges source unread screens sockets =
     (servers_of source ≡ servers)
     × (AreKnownHonest limits log servers exchanges
-    → Shows limits log contest source.answers.shown.mirror source.answers.blank.mirror screens.hub
+    → AnswersFromLog limits log contest source.answers.shown.mirror source.answers.blank.mirror
+    screens.hub
     screens.conns sockets)
     × MayShow limits log servers unread exchanges (followed_by source)
 
@@ -142,7 +146,7 @@ StillShows old new before after unread screens later =
     → IsToShow limits log servers contest before old unread screens sockets
     → (servers_of new ≡ servers)
     × (AreKnownHonest limits log servers after
-    → Shows limits log contest new.answers.shown.mirror new.answers.blank.mirror later.hub
+    → AnswersFromLog limits log contest new.answers.shown.mirror new.answers.blank.mirror later.hub
     later.conns sockets)
 
 abbrev pub StillRelaying : Live → Live → Exchanges → Exchanges → AllSockets → AllSockets → Type 0
@@ -169,7 +173,7 @@ pub record SameSource (old new : Source) : Type 0 where
   pub rest : new.rest.items ≡ old.rest.items
 
 -- the same but for what is kept unread
-pub record IsKeeping (old new : Source) : Type 0 where
+pub record SameButUnread (old new : Source) : Type 0 where
   pub servers : servers_of new ≡ servers_of old
   pub answers : new.answers ≡ old.answers
   pub coming : new.coming ≡ old.coming
@@ -178,7 +182,7 @@ pub record IsKeeping (old new : Source) : Type 0 where
   pub request : new.request ≡ old.request
 
 -- the server was left: no response is followed, and what is shown stays
-pub record IsLeft (old new : Source) (before after : Exchanges) : Type 0 where
+pub record WasLeft (old new : Source) (before after : Exchanges) : Type 0 where
   pub servers : servers_of new ≡ servers_of old
   pub exchanges : after ≡ before
   pub reach : new.reach ≡ Away

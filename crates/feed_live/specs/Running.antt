@@ -12,7 +12,7 @@ use Rattle.feed_device.specs.Sockets.{AllSockets}
 use Rattle.feed_live.specs.declared.turn.Live.{Live}
 use Rattle.feed_live.specs.Laws.{ShowsTheLog}
 use Rattle.feed_live.specs.Relaying.{IsRelaying, StillRelaying}
-use Rattle.feed_live.specs.Saved.{AreParts, KeepsFiles}
+use Rattle.feed_live.specs.Saved.{ArePartsOfRecords, KeepsFiles}
 use Rattle.feed_live.specs.States.{states_of}
 use Rattle.feed_live.specs.Taking.{IsTakingInput, StillTaking}
 use Rattle.feed_live.specs.Upstream.{Servers, AreKnownHonest, IsHonestInput}
@@ -56,7 +56,7 @@ pub record IsTurn (old new : Moment) : Type 0 where
   pub kept : (nodes : List NodeState) → Contains nodes (shown_at new) → KeepsFilesAt nodes old
       → KeepsFilesAt nodes new
   pub parts : (nodes : List NodeState) → Contains nodes (shown_at new) → KeepsFilesAt nodes old
-      → AreParts nodes old.files.had → AreParts nodes new.files.had
+      → ArePartsOfRecords nodes old.files.had → ArePartsOfRecords nodes new.files.had
   pub anew : new.live.source.epoch ≢ old.live.epoch → (nodes : List NodeState)
       → Contains nodes (shown_at new) → IsKnown old.files.next → KeepsFilesAt nodes new
 
@@ -99,7 +99,8 @@ pub record KeepsToTheLog (limits : Limits) (log : Log) (first : Moment) (moments
     : Type 0 where
   pub shows : AllByRecursion (λ moment. ShowsTheLog limits log moment.live moment.sockets) moments
   pub files : (nodes : List NodeState) → AreNodesOf limits log nodes → KeepsFilesAt nodes first
-      → AreParts nodes first.files.had → AllByRecursion (λ moment. AreParts nodes moment.files.had) moments
+      → ArePartsOfRecords nodes first.files.had
+      → AllByRecursion (λ moment. ArePartsOfRecords nodes moment.files.had) moments
 
 -- THE PROMISE of a whole run, from its first byte to its end: where a relay that follows servers
 -- began as `Live::new` leaves it, and its servers were honest, it keeps to the log.

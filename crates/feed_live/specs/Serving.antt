@@ -15,7 +15,7 @@ use Rattle.feed_hub.specs.declared.screen.Way.TheVariants.{CatchesUp, OnLog, Sto
 use Rattle.feed_hub.specs.declared.seats.Seat.{Seat}
 use Rattle.feed_hub.specs.declared.seats.Seat.TheVariants.{Asks, Watches}
 use Rattle.feed_hub.specs.Hub.{IsSeated, ChangesOnly}
-use Rattle.feed_hub.specs.Log.{Log}
+use Rattle.feed_hub.specs.Backlog.{Backlog}
 use Rattle.feed_hub.specs.Screen.{IsServed}
 use Rattle.feed_hub.specs.Seats.{seat_at}
 use Rattle.feed_live.specs.declared.conn.Conn.{Conn}
@@ -26,9 +26,9 @@ use Rattle.feed_live.specs.declared.screens.Hearing.{Hearing}
 use Rattle.feed_live.specs.declared.screens.Hearing.TheVariants.{Goes, TooMuch}
 use Rattle.feed_device.specs.Sockets.{Socket, Traffic, AllSockets, IsSocket, opened, closed, former_of, came_to, on_current, OtherSockets}
 
--- one of these nodes gave this answer to the request for the feed of the contest with which what came
--- over the connection begins
-pub record IsGiven (nodes : List NodeState) (contest came : List ℕ) (answer : AnswerParts)
+-- one of these nodes gave this answer to the request for the feed of the contest with which what
+-- came over the connection begins
+pub record IsAnswerOf (nodes : List NodeState) (contest came : List ℕ) (answer : AnswerParts)
     : Type 0 where
   pub node : NodeState
   pub among : Contains nodes node
@@ -41,9 +41,9 @@ pub record IsGiven (nodes : List NodeState) (contest came : List ℕ) (answer : 
 -- a screen with such an answer was handed these bytes, and nothing else
 pub record WasServed (nodes : List NodeState) (contest came handed : List ℕ) : Type 0 where
   pub answer : AnswerParts
-  pub given : IsGiven nodes contest came answer
+  pub given : IsAnswerOf nodes contest came answer
   pub common : Framing
-  pub lines : Log
+  pub lines : Backlog
   pub told : Option (List ℕ)
   pub screen : Screen
   pub served : IsServed nodes common lines told answer handed screen
@@ -52,8 +52,8 @@ pub record WasServed (nodes : List NodeState) (contest came handed : List ℕ) :
 unfoldable pub full_text : List ℕ
 full_text = FULL.now
 
--- All that is ever written to a connection over which this came: nothing; what a screen is handed; or
--- a prefix of the text for those who are too many.
+-- All that is ever written to a connection over which this came: nothing; what a screen is handed;
+-- or a prefix of the text for those who are too many.
 pub data IsFaithful (nodes : List NodeState) (contest came : List ℕ) : List ℕ → Type 0 where
   nothing : IsFaithful nodes contest came []
   refused : (count : ℕ) → IsFaithful nodes contest came (take count full_text)
@@ -84,7 +84,7 @@ pub data Sits (nodes : List NodeState) (contest : List ℕ) (hub : Hub) (key : K
   asks : (asking : Asking) → seat_at hub.seats.slab key ≡ Some (Asks asking)
       → IsSocket socket (opened asking.head.items []) → Sits nodes contest hub key socket
   watches : (came : List ℕ) (answer : AnswerParts) (handed : List ℕ)
-      → IsGiven nodes contest came answer → IsSeated nodes hub key answer handed
+      → IsAnswerOf nodes contest came answer → IsSeated nodes hub key answer handed
       → IsSocket socket (opened came handed) → Sits nodes contest hub key socket
   cut : seat_at hub.seats.slab key ≡ None → IsSent nodes contest socket
       → Sits nodes contest hub key socket
@@ -97,19 +97,19 @@ key_of (Some conn) = Some conn.key
 abbrev pub key_at : Slab Conn → ℕ → Option (Option Key)
 key_at conns at = key_of (get conns at)
 
--- How the socket at a number stands. Where there is no connection it is closed. A connection without
--- a key is sent no more.
-abbrev pub Stands : List NodeState → List ℕ → Hub → Option (Option Key) → Option Socket
+-- How the socket at a number stands. Where there is no connection it is closed. A connection
+-- without a key is sent no more.
+abbrev pub SocketStands : List NodeState → List ℕ → Hub → Option (Option Key) → Option Socket
     → Type 0
-Stands nodes contest hub None socket = IsSocket socket closed
-Stands nodes contest hub (Some None) socket = IsSent nodes contest socket
-Stands nodes contest hub (Some (Some key)) socket = Sits nodes contest hub key socket
+SocketStands nodes contest hub None socket = IsSocket socket closed
+SocketStands nodes contest hub (Some None) socket = IsSent nodes contest socket
+SocketStands nodes contest hub (Some (Some key)) socket = Sits nodes contest hub key socket
 
--- So it is at each number, and what was written to each connection that is over was faithful. No two
--- have the same key, and a key that the hub gives next is nobody's.
-pub record Serving (nodes : List NodeState) (contest : List ℕ) (hub : Hub) (conns : Slab Conn)
+-- So it is at each number, and what was written to each connection that is over was faithful. No
+-- two have the same key, and a key that the hub gives next is nobody's.
+pub record ServesScreens (nodes : List NodeState) (contest : List ℕ) (hub : Hub) (conns : Slab Conn)
     (sockets : AllSockets) : Type 0 where
-  pub each : (at : ℕ) → Stands nodes contest hub (key_at conns at) (sockets at)
+  pub each : (at : ℕ) → SocketStands nodes contest hub (key_at conns at) (sockets at)
   pub former : (at : ℕ) → WereFaithful nodes contest (sockets at)
   pub one : (at other : ℕ) (key : Key) → key_at conns at ≡ Some (Some key)
       → key_at conns other ≡ Some (Some key) → at ≡ other
@@ -120,8 +120,8 @@ pub record Serving (nodes : List NodeState) (contest : List ℕ) (hub : Hub) (co
 abbrev pub StillServing : List NodeState → List ℕ → Screens → Screens → AllSockets
     → AllSockets → Type 0
 StillServing nodes contest old new before after =
-    Serving nodes contest old.hub old.conns before
-    → Serving nodes contest new.hub new.conns after
+    ServesScreens nodes contest old.hub old.conns before
+    → ServesScreens nodes contest new.hub new.conns after
 
 -- these bytes more came over the connection at a number, and nothing else happened
 pub record Came (old new : AllSockets) (at : ℕ) (bytes : List ℕ) : Type 0 where
@@ -133,18 +133,19 @@ pub record ServesBut (nodes : List NodeState) (contest : List ℕ) (hub : Hub) (
     (sockets : AllSockets) (at : ℕ) (unheard : List ℕ) : Type 0 where
   pub before : AllSockets
   pub came : Came before sockets at unheard
-  pub serving : Serving nodes contest hub conns before
+  pub serving : ServesScreens nodes contest hub conns before
 
 -- it was so before these bytes came, and is so now
 abbrev pub StillServingWith : List NodeState → List ℕ → ℕ → List ℕ → Screens → Screens
     → AllSockets → AllSockets → Type 0
 StillServingWith nodes contest at bytes old new before after =
     ServesBut nodes contest old.hub old.conns before at bytes
-    → Serving nodes contest new.hub new.conns after
+    → ServesScreens nodes contest new.hub new.conns after
 
 -- so many of these bytes were heard, and the rest may be next; or all that are ever heard were
 abbrev pub HearsSo : List NodeState → List ℕ → Screens → AllSockets → ℕ → List ℕ → ℕ → Type 0
-HearsSo nodes contest new sockets at bytes zero = Serving nodes contest new.hub new.conns sockets
+HearsSo nodes contest new sockets at bytes zero =
+    ServesScreens nodes contest new.hub new.conns sockets
 HearsSo nodes contest new sockets at bytes (suc n) =
     ServesBut nodes contest new.hub new.conns sockets at (drop (suc n) bytes)
 
@@ -152,11 +153,11 @@ abbrev pub HearsSome : {E : Type 0} → List NodeState → List ℕ → Screens 
     → Result ℕ E → Type 0
 HearsSome nodes contest new sockets at bytes result =
     MatchResult result (HearsSo nodes contest new sockets at bytes)
-    (λ _. Serving nodes contest new.hub new.conns sockets)
+    (λ _. ServesScreens nodes contest new.hub new.conns sockets)
 
 -- they were, or some were, and then there was no room
 abbrev pub HearsTo : List NodeState → List ℕ → Screens → AllSockets → ℕ → Hearing → Type 0
-HearsTo nodes contest new sockets at Goes = Serving nodes contest new.hub new.conns sockets
+HearsTo nodes contest new sockets at Goes = ServesScreens nodes contest new.hub new.conns sockets
 HearsTo nodes contest new sockets at TooMuch =
     (unheard : List ℕ) × ServesBut nodes contest new.hub new.conns sockets at unheard
 
@@ -164,7 +165,7 @@ abbrev pub HearsAll : {E : Type 0} → List NodeState → List ℕ → Screens �
     → Result Hearing E → Type 0
 HearsAll nodes contest new sockets at result =
     MatchResult result (HearsTo nodes contest new sockets at)
-    (λ _. Serving nodes contest new.hub new.conns sockets)
+    (λ _. ServesScreens nodes contest new.hub new.conns sockets)
 
 -- each number has the key that it had
 abbrev pub SameKeys : Slab Conn → Slab Conn → Type 0
@@ -176,20 +177,20 @@ pub record SameSeating (old new : Screens) : Type 0 where
   pub keys : SameKeys old.conns new.conns
 
 -- what sat at the key is gone, and nothing else changed; where there was no key, nothing did
-abbrev pub Leaves : Option Key → Hub → Hub → Type 0
-Leaves None old new = new ≡ old
-Leaves (Some key) old new = (seat_at new.seats.slab key ≡ None) × ChangesOnly old new key
+abbrev pub LeavesSeat : Option Key → Hub → Hub → Type 0
+LeavesSeat None old new = new ≡ old
+LeavesSeat (Some key) old new = (seat_at new.seats.slab key ≡ None) × ChangesOnly old new key
 
 -- a connection that was there has no key any more
 abbrev pub keyless : Option (Option Key) → Option (Option Key)
 keyless None = None
 keyless (Some held) = Some None
 
--- A connection with this key, or with none, came to a socket: it stands as it should, its key is new,
--- and whoever has a key that was given before stays.
+-- A connection with this key, or with none, came to a socket: it stands as it should, its key is
+-- new, and whoever has a key that was given before stays.
 pub record IsGreeted (nodes : List NodeState) (contest : List ℕ) (old new : Hub) (held : Option Key)
     (socket : Option Socket) : Type 0 where
-  pub stands : Stands nodes contest new (Some held) socket
+  pub stands : SocketStands nodes contest new (Some held) socket
   pub is_new : (key : Key) → held ≡ Some key → key.generation ≡ old.seats.next
   pub next : (key : Key) → held ≡ Some key → key.generation < new.seats.next
   pub kept : old.seats.next ≤ new.seats.next
@@ -198,9 +199,9 @@ pub record IsGreeted (nodes : List NodeState) (contest : List ℕ) (old new : Hu
       → seat_at new.seats.slab key ≡ seat_at old.seats.slab key
 
 -- the hub cut the connection: its key has no seat any more
-abbrev pub IsCutOff : Hub → Option Conn → Type 0
-IsCutOff hub None = ⊥
-IsCutOff hub (Some conn) =
+abbrev pub HasNoSeat : Hub → Option Conn → Type 0
+HasNoSeat hub None = ⊥
+HasNoSeat hub (Some conn) =
     (key : Key) × (conn.key ≡ Some key) × (seat_at hub.seats.slab key ≡ None)
 
 -- ---- what is written

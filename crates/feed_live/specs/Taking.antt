@@ -12,7 +12,7 @@ use Rattle.feed_live.specs.declared.source.Source.{Source}
 use Rattle.feed_live.specs.declared.turn.Input.{Input}
 use Rattle.feed_live.specs.declared.turn.Input.TheVariants.{Nothing, Bytes, End}
 use Rattle.feed_live.specs.declared.turn.Live.{Live}
-use Rattle.feed_live.specs.Relaying.{Shows, servers_of}
+use Rattle.feed_live.specs.Relaying.{AnswersFromLog, servers_of}
 use Rattle.feed_live.specs.Upstream.{IsHonestInput}
 
 -- the bytes that came
@@ -46,7 +46,8 @@ abbrev pub ShowsInput : Limits → Log → List ℕ → MirrorState → List ℕ
     → Type 0
 ShowsInput limits log contest begun input source screens sockets =
     IsHonestInput limits log begun input
-    → Shows limits log contest source.answers.shown.mirror source.answers.blank.mirror screens.hub
+    → AnswersFromLog limits log contest source.answers.shown.mirror source.answers.blank.mirror
+    screens.hub
     screens.conns sockets
 
 -- THE PROMISE: so it is with a relay that follows no server. While its input goes on, nothing of
@@ -79,7 +80,8 @@ StillTakes old new unread left screens later result =
     → ShowsInput limits log contest begun input new later sockets
     × OnOk result (TakesInput begun input left new.answers.shown.mirror)
 
--- It took its input, of which this was unread. It takes the rest; or it stopped there, with a fault.
+-- It took its input, of which this was unread. It takes the rest; or it stopped there, with a
+-- fault.
 abbrev pub TakesOrStops : {A : Type 0} → Source → Source → List ℕ → List ℕ → Result A FeedFault
     → Type 0
 TakesOrStops old new unread left result =
@@ -104,7 +106,8 @@ StopsSomewhere old new more =
     → TakesInput begun input old.rest.items old.answers.shown.mirror
     → StopsInput begun (input ++ more) fault new.answers.shown.mirror)
 
--- A relay took its input, which goes on with these bytes, and takes no more of it: it stopped there.
+-- A relay took its input, which goes on with these bytes, and takes no more of it: it stopped
+-- there.
 abbrev pub StopsTaking : Live → Live → List ℕ → AllSockets → Type 0
 StopsTaking old new more sockets =
     (limits : Limits) (log : Log) (begun : MirrorState) (input : List ℕ)

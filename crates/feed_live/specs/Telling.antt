@@ -38,8 +38,8 @@ MeaningTells =
     (log : Log) (fresh : Bool) (k : ℕ) (text : List ℕ) (notes : List Line)
     → AreMeant (lines text) notes → Tells log fresh k [] notes → TextTells log fresh k text
 
--- a mirror at this place may be told the log from this number on: on a fresh connection from any, and
--- else from one of which it holds the token
+-- a mirror at this place may be told the log from this number on: on a fresh connection from any,
+-- and else from one of which it holds the token
 abbrev pub MayBegin : Option Position → Bool → ℕ → Type 0
 MayBegin place fresh k =
     fresh ≡ false → (own : Position) × (place ≡ Some own) × (own.low ≤ k) × (k ≤ own.at)
@@ -100,7 +100,8 @@ pub record Replays (log : Log) (begun : MirrorState) (text : List ℕ) : Type 0 
       → IsOfLog log (reads begun.limits.history (present_opening begun) notes).published
 
 -- So a response is honest that carries such a text, where it is shown once, and all of it had come.
--- The log of a server that replays begins where that ends: its first state is what the replay makes.
+-- The log of a server that replays begins where that ends: its first state is what the replay
+-- makes.
 abbrev pub ReplayIsHonest : Type 0
 ReplayIsHonest =
     (limits : Limits) (log : Log) (servers : Servers) (exchange : Exchange) (text : List ℕ)

@@ -78,8 +78,8 @@ wants_memory Memory = true
 wants_memory (Feed FeedMemory) = true
 wants_memory fault = false
 
--- What was read for certain where a piece failed behind these bytes: the piece, too, but where memory
--- ran out.
+-- What was read for certain where a piece failed behind these bytes: the piece, too, but where
+-- memory ran out.
 abbrev pub surely_read : List ℕ → List ℕ → FollowFault → List ℕ
 surely_read before piece fault = if wants_memory fault then before else before ++ piece
 
@@ -113,11 +113,11 @@ IsHonestAs limits log begun nothing_shown received = Unit {0}
 IsHonestAs limits log begun (once_at count) received = EndsInLog log begun count received
 IsHonestAs limits log begun (all_from least) received = StaysInLog limits log begun least received
 
--- THE PREMISE: where the request of a mirror at a place of the log was written first, as it is asked
--- of that server, what was read keeps that mirror at places of the log, as far as it is shown. Of a
--- server that was asked for everything it is shown only once that has settled: what it sends until
--- then may be any replay. So is what `serve_node` and `serve_live` write for a node of that log, what
--- a relay hands on, and any error that carries no feed.
+-- THE PREMISE: where the request of a mirror at a place of the log was written first, as it is
+-- asked of that server, what was read keeps that mirror at places of the log, as far as it is
+-- shown. Of a server that was asked for everything it is shown only once that has settled: what it
+-- sends until then may be any replay. So is what `serve_node` and `serve_live` write for a node of
+-- that log, what a relay hands on, and any error that carries no feed.
 abbrev pub IsHonest : Limits → Log → Servers → Exchange → Type 0
 IsHonest limits log servers exchange =
     (begun : MirrorState) (text more : List ℕ) → AsksInLog limits log begun

@@ -125,14 +125,14 @@ pub(crate) struct Screens {
 }
 
 impl Screens {
-    ghost use Rattle.feed_live.specs.Serving.{Serving, StillServing, StillServingWith, SameSeating, SameKeys};
-    ghost use Rattle.feed_live.specs.Serving.{ServesBut, HearsSome, HearsAll, IsCutOff, key_at};
+    ghost use Rattle.feed_live.specs.Serving.{ServesScreens, StillServing, StillServingWith, SameSeating, SameKeys};
+    ghost use Rattle.feed_live.specs.Serving.{ServesBut, HearsSome, HearsAll, HasNoSeat, key_at};
     ghost use Rattle.feed_live.specs.Held.{answerer, SameMirrors, Waits};
 
     pub(crate) fn new(alloc: Global, limits: LiveLimits) -> Screens
         ensures serving { (nodes : List NodeState) (contest : List ℕ) (sockets : AllSockets)
             → ((at : ℕ) → IsUnused (sockets at))
-            → Serving nodes contest result.hub result.conns sockets }
+            → ServesScreens nodes contest result.hub result.conns sockets }
         ensures most { result.hub.most ≡ limits.screens }
     {
         Screens {
@@ -212,7 +212,7 @@ impl Screens {
 
     /// Whether the hub cut the connection at a place.
     fn is_cut(&self, at: usize) -> bool
-        ensures { IsTrue result → IsCutOff self.now.hub (get self.now.conns at) }
+        ensures { IsTrue result → HasNoSeat self.now.hub (get self.now.conns at) }
     {
         match self.conns.get(at) {
             Some(conn) => match conn.key {
@@ -238,7 +238,7 @@ impl Screens {
             (S.socket sockets.old) (S.socket sockets.new) }
         ensures asks { S.asked sockets.new ≡ S.asked sockets.old }
         // whom the hub didn't cut stays
-        ensures stays { (at : ℕ) → ¬ (IsCutOff self.old.hub (get self.old.conns at))
+        ensures stays { (at : ℕ) → ¬ (HasNoSeat self.old.hub (get self.old.conns at))
             → get self.new.conns at ≡ get self.old.conns at }
     {
         for at in 0..self.conns.capacity() {

@@ -80,7 +80,7 @@ pub(crate) struct Source {
 }
 
 impl Source {
-    ghost use Rattle.feed_live.specs.Relaying.{StillFollows, SameSource, IsLeft, GoesOnTo, servers_of};
+    ghost use Rattle.feed_live.specs.Relaying.{StillFollows, SameSource, WasLeft, GoesOnTo, servers_of};
     ghost use Rattle.feed_live.specs.Upstream.{IsRequestOf, IsRequestWith, asked_with};
     ghost use Rattle.feed_live.specs.declared.source.Reach.TheVariants.{Away, Asks as Asked};
     ghost use Rattle.feed_live.specs.Held.{has_heard};
@@ -406,7 +406,7 @@ impl Source {
 
     /// The server is left, and the next one is asked: after a pause where each of them failed.
     pub(crate) fn lost<L: Link>(&mut self, link: &mut L, told: &mut Telling, why: Why, now: u64)
-        ensures left { IsLeft self.old self.new (L.exchanges link.old) (L.exchanges link.new) }
+        ensures left { WasLeft self.old self.new (L.exchanges link.old) (L.exchanges link.new) }
         ensures calls { L.begun link.new ≡ L.begun link.old }
         ensures next { GoesOnTo self.old self.new now }
     {

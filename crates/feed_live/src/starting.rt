@@ -4,7 +4,7 @@ ghost use Rattle.std.specs.Prelude.{◌≡◌, List, ℕ, Some, IfOk, IfSome};
 ghost use Rattle.feed_node.specs.States.{NodeState};
 ghost use Rattle.feed_world.specs.Log.{Log, IsLog};
 ghost use Rattle.feed_hub.specs.Laws.{IsInLog, AreInLog};
-ghost use Rattle.feed_live.specs.Saved.{AreParts, GoesOn, OrNothing};
+ghost use Rattle.feed_live.specs.Saved.{ArePartsOfRecords, EndsAsRecorded, OrNothing};
 
 use crate::restoring::{Restored, restore};
 use feed_device::{Stop, Store};
@@ -31,14 +31,14 @@ pub fn restore_from<D: Store>(
     ensures limits { IfOk result (λ restored. restored.mirror.limits ≡ limits) }
     // where all that the files ever had was some of what records of nodes of a log wrote
     ensures in_log { (log : Log) (nodes : List NodeState) → IsLog limits log → AreInLog log nodes
-        → AreParts nodes (D.files store.old).had
+        → ArePartsOfRecords nodes (D.files store.old).had
         → IfOk result (λ restored. IsInLog limits log restored.mirror.node) }
     // then the state file goes on behind what it has of such a record
     ensures goes_on { (log : Log) (nodes : List NodeState) (text : List ℕ) → IsLog limits log
-        → AreInLog log nodes → AreParts nodes (D.files store.old).had
+        → AreInLog log nodes → ArePartsOfRecords nodes (D.files store.old).had
         → (D.files store.old).written ≡ Some text
         → IfOk result (λ restored. IfSome restored.file
-        (GoesOn nodes text restored.mirror.node)) }
+        (EndsAsRecorded nodes text restored.mirror.node)) }
     ensures same { D.files store.new ≡ D.files store.old }
 {
     let former = or_nothing(alloc, store.read_former());

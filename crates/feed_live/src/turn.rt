@@ -9,7 +9,7 @@ ghost use Rattle.feed_device.specs.Links.{Exchanges};
 ghost use Rattle.feed_device.specs.Sockets.{AllSockets, IsUnused};
 ghost use Rattle.feed_live.specs.Upstream.{Servers};
 ghost use Rattle.feed_device.specs.Files.{IsKnown};
-ghost use Rattle.feed_live.specs.Saved.{GoesOn, KeepsFiles, AreParts};
+ghost use Rattle.feed_live.specs.Saved.{EndsAsRecorded, KeepsFiles, ArePartsOfRecords};
 
 use crate::options::{LiveLimits, Start};
 use crate::restoring::{Good, Restored};
@@ -98,7 +98,7 @@ impl Live {
         // what the state files have, where the good bytes of what was restored are a record's
         ensures kept { (nodes : List NodeState) (text : List ℕ)
             → (D.files store.old).written ≡ Some text → IsKnown (D.files store.old).next
-            → IfSome start.restored.file (GoesOn nodes text start.restored.mirror.node)
+            → IfSome start.restored.file (EndsAsRecorded nodes text start.restored.mirror.node)
             → KeepsFiles nodes (D.files store.new) result.saved }
         ensures had { (D.files store.new).had ≡ (D.files store.old).had }
         ensures contest { result.contest ≡ contest }
@@ -197,8 +197,8 @@ impl Live {
         ensures parts { (nodes : List NodeState)
             → Contains nodes self.new.source.answers.shown.mirror.node
             → KeepsFiles nodes (D.files devices.old.store) self.old.saved
-            → AreParts nodes (D.files devices.old.store).had
-            → AreParts nodes (D.files devices.new.store).had }
+            → ArePartsOfRecords nodes (D.files devices.old.store).had
+            → ArePartsOfRecords nodes (D.files devices.new.store).had }
 
         // where the feed was published afresh, they have nothing of what was shown before
         ensures anew { self.new.source.epoch ≢ self.old.epoch → (nodes : List NodeState)
@@ -385,7 +385,8 @@ impl Live {
         ensures parts { (nodes : List NodeState)
             → Contains nodes self.old.source.answers.shown.mirror.node
             → KeepsFiles nodes (D.files store.old) self.old.saved
-            → AreParts nodes (D.files store.old).had → AreParts nodes (D.files store.new).had }
+            → ArePartsOfRecords nodes (D.files store.old).had
+            → ArePartsOfRecords nodes (D.files store.new).had }
         // where the feed was published afresh, they have nothing of what was shown before
         ensures anew { self.old.source.epoch ≢ self.old.epoch → (nodes : List NodeState)
             → Contains nodes self.old.source.answers.shown.mirror.node
@@ -612,7 +613,7 @@ fn saved_of<D: Store>(
 ) -> Option<Saved>
     ensures kept { (nodes : List NodeState) (text : List ℕ)
         → (D.files store.old).written ≡ Some text → IsKnown (D.files store.old).next
-        → IfSome file (GoesOn nodes text node.now.shown)
+        → IfSome file (EndsAsRecorded nodes text node.now.shown)
         → KeepsFiles nodes (D.files store.new) result }
     ensures had { (D.files store.new).had ≡ (D.files store.old).had }
 {

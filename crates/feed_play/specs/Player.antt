@@ -43,7 +43,8 @@ pub record Makes (line : List ℕ) (asked : Asked) (w : World) : Type 0 where
   pub says : shape_in line ≡ Some asked
   pub limits : IsInRange asked.history asked.staged
   pub shape : IsShaped asked
-  pub is : w ≡ new_world (record { history = by_count asked.history; staged = asked.staged; memory = None })
+  pub is : w ≡ new_world
+      (record { history = by_count asked.history; staged = asked.staged; memory = None })
       asked.framing asked.nodes
 
 -- the line says limits that are out of range

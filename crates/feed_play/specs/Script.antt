@@ -101,8 +101,8 @@ other_by name numbers =
     else None)))))))
 
 -- what the first line says of the world: how many commits a node keeps, how many changes may wait
--- for a token, how many nodes there are, and how the bodies of responses are framed; and the node that each mirror connects to, where they
--- are listed
+-- for a token, how many nodes there are, and how the bodies of responses are framed; and the node
+-- that each mirror connects to, where they are listed
 pub record Asked : Type 0 where
   pub history : ℕ
   pub staged : ℕ

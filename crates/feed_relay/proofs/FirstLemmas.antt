@@ -9,30 +9,30 @@ use Rattle.feed_relay.specs.declared.first.AttemptEnd.{AttemptEnd}
 
 module _ {D R W : Type 0} where
   -- behind a place that ends nothing, the next one is asked
-  pub goes_on : (dialer : Dialer D R W) (turns number : ℕ) (start middle end : Position D)
+  pub goes_on : (dialer : Dialer D R W) (most_reads number : ℕ) (start middle end : Position D)
       (servers : List Server) (server : Server) (earlier attempts all : List Attempt)
-      (outcome : AttemptEnd) → GoesOn dialer turns start (take number servers) earlier middle
+      (outcome : AttemptEnd) → GoesOn dialer most_reads start (take number servers) earlier middle
       → length (take number servers) ≡ number
       → take (number + 1) servers ≡ take number servers ++ server ∷ []
-      → AsksServer dialer number server turns middle attempts outcome end
+      → AsksServer dialer number server most_reads middle attempts outcome end
       → is_last outcome ≡ false → all ≡ earlier ++ attempts
-      → GoesOn dialer turns start (take (number + 1) servers) all end
-  goes_on dialer turns number start middle end servers server earlier attempts all outcome went count next asked on is =
-      subst (λ l. GoesOn dialer turns start l all end) (sym next)
-      (subst (λ l. GoesOn dialer turns start (take number servers ++ server ∷ []) l end) (sym is)
+      → GoesOn dialer most_reads start (take (number + 1) servers) all end
+  goes_on dialer most_reads number start middle end servers server earlier attempts all outcome went count next asked on is =
+      subst (λ l. GoesOn dialer most_reads start l all end) (sym next)
+      (subst (λ l. GoesOn dialer most_reads start (take number servers ++ server ∷ []) l end) (sym is)
       (one_asked (take number servers) server earlier attempts outcome middle end went
-      (subst (λ n. AsksServer dialer n server turns middle attempts outcome end) (sym count) asked) on))
+      (subst (λ n. AsksServer dialer n server most_reads middle attempts outcome end) (sym count) asked) on))
 
   -- behind the last place no other one is asked
-  pub stops_at : (dialer : Dialer D R W) (turns number : ℕ) (start middle end : Position D)
+  pub stops_at : (dialer : Dialer D R W) (most_reads number : ℕ) (start middle end : Position D)
       (servers : List Server) (server : Server) (earlier attempts all : List Attempt)
-      (outcome : AttemptEnd) → GoesOn dialer turns start (take number servers) earlier middle
+      (outcome : AttemptEnd) → GoesOn dialer most_reads start (take number servers) earlier middle
       → length (take number servers) ≡ number
       → take (number + 1) servers ≡ take number servers ++ server ∷ []
-      → AsksServer dialer number server turns middle attempts outcome end
+      → AsksServer dialer number server most_reads middle attempts outcome end
       → is_last outcome ≡ true → all ≡ earlier ++ attempts
-      → StopsAt dialer turns start servers all end
-  stops_at dialer turns number start middle end servers server earlier attempts all outcome went count next asked last is =
+      → StopsAt dialer most_reads start servers all end
+  stops_at dialer most_reads number start middle end servers server earlier attempts all outcome went count next asked last is =
       record {
         before = take number servers;
         server = server;
@@ -44,7 +44,7 @@ module _ {D R W : Type 0} where
         outcome = outcome;
         middle = middle;
         went = went;
-        asked = subst (λ n. AsksServer dialer n server turns middle attempts outcome end) (sym count) asked;
+        asked = subst (λ n. AsksServer dialer n server most_reads middle attempts outcome end) (sym count) asked;
         stops = last;
         all = is;
       }

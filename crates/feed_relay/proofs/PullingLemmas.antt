@@ -10,29 +10,29 @@ use Rattle.feed_http.specs.Exchange.{Exchange, gave_on, FailuresAreTold, failed_
 use Rattle.feed_http.specs.Following.{Follows}
 use Rattle.feed_relay.specs.Pulling.{HasAsked, IsFollowed}
 
-pub answered : (request : List ℕ) (turns : ℕ) (spoken : Exchange) (start mirror : MirrorState)
+pub answered : (request : List ℕ) (most_reads : ℕ) (spoken : Exchange) (start mirror : MirrorState)
     (pulled : Result Followed EngineFault)
     → Appends spoken.written_old spoken.written_new request
-    → Follows turns (gave_on spoken) start pulled mirror
-    → HasAsked request spoken pulled × IsFollowed turns spoken start pulled mirror
-answered request turns spoken start mirror (Ok followed) wrote came = (wrote, came)
-answered request turns spoken start mirror (Err fault.Read) wrote came = (wrote, came)
-answered request turns spoken start mirror (Err fault.Turns) wrote came = (wrote, came)
-answered request turns spoken start mirror (Err (fault.Follow why)) wrote came = (wrote, came)
-answered request turns spoken start mirror (Err fault.Write) wrote none = absurd none
-answered request turns spoken start mirror (Err fault.Memory) wrote none = absurd none
-answered request turns spoken start mirror (Err (fault.Commit why)) wrote none = absurd none
+    → Follows most_reads (gave_on spoken) start pulled mirror
+    → HasAsked request spoken pulled × IsFollowed most_reads spoken start pulled mirror
+answered request most_reads spoken start mirror (Ok followed) wrote came = (wrote, came)
+answered request most_reads spoken start mirror (Err fault.Read) wrote came = (wrote, came)
+answered request most_reads spoken start mirror (Err fault.Turns) wrote came = (wrote, came)
+answered request most_reads spoken start mirror (Err (fault.Follow why)) wrote came = (wrote, came)
+answered request most_reads spoken start mirror (Err fault.Write) wrote none = absurd none
+answered request most_reads spoken start mirror (Err fault.Memory) wrote none = absurd none
+answered request most_reads spoken start mirror (Err (fault.Commit why)) wrote none = absurd none
 
 -- where the request was written, what failed is a read
-pub told_reads : (turns : ℕ) (spoken : Exchange) (start mirror : MirrorState)
+pub told_reads : (most_reads : ℕ) (spoken : Exchange) (start mirror : MirrorState)
     (pulled : Result Followed EngineFault)
-    → Follows turns (gave_on spoken) start pulled mirror
+    → Follows most_reads (gave_on spoken) start pulled mirror
     → spoken.failed_reads_new ≡ failed_reads_after spoken.failed_reads_old pulled
     → spoken.failed_writes_new ≡ spoken.failed_writes_old → FailuresAreTold spoken pulled
-told_reads turns spoken start mirror (Ok followed) came reads writes = (reads, writes)
-told_reads turns spoken start mirror (Err fault.Read) came reads writes = (reads, writes)
-told_reads turns spoken start mirror (Err fault.Turns) came reads writes = (reads, writes)
-told_reads turns spoken start mirror (Err (fault.Follow why)) came reads writes = (reads, writes)
-told_reads turns spoken start mirror (Err fault.Write) none reads writes = absurd none
-told_reads turns spoken start mirror (Err fault.Memory) none reads writes = absurd none
-told_reads turns spoken start mirror (Err (fault.Commit why)) none reads writes = absurd none
+told_reads most_reads spoken start mirror (Ok followed) came reads writes = (reads, writes)
+told_reads most_reads spoken start mirror (Err fault.Read) came reads writes = (reads, writes)
+told_reads most_reads spoken start mirror (Err fault.Turns) came reads writes = (reads, writes)
+told_reads most_reads spoken start mirror (Err (fault.Follow why)) came reads writes = (reads, writes)
+told_reads most_reads spoken start mirror (Err fault.Write) none reads writes = absurd none
+told_reads most_reads spoken start mirror (Err fault.Memory) none reads writes = absurd none
+told_reads most_reads spoken start mirror (Err (fault.Commit why)) none reads writes = absurd none

@@ -9,8 +9,8 @@ misses_after count (Some _) = count
 misses_after count None = counted count 1
 
 -- What a program says of what opens connections, of such a type, and of what it connects with: how
--- often no connection was opened; what a call makes of it, and which connection that opens; and what
--- it is once a connection is given back.
+-- often no connection was opened; what a call makes of it, and which connection that opens; and
+-- what it is once a connection is given back.
 pub record Links (D R W : Type 0) : Type 1 where
   pub devices : Devices R W
   pub misses : D → ℕ

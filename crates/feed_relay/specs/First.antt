@@ -49,47 +49,49 @@ module _ {D R W : Type 0} where
   -- followed, in at most so many reads, and the connection was given back
   abbrev pub Pulls : Dialer D R W → ℕ → Server → ℕ → Position D → Result End EngineFault
       → Position D → Type 0
-  Pulls dialer number server turns start pulled end =
+  Pulls dialer number server most_reads start pulled end =
       OnLink (dialer number) start.dial
-      (λ spoken. PullsOnce server turns spoken start.mirror pulled end.mirror) end.dial
+      (λ spoken. PullsOnce server most_reads spoken start.mirror pulled end.mirror) end.dial
 
   -- one attempt at the server of this number; without a connection the mirror is what it was, and a
   -- miss is counted
-  abbrev pub Attempts : Dialer D R W → ℕ → Server → ℕ → Position D → AttemptEnd → Position D → Type 0
-  Attempts dialer number server turns start NoLink end =
+  abbrev pub Attempts : Dialer D R W → ℕ → Server → ℕ → Position D → AttemptEnd → Position D
+      → Type 0
+  Attempts dialer number server most_reads start NoLink end =
       (end.mirror ≡ start.mirror) × HasMissed (dialer number) start.dial end.dial
-  Attempts dialer number server turns start (Followed followed) end =
-      Pulls dialer number server turns start (Ok followed) end
-  Attempts dialer number server turns start (Failed fault) end =
-      Pulls dialer number server turns start (Err fault) end
+  Attempts dialer number server most_reads start (Followed followed) end =
+      Pulls dialer number server most_reads start (Ok followed) end
+  Attempts dialer number server most_reads start (Failed fault) end =
+      Pulls dialer number server most_reads start (Err fault) end
 
   -- all attempts at the server of this number, and what the last one came to: there is one, or,
   -- where the token was refused, another one
   abbrev pub AsksServer : Dialer D R W → ℕ → Server → ℕ → Position D → List Attempt → AttemptEnd
       → Position D → Type 0
-  AsksServer dialer number server turns start attempts outcome end =
+  AsksServer dialer number server most_reads start attempts outcome end =
       (outcome ≢ Followed followed.TokenRefused)
       × (((attempts ≡ attempt_at number outcome ∷ [])
-      × Attempts dialer number server turns start outcome end)
+      × Attempts dialer number server most_reads start outcome end)
       ⊎ ((refused : Position D)
       × (attempts ≡ attempt_at number (Followed followed.TokenRefused)
       ∷ attempt_at number outcome ∷ [])
-      × Attempts dialer number server turns start (Followed followed.TokenRefused) refused
-      × Attempts dialer number server turns refused outcome end))
+      × Attempts dialer number server most_reads start (Followed followed.TokenRefused) refused
+      × Attempts dialer number server most_reads refused outcome end))
 
   -- these servers were asked, one after another, and behind each the next one is
-  pub data GoesOn (dialer : Dialer D R W) (turns : ℕ) (start : Position D)
+  pub data GoesOn (dialer : Dialer D R W) (most_reads : ℕ) (start : Position D)
       : List Server → List Attempt → Position D → Type 0 where
-    none_asked : GoesOn dialer turns start [] [] start
+    none_asked : GoesOn dialer most_reads start [] [] start
     one_asked : (before : List Server) (server : Server) (earlier attempts : List Attempt)
         (outcome : AttemptEnd) (middle end : Position D)
-        → GoesOn dialer turns start before earlier middle
-        → AsksServer dialer (length before) server turns middle attempts outcome end
+        → GoesOn dialer most_reads start before earlier middle
+        → AsksServer dialer (length before) server most_reads middle attempts outcome end
         → is_last outcome ≡ false
-        → GoesOn dialer turns start (before ++ server ∷ []) (earlier ++ attempts) end
+        → GoesOn dialer most_reads start (before ++ server ∷ []) (earlier ++ attempts) end
 
   -- servers were asked up to the one that comes behind these, and there it ended
-  pub record StopsAt (dialer : Dialer D R W) (turns : ℕ) (start : Position D) (servers : List Server)
+  pub record StopsAt (dialer : Dialer D R W) (most_reads : ℕ) (start : Position D)
+      (servers : List Server)
       (attempts : List Attempt) (end : Position D) : Type 0 where
     pub before : List Server
     pub server : Server
@@ -99,14 +101,14 @@ module _ {D R W : Type 0} where
     pub last : List Attempt
     pub outcome : AttemptEnd
     pub middle : Position D
-    pub went : GoesOn dialer turns start before earlier middle
-    pub asked : AsksServer dialer (length before) server turns middle last outcome end
+    pub went : GoesOn dialer most_reads start before earlier middle
+    pub asked : AsksServer dialer (length before) server most_reads middle last outcome end
     pub stops : is_last outcome ≡ true
     pub all : attempts ≡ earlier ++ last
 
   -- these servers were asked in their order, up to the first behind which no further one is, or all
   abbrev pub FollowsFirst : Dialer D R W → List Server → ℕ → Position D → List Attempt
       → Position D → Type 0
-  FollowsFirst dialer servers turns start attempts end =
-      GoesOn dialer turns start servers attempts end
-      ⊎ StopsAt dialer turns start servers attempts end
+  FollowsFirst dialer servers most_reads start attempts end =
+      GoesOn dialer most_reads start servers attempts end
+      ⊎ StopsAt dialer most_reads start servers attempts end

@@ -21,19 +21,20 @@ HasAsked request spoken pulled = Appends spoken.written_old spoken.written_new r
 abbrev pub IsUnanswered : Exchange → MirrorState → MirrorState → Type 0
 IsUnanswered spoken start mirror = (spoken.left ≡ spoken.source) × (mirror ≡ start)
 
--- what was read, in at most so many reads (`turns`), leaves this of the mirror; nothing was where
--- asking failed
+-- what was read, in at most so many reads (`most_reads`), leaves this of the mirror; nothing was
+-- where asking failed
 abbrev pub IsFollowed : ℕ → Exchange → MirrorState → Result Followed EngineFault → MirrorState
     → Type 0
-IsFollowed turns spoken start (Err Write) mirror = IsUnanswered spoken start mirror
-IsFollowed turns spoken start (Err Memory) mirror = IsUnanswered spoken start mirror
-IsFollowed turns spoken start pulled mirror = Follows turns (gave_on spoken) start pulled mirror
+IsFollowed most_reads spoken start (Err Write) mirror = IsUnanswered spoken start mirror
+IsFollowed most_reads spoken start (Err Memory) mirror = IsUnanswered spoken start mirror
+IsFollowed most_reads spoken start pulled mirror =
+    Follows most_reads (gave_on spoken) start pulled mirror
 
 -- the server was asked for what a mirror lacks, and what was read of the response, in at most so
 -- many reads, leaves this of the mirror
-pub record PullsOnce (server : Server) (turns : ℕ) (spoken : Exchange) (start : MirrorState)
+pub record PullsOnce (server : Server) (most_reads : ℕ) (spoken : Exchange) (start : MirrorState)
     (pulled : Result Followed EngineFault) (mirror : MirrorState) : Type 0 where
   pub asked : HasAsked (request_text_as server.place start.since server.identity.now) spoken pulled
-  pub came : IsFollowed turns spoken start pulled mirror
-  pub reads : RoseAtMost spoken.reads_old spoken.reads_new turns
+  pub came : IsFollowed most_reads spoken start pulled mirror
+  pub reads : RoseAtMost spoken.reads_old spoken.reads_new most_reads
   pub failures : FailuresAreTold spoken pulled

@@ -76,18 +76,18 @@ fn try_server<D: Dial>(
     number: usize,
     server: &Server<'_>,
     mirror: &mut Mirror,
-    turns: u64,
+    most_reads: u64,
 ) -> AttemptEnd
     ensures tried { let dialer = dialer_of (devices_of D.Reader.remaining D.Reader.reads
         D.Reader.failures D.Writer.contents D.Writer.failures) D.misses D.dials D.closes in
-        Attempts dialer number server.now turns (position mirror.old dial.old) result
+        Attempts dialer number server.now most_reads (position mirror.old dial.old) result
         (position mirror.new dial.new) }
     ensures cut { mirror.old.connection ≡ None → mirror.new.connection ≡ None }
 {
     let Some((mut reader, mut writer)) = dial.dial(number) else {
         return AttemptEnd::NoLink;
     };
-    let pulled = pull_once(alloc, server, mirror, turns, &mut reader, &mut writer);
+    let pulled = pull_once(alloc, server, mirror, most_reads, &mut reader, &mut writer);
     dial.close(reader, writer);
     match pulled {
         Ok(followed) => AttemptEnd::Followed(followed),
@@ -103,7 +103,7 @@ fn ask_server<D: Dial>(
     number: usize,
     server: &Server<'_>,
     mirror: &mut Mirror,
-    turns: u64,
+    most_reads: u64,
     attempts: &mut Vec<Attempt>,
 ) -> AttemptEnd
     requires { length attempts.old.items + 2 ≤ vec_capacity attempts.old }
@@ -111,13 +111,13 @@ fn ask_server<D: Dial>(
         D.Reader.failures D.Writer.contents D.Writer.failures) D.misses D.dials D.closes in
         (tried : List Tried) × (attempts.new.items ≡ attempts.old.items ++ tried)
         × (length tried ≤ 2)
-        × AsksServer dialer number server.now turns (position mirror.old dial.old) tried
+        × AsksServer dialer number server.now most_reads (position mirror.old dial.old) tried
         result (position mirror.new dial.new) }
     ensures known { result ≢ AttemptEnd.Followed Followed.TokenRefused }
     ensures capacity { vec_capacity attempts.new ≡ vec_capacity attempts.old }
     ensures cut { mirror.old.connection ≡ None → mirror.new.connection ≡ None }
 {
-    let outcome = try_server(alloc, dial, number, server, mirror, turns);
+    let outcome = try_server(alloc, dial, number, server, mirror, most_reads);
     attempts.push_reserved(Attempt {
         server: number,
         outcome,
@@ -125,7 +125,7 @@ fn ask_server<D: Dial>(
     if outcome != AttemptEnd::Followed(Followed::TokenRefused) {
         return outcome;
     }
-    let again = try_server(alloc, dial, number, server, mirror, turns);
+    let again = try_server(alloc, dial, number, server, mirror, most_reads);
     attempts.push_reserved(Attempt {
         server: number,
         outcome: again,
@@ -134,20 +134,21 @@ fn ask_server<D: Dial>(
 }
 
 /// Asks these servers, in their order, for what a mirror lacks, and follows the response, each on a
-/// connection that is dialed by the server's number and in at most so many reads (`turns`): up to
-/// the first whose feed was followed to its end, or at which memory ran out, or all. Where a server
-/// refuses the mirror's token, it is asked once more, for everything. Tells each attempt, in order.
-/// The room for two attempts at each server is taken first; where there is none, nobody is asked.
+/// connection that is dialed by the server's number and in at most so many reads (`most_reads`): up
+/// to the first whose feed was followed to its end, or at which memory ran out, or all. Where a
+/// server refuses the mirror's token, it is asked once more, for everything. Tells each attempt, in
+/// order. The room for two attempts at each server is taken first; where there is none, nobody is
+/// asked.
 pub fn follow_first<D: Dial>(
     alloc: Global,
     dial: &mut D,
     servers: &[Server<'_>],
     mirror: &mut Mirror,
-    turns: u64,
+    most_reads: u64,
 ) -> Result<Vec<Attempt>, AllocError>
     ensures followed { let dialer = dialer_of (devices_of D.Reader.remaining D.Reader.reads
         D.Reader.failures D.Writer.contents D.Writer.failures) D.misses D.dials D.closes in
-        IfOk result (λ attempts. FollowsFirst dialer servers.now turns
+        IfOk result (λ attempts. FollowsFirst dialer servers.now most_reads
         (position mirror.old dial.old) attempts.items (position mirror.new dial.new)) }
     ensures cut { mirror.old.connection ≡ None → mirror.new.connection ≡ None }
     ensures memory { OnErr result ((mirror.new ≡ mirror.old) × (dial.new ≡ dial.old)) }
@@ -155,7 +156,15 @@ pub fn follow_first<D: Dial>(
     let room = servers.len().checked_mul(2).ok_or(AllocError)?;
     let mut attempts = Vec::with_capacity(alloc, room)?;
     'servers: for (number, server) in servers.iter().enumerate() {
-        let outcome = ask_server(alloc, dial, number, server, mirror, turns, &mut attempts);
+        let outcome = ask_server(
+            alloc,
+            dial,
+            number,
+            server,
+            mirror,
+            most_reads,
+            &mut attempts,
+        );
         if outcome.is_last() {
             return Ok(attempts);
         }

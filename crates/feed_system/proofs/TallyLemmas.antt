@@ -12,7 +12,7 @@ use Rattle.std.proofs.lemmas.Map.Lookups.{exact_unsigned}
 use Rattle.std.proofs.lemmas.List.Sums.{sum_by-set, sum_by_push, count_by-le-length}
 use Rattle.feed_system.specs.declared.tally.Owner.{Owner}
 use Rattle.feed_system.specs.declared.tally.Owner.TheVariants.{V4, V6}
-use Rattle.feed_system.specs.Tally.{compared, count_in, is_of, is_same, holders, owner_at, AreCounted, AreFew}
+use Rattle.feed_system.specs.Tally.{compared, count_in, is_of, is_same, holders, owner_at, HaveRightTallies, AreFew}
 
 -- ---- who it is
 
@@ -94,7 +94,7 @@ more {k} {owners} {at} coming q b is =
 pub counted_more : {k : Owner} {owners : List (Option Owner)} {at : ℕ} → Comes k owners at
     → (n m : ℕ) (old new : BTreeMap Owner ℕ) → n ≡ holders k owners → m ≡ min (n + 1) (2 ^ 64 - 1)
     → length owners < 2 ^ 63 → Updates compared old new k (Some m)
-    → AreCounted old owners → AreCounted new (slice_set owners at (Some k))
+    → HaveRightTallies old owners → HaveRightTallies new (slice_set owners at (Some k))
 counted_more {k} {owners} {at} coming n m old new is one small updates counted =
     λ q. by q (is_eq (compared k q)) refl
   where
@@ -149,7 +149,7 @@ less {k} {owners} {at} going q b is =
 pub counted_less : {k : Owner} {owners : List (Option Owner)} {at : ℕ} → Goes k owners at
     → (n : ℕ) (old new : BTreeMap Owner ℕ) → n ≡ holders k owners
     → ((q : Owner) → count_in new q ≡ (if is_same k q then n - 1 else count_in old q))
-    → AreCounted old owners → AreCounted new (slice_set owners at None)
+    → HaveRightTallies old owners → HaveRightTallies new (slice_set owners at None)
 counted_less {k} {owners} {at} going n old new is lower counted =
     λ q. by q (is_eq (compared k q)) refl
   where
@@ -176,7 +176,7 @@ few_less going most few = λ q. let so = fewer going q in let was = few q in ome
 -- ---- nobody
 
 pub counted_nobody : (counts : BTreeMap Owner ℕ) (owners : List (Option Owner)) → IsEmpty counts → owners ≡ []
-    → AreCounted counts owners
+    → HaveRightTallies counts owners
 unfolding holders
 counted_nobody counts owners empty none =
     λ q. ap (λ es. unwrap_or (lookup (λ k. is_eq (compared q k)) es) 0) empty ∙ sym (ap (holders q) none)

@@ -5,6 +5,6 @@ use Rattle.feed_system.specs.declared.tally.Tally.{Tally}
 use Rattle.feed_system.specs.Tally.{holders}
 
 -- Somebody has fewer than they may, where that is counted.
-abbrev pub HasRoom : Option Tally → Owner → Type 0
-HasRoom None owner = ⊤
-HasRoom (Some tally) owner = holders owner tally.owners.items < tally.most
+abbrev pub MayHaveOneMore : Option Tally → Owner → Type 0
+MayHaveOneMore None owner = ⊤
+MayHaveOneMore (Some tally) owner = holders owner tally.owners.items < tally.most

@@ -33,8 +33,8 @@ abbrev pub count_in : BTreeMap Owner ℕ → Owner → ℕ
 count_in counts owner = unwrap_or (get compared counts owner) 0
 
 -- That is right for all.
-abbrev pub AreCounted : BTreeMap Owner ℕ → List (Option Owner) → Type 0
-AreCounted counts owners = (owner : Owner) → count_in counts owner ≡ holders owner owners
+abbrev pub HaveRightTallies : BTreeMap Owner ℕ → List (Option Owner) → Type 0
+HaveRightTallies counts owners = (owner : Owner) → count_in counts owner ≡ holders owner owners
 
 -- nobody has more than so many
 abbrev pub AreFew : ℕ → List (Option Owner) → Type 0

@@ -1,7 +1,7 @@
 //! The screens' sockets.
 
 ghost use Rattle.std.specs.Prelude.{◌≡◌, ◌≤◌, ◌↔◌, length, IfOk, IsTrue};
-ghost use Rattle.feed_system.specs.Room.{HasRoom};
+ghost use Rattle.feed_system.specs.Room.{MayHaveOneMore};
 
 use crate::guard::Guard;
 use crate::tally::{Owner, Tally};
@@ -112,7 +112,7 @@ impl Port {
 
     /// Whether somebody may have one more connection.
     fn has_room(&self, owner: Owner) -> bool
-        ensures { IsTrue result ↔ HasRoom self.now.tally owner }
+        ensures { IsTrue result ↔ MayHaveOneMore self.now.tally owner }
     {
         match &self.tally {
             Some(tally) => tally.has_room(owner),
@@ -137,7 +137,7 @@ impl Port {
 
     /// Whether who connects stays.
     fn lets_in(&mut self, origin: Origin, owner: Owner) -> bool
-        ensures { IsTrue result → HasRoom self.new.tally owner }
+        ensures { IsTrue result → MayHaveOneMore self.new.tally owner }
     {
         if !self.has_room(owner) {
             self.make_room(owner);
@@ -148,7 +148,7 @@ impl Port {
 
     /// The connection at a number counts as somebody's, where they are counted.
     fn count(&mut self, at: usize, owner: Owner) -> Result<(), AllocError>
-        requires { HasRoom self.old.tally owner }
+        requires { MayHaveOneMore self.old.tally owner }
     {
         match &mut self.tally {
             Some(tally) => tally.add(at, owner),
@@ -166,7 +166,7 @@ impl Port {
 
     /// Keeps a socket at its number, and has events of it told.
     fn keep(&mut self, at: usize, owner: Owner, mut stream: TcpStream) -> io::Result<()>
-        requires { HasRoom self.old.tally owner }
+        requires { MayHaveOneMore self.old.tally owner }
     {
         let _ = stream.set_nodelay(true);
         let interests = Interest::READABLE | Interest::WRITABLE;

@@ -2,7 +2,7 @@
 
 ghost use Rattle.std.specs.Prelude.{◌≡◌, ◌≢◌, ◌<◌, ◌≤◌, ◌-◌, if◌then◌else◌, ℕ, None, Some, OnOk, OnErr, IfSome, IsTrue, ◌↔◌, length};
 ghost use Rattle.feed_system.specs.Counted.{counted_as};
-ghost use Rattle.feed_system.specs.Tally.{AreCounted, AreFew, count_in, holders, is_same, owner_at};
+ghost use Rattle.feed_system.specs.Tally.{HaveRightTallies, AreFew, count_in, holders, is_same, owner_at};
 ghost use Rattle.feed_system.specs.declared.tally.Owner.{Owner};
 
 use feed_arguments::Origin;
@@ -42,7 +42,7 @@ pub(crate) struct Tally {
     counts: BTreeMap<Owner, u64>,
     // Those who send no more: mostly who had them went away.
     ended: BTreeSet<(Owner, usize)>,
-    ghost counted: { AreCounted counts owners.items },
+    ghost counted: { HaveRightTallies counts owners.items },
     ghost few: { AreFew most owners.items },
 }
 

@@ -102,7 +102,8 @@ moved_by history log place blocks = fold (moved history log) place blocks
 abbrev pub count_new : History → Log → Option Position → List Part → ℕ
 count_new history log place [] = 0
 count_new history log place (block ∷ blocks) =
-    (if is_new place block then 1 else 0) + count_new history log (moved history log place block) blocks
+    (if is_new place block then 1 else 0) + count_new history log
+    (moved history log place block) blocks
 
 -- these parts go on from a number: each commit is the next one, up to the last, with any number of
 -- line feeds before, between and after them

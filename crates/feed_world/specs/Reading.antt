@@ -12,8 +12,8 @@ use Rattle.feed_world.specs.Connection.{Connection, IsInOrder, sent_text, blocks
 abbrev pub opening_at : Log → Option Position → Bool → Opening
 opening_at log place fresh = record { before = node_where log place; fresh = fresh }
 
--- a connection that is fresh, or starts at a number of which the mirror holds the token; it sent, in
--- order, what stands in the log
+-- a connection that is fresh, or starts at a number of which the mirror holds the token; it sent,
+-- in order, what stands in the log
 pub record IsOpened (limits : Limits) (log : Log) (place : Option Position)
     (c : Connection) : Type 0 where
   pub mirror : IsPlace limits log place
@@ -29,7 +29,8 @@ pub record IsRead (limits : Limits) (log : Log) (place : Option Position) (c : C
   pub notes : List Line
   pub nothing_bad : Reads limits (opening_at log place c.fresh) prefix notes
   pub shows : keep_latest limits.history (reads limits.history (opening_at log place c.fresh) notes)
-      ≡ node_where log (moved_by limits.history log place (blocks_within log c.parts (length prefix)))
+      ≡ node_where log
+      (moved_by limits.history log place (blocks_within log c.parts (length prefix)))
   pub awaits : awaits_reset (opening_at log place c.fresh) notes ≡ (c.fresh
       && (length (blocks_within log c.parts (length prefix)) == 0))
   pub published : publications limits.history (opening_at log place c.fresh) notes
@@ -38,7 +39,8 @@ pub record IsRead (limits : Limits) (log : Log) (place : Option Position) (c : C
 -- whatever prefix of what was sent came
 abbrev pub PrefixesAreRead : Type 0
 PrefixesAreRead =
-    (limits : Limits) (log : Log) (place : Option Position) (c : Connection) (prefix behind : List ℕ)
+    (limits : Limits) (log : Log) (place : Option Position) (c : Connection)
+    (prefix behind : List ℕ)
     → IsLog limits log → IsOpened limits log place c → prefix ++ behind ≡ sent_text log c
     → IsRead limits log place c prefix
 

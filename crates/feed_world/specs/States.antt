@@ -177,6 +177,14 @@ pub record IsMirror (limits : Limits) (log : Log) (m : Mirror) (f : FollowerStat
   pub in_log : IfSome m.saved (λ k. k ≤ length log.commits)
   pub saved : f.saved ≡ saved_text log m.saved
 
+-- in a log, a mirror meets a node that is at this place
+pub record MeetsNode (limits : Limits) (log : Log) (m : Mirror) (place : Option Position)
+    (f : FollowerState) (node : NodeState) : Type 0 where
+  pub is_log : IsLog limits log
+  pub is_place : IsPlace limits log place
+  pub shows : node ≡ node_where log place
+  pub mirror : IsMirror limits log m f
+
 -- the mirror made this move, and gave its reply
 abbrev pub Moves : Limits → Log → Result Move WorldFault → Reply → FollowerState → Type 0
 Moves limits log (Ok move) reply f = (reply ≡ move.0) × IsMirror limits log move.1 f

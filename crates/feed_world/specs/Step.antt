@@ -46,7 +46,8 @@ committed world changes =
       limits = world.limits;
       framing = world.framing;
       log = world.log ++ changes ∷ [];
-      primary = renewed world.limits.history (numbered (world.log ++ changes ∷ [])) (world.primary.at + 1)
+      primary = renewed world.limits.history (numbered (world.log ++ changes ∷ []))
+      (world.primary.at + 1)
           world.primary.low;
       mirrors = world.mirrors;
     }
@@ -279,7 +280,8 @@ outcome world (Connect i j back) =
 outcome world (Serve i) =
     at_node world i (λ mirror. mirror_serves mirror (place_at world mirror.upstream))
 outcome world (Idle i) = at_node world i mirror_idles
-outcome world (Deliver i n) = at_node world i (mirror_delivers world.limits.history (numbered world.log) n)
+outcome world (Deliver i n) =
+    at_node world i (mirror_delivers world.limits.history (numbered world.log) n)
 outcome world (DoCut i) = at_node world i mirror_cuts
 outcome world (Save i) = at_node world i (mirror_saves (numbered world.log))
 outcome world (Restart i n) = at_node world i (mirror_restarts (numbered world.log) n)

@@ -10,8 +10,8 @@ use Rattle.feed_world.specs.Log.{Log, IsNamed, state_after, changes_of_commit}
 use Rattle.feed_world.specs.Position.{Position, IsPlace, node_where}
 use Rattle.feed_world.specs.Reading.{opening_at}
 
--- The token ends these changes. The first one of a fresh connection has those that make the state of
--- this number; each other one has those of the commit after it.
+-- The token ends these changes. The first one of a fresh connection has those that make the state
+-- of this number; each other one has those of the commit after it.
 abbrev pub TokenTells : Log → Bool → ℕ → List Change → List ℕ → Type 0
 TokenTells log true k changes token =
     (k ≤ length log.commits) × (token ≡ log.token k)
@@ -36,8 +36,8 @@ Tells log fresh k waiting (Note changes (Some token) ∷ notes) =
     TokenTells log fresh k (waiting ++ changes) token
     × Tells log false (told_to fresh k) [] notes
 
--- whatever lines tell a log leave a mirror at a place of it, where the connection is fresh or starts
--- at a number of which the mirror holds the token
+-- whatever lines tell a log leave a mirror at a place of it, where the connection is fresh or
+-- starts at a number of which the mirror holds the token
 abbrev pub TellsShow : Type 0
 TellsShow =
     (limits : Limits) (log : Log) (place : Option Position) (fresh : Bool) (k : ℕ)

@@ -11,8 +11,8 @@ use Rattle.feed_world.specs.Connection.{Connection}
 
 -- a mirror: where it is, if it has published anything; the node that it connected to last, and node
 -- 0 before; whether its token was refused and nothing was published since, so that its next
--- connection is fresh; its connection to that node, if there is one; and the number of the state that
--- is its saved text, if one is
+-- connection is fresh; its connection to that node, if there is one; and the number of the state
+-- that is its saved text, if one is
 pub record Mirror : Type 0 where
   pub place : Option Position
   pub upstream : ℕ

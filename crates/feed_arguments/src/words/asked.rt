@@ -8,6 +8,7 @@ ghost use Rattle.feed_arguments.specs.Live.{AreBothGiven, kept_bytes};
 ghost use Rattle.feed_arguments.specs.Options.{most_rounds, most_silence};
 ghost use Rattle.feed_arguments.specs.Options.{text_at, IsNumber, IsNumberUpTo, IsNumberIfGiven};
 ghost use Rattle.feed_arguments.specs.Options.{IsGiven, IsFramed, AsksLimits, AsksLimitsOr};
+ghost use Rattle.feed_arguments.specs.Upstream.{AsksUpstream};
 ghost use Rattle.feed_arguments.specs.Words.{AsksTables, AsksCheck, AreOnInput, AsksAudit, AsksCompare, ComparesNone, AsksServe, AsksPull, AsksRelay, AsksBy, AsksAt};
 ghost use Rattle.feed_arguments.specs.declared.request.AuditOptions.{AuditOptions as Audit};
 ghost use Rattle.feed_arguments.specs.declared.request.CompareOptions.{CompareOptions as Compare};
@@ -16,13 +17,14 @@ ghost use Rattle.feed_arguments.specs.declared.request.RelayOptions.{RelayOption
 ghost use Rattle.feed_arguments.specs.declared.request.Request.{Request as Asked};
 ghost use Rattle.feed_arguments.specs.declared.request.ServeOptions.{ServeOptions as Serve};
 ghost use Rattle.feed_arguments.specs.declared.request.TablesOptions.{TablesOptions as Tables};
+ghost use Rattle.feed_arguments.specs.declared.request.UpstreamOptions.{UpstreamOptions as Upstream};
 
 use super::asked_live::live_options;
 use super::live::KEPT_BYTES;
 use super::options::{MOST_PORT, MOST_ROUNDS, MOST_SILENCE};
 use crate::request::{
     AuditOptions, CheckOptions, CompareOptions, Local, PullOptions, RelayOptions, Request,
-    ServeOptions, TablesOptions,
+    ServeOptions, TablesOptions, UpstreamOptions,
 };
 use clap::ArgMatches;
 use feed_settings::{Framing, Limits, MOST_CHANGES, MOST_COMMITS, MOST_MEMORY};
@@ -71,7 +73,7 @@ pub(super) fn number_if_given(
 }
 
 /// A port.
-pub(super) fn port(matches: &ArgMatches<'_>, name: &str) -> Option<u16>
+fn port(matches: &ArgMatches<'_>, name: &str) -> Option<u16>
     ensures some { IfSome result
         (λ n. IsNumber name.now most_port (rows_of (found_of matches.now)) n) }
     ensures none { result ≡ None → (n : ℕ)
@@ -305,13 +307,13 @@ fn patience(matches: &ArgMatches<'_>) -> Option<(u64, Option<u64>)>
         → IsNumber (codes "turns") most_rounds (rows_of (found_of matches.now)) turns
         → ¬ (IsNumberIfGiven (codes "silence") most_silence (rows_of (found_of matches.now)) most) }
 {
-    let turns = number(matches, "turns", MOST_ROUNDS)?;
+    let most_reads = number(matches, "turns", MOST_ROUNDS)?;
     let silence = number_if_given(matches, "silence", MOST_SILENCE)?;
-    Some((turns, silence))
+    Some((most_reads, silence))
 }
 
 /// What a server is told of who asks: its name, and the file with the user.
-pub(super) fn identity<'a>(matches: &ArgMatches<'a>) -> (Option<&'a str>, Option<&'a str>)
+fn identity<'a>(matches: &ArgMatches<'a>) -> (Option<&'a str>, Option<&'a str>)
     ensures host_header { text_at (codes "host-header") (rows_of (found_of matches.now))
         ≡ option_map (λ t. t.now) result.0 }
     ensures user_file { text_at (codes "user-file") (rows_of (found_of matches.now))
@@ -320,29 +322,41 @@ pub(super) fn identity<'a>(matches: &ArgMatches<'a>) -> (Option<&'a str>, Option
     (text(matches, "host-header"), text(matches, "user-file"))
 }
 
+/// The server that is followed first, and those that are asked where it fails.
+pub(super) fn upstream_at<'a>(matches: &ArgMatches<'a>) -> Option<UpstreamOptions<'a>>
+    ensures some { IfSome result
+        (λ upstream. AsksUpstream (rows_of (found_of matches.now)) upstream) }
+    ensures none { result ≡ None → (upstream : Upstream)
+        → ¬ (AsksUpstream (rows_of (found_of matches.now)) upstream) }
+{
+    let host = text(matches, "host")?;
+    let port = port(matches, "port")?;
+    let base = text(matches, "base")?;
+    let (host_header, user_file) = identity(matches);
+    Some(UpstreamOptions {
+        host,
+        port,
+        from: text(matches, "from"),
+        base,
+        host_header,
+        user_file,
+    })
+}
+
 /// What the options of `pull` ask for, and those of `relay` that it has, too.
 fn pull_options<'a>(matches: &ArgMatches<'a>) -> Option<PullOptions<'a>>
     ensures some { IfSome result (λ options. AsksPull (rows_of (found_of matches.now)) options) }
     ensures none { result ≡ None → (options : Pull)
         → ¬ (AsksPull (rows_of (found_of matches.now)) options) }
 {
-    let host = text(matches, "host")?;
-    let port = port(matches, "port")?;
-    let from = text(matches, "from");
-    let base = text(matches, "base")?;
+    let upstream = upstream_at(matches)?;
     let contest = text(matches, "contest")?;
-    let (host_header, user_file) = identity(matches);
-    let (turns, silence) = patience(matches)?;
+    let (most_reads, silence) = patience(matches)?;
     let limits = limits(matches)?;
     Some(PullOptions {
-        host,
-        port,
-        from,
-        base,
+        upstream,
         contest,
-        host_header,
-        user_file,
-        turns,
+        most_reads,
         silence,
         resume: is_given(matches, "resume"),
         verbose: is_given(matches, "verbose"),

@@ -4,13 +4,13 @@ ghost use Rattle.clap.specs.Matches.{found_of};
 ghost use Rattle.clap.specs.Words.{rows_of};
 ghost use Rattle.feed_arguments.specs.Addresses.{most_port};
 ghost use Rattle.feed_arguments.specs.Live.{is_verbose as verbose_of, is_quiet as quiet_of};
-ghost use Rattle.feed_arguments.specs.Live.{AreBothGiven, AsksUpstream, IsUpstream, AsksLive};
+ghost use Rattle.feed_arguments.specs.Live.{AreBothGiven, IsUpstream, AsksLive};
 ghost use Rattle.feed_arguments.specs.Options.{IsNumberIfGiven, IsGiven};
 ghost use Rattle.feed_arguments.specs.declared.request.LiveOptions.{LiveOptions as Live};
 ghost use Rattle.feed_arguments.specs.declared.request.UpstreamOptions.{UpstreamOptions as Upstream};
 
 use super::asked::{
-    framing, identity, is_given, live_limits, number, number_if_given, number_up_to, port, text,
+    framing, is_given, live_limits, number, number_if_given, number_up_to, text, upstream_at,
 };
 use super::live::{
     MOST_HOLD, MOST_IDLE, MOST_PENDING, MOST_RETURN, MOST_SCREENS, MOST_SETTLE, MOST_WINDOW,
@@ -28,27 +28,6 @@ fn port_if_given(matches: &ArgMatches<'_>, name: &str) -> Option<Option<u16>>
 {
     let port = number_if_given(matches, name, MOST_PORT)?;
     Some(port.map(|port| port as u16))
-}
-
-/// The server that is followed first, and those that are asked where it fails.
-fn upstream_at<'a>(matches: &ArgMatches<'a>) -> Option<UpstreamOptions<'a>>
-    ensures some { IfSome result
-        (λ upstream. AsksUpstream (rows_of (found_of matches.now)) upstream) }
-    ensures none { result ≡ None → (upstream : Upstream)
-        → ¬ (AsksUpstream (rows_of (found_of matches.now)) upstream) }
-{
-    let host = text(matches, "host")?;
-    let port = port(matches, "port")?;
-    let base = text(matches, "base")?;
-    let (host_header, user_file) = identity(matches);
-    Some(UpstreamOptions {
-        host,
-        port,
-        from: text(matches, "from"),
-        base,
-        host_header,
-        user_file,
-    })
 }
 
 /// What is followed: standard input where no server is given.

@@ -3,7 +3,7 @@ ghost use Rattle.std.specs.Prelude.{◌≡◌, ◌≢◌, ◌+◌, ◌<◌, ◌^
 ghost use Rattle.std.specs.BTreeSet.{contains_text};
 ghost use Rattle.feed_note.specs.Counts.{Stops, StopsAt};
 ghost use Rattle.feed_note.specs.Lines.{HasNoLineFeed};
-ghost use Rattle.feed_commands.specs.Findings.{OwnsId, HasMember, IsMisnamedBy, IsSaid, TakesSaid, ReadsOn, AreFound, finding_text, findings_text, is_in, is_with, first_or, TellsNothing};
+ghost use Rattle.feed_commands.specs.Findings.{OwnsId, HasMember, IsMisnamedBy, IsSaid, TakesSaid, ReadsOneLine, AreFound, finding_text, findings_text, is_in, is_with, first_or, TellsNothing};
 
 use feed_note::{LINE_BYTES, Line, LineFault, LineStop, SurveyFault, read_line, split_line};
 use feed_tables::{Change, Name};
@@ -233,7 +233,7 @@ impl Reader {
         requires tokenless { self.old.findings.tokenless.count ≤ self.old.lines }
         requires older { self.old.findings.older.count ≤ self.old.lines }
         requires misnamed { self.old.findings.misnamed.count ≤ self.old.lines }
-        ensures ok { OnOk result (ReadsOn line.now self.old self.new) }
+        ensures ok { OnOk result (ReadsOneLine line.now self.old self.new) }
         ensures err { IfErr result (λ stop. stop ≢ LineStop.Memory → Stops line.now stop) }
     {
         let said = read_said(alloc, line)?;

@@ -1,7 +1,7 @@
 //! What the feed of the first of several servers publishes, printed.
-ghost use Rattle.std.specs.Prelude.{◌≡◌, ◌⊎◌, ◌++◌, ◌∷◌, [], false, true, map, is_some, string_bytes, IfOk, IfErr, OnOk, Ok, IsErrOf};
+ghost use Rattle.std.specs.Prelude.{◌≡◌, ◌⊎◌, ◌++◌, ◌∷◌, [], false, true, map, is_some, string_bytes, codes, decimal, IfOk, IfErr, OnOk, Ok, IsErrOf};
 ghost use Rattle.feed_settings.specs.Place.{Place as Named};
-ghost use Rattle.feed_commands.specs.Pull.{host_text, first_address, place_at as place_of, RefusesServer, AreFurther, RefusesFurther};
+ghost use Rattle.feed_commands.specs.Pull.{place_at as place_of, RefusesServer, AreFurther, RefusesFurther};
 ghost use Rattle.feed_commands.specs.Pull.{asked_at, asked_of, AreServers, RefusesOneOf, HasNoServers, StartsFrom, FailsToStart};
 ghost use Rattle.feed_commands.specs.Pull.{outcome_of_attempt, outcome_of_pull, PrintedPulled, PullFails};
 ghost use Rattle.feed_http.specs.Device.{HasFailed};
@@ -13,62 +13,65 @@ use crate::fault::Fault;
 use crate::input::read_input;
 use crate::snapshot::{outcome, print_snapshot};
 use crate::telling::Teller;
-use feed_arguments::{PullOptions, addresses};
+use feed_arguments::{PullOptions, UpstreamOptions, addresses};
 use feed_http::device::{FeedRead, FeedWrite};
 use feed_http::{EngineFault, FollowFault, Followed, Identity, Place};
 use feed_node::Mirror;
 use feed_relay::{Attempt, AttemptEnd, Dial, NetworkFault, Server, follow_first};
 use std::alloc::{AllocError, Global};
 
-/// The server's host, with its port.
-fn host_and_port(alloc: Global, options: &PullOptions<'_>) -> Result<String, AllocError>
-    ensures { IfOk result (λ text. string_bytes text ≡ host_text options.now) }
-{
-    format!(in alloc; "{}:{}", options.host, options.port)
+/// Where a server is.
+#[derive(Clone, Copy)]
+struct Address<'a> {
+    host: &'a str,
+    port: u16,
 }
 
-/// The place that is asked for the feed at the first address.
-fn first_place(alloc: Global, options: &PullOptions<'_>) -> Result<Place, Fault>
-    ensures ok { IfOk result (λ place.
-        place_of options.now (first_address options.now) ≡ Ok place) }
-    ensures err { IfErr result (λ why. RefusesServer options.now (first_address options.now) why) }
+/// A server's host, with its port.
+fn host_and_port(alloc: Global, address: &Address<'_>) -> Result<String, AllocError>
+    ensures { IfOk result (λ text. string_bytes text
+        ≡ address.now.host.now ++ codes ":" ++ decimal address.now.port) }
 {
-    let host = host_and_port(alloc, options)?;
-    Ok(Place::new(alloc, host.as_str(), options.base, options.contest)?)
+    format!(in alloc; "{}:{}", address.host, address.port)
 }
 
 /// The place that is asked for the feed at this address.
-fn place_at(alloc: Global, options: &PullOptions<'_>, host: &str, port: u16) -> Result<Place, Fault>
-    ensures ok { IfOk result (λ place. place_of options.now (host.now, port) ≡ Ok place) }
-    ensures err { IfErr result (λ why. RefusesServer options.now (host.now, port) why) }
+fn place_at(
+    alloc: Global,
+    upstream: &UpstreamOptions<'_>,
+    contest: &str,
+    address: &Address<'_>,
+) -> Result<Place, Fault>
+    ensures ok { IfOk result (λ place.
+        place_of upstream.now contest.now (address.now.host.now, address.now.port) ≡ Ok place) }
+    ensures err { IfErr result (λ why.
+        RefusesServer upstream.now contest.now (address.now.host.now, address.now.port) why) }
 {
-    let here = PullOptions {
-        host,
-        port,
-        ..*options
-    };
-    first_place(alloc, &here)
+    let host = host_and_port(alloc, address)?;
+    Ok(Place::new(alloc, host.as_str(), upstream.base, contest)?)
 }
 
 /// Appends the server at this address.
 fn push_server<'i>(
     alloc: Global,
-    options: &PullOptions<'_>,
+    upstream: &UpstreamOptions<'_>,
+    contest: &str,
     identity: &'i Identity,
-    host: &str,
-    port: u16,
+    address: &Address<'_>,
     servers: &mut Vec<Server<'i>>,
 ) -> Result<(), Fault>
     ensures ok { OnOk result (map asked_of servers.new.items ≡ map asked_of servers.old.items
-        ++ asked_at options.now identity.now (host.now, port) ∷ []) }
-    ensures made { OnOk result
-        ((place : Named) × (place_of options.now (host.now, port) ≡ Ok place)) }
-    ensures err { IfErr result (λ why. RefusesServer options.now (host.now, port) why) }
+        ++ asked_at upstream.now contest.now identity.now (address.now.host.now, address.now.port) ∷ []) }
+    ensures made { OnOk result ((place : Named)
+        × (place_of upstream.now contest.now (address.now.host.now, address.now.port) ≡ Ok place)) }
+    ensures err { IfErr result (λ why.
+        RefusesServer upstream.now contest.now (address.now.host.now, address.now.port) why) }
 {
+    let host = address.host;
     let server = Server {
-        place: place_at(alloc, options, host, port)?,
+        place: place_at(alloc, upstream, contest, address)?,
         host: format!(in alloc; "{host}")?,
-        port,
+        port: address.port,
         identity,
     };
     servers.push(server)?;
@@ -76,12 +79,15 @@ fn push_server<'i>(
 }
 
 /// The addresses after the first one.
-fn further_addresses(alloc: Global, options: &PullOptions<'_>) -> Result<Vec<(String, u16)>, Fault>
-    ensures ok { IfOk result (λ further. AreFurther options.now.from
+fn further_addresses(
+    alloc: Global,
+    upstream: &UpstreamOptions<'_>,
+) -> Result<Vec<(String, u16)>, Fault>
+    ensures ok { IfOk result (λ further. AreFurther upstream.now.from
         (map (λ a. (string_bytes a.0, a.1)) further.items)) }
-    ensures err { IfErr result (λ why. RefusesFurther options.now.from why) }
+    ensures err { IfErr result (λ why. RefusesFurther upstream.now.from why) }
 {
-    match options.from {
+    match upstream.from {
         Some(text) => Ok(addresses(alloc, text)?),
         None => Ok(Vec::new(alloc)),
     }
@@ -90,44 +96,48 @@ fn further_addresses(alloc: Global, options: &PullOptions<'_>) -> Result<Vec<(St
 /// Appends the servers at these addresses.
 fn push_servers<'i>(
     alloc: Global,
-    options: &PullOptions<'_>,
+    upstream: &UpstreamOptions<'_>,
+    contest: &str,
     identity: &'i Identity,
     addresses: &[(String, u16)],
     servers: &mut Vec<Server<'i>>,
 ) -> Result<(), Fault>
     ensures ok { let asked = map (λ a. (string_bytes a.0, a.1)) addresses.now in
-        OnOk result (map asked_of servers.new.items
-        ≡ map asked_of servers.old.items ++ map (asked_at options.now identity.now) asked) }
+        OnOk result (map asked_of servers.new.items ≡ map asked_of servers.old.items
+        ++ map (asked_at upstream.now contest.now identity.now) asked) }
     ensures err { let asked = map (λ a. (string_bytes a.0, a.1)) addresses.now in
-        IfErr result (λ why. RefusesOneOf options.now asked why) }
+        IfErr result (λ why. RefusesOneOf upstream.now contest.now asked why) }
 {
     'addresses: for (host, port) in addresses {
-        push_server(alloc, options, identity, host.as_str(), *port, servers)?;
+        let address = Address {
+            host: host.as_str(),
+            port: *port,
+        };
+        push_server(alloc, upstream, contest, identity, &address, servers)?;
     }
     Ok(())
 }
 
-/// The servers that are asked: the one after `--host` and `--port`, and those after `--from`; each
-/// as this identity.
+/// The servers that are asked for the feed of a contest: the one after `--host` and `--port`, and
+/// those after `--from`; each as this identity.
 pub fn servers_of<'i>(
     alloc: Global,
-    options: &PullOptions<'_>,
+    upstream: &UpstreamOptions<'_>,
+    contest: &str,
     identity: &'i Identity,
 ) -> Result<Vec<Server<'i>>, Fault>
-    ensures ok { IfOk result (λ servers. AreServers options.now identity.now servers.items) }
-    ensures err { IfErr result (λ why. HasNoServers options.now why) }
+    ensures ok { IfOk result (λ servers.
+        AreServers upstream.now contest.now identity.now servers.items) }
+    ensures err { IfErr result (λ why. HasNoServers upstream.now contest.now why) }
 {
     let mut servers = Vec::new(alloc);
-    push_server(
-        alloc,
-        options,
-        identity,
-        options.host,
-        options.port,
-        &mut servers,
-    )?;
-    let further = further_addresses(alloc, options)?;
-    push_servers(alloc, options, identity, &further, &mut servers)?;
+    let first = Address {
+        host: upstream.host,
+        port: upstream.port,
+    };
+    push_server(alloc, upstream, contest, identity, &first, &mut servers)?;
+    let further = further_addresses(alloc, upstream)?;
+    push_servers(alloc, upstream, contest, identity, &further, &mut servers)?;
     Ok(servers)
 }
 
@@ -195,19 +205,19 @@ pub fn print_pulled<D: Dial, W: FeedWrite, E: FeedWrite>(
 ) -> Result<(), Fault>
     ensures ok { let dialer = dialer_of (devices_of D.Reader.remaining D.Reader.reads
         D.Reader.failures D.Writer.contents D.Writer.failures) D.misses D.dials D.closes in
-        OnOk result (PrintedPulled dialer servers.now options.now.turns
+        OnOk result (PrintedPulled dialer servers.now options.now.most_reads
         (position mirror.old dial.old) (Ok tt) (position mirror.new dial.new)
         (wrote_by W.contents W.failures out.old out.new)) }
     ensures some { OnOk result (is_some mirror.new.node.published ≡ true) }
     ensures told { OnOk result (E.failures err.new ≡ E.failures err.old) }
     ensures err { let dialer = dialer_of (devices_of D.Reader.remaining D.Reader.reads
         D.Reader.failures D.Writer.contents D.Writer.failures) D.misses D.dials D.closes in
-        IfErr result (λ why. PullFails dialer servers.now options.now.turns why
+        IfErr result (λ why. PullFails dialer servers.now options.now.most_reads why
         (position mirror.old dial.old) (position mirror.new dial.new)
         (wrote_by W.contents W.failures out.old out.new) (E.failures err.old)
         (E.failures err.new)) }
 {
-    let attempts = follow_first(alloc, dial, servers, mirror, options.turns)?;
+    let attempts = follow_first(alloc, dial, servers, mirror, options.most_reads)?;
     let mut teller = Teller::new("pull");
     teller.tell_earlier(servers, &attempts, err);
     let pulled = pull_outcome(&attempts);

@@ -26,7 +26,7 @@ fn service_of<'a>(options: &RelayOptions<'a>) -> Service<'a>
         contest: options.pull.contest,
         framing: options.framing,
         back: 0,
-        turns: MOST_READS,
+        most_reads: MOST_READS,
     }
 }
 
@@ -46,7 +46,7 @@ fn make_round<D: Dial, A: Accept, E: FeedWrite>(
         let links = links_of (devices_of A.Reader.remaining A.Reader.reads
         A.Reader.failures A.Writer.contents A.Writer.failures) A.misses A.accepts A.closes in
         OnOk result ((served : Result Done Failing) × MakesRoundOn dialer links servers.now
-        options.now.pull.turns (relay_service options.now)
+        options.now.pull.most_reads (relay_service options.now)
         (relaying (position mirror.old dial.old) listener.old) served
         (relaying (position mirror.new dial.new) listener.new)) }
     ensures err { let dialer = dialer_of (devices_of D.Reader.remaining D.Reader.reads
@@ -54,13 +54,13 @@ fn make_round<D: Dial, A: Accept, E: FeedWrite>(
         let links = links_of (devices_of A.Reader.remaining A.Reader.reads
         A.Reader.failures A.Writer.contents A.Writer.failures) A.misses A.accepts A.closes in
         IfErr result (λ why. EndsRounds dialer links servers.now
-        options.now.pull.turns (relay_service options.now)
+        options.now.pull.most_reads (relay_service options.now)
         (relaying (position mirror.old dial.old) listener.old) why
         (relaying (position mirror.new dial.new) listener.new)) }
     ensures told { HasTold (E.failures err.old) (E.failures err.new)
         teller.old.has_failed teller.new.has_failed }
 {
-    let attempts = follow_first(alloc, dial, servers, mirror, options.pull.turns)?;
+    let attempts = follow_first(alloc, dial, servers, mirror, options.pull.most_reads)?;
     if has_run_out(&attempts) {
         teller.tell_earlier(servers, &attempts, err);
         return Err(Fault::Memory);
@@ -87,7 +87,7 @@ pub fn print_relayed<D: Dial, A: Accept, W: FeedWrite, E: FeedWrite>(
         D.Reader.failures D.Writer.contents D.Writer.failures) D.misses D.dials D.closes in
         let links = links_of (devices_of A.Reader.remaining A.Reader.reads
         A.Reader.failures A.Writer.contents A.Writer.failures) A.misses A.accepts A.closes in
-        OnOk result (Relayed dialer links servers.now options.now.pull.turns
+        OnOk result (Relayed dialer links servers.now options.now.pull.most_reads
         (relay_service options.now) options.now.count
         (relaying (position mirror.old dial.old) listener.old)
         (relaying (position mirror.new dial.new) listener.new)
@@ -96,7 +96,7 @@ pub fn print_relayed<D: Dial, A: Accept, W: FeedWrite, E: FeedWrite>(
         D.Reader.failures D.Writer.contents D.Writer.failures) D.misses D.dials D.closes in
         let links = links_of (devices_of A.Reader.remaining A.Reader.reads
         A.Reader.failures A.Writer.contents A.Writer.failures) A.misses A.accepts A.closes in
-        IfErr result (λ why. RelayFails dialer links servers.now options.now.pull.turns
+        IfErr result (λ why. RelayFails dialer links servers.now options.now.pull.most_reads
         (relay_service options.now) options.now.count why
         (relaying (position mirror.old dial.old) listener.old)
         (relaying (position mirror.new dial.new) listener.new)

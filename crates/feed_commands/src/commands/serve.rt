@@ -1,7 +1,7 @@
 //! A feed, served by a primary.
 ghost use Rattle.std.specs.Prelude.{◌≡◌, ◌≢◌, ◌≤◌, List, map, IfOk, IfErr, OnOk, Result, IsErrOf};
 ghost use Rattle.feed_commands.specs.Fault.{fault_of_batches};
-ghost use Rattle.feed_commands.specs.Serve.{Starts, StartFails, Takes, EndsTaking, turn_of, serve_service};
+ghost use Rattle.feed_commands.specs.Serve.{StartsServing, StartFails, TakesBatches, EndsTaking, turn_of, serve_service};
 ghost use Rattle.feed_commands.specs.Serve.{serving, ServesOn, EndsServing, ServesAll, ServingFails};
 ghost use Rattle.feed_commands.specs.Telling.{HasTold};
 ghost use Rattle.feed_http.specs.Device.{HasFailed};
@@ -55,7 +55,7 @@ pub fn start_source<R: FeedRead>(
     options: &ServeOptions<'_>,
     input: &mut R,
 ) -> Result<Source, Fault>
-    ensures ok { IfOk result (λ source. Starts options.now.turn options.now.limits
+    ensures ok { IfOk result (λ source. StartsServing options.now.turn options.now.limits
         (R.remaining input.old) (R.remaining input.new)
         (intake_of source.primary source.waiting.items)) }
     ensures err { IfErr result (λ why. StartFails options.now.turn options.now.limits why
@@ -90,7 +90,7 @@ fn service_of<'a>(options: &ServeOptions<'a>) -> Service<'a>
         contest: options.contest,
         framing: options.framing,
         back: options.back,
-        turns: MOST_READS,
+        most_reads: MOST_READS,
     }
 }
 
@@ -155,7 +155,7 @@ pub fn serve_all<A: Accept, E: FeedWrite>(
         (E.failures err.old) (E.failures err.new)) }
 
     // what that says of the batches
-    ensures ok { OnOk result (Takes (intake_of source.old.primary source.old.waiting.items)
+    ensures ok { OnOk result (TakesBatches (intake_of source.old.primary source.old.waiting.items)
         (intake_of source.new.primary source.new.waiting.items)) }
     ensures err { IfErr result (λ why. EndsTaking why
         (intake_of source.old.primary source.old.waiting.items)

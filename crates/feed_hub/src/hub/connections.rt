@@ -5,14 +5,16 @@ ghost use Rattle.slab.specs.Slab.{slab_len, HasRoomFor};
 ghost use Rattle.feed_node.specs.States.{NodeState};
 ghost use Rattle.feed_answer.specs.Answered.{AnswerParts};
 ghost use Rattle.feed_hub.specs.Steps.{idled, taken, HasNext, IsCatchingUp, IsWaiting, IsQuiet, Probes};
+ghost use Rattle.feed_hub.specs.Answering.{NumbersText};
+ghost use Rattle.feed_hub.specs.Asking.{IsSeatFull};
 ghost use Rattle.feed_hub.specs.Seats.{seat_at, Others, SameSeats, KeepsThose, IsOnTime, Watched, IsWatcher, IsAskingSeat, IsOverSeat};
-ghost use Rattle.feed_hub.specs.Hub.{IsSeated, IsStillSeated, IsAnsweredBy, prefix_at, SameLimits, ChangesOnly, IsNew, Takes, IsAnswered, IsKept, HearsOf, HearsAt, HoldsAt, Refills};
+ghost use Rattle.feed_hub.specs.Hub.{IsSeated, IsStillSeated, IsAnsweredBy, prefix_at, SameLimits, ChangesOnly, IsNew, TakesOfHead, IsAnswered, SharesTheText, HearsOf, HearsAt, HoldsAt, Refills};
 
 use crate::answering::Answering;
 use crate::asking::Asking;
+use crate::backlog::Full;
 use crate::broadcast::Broadcast;
 use crate::hub::{Heard, Hub};
-use crate::log::Full;
 use crate::screen::{Refill, Screen, bytes_of};
 use crate::seats::{Key, Seat};
 use feed_answer::{Framing, Reply, reply_to};
@@ -37,7 +39,9 @@ fn answer(
         answering.old.mirror.node framing now heard.0 heard.1.status) }
     ensures taken { IfOk result (λ heard. heard.1.taken ≡ taken) }
     ensures shared { IfOk result (λ heard.
-        IsKept answering.new.opening heard.1.is_shared (Some (Seat.Watches heard.0))) }
+        SharesTheText answering.new.opening heard.1.is_shared (Some (Seat.Watches heard.0))) }
+    ensures made { NumbersText answering.old.opening answering.new.opening answering.old.made
+        answering.new.made }
     ensures mirror { answering.new.mirror ≡ answering.old.mirror }
     ensures framing { answering.new.framing ≡ answering.old.framing }
 {
@@ -80,14 +84,16 @@ fn hear_more(
     now: u64,
 ) -> Result<(Seat, Heard), AllocError>
     ensures takes { IfOk result (λ heard.
-        Takes asking.head.items piece.now heard.1.taken) }
+        TakesOfHead asking.head.items piece.now heard.1.taken) }
     ensures heard { (b : Broadcast) → b.framing ≡ framing → IfOk result (λ heard. HearsOf b
         contest.now answering.old.mirror.node now asking
         (asking.head.items ++ take heard.1.taken piece.now) heard.1.status heard.0) }
     ensures moves { IfOk result (λ heard. IsAskingSeat (Some heard.0) → heard.1.taken ≡ 0
         → piece.now ≡ []) }
     ensures shared { IfOk result (λ heard.
-        IsKept answering.new.opening heard.1.is_shared (Some heard.0)) }
+        SharesTheText answering.new.opening heard.1.is_shared (Some heard.0)) }
+    ensures made { NumbersText answering.old.opening answering.new.opening answering.old.made
+        answering.new.made }
     ensures mirror { answering.new.mirror ≡ answering.old.mirror }
     ensures framing { answering.new.framing ≡ answering.old.framing }
 {
@@ -161,8 +167,10 @@ impl Hub {
         // while a request comes, some of the bytes are taken, where there are some
         ensures moves { IfOk result (λ heard. IsAskingSeat (seat_at self.new.seats.slab key)
             → heard.taken ≡ 0 → piece.now ≡ []) }
-        ensures shared { IfOk result (λ heard. IsKept answering.new.opening heard.is_shared
+        ensures shared { IfOk result (λ heard. SharesTheText answering.new.opening heard.is_shared
             (seat_at self.new.seats.slab key)) }
+        ensures made { NumbersText answering.old.opening answering.new.opening
+            answering.old.made answering.new.made }
         ensures mirror { answering.new.mirror ≡ answering.old.mirror }
         ensures framing { answering.new.framing ≡ answering.old.framing }
         ensures err { OnErr result (IsAskingSeat (seat_at self.old.seats.slab key)
@@ -190,6 +198,8 @@ impl Hub {
             (seat_at self.old.seats.slab key) (seat_at self.new.seats.slab key)) }
         ensures err { OnErr result (IsAskingSeat (seat_at self.old.seats.slab key)
             × (seat_at self.new.seats.slab key ≡ None)) }
+        ensures full { OnErr result
+            (IsSeatFull piece.now (seat_at self.old.seats.slab key)) }
         ensures rest { ChangesOnly self.old self.new key }
     {
         let Some(asking) = self.seats.take_asking(key) else {

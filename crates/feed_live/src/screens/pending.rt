@@ -2,7 +2,7 @@
 
 ghost use Rattle.std.specs.Prelude.{◌≡◌, ◌≢◌, ◌<◌, ◌^◌, ◌-◌, ℕ, [], None, Some, HoldsAt, IfSome, is_some, OnOk, OnErr, length, min};
 ghost use Rattle.feed_live.specs.declared.screens.pending.TextId.{TextId};
-ghost use Rattle.feed_live.specs.Pending.{total, takers, HasNone, Adds, Removes, AreRead, AreDistinct, AreCounted, text_at, Pays};
+ghost use Rattle.feed_live.specs.Pending.{total, takers, HasNone, Adds, Removes, HaveReaders, AreDistinct, AreCounted, text_at, Pays};
 
 use std::alloc::{AllocError, Global};
 
@@ -29,7 +29,7 @@ pub(crate) struct Text {
 #[derive(Drop)]
 pub(crate) struct Texts {
     list: Vec<Text>,
-    ghost read: { AreRead list.items },
+    ghost read: { HaveReaders list.items },
     ghost once: { AreDistinct list.items },
 }
 

@@ -8,7 +8,7 @@ ghost use Rattle.feed_device.specs.Sockets.{AllSockets};
 ghost use Rattle.slab.specs.Slab.{get};
 ghost use Rattle.feed_live.specs.declared.conn.Stage.TheVariants.{Asks};
 ghost use Rattle.feed_live.specs.Held.{IsAt};
-ghost use Rattle.feed_live.specs.Serving.{StillServing, SameSeating, SameKeys, Leaves, IsWritable, key_at, keyless};
+ghost use Rattle.feed_live.specs.Serving.{StillServing, SameSeating, SameKeys, LeavesSeat, IsWritable, key_at, keyless};
 
 use crate::conn::{Stage, Wanted};
 use crate::hand::hand;
@@ -25,7 +25,7 @@ const MOST_MADE: usize = 16_777_216;
 
 /// The seat at a key is given back, where there is one.
 pub(crate) fn leave(hub: &mut Hub, key: Option<Key>)
-    ensures { Leaves key hub.old hub.new }
+    ensures { LeavesSeat key hub.old hub.new }
 {
     if let Some(key) = key {
         hub.leave(key);

@@ -28,7 +28,7 @@ const LOCATION: &[u8] = b"location:";
 
 impl Source {
     ghost use Rattle.feed_live.specs.Relaying.{StillFollows, StillServes, SameSource};
-    ghost use Rattle.feed_live.specs.Relaying.{IsKeeping, IsLeft, PushesOnly, followed_by};
+    ghost use Rattle.feed_live.specs.Relaying.{SameButUnread, WasLeft, PushesOnly, followed_by};
     ghost use Rattle.feed_live.specs.Serving.{StillServing, AllEnd, SaysAll};
     ghost use Rattle.feed_node.specs.States.{NodeState};
     ghost use Rattle.feed_device.specs.Sockets.{AllSockets};
@@ -129,7 +129,7 @@ impl Source {
     /// Keeps what came until all before it was said.
     pub(crate) fn keep(&mut self, rest: &[u8]) -> Result<(), AllocError>
         ensures ok { OnOk result (self.new.rest.items ≡ self.old.rest.items ++ rest.now) }
-        ensures same { IsKeeping self.old self.new }
+        ensures same { SameButUnread self.old self.new }
     {
         self.rest.extend_from_slice(rest)
     }
@@ -138,7 +138,7 @@ impl Source {
     pub(crate) fn kept(&mut self, alloc: Global) -> Vec<u8>
         ensures kept { result.items ≡ self.old.rest.items }
         ensures rest { self.new.rest.items ≡ [] }
-        ensures same { IsKeeping self.old self.new }
+        ensures same { SameButUnread self.old self.new }
     {
         mem::replace(&mut self.rest, Vec::new(alloc))
     }
@@ -278,7 +278,7 @@ impl Source {
     /// The server does not hold the token: the others are asked with it before it is forgotten. Where
     /// that is the one before the newest, it is asked with the newest first.
     fn refused<L: Link>(&mut self, link: &mut L, told: &mut Telling, now: u64)
-        ensures left { IsLeft self.old self.new (L.exchanges link.old) (L.exchanges link.new) }
+        ensures left { WasLeft self.old self.new (L.exchanges link.old) (L.exchanges link.new) }
     {
         if self.rechecking.is_going() {
             self.ask_newest(link, now);
@@ -293,7 +293,7 @@ impl Source {
 
     /// The others are asked with the token, and after that the mirror forgets it.
     pub(crate) fn without_token<L: Link>(&mut self, link: &mut L, now: u64)
-        ensures left { IsLeft self.old self.new (L.exchanges link.old) (L.exchanges link.new) }
+        ensures left { WasLeft self.old self.new (L.exchanges link.old) (L.exchanges link.new) }
     {
         self.leave(link, now);
         self.figures.refuse_token(now);

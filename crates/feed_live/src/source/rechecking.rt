@@ -166,7 +166,7 @@ pub(crate) fn token_for<'a>(mirror: &'a Mirror, is_again: bool) -> Option<&'a st
 }
 
 impl Source {
-    ghost use Rattle.feed_live.specs.Relaying.{StillFollows, SameSource, IsLeft};
+    ghost use Rattle.feed_live.specs.Relaying.{StillFollows, SameSource, WasLeft};
     ghost use Rattle.feed_live.specs.declared.source.Reach.TheVariants.{Away, Reads as Read};
 
     /// What the next connection is to bring, where it asks for the newest commit again.
@@ -251,7 +251,7 @@ impl Source {
 
     /// A server does not hold the token before the newest: it is asked with the newest.
     pub(crate) fn ask_newest<L: Link>(&mut self, link: &mut L, now: u64)
-        ensures left { IsLeft self.old self.new (L.exchanges link.old) (L.exchanges link.new) }
+        ensures left { WasLeft self.old self.new (L.exchanges link.old) (L.exchanges link.new) }
     {
         self.rechecking.refuse();
         self.ask_again(link, now);
@@ -260,7 +260,7 @@ impl Source {
     /// A server has another commit where this relay has its newest one: the others are asked whether
     /// they have that, and then everything is asked for.
     fn forgot<L: Link>(&mut self, link: &mut L, told: &mut Telling, now: u64)
-        ensures left { IsLeft self.old self.new (L.exchanges link.old) (L.exchanges link.new) }
+        ensures left { WasLeft self.old self.new (L.exchanges link.old) (L.exchanges link.new) }
     {
         if let Some(token) = self.answers.shown.node().token() {
             let forgot = Told::Forgot {

@@ -80,7 +80,7 @@ impl Returning {
 }
 
 impl Source {
-    ghost use Rattle.feed_live.specs.Relaying.{IsLeft};
+    ghost use Rattle.feed_live.specs.Relaying.{WasLeft};
 
     /// When a server is left that has nothing new, where there are others. Once each had its turn
     /// since something was published, the first one stays for longer.
@@ -111,7 +111,7 @@ impl Source {
     /// The server is left, and the next one is asked at once. It did not fail: the pauses stay as they
     /// are, and so does what is counted of failures.
     pub(crate) fn turn<L: Link>(&mut self, link: &mut L, told: &mut Telling, now: u64)
-        ensures left { IsLeft self.old self.new (L.exchanges link.old) (L.exchanges link.new) }
+        ensures left { WasLeft self.old self.new (L.exchanges link.old) (L.exchanges link.new) }
         ensures next { self.new.upstream.place
             ≡ min (self.old.upstream.place + 1) u64.MAX % self.old.upstream.places }
         ensures at_once { self.new.upstream.since ≡ now }

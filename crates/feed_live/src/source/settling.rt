@@ -210,7 +210,7 @@ fn alone(alloc: Global, mirror: &Mirror) -> Result<Mirror, AllocError>
 }
 
 impl Source {
-    ghost use Rattle.feed_live.specs.Relaying.{StillFollows, StillShows, SameSource, IsLeft, IsNowShown, ShowsAlone};
+    ghost use Rattle.feed_live.specs.Relaying.{StillFollows, StillShows, SameSource, WasLeft, IsNowShown, ShowsAlone};
     ghost use Rattle.feed_live.specs.declared.source.Reach.TheVariants.{Reads as Read};
     ghost use Rattle.feed_live.specs.Held.{is_first_start};
 
@@ -384,7 +384,7 @@ impl Source {
 
     /// What comes after the token that is shown is asked for, at the same server.
     pub(crate) fn ask_again<L: Link>(&mut self, link: &mut L, now: u64)
-        ensures left { IsLeft self.old self.new (L.exchanges link.old) (L.exchanges link.new) }
+        ensures left { WasLeft self.old self.new (L.exchanges link.old) (L.exchanges link.new) }
     {
         self.leave(link, now);
         self.figures.change(Following::Away, now);
@@ -548,7 +548,7 @@ impl Source {
     /// The server ignores the token that it was asked with: it is asked for everything, and that is
     /// to settle. So is each server from here on.
     pub(crate) fn ignored<L: Link>(&mut self, link: &mut L, told: &mut Telling, now: u64)
-        ensures left { IsLeft self.old self.new (L.exchanges link.old) (L.exchanges link.new) }
+        ensures left { WasLeft self.old self.new (L.exchanges link.old) (L.exchanges link.new) }
     {
         told.tell(Told::Ignores {
             server: self.upstream.place(),

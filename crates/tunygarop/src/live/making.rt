@@ -5,8 +5,7 @@ use crate::live::watching::Watched;
 use crate::live::{Engine, Waited};
 use feed_answer::{Identity, Place};
 use feed_commands::{
-    AddressFault, Fault, LiveOptions, NetworkFault, PullOptions, Server, UpstreamOptions, VERSION,
-    Verbosity, servers_of,
+    AddressFault, Fault, LiveOptions, NetworkFault, Server, VERSION, Verbosity, servers_of,
 };
 use feed_device::Devices;
 use feed_host::{Failure, Hosts, identity_of};
@@ -19,33 +18,6 @@ use std::fs::File;
 use std::io;
 use std::io::ErrorKind;
 use std::time::Instant;
-
-/// What the options say of servers, as the other commands take it.
-fn pull_options<'a>(options: &LiveOptions<'a>, upstream: &UpstreamOptions<'a>) -> PullOptions<'a> {
-    PullOptions {
-        host: upstream.host,
-        port: upstream.port,
-        from: upstream.from,
-        base: upstream.base,
-        contest: options.contest,
-        host_header: upstream.host_header,
-        user_file: upstream.user_file,
-        turns: 1,
-        silence: None,
-        resume: false,
-        verbose: false,
-        limits: options.limits,
-    }
-}
-
-/// The same, of servers whose names are as a request has them.
-fn named<'a>(options: &PullOptions<'a>, hosts: &'a Hosts) -> PullOptions<'a> {
-    PullOptions {
-        host: hosts.host(),
-        from: hosts.from(),
-        ..*options
-    }
-}
 
 /// The servers: the hosts that they are of, and what each is asked for.
 #[derive(Drop)]
@@ -88,9 +60,9 @@ fn servers(
     let Some(upstream) = &options.upstream else {
         return Ok(asked);
     };
-    let pulled = pull_options(options, upstream);
-    let hosts = Hosts::new(rt.alloc(), &pulled)?;
-    for server in servers_of(rt.alloc(), &named(&pulled, &hosts), identity)? {
+    let hosts = Hosts::new(rt.alloc(), upstream)?;
+    let named = hosts.named(upstream);
+    for server in servers_of(rt.alloc(), &named, options.contest, identity)? {
         let Server {
             host,
             port,

@@ -4,7 +4,7 @@ use Rattle.std.proofs.lemmas.Result.{err_from_is_err_and}
 use Rattle.feed_node.specs.States.{NodeState}
 use Rattle.feed_audit.specs.Answers.{IsStrange, begun_by}
 use Rattle.feed_audit.specs.States.{afresh}
-use Rattle.feed_audit.specs.Walks.{GoesOn, GoesToEnd, CommitsOn, Finds, IsSince}
+use Rattle.feed_audit.specs.Walks.{ReadsMore, GoesToEnd, CommitsOn, Finds, IsSince}
 use Rattle.feed_audit.proofs.Agreeing.{walked_begun, walked_none, since_unknown, fails_on, fails_screen}
 use Rattle.feed_audit.proofs.Verdicts.{agrees_none, agreement, agrees_on, meets_now, straying}
 use Rattle.feed_audit.proofs.auditing.audit_on.Goals as goal
@@ -58,7 +58,7 @@ returns-in_err-difference-in-None-clause-err c =
 pub returns-in-None-clause-ok : goal.returns-in-None-clause-ok
 returns-in-None-clause-ok c =
     let a = c.states.invariant.theirs in
-    let on = subst (λ o. IfSome o (λ behind. GoesOn (begun_by c.args.limits c.args.theirs.now) c.args.screen.now behind.now a.notes c.next_state.new.lines c.next_state.new.mirror)) c.in-Ok-Some.field-0-is
+    let on = subst (λ o. IfSome o (λ behind. ReadsMore (begun_by c.args.limits c.args.theirs.now) c.args.screen.now behind.now a.notes c.next_state.new.lines c.next_state.new.mirror)) c.in-Ok-Some.field-0-is
     (c.in-Ok-Some.ensures.some (begun_by c.args.limits c.args.theirs.now) c.args.screen.now a.notes a.walked) in
     let strange = subst (λ o. IfNone o (IsStrange c.args.limits c.args.primary.now c.node-in-Ok-Some.result.now.shown)) c.in-None.is c.in_ok-behind-in-Ok-Some.ensures.none in
     straying c.line_laws.ensures.one_meaning (begun_by c.args.limits c.args.theirs.now) c.args.primary.now c.args.screen.now _ c.in-Ok-Some.behind.now _ _ _ c.next_state.new.mirror
@@ -68,7 +68,7 @@ returns-in-None-clause-ok c =
 pub states-preserved : goal.states-preserved
 states-preserved c =
     let a = c.states.invariant.theirs in
-    let on = subst (λ o. IfSome o (λ behind. GoesOn (begun_by c.args.limits c.args.theirs.now) c.args.screen.now behind.now a.notes c.next_state.new.lines c.next_state.new.mirror)) c.in-Ok-Some.field-0-is
+    let on = subst (λ o. IfSome o (λ behind. ReadsMore (begun_by c.args.limits c.args.theirs.now) c.args.screen.now behind.now a.notes c.next_state.new.lines c.next_state.new.mirror)) c.in-Ok-Some.field-0-is
     (c.in-Ok-Some.ensures.some (begun_by c.args.limits c.args.theirs.now) c.args.screen.now a.notes a.walked) in
     let found = subst (λ o. IfSome o (λ behind. Finds (afresh c.args.limits) c.args.primary.now behind.now c.locate.new.lines c.locate.new.mirror c.node-in-Ok-Some.result.now.shown)) c.in-Some.is
     c.in_ok-behind-in-Ok-Some.ensures.some in

@@ -1,7 +1,7 @@
 use Rattle.std.proofs.Common.{subst}
 use Rattle.std.specs.Prelude.{IfSome, IfNone}
 use Rattle.feed_audit.specs.States.{afresh}
-use Rattle.feed_audit.specs.Walks.{GoesOn, GoesToEnd}
+use Rattle.feed_audit.specs.Walks.{ReadsMore, GoesToEnd}
 use Rattle.feed_audit.proofs.Agreeing.{walked_none}
 use Rattle.feed_audit.proofs.Tallying.{counts_none, counts_on, counts_all, count_fails}
 use Rattle.feed_audit.proofs.counting.count_states.Goals as goal
@@ -27,6 +27,6 @@ pub states-preserved : goal.states-preserved
 states-preserved c =
     let a = c.states.invariant in
     counts_on _ _ _ _ _ _ _ _ _ _ a
-    (subst (λ o. IfSome o (λ behind. GoesOn (afresh c.args.limits) c.args.primary.now behind.now a.notes c.next_state.new.lines c.next_state.new.mirror)) c.in-Ok-Some.field-0-is
+    (subst (λ o. IfSome o (λ behind. ReadsMore (afresh c.args.limits) c.args.primary.now behind.now a.notes c.next_state.new.lines c.next_state.new.mirror)) c.in-Ok-Some.field-0-is
     (c.in-Ok-Some.ensures.some (afresh c.args.limits) c.args.primary.now a.notes a.walked))
     c.saturating_add-states.ensures

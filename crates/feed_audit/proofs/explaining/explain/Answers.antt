@@ -2,7 +2,7 @@ use Rattle.std.proofs.Common.{◌≢◌, [], sym, ap, ◌∙◌, subst, true≢f
 use Rattle.std.specs.Prelude.{IfSome, IfNone}
 use Rattle.feed_note.specs.Publishing.{Published}
 use Rattle.feed_node.specs.States.{NodeState}
-use Rattle.feed_audit.specs.Walks.{GoesOn, GoesToEnd, CommitsOn}
+use Rattle.feed_audit.specs.Walks.{ReadsMore, GoesToEnd, CommitsOn}
 use Rattle.feed_audit.specs.States.{afresh}
 use Rattle.feed_audit.proofs.Agreeing.{walked_none}
 use Rattle.feed_audit.proofs.Tallying.{count_fails}
@@ -33,7 +33,7 @@ returns-in-Ok-None-clause-ok c state is =
 pub returns-then-has_token-clause-ok : goal.returns-then-has_token-clause-ok
 returns-then-has_token-clause-ok c state is =
     let l = c.states.invariant in
-    let on = subst (λ o. IfSome o (λ behind. GoesOn (afresh c.args.limits) c.args.primary.now behind.now l.0 c.next_state.new.lines c.next_state.new.mirror)) c.in-Ok-Some.field-0-is
+    let on = subst (λ o. IfSome o (λ behind. ReadsMore (afresh c.args.limits) c.args.primary.now behind.now l.0 c.next_state.new.lines c.next_state.new.mirror)) c.in-Ok-Some.field-0-is
     (c.in-Ok-Some.ensures.some (afresh c.args.limits) c.args.primary.now l.0 l.1) in
     let commits = subst (λ o. IfSome o (λ _. CommitsOn c.states.mirror.node c.next_state.new.mirror.node)) c.in-Ok-Some.field-0-is
     (c.in-Ok-Some.ensures.commits (afresh c.args.limits) c.args.primary.now l.0 l.1) in
@@ -44,7 +44,7 @@ returns-then-has_token-clause-ok c state is =
 pub states-preserved : goal.states-preserved
 states-preserved c =
     let l = c.states.invariant in
-    let on = subst (λ o. IfSome o (λ behind. GoesOn (afresh c.args.limits) c.args.primary.now behind.now l.0 c.next_state.new.lines c.next_state.new.mirror)) c.in-Ok-Some.field-0-is
+    let on = subst (λ o. IfSome o (λ behind. ReadsMore (afresh c.args.limits) c.args.primary.now behind.now l.0 c.next_state.new.lines c.next_state.new.mirror)) c.in-Ok-Some.field-0-is
     (c.in-Ok-Some.ensures.some (afresh c.args.limits) c.args.primary.now l.0 l.1) in (
       _,
       on.walked,

@@ -7,7 +7,7 @@ pub returns-clause-followed : goal.returns-clause-followed
 returns-clause-followed g c =
     let reader = g.R.FeedRead in
     let gave = gave_by reader.remaining reader.reads reader.failures c.args.reader.now c.push_response-followed.new.reader in
-    cut_behind c.args.turns gave c.args.mirror.now c.push_response-followed.new.mirror _
+    cut_behind c.args.most_reads gave c.args.mirror.now c.push_response-followed.new.mirror _
     c.push_response-followed.result c.end.ensures c.push_response-followed.ensures.came
 
 pub returns-clause-cut : goal.returns-clause-cut

@@ -43,7 +43,7 @@ returns-in_err-read_piece-clause-ends g c =
     let gave = gave_by reader.remaining reader.reads reader.failures c.args.reader.now c.read_piece.new.reader in
     let why = c.in_err-read_piece.field-0.0 in
     let lacking : IsStillNeeded c.pieces.bytes.items = subst IsStillNeeded c.as_slice.ensures.value (c.is_needed.ensures.needed c.pieces-test.true) in
-    rw (p.1, p.2) (fails_at c.args.turns gave _ c.pieces.bytes.items _ why c.in_err-read_piece.ensures.kept
+    rw (p.1, p.2) (fails_at c.args.most_reads gave _ c.pieces.bytes.items _ why c.in_err-read_piece.ensures.kept
     c.pieces.invariant.given lacking c.in_err-read_piece.ensures.faults
     (λ is. c.in_err-read_piece.ensures.unread (ap Err is)))
 

@@ -11,10 +11,10 @@ invariant-pieces g l =
     record {
       given : Consumes (reader.remaining l.initial.reader) (reader.remaining l.reader) l.bytes.items;
       needed : IsReadAsNeeded l.bytes.items;
-      within : l.made ≤ l.turns;
+      within : l.made ≤ l.most_reads;
       reads : RoseBy (reader.reads l.initial.reader) (reader.reads l.reader) l.made;
       quiet : reader.failures l.reader ≡ reader.failures l.initial.reader;
     }
 
 abbrev pub decreases-pieces : goal.decreases-pieces
-decreases-pieces g l = l.turns - l.made
+decreases-pieces g l = l.most_reads - l.made

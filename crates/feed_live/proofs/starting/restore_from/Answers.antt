@@ -1,6 +1,6 @@
 use Rattle.std.proofs.Common.{ap, sym, ◌∙◌, subst}
 use Rattle.std.specs.Prelude.{IfOk, IfSome}
-use Rattle.feed_live.specs.Saved.{GoesOn, IsPartOfFile}
+use Rattle.feed_live.specs.Saved.{EndsAsRecorded, IsPartOfFile}
 use Rattle.feed_device.specs.Files.{StateFiles}
 use Rattle.feed_live.proofs.FilesLeft.{left_part, read_part}
 use Rattle.feed_live.proofs.starting.restore_from.Goals as goal
@@ -17,7 +17,7 @@ returns-in-Ok-clause-in_log g c =
 pub returns-in-Ok-clause-goes_on : goal.returns-in-Ok-clause-goes_on
 returns-in-Ok-clause-goes_on g c =
     λ log nodes text is_log in_log had written.
-    subst (λ t. IfOk c.restore.result (λ restored. IfSome restored.file (GoesOn nodes t restored.mirror.node)))
+    subst (λ t. IfOk c.restore.result (λ restored. IfSome restored.file (EndsAsRecorded nodes t restored.mirror.node)))
     (c.as_slice-in-Ok.ensures.value ∙ c.in-Ok.ensures.file text (ap (λ (f : StateFiles). f.written) c.read_former.ensures.same ∙ written))
     (c.restore.ensures.goes_on log nodes is_log in_log
     (subst (IsPartOfFile nodes) (sym c.as_slice.ensures.value)

@@ -25,7 +25,7 @@ returns-clause-asked g c =
         inr (
           middle,
           ap (λ o. attempt_at c.args.number o ∷ again ∷ []) is,
-          subst (λ o. Attempts dialer c.args.number c.args.server.now c.args.turns start o middle) is c.try_server-outcome.ensures.tried,
+          subst (λ o. Attempts dialer c.args.number c.args.server.now c.args.most_reads start o middle) is c.try_server-outcome.ensures.tried,
           c.try_server-again.ensures.tried,
         ),
       ),

@@ -13,7 +13,7 @@ servers-init g c =
     let writer = g.D.Writer.FeedWrite in
     let start = position c.args.mirror.now c.args.dial.now in
     record {
-      goes = subst (λ l. GoesOn (dialer_of (devices_of reader.remaining reader.reads reader.failures writer.contents writer.failures) dial.misses dial.dials dial.closes) c.args.turns start [] l start) (sym c.in_ok-attempts.ensures.items) none_asked;
+      goes = subst (λ l. GoesOn (dialer_of (devices_of reader.remaining reader.reads reader.failures writer.contents writer.failures) dial.misses dial.dials dial.closes) c.args.most_reads start [] l start) (sym c.in_ok-attempts.ensures.items) none_asked;
       few = search rules;
       room = search rules;
       cut = λ none. none;
@@ -23,7 +23,7 @@ pub returns-then-is_last-clause-followed : goal.returns-then-is_last-clause-foll
 returns-then-is_last-clause-followed g c =
     let asked = c.ask_server-outcome.ensures.asked in
     let lt : c.servers.number < length c.args.servers.now = c.servers-test.true in
-    inr (stops_at _ c.args.turns c.servers.number _ _ _ c.args.servers.now c.index-servers-number.result _ asked.0 _ _ c.servers.invariant.goes
+    inr (stops_at _ c.args.most_reads c.servers.number _ _ _ c.args.servers.now c.index-servers-number.result _ asked.0 _ _ c.servers.invariant.goes
     (length-take-le c.servers.number c.args.servers.now (omega (arith, lt)))
     (take_more c.args.servers.now c.servers.number _ lt ∙ ap (λ p. take c.servers.number c.args.servers.now ++ p ∷ []) (sym c.index-servers-number.is))
     asked.3 (sym c.is_last.ensures ∙ c.if-is_last.true) asked.1)
@@ -33,7 +33,7 @@ servers-preserved g c =
     let asked = c.ask_server-outcome.ensures.asked in
     let lt : c.servers.number < length c.args.servers.now = c.servers-test.true in
     record {
-      goes = goes_on _ c.args.turns c.servers.number _ _ _ c.args.servers.now c.index-servers-number.result _ asked.0 _ _ c.servers.invariant.goes
+      goes = goes_on _ c.args.most_reads c.servers.number _ _ _ c.args.servers.now c.index-servers-number.result _ asked.0 _ _ c.servers.invariant.goes
           (length-take-le c.servers.number c.args.servers.now (omega (arith, lt)))
           (take_more c.args.servers.now c.servers.number _ lt ∙ ap (λ p. take c.servers.number c.args.servers.now ++ p ∷ []) (sym c.index-servers-number.is))
           asked.3 (sym c.is_last.ensures ∙ c.if-is_last.false) asked.1;

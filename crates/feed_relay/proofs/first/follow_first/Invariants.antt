@@ -12,7 +12,7 @@ invariant-servers g l =
     let writer = g.D.Writer.FeedWrite in
     record {
       goes : GoesOn (dialer_of (devices_of reader.remaining reader.reads reader.failures writer.contents writer.failures) dial.misses dial.dials dial.closes)
-          l.turns (position l.initial.mirror l.initial.dial) (take l.number l.servers)
+          l.most_reads (position l.initial.mirror l.initial.dial) (take l.number l.servers)
           l.attempts.items (position l.mirror l.dial);
       few : length l.attempts.items ≤ l.number * 2;
       room : length l.servers * 2 ≤ vec_capacity l.attempts;

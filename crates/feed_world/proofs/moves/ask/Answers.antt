@@ -23,7 +23,7 @@ returns-in-Some-clause-ok c w h framed =
     c.args.asks c.of.result (c.of.ensures ∙ ap (node_asked c.args.asks) c.upstream.ensures) framed
     c.in-Some.server.now.shown (c.in-Some.ensures.some _) (c.in-Some.ensures.other refl)
     _ c.ask.new.self (put_between c.args.followers.now c.split_at_mut-earlier.result.0.now c.split_at_mut-earlier.result.1.now c.split_at_mut-own.result.0.now c.split_at_mut-own.result.1.now c.in_ok-place.place _ first.front first.back second.front second.back) c.ask.result
-    (λ m at p n k. c.ask.ensures.ok w.limits (numbered w.log) m at (λ number. refl) h.log p n k)
+    (λ m at p n k. c.ask.ensures.ok w.limits (numbered w.log) m at (λ number. refl) (record { is_log = h.log; is_place = p; shows = n; mirror = k }))
 
 pub returns-in-Some-clause-err : goal.returns-in-Some-clause-err
 returns-in-Some-clause-err c w h framed =
@@ -37,7 +37,7 @@ returns-in-Some-clause-err c w h framed =
     c.args.asks c.of.result (c.of.ensures ∙ ap (node_asked c.args.asks) c.upstream.ensures) framed
     c.in-Some.server.now.shown (c.in-Some.ensures.some _) (c.in-Some.ensures.other refl)
     c.ask.result
-    (λ m at p n k. c.ask.ensures.err w.limits (numbered w.log) m at h.log p n k)
+    (λ m at p n k. c.ask.ensures.err w.limits (numbered w.log) m at (record { is_log = h.log; is_place = p; shows = n; mirror = k }))
 
 pub returns-in-None-clause-err : goal.returns-in-None-clause-err
 returns-in-None-clause-err c w h framed =

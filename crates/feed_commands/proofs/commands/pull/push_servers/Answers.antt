@@ -17,12 +17,12 @@ returns-in_err-push_server-clause-err c =
         omega (arith, lt, length-map {B = List ℕ × ℕ} c.args.addresses.now (λ a. (string_bytes a.0, a.1))),
         mapped_at _ c.args.addresses.now c.addresses.host-index _ x lt (sym c.addresses-item.is) _,
       ),
-      subst (λ h. RefusesServer c.args.options.now (h, x.1) c.in_err-push_server.field-0.0) c.as_str.ensures.value c.in_err-push_server.ensures.err,
+      subst (λ h. RefusesServer c.args.upstream.now c.args.contest.now (h, x.1) c.in_err-push_server.field-0.0) c.as_str.ensures.value c.in_err-push_server.ensures.err,
     )
 
 pub addresses-preserved : goal.addresses-preserved
 addresses-preserved c =
     let lt : c.addresses.host-index < length c.args.addresses.now = c.addresses-test.true in
     let x = c.addresses-item.result in
-    more_mapped _ c.args.addresses.now c.addresses.host-index _ x lt (sym c.addresses-item.is) (asked_at c.args.options.now c.args.identity.now) _ _ _ c.addresses.invariant
-    (c.in_ok-push_server.ensures.ok ∙ ap (λ h. map asked_of c.addresses.servers.items ++ asked_at c.args.options.now c.args.identity.now (h, x.1) ∷ []) c.as_str.ensures.value)
+    more_mapped _ c.args.addresses.now c.addresses.host-index _ x lt (sym c.addresses-item.is) (asked_at c.args.upstream.now c.args.contest.now c.args.identity.now) _ _ _ c.addresses.invariant
+    (c.in_ok-push_server.ensures.ok ∙ ap (λ h. map asked_of c.addresses.servers.items ++ asked_at c.args.upstream.now c.args.contest.now c.args.identity.now (h, x.1) ∷ []) c.as_str.ensures.value)

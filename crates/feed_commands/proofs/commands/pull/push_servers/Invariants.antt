@@ -7,4 +7,4 @@ abbrev pub invariant-addresses : goal.invariant-addresses
 invariant-addresses l =
     map asked_of l.servers.items
     ≡ map asked_of l.initial.servers.items
-    ++ map (asked_at l.options l.identity) (take l.host-index (map (λ a. (string_bytes a.0, a.1)) l.addresses))
+    ++ map (asked_at l.upstream l.contest l.identity) (take l.host-index (map (λ a. (string_bytes a.0, a.1)) l.addresses))

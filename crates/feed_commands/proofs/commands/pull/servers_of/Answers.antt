@@ -19,6 +19,6 @@ returns-in_err-push_servers-clause-err c =
       inr (
         _,
         c.in_ok-further.ensures.ok,
-        subst (λ l. RefusesOneOf c.args.options.now (map {B = List ℕ × ℕ} (λ a. (string_bytes a.0, a.1)) l) c.in_err-push_servers.field-0.0) c.deref.ensures.value c.in_err-push_servers.ensures.err,
+        subst (λ l. RefusesOneOf c.args.upstream.now c.args.contest.now (map {B = List ℕ × ℕ} (λ a. (string_bytes a.0, a.1)) l) c.in_err-push_servers.field-0.0) c.deref.ensures.value c.in_err-push_servers.ensures.err,
       ),
     ))

@@ -20,7 +20,7 @@ invariant-rounds g l =
       made : MakesRounds
           (dialer_of (devices_of reader.remaining reader.reads reader.failures writer.contents writer.failures) dial.misses dial.dials dial.closes)
           (links_of (devices_of source.remaining source.reads source.failures sink.contents sink.failures) accept.misses accept.accepts accept.closes)
-          l.servers l.options.pull.turns (relay_service l.options) l._made
+          l.servers l.options.pull.most_reads (relay_service l.options) l._made
           (relaying (position l.initial.mirror l.initial.dial) l.initial.listener)
           (relaying (position l.mirror l.dial) l.listener);
       told : HasTold (device.failures l.initial.err) (device.failures l.err) false l.teller.has_failed;

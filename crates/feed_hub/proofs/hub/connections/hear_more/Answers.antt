@@ -1,6 +1,6 @@
 use Rattle.std.proofs.Common.{◌∙◌, ◌++◌, sym, subst, ap, take}
 use Rattle.feed_http.specs.HeadReading.{IsReadAsNeeded, IsEnough}
-use Rattle.feed_hub.specs.Hub.{Takes, IsAnswered}
+use Rattle.feed_hub.specs.Hub.{TakesOfHead, IsAnswered}
 use Rattle.feed_hub.proofs.hub.connections.hear_more.Goals as goal
 
 pub returns-clause-heard : goal.returns-clause-heard
@@ -19,4 +19,4 @@ returns-clause-heard c b same =
 
 pub returns-clause-takes : goal.returns-clause-takes
 returns-clause-takes c =
-    subst (λ n. Takes c.args.asking.head.items c.args.piece.now n) (sym c.in_ok-screen.ensures.taken) c.in_ok-taken.ensures.takes
+    subst (λ n. TakesOfHead c.args.asking.head.items c.args.piece.now n) (sym c.in_ok-screen.ensures.taken) c.in_ok-taken.ensures.takes

@@ -3,7 +3,7 @@ use Rattle.slab.specs.Slab.{get}
 use Rattle.feed_node.specs.States.{NodeState}
 use Rattle.feed_hub.specs.declared.seats.Key.{Key}
 use Rattle.feed_hub.specs.Seats.{seat_at}
-use Rattle.feed_live.specs.Serving.{StillServing, IsCutOff}
+use Rattle.feed_live.specs.Serving.{StillServing, HasNoSeat}
 use Rattle.feed_live.proofs.screens.Screens.sweep.Given as goal
 
 abbrev pub invariant-loop-at : goal.invariant-loop-at
@@ -12,6 +12,6 @@ invariant-loop-at g l =
       serving : (nodes : List NodeState) (contest : List ℕ)
           → StillServing nodes contest l.initial.self l.self (g.S.Sockets.socket l.initial.sockets) (g.S.Sockets.socket l.sockets);
       asks : g.S.Sockets.asked l.sockets ≡ g.S.Sockets.asked l.initial.sockets;
-      stays : (at : ℕ) → (get l.self.conns at ≡ get l.initial.self.conns at) ⊎ IsCutOff l.initial.self.hub (get l.initial.self.conns at);
+      stays : (at : ℕ) → (get l.self.conns at ≡ get l.initial.self.conns at) ⊎ HasNoSeat l.initial.self.hub (get l.initial.self.conns at);
       seats : (key : Key) → seat_at l.self.hub.seats.slab key ≡ seat_at l.initial.self.hub.seats.slab key;
     }

@@ -4,7 +4,7 @@ use Rattle.feed_node.specs.States.{published_token}
 use Rattle.feed_follow.specs.Standing.{in_head}
 use Rattle.feed_hub.specs.Upstream.{IsFollowing}
 use Rattle.feed_live.specs.declared.source.Reach.TheVariants.{Connects}
-use Rattle.feed_live.specs.Relaying.{IsLeft, MayFollow, followed, servers_of}
+use Rattle.feed_live.specs.Relaying.{WasLeft, MayFollow, followed, servers_of}
 use Rattle.feed_live.specs.Upstream.{IsRequestOf}
 use Rattle.feed_live.proofs.RelayLemmas.{begun_follows, begun_honest, begins_in_log, one_more_honest}
 use Rattle.feed_live.proofs.SourceLemmas.{begins_so, fails_so, left_still}
@@ -13,7 +13,7 @@ use Rattle.feed_live.proofs.source.Source.connect.Goals as goal
 pub returns-then-is_err-clause-follows : goal.returns-then-is_err-clause-follows
 returns-then-is_err-clause-follows g c =
     let failed = fails_so c.connect-begun.result _ _ c.place.result (sym c.is_err.ensures.value ∙ c.if-is_err.true) c.connect-begun.ensures.begins in
-    left_still (subst (λ e. IsLeft c.args.self.now c.lost-then-is_err.new.self e (g.L.Link.exchanges c.lost-then-is_err.new.link)) failed c.lost-then-is_err.ensures.left)
+    left_still (subst (λ e. WasLeft c.args.self.now c.lost-then-is_err.new.self e (g.L.Link.exchanges c.lost-then-is_err.new.link)) failed c.lost-then-is_err.ensures.left)
 
 pub returns-clause-follows : goal.returns-clause-follows
 returns-clause-follows g c =

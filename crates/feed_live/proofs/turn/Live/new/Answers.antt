@@ -1,6 +1,6 @@
 use Rattle.std.proofs.Common.{◌≡◌, ◌∙◌, refl, ap, sym, subst, []}
 use Rattle.std.specs.Prelude.{Contains, IfSome, false, true}
-use Rattle.feed_live.specs.Saved.{GoesOn}
+use Rattle.feed_live.specs.Saved.{EndsAsRecorded}
 use Rattle.feed_node.specs.Mirroring.{StandsAt, present_opening}
 use Rattle.feed_live.specs.States.{states_of}
 use Rattle.feed_live.proofs.InputLemmas.{takes_so, takes_nothing}
@@ -35,7 +35,7 @@ returns g c =
             takes = λ feeds. takes_so (begins.rest ∙ c.new-source.ensures.rest) refl (takes_nothing (subst (λ m. StandsAt (present_opening m) [] [] c.begin_input.new.self.answers.shown.mirror) c.new-source.ensures.shown begins.stands));
           };
       kept = λ nodes text written known good.
-          c.saved_of-saved.ensures.kept nodes text written known (subst (λ n. IfSome c.args.start.restored.file (GoesOn nodes text n)) (sym c.node.ensures.node) good);
+          c.saved_of-saved.ensures.kept nodes text written known (subst (λ n. IfSome c.args.start.restored.file (EndsAsRecorded nodes text n)) (sym c.node.ensures.node) good);
       had = c.saved_of-saved.ensures.had;
       contest = refl;
     }
