@@ -1,18 +1,13 @@
 -- The states of a state file are those of the log that the relay followed.
-use Rattle.std.proofs.Common.{◌≡◌, sym, ap, ◌∙◌, subst, ℕ, ◌≤◌, List, ◌++◌, append_assoc, length, Option, None, Some}
+use Rattle.std.proofs.Common.{◌≡◌, sym, ap, ◌∙◌, subst, ℕ, ◌≤◌, ◌++◌, append_assoc, length, Option, None, Some}
 use Rattle.feed_settings.specs.Limits.{Limits}
 use Rattle.feed_note.specs.Publishing.{Published}
-use Rattle.feed_note.specs.declared.line.Line.{Line}
 use Rattle.feed_node.specs.Mirroring.{first_opening}
-use Rattle.feed_node.specs.Reading.{Reads}
 use Rattle.feed_node.specs.Steps.{ReadingIsOne}
 use Rattle.feed_node.specs.States.{NodeState}
-use Rattle.feed_world.specs.Log.{Log, IsLog}
+use Rattle.feed_world.specs.Log.{Log}
 use Rattle.feed_world.specs.Position.{Position, IsPlace, node_where}
-use Rattle.feed_hub.specs.Laws.{AreInLog}
 use Rattle.feed_hub.specs.Files.{FilesRestore}
-use Rattle.feed_hub.specs.Record.{IsRecorded}
-use Rattle.feed_hub.specs.declared.record.Record.{Record}
 use Rattle.feed_audit.specs.States.{IsStateOf, StatesArePublished, published_after}
 use Rattle.feed_live.specs.Audited.{state_at, FilesAreOfLog, FilesAgree}
 

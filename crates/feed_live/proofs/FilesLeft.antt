@@ -1,5 +1,5 @@
 -- What is left of files that had parts of what records wrote is such a part.
-use Rattle.std.proofs.Common.{◌≡◌, sym, ap, ◌∙◌, subst, ℕ, zero, suc, ◌<◌, arith, List, [], ◌∷◌, ◌++◌, length, Option, Some, None, append_assoc}
+use Rattle.std.proofs.Common.{◌≡◌, sym, ap, ◌∙◌, subst, ℕ, zero, suc, ◌<◌, arith, List, [], ◌∷◌, ◌++◌, length, append_assoc}
 use Rattle.std.specs.Prelude.{Result, Ok, Err, IfOk, Vec, slice_index_or}
 use Rattle.std.specs.List.{AllByRecursion}
 use Rattle.feed_device.specs.Files.{IsLeftOf}

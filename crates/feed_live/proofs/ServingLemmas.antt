@@ -497,7 +497,7 @@ pub ended_stays : (nodes : List NodeState) (old new : Hub) (key : Key) (log : Ba
     → (IsStillSeated nodes old new key ⊎ (seat_at new.seats.slab key ≡ None)) → Stays nodes old new key
 ended_stays nodes old new key log told now (inl ends) (inl still) = watched_stays nodes old new key _ ends still
 ended_stays nodes old new key log told now (inl ends) (inr none) = cut_stays nodes old new key none
-ended_stays nodes old new key log told now (inr cut) still = cut_stays nodes old new key cut.cut
+ended_stays nodes old new key log told now (inr was_cut) still = cut_stays nodes old new key was_cut.cut
 
 -- the seats stay
 pub said_stays : (nodes : List NodeState) (old new : Hub) (key : Key) → new.seats ≡ old.seats → IsStillSeated nodes old new key → Stays nodes old new key

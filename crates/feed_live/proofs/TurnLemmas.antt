@@ -13,10 +13,10 @@ use Rattle.feed_hub.specs.Laws.{IsInLog}
 use Rattle.feed_device.specs.Links.{Exchanges}
 use Rattle.feed_device.specs.Sockets.{AllSockets}
 use Rattle.feed_live.specs.declared.conn.Conn.{Conn}
+use Rattle.feed_live.specs.declared.desk.Desk.{Desk}
 use Rattle.feed_live.specs.declared.screens.Screens.{Screens}
 use Rattle.feed_live.specs.declared.source.Reach.TheVariants.{Away}
 use Rattle.feed_live.specs.declared.source.Source.{Source}
-use Rattle.feed_live.specs.declared.told.Telling.{Telling}
 use Rattle.feed_live.specs.declared.turn.Live.{Live}
 use Rattle.feed_live.specs.Relaying.{MayFollow, AnswersFromLog, FollowsServers, IsRelaying, SameSource, OnlyServes, followed_by}
 use Rattle.feed_live.specs.Serving.{ServesScreens, StillServing}
@@ -69,12 +69,12 @@ serves_then {a} {b} {c} {before} {between} {after} two one =
           subst (λ t. StillServing nodes (string_bytes t) b.screens c.screens between after) one.contest later (one.serves nodes shown blank serving);
     }
 
--- the screens changed alone, and what was told
-pub screens_only : (live : Live) (screens : Screens) (telling : Telling) {before after : AllSockets}
+-- the screens changed alone, and the desk
+pub screens_only : (live : Live) (screens : Screens) (desk : Desk) {before after : AllSockets}
     → ((nodes : List NodeState) → Contains nodes live.source.answers.shown.mirror.node → Contains nodes live.source.answers.blank.mirror.node
     → StillServing nodes (string_bytes live.contest) live.screens screens before after)
-    → OnlyServes live (record live { screens = screens; telling = telling }) before after
-screens_only live screens telling serves = record { contest = refl; feeds = refl; source = same_none live.source; epoch = refl; serves = serves }
+    → OnlyServes live (record live { screens = screens; desk = desk }) before after
+screens_only live screens desk serves = record { contest = refl; feeds = refl; source = same_none live.source; epoch = refl; serves = serves }
 
 module _ (limits : Limits) (log : Log) where
   -- its feed is its input

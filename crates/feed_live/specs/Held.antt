@@ -1,9 +1,9 @@
 -- Requests wait until a server was heard.
-use Rattle.std.specs.Prelude.{◌≡◌, ℕ, ◌+◌, ◌-◌, ◌^◌, min, Bool, true, false, ◌&&◌, not, is_some, is_none, nat_le, Option, Some, None}
+use Rattle.std.specs.Prelude.{◌≡◌, ℕ, ◌+◌, ◌-◌, ◌≤◌, ◌^◌, min, Bool, true, false, ◌&&◌, not, is_some, is_none, nat_le, Option, Some, None}
 use Rattle.feed_node.specs.States.{published_token}
 use Rattle.feed_live.specs.declared.conn.Conn.{Conn}
 use Rattle.feed_live.specs.declared.conn.Stage.{Stage}
-use Rattle.feed_live.specs.declared.conn.Stage.TheVariants.{Asks}
+use Rattle.feed_live.specs.declared.conn.Stage.TheVariants.{Asks, Watches, Lingers}
 use Rattle.feed_live.specs.declared.source.Source.{Source}
 use Rattle.feed_live.specs.declared.screens.Answers.{Answers}
 
@@ -33,6 +33,17 @@ Waits (Some conn) held hold now =
 abbrev pub IsAt : Option Conn → Stage → Type 0
 IsAt None stage = ⊥
 IsAt (Some conn) stage = conn.stage ≡ stage
+
+-- all was sent, and it was read long enough since
+abbrev pub HasLingered : Stage → ℕ → Type 0
+HasLingered Asks now = ⊥
+HasLingered Watches now = ⊥
+HasLingered (Lingers until left) now = until ≤ now
+
+-- so it is with the connection
+abbrev pub IsPast : Option Conn → ℕ → Type 0
+IsPast None now = ⊥
+IsPast (Some conn) now = HasLingered conn.stage now
 
 -- nothing was shown yet, and what comes is to settle
 abbrev pub is_first_start : Source → Bool

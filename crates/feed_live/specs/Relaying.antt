@@ -155,12 +155,6 @@ StillRelaying old new before after sockets later =
     → IsRelaying limits log servers before old sockets
     → IsRelaying limits log servers after new later
 
--- all socket screens stay as they are served, where this node is among those that serve them
-abbrev pub StillServes : NodeState → Screens → Screens → Type 0
-StillServes node old new =
-    (nodes : List NodeState) (contest : List ℕ) (sockets : AllSockets) → Contains nodes node
-    → StillServing nodes contest old new sockets sockets
-
 -- nothing changed of what is followed and shown, nor of the servers that are asked
 pub record SameSource (old new : Source) : Type 0 where
   pub servers : servers_of new ≡ servers_of old

@@ -20,10 +20,12 @@ use Rattle.feed_hub.specs.Screen.{IsServed}
 use Rattle.feed_hub.specs.Seats.{seat_at}
 use Rattle.feed_live.specs.declared.conn.Conn.{Conn}
 use Rattle.feed_live.specs.declared.conn.Stage.TheVariants.{Watches as Watching}
+use Rattle.feed_live.specs.declared.screens.Answers.{Answers}
 use Rattle.feed_live.specs.declared.screens.Screens.{Screens}
+use Rattle.feed_live.specs.declared.screens.Keyed.{Keyed}
 use Rattle.feed_live.specs.declared.screens.TheConstants.{FULL}
 use Rattle.feed_live.specs.declared.screens.Hearing.{Hearing}
-use Rattle.feed_live.specs.declared.screens.Hearing.TheVariants.{Goes, TooMuch}
+use Rattle.feed_live.specs.declared.screens.Hearing.TheVariants.{Goes, TooMuch, Done}
 use Rattle.feed_device.specs.Sockets.{Socket, Traffic, AllSockets, IsSocket, opened, closed, former_of, came_to, on_current, OtherSockets}
 
 -- one of these nodes gave this answer to the request for the feed of the contest with which what
@@ -97,6 +99,10 @@ key_of (Some conn) = Some conn.key
 abbrev pub key_at : Slab Conn → ℕ → Option (Option Key)
 key_at conns at = key_of (get conns at)
 
+-- the connection at a place has this key
+abbrev pub HasKey : Slab Conn → Keyed → Type 0
+HasKey conns keyed = key_at conns keyed.at ≡ Some (Some keyed.key)
+
 -- How the socket at a number stands. Where there is no connection it is closed. A connection
 -- without a key is sent no more.
 abbrev pub SocketStands : List NodeState → List ℕ → Hub → Option (Option Key) → Option Socket
@@ -122,6 +128,35 @@ abbrev pub StillServing : List NodeState → List ℕ → Screens → Screens �
 StillServing nodes contest old new before after =
     ServesScreens nodes contest old.hub old.conns before
     → ServesScreens nodes contest new.hub new.conns after
+
+-- it still is, whatever nodes serve
+abbrev pub StillServesAll : Screens → Screens → AllSockets → AllSockets → Type 0
+StillServesAll old new before after =
+    (nodes : List NodeState) (contest : List ℕ) → StillServing nodes contest old new before after
+
+-- it still is, where this node is among those that serve
+abbrev pub StillServesFrom : NodeState → Screens → Screens → AllSockets → AllSockets → Type 0
+StillServesFrom node old new before after =
+    (nodes : List NodeState) (contest : List ℕ) → Contains nodes node
+    → StillServing nodes contest old new before after
+
+-- it still is, where requests for this contest are answered with these
+abbrev pub StillAnswers : Answers → List ℕ → Screens → Screens → AllSockets → AllSockets → Type 0
+StillAnswers answers contest old new before after =
+    (nodes : List NodeState) → Contains nodes answers.shown.mirror.node
+    → Contains nodes answers.blank.mirror.node → StillServing nodes contest old new before after
+
+-- no socket is touched, and it still is, whatever nodes serve
+abbrev pub StillStand : Screens → Screens → Type 0
+StillStand old new =
+    (nodes : List NodeState) (contest : List ℕ) (sockets : AllSockets)
+    → StillServing nodes contest old new sockets sockets
+
+-- no socket is touched, and it still is, where this node is among those that serve
+abbrev pub StillServes : NodeState → Screens → Screens → Type 0
+StillServes node old new =
+    (nodes : List NodeState) (contest : List ℕ) (sockets : AllSockets) → Contains nodes node
+    → StillServing nodes contest old new sockets sockets
 
 -- these bytes more came over the connection at a number, and nothing else happened
 pub record Came (old new : AllSockets) (at : ℕ) (bytes : List ℕ) : Type 0 where
@@ -155,9 +190,10 @@ HearsSome nodes contest new sockets at bytes result =
     MatchResult result (HearsSo nodes contest new sockets at bytes)
     (λ _. ServesScreens nodes contest new.hub new.conns sockets)
 
--- they were, or some were, and then there was no room
+-- they were, or are none of a request; or some were, and then there was no room
 abbrev pub HearsTo : List NodeState → List ℕ → Screens → AllSockets → ℕ → Hearing → Type 0
 HearsTo nodes contest new sockets at Goes = ServesScreens nodes contest new.hub new.conns sockets
+HearsTo nodes contest new sockets at Done = ServesScreens nodes contest new.hub new.conns sockets
 HearsTo nodes contest new sockets at TooMuch =
     (unheard : List ℕ) × ServesBut nodes contest new.hub new.conns sockets at unheard
 

@@ -1,6 +1,7 @@
 //! One screen's connection, as the turn keeps it beside its socket.
 
-ghost use Rattle.std.specs.Prelude.{◌≡◌, None};
+ghost use Rattle.std.specs.Prelude.{◌≡◌, None, IsTrue};
+ghost use Rattle.feed_live.specs.Held.{HasLingered};
 
 use crate::times::{LINGER, PATIENCE, ROOM_TIME, SHARE_TIME};
 use feed_hub::Key;
@@ -225,7 +226,9 @@ impl Conn {
     }
 
     /// Whether it has lingered for long enough.
-    pub(crate) fn is_past(&self, now: u64) -> bool {
+    pub(crate) fn is_past(&self, now: u64) -> bool
+        ensures { IsTrue result → HasLingered self.now.stage now }
+    {
         match self.stage {
             Stage::Lingers { until, .. } => until <= now,
             Stage::Asks => false,

@@ -1,128 +1,19 @@
 //! What a relay counts, for those who watch it.
 
+mod reasons;
+
 use crate::conn::{Conn, Stage};
+use crate::desk::Desk;
+use crate::figures::reasons::{KINDS, REASONS};
+pub use crate::figures::reasons::{Failure, Following, Reason};
 use crate::screens::Screens;
 use crate::times::LONG_WAIT;
-use crate::told::Telling;
 use crate::turn::Live;
 use feed_device::{Told, Why};
-use feed_follow::FollowFault;
 use memchr::memmem;
 use std::alloc::{AllocError, Global};
 use std::cmp::Reverse;
-use std::fmt;
 use std::net::SocketAddr;
-
-/// How things stand with the server that is followed.
-#[derive(Clone, Copy, Debug, PartialEq, Eq)]
-pub enum Following {
-    /// A server answers with the feed.
-    Answered,
-    /// A server sends all that it has: nothing of it is shown until it has settled.
-    Settling,
-    /// A server is asked, and has not answered yet.
-    Asked,
-    /// No server is asked at the moment.
-    Away,
-    /// The feed comes on the input.
-    Input,
-    /// The input has ended, or can't be followed.
-    Ended,
-}
-
-/// How many kinds of reasons are counted.
-const KINDS: usize = 10;
-
-/// Why an attempt to follow a server failed, as it is counted.
-#[derive(Clone, Copy, Debug, PartialEq, Eq)]
-pub enum Reason {
-    /// It can't be connected to.
-    Refuses,
-    /// It did not take the connection in time.
-    Late,
-    /// It did not answer in time.
-    NoAnswer,
-    /// The connection broke off.
-    Broke,
-    /// The response ended.
-    Ended,
-    /// Nothing came for too long.
-    Silent,
-    /// It answered with a status other than 200.
-    Status,
-    /// It doesn't hold the token that it was asked with.
-    Token,
-    /// What came can't be followed.
-    Feed,
-    /// Memory ran out.
-    Memory,
-}
-
-const REASONS: [Reason; KINDS] = [
-    Reason::Refuses,
-    Reason::Late,
-    Reason::NoAnswer,
-    Reason::Broke,
-    Reason::Ended,
-    Reason::Silent,
-    Reason::Status,
-    Reason::Token,
-    Reason::Feed,
-    Reason::Memory,
-];
-
-impl Reason {
-    /// The word that a metric has for it.
-    pub fn word(self) -> &'static str {
-        match self {
-            Reason::Refuses => "cannot_connect",
-            Reason::Late => "connect_timeout",
-            Reason::NoAnswer => "no_answer",
-            Reason::Broke => "connection_lost",
-            Reason::Ended => "end_of_feed",
-            Reason::Silent => "silent",
-            Reason::Status => "status",
-            Reason::Token => "token_refused",
-            Reason::Feed => "bad_feed",
-            Reason::Memory => "out_of_memory",
-        }
-    }
-}
-
-/// How an attempt to follow a server failed.
-#[derive(Clone, Copy, Debug)]
-pub enum Failure {
-    /// The server was left.
-    Left(Why),
-    /// The server doesn't hold the token that it was asked with.
-    TokenRefused,
-}
-
-impl Failure {
-    fn reason(&self) -> Reason {
-        match self {
-            Failure::TokenRefused => Reason::Token,
-            Failure::Left(Why::Late) => Reason::Late,
-            Failure::Left(Why::NoAnswer) => Reason::NoAnswer,
-            Failure::Left(Why::Broke) => Reason::Broke,
-            Failure::Left(Why::Ended) => Reason::Ended,
-            Failure::Left(Why::Silent) => Reason::Silent,
-            Failure::Left(Why::Memory) => Reason::Memory,
-            Failure::Left(Why::Fault(FollowFault::Status(_))) => Reason::Status,
-            Failure::Left(Why::Fault(_)) => Reason::Feed,
-            Failure::Left(_) => Reason::Refuses,
-        }
-    }
-}
-
-impl fmt::Display for Failure {
-    fn fmt<W: fmt::Write>(&self, f: &mut fmt::Formatter<W>) -> fmt::Result {
-        match self {
-            Failure::Left(why) => write!(f, "{why}"),
-            Failure::TokenRefused => f.write_str("doesn't hold our token"),
-        }
-    }
-}
 
 /// What was counted of the feed that is followed. Times are in milliseconds.
 #[derive(Clone, Copy, Debug)]
@@ -253,18 +144,18 @@ impl FeedFigures {
     }
 
     /// Tells that changes of a server wait for a token for long, once for each connection.
-    pub(crate) fn warn(&mut self, server: usize, told: &mut Telling, now: u64) {
+    pub(crate) fn warn(&mut self, desk: &mut Desk, server: usize) {
         let Some(at) = self.warns_at() else {
             return;
         };
-        if at > now {
+        if at > desk.time {
             return;
         }
         self.is_warned = true;
-        told.tell(Told::NoToken {
+        desk.reports.tell(Told::NoToken {
             server,
             changes: self.waiting,
-            time: now.saturating_sub(self.waiting_since),
+            time: desk.time.saturating_sub(self.waiting_since),
         });
     }
 

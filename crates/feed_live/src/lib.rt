@@ -14,6 +14,7 @@
 
 mod audited;
 mod conn;
+mod desk;
 mod figures;
 mod hand;
 mod host;

@@ -1,18 +1,17 @@
 //! What the node has more is said to all screens.
 
-ghost use Rattle.std.specs.Prelude.{◌≡◌, ◌<◌, ◌≤◌, ℕ, List, Contains, IsTrue, true};
-ghost use Rattle.feed_node.specs.States.{NodeState, published_token};
+ghost use Rattle.std.specs.Prelude.{◌≡◌, ◌<◌, ◌≤◌, IsTrue, true};
+ghost use Rattle.feed_node.specs.States.{published_token};
 ghost use Rattle.feed_hub.specs.Seats.{KeepsThose, IsOnTime};
-ghost use Rattle.feed_device.specs.Sockets.{AllSockets};
-ghost use Rattle.feed_live.specs.Serving.{StillServing, SameSeating, AllEnd, SaysAll, idles_at};
+ghost use Rattle.feed_live.specs.Serving.{StillServesFrom, StillServes, StillStand, SameSeating};
+ghost use Rattle.feed_live.specs.Serving.{AllEnd, SaysAll, idles_at};
 
+use crate::desk::Desk;
 use crate::screens::{Counts, Screens};
 use crate::times::{MEMORY_PAUSE, SAY_PAUSE, STALL};
-use crate::told::Telling;
 use feed_device::{Sockets, Told};
 use feed_hub::Said;
 use feed_node::{Node, Pulled};
-use std::alloc::Global;
 
 /// What was said, and what is still to be done for it.
 #[derive(Clone, Copy)]
@@ -128,8 +127,7 @@ impl Screens {
     /// Cuts who is too far behind, once a turn and only where there is something to say: so each
     /// has the time from one commit to the next, however long they are.
     fn trim(&mut self)
-        ensures serving { (nodes : List NodeState) (contest : List ℕ) (sockets : AllSockets)
-            → StillServing nodes contest self.old self.new sockets sockets }
+        ensures serving { StillStand self.old self.new }
         ensures ended { AllEnd self.old.hub → AllEnd self.new.hub }
         ensures once { self.old.saying.is_trimmed ≡ true → self.new ≡ self.old }
     {
@@ -140,10 +138,8 @@ impl Screens {
     }
 
     /// Says what the node has more. Whether it published since that was called last.
-    pub(crate) fn relay(&mut self, alloc: Global, node: &Node, now: u64) -> bool
-        ensures serving { (nodes : List NodeState) (contest : List ℕ) (sockets : AllSockets)
-            → Contains nodes node.now.shown
-            → StillServing nodes contest self.old self.new sockets sockets }
+    pub(crate) fn relay(&mut self, desk: &Desk, node: &Node) -> bool
+        ensures serving { StillServes node.now.shown self.old self.new }
         ensures ended { AllEnd self.old.hub → AllEnd self.new.hub }
         ensures says { SaysAll self.new node.now.shown }
     {
@@ -152,34 +148,31 @@ impl Screens {
             return false;
         }
         self.trim();
-        self.skip_unheard(alloc, now);
-        self.say_all(alloc, node, now);
-        self.wait_for_rest(node, now);
+        self.skip_unheard(desk);
+        self.say_all(desk, node);
+        self.wait_for_rest(node, desk.time);
         true
     }
 
     /// Where nobody is there to hear a commit the log is at no token, so it begins at the newest one,
     /// and no text of those between is made.
-    fn skip_unheard(&mut self, alloc: Global, now: u64)
-        ensures serving { (nodes : List NodeState) (contest : List ℕ) (sockets : AllSockets)
-            → StillServing nodes contest self.old self.new sockets sockets }
+    fn skip_unheard(&mut self, desk: &Desk)
+        ensures serving { StillStand self.old self.new }
         ensures ended { AllEnd self.old.hub → AllEnd self.new.hub }
     {
         if !self.conns.is_empty() {
             return;
         }
-        let _ = self.hub.end_all(alloc, now);
+        let _ = self.hub.end_all(desk.alloc, desk.time);
     }
 
     /// Says one commit after another, as many as can be said now.
-    fn say_all(&mut self, alloc: Global, node: &Node, now: u64)
-        ensures serving { (nodes : List NodeState) (contest : List ℕ) (sockets : AllSockets)
-            → Contains nodes node.now.shown
-            → StillServing nodes contest self.old self.new sockets sockets }
+    fn say_all(&mut self, desk: &Desk, node: &Node)
+        ensures serving { StillServes node.now.shown self.old self.new }
         ensures ended { AllEnd self.old.hub → AllEnd self.new.hub }
     {
         for _ in 0..node.kept().saturating_add(2) {
-            if !self.say_one(alloc, node, now) {
+            if !self.say_one(desk, node) {
                 return;
             }
         }
@@ -196,31 +189,29 @@ impl Screens {
     }
 
     /// Says the next commit. Whether there may be more that can be said now.
-    fn say_one(&mut self, alloc: Global, node: &Node, now: u64) -> bool
-        ensures serving { (nodes : List NodeState) (contest : List ℕ) (sockets : AllSockets)
-            → Contains nodes node.now.shown
-            → StillServing nodes contest self.old self.new sockets sockets }
+    fn say_one(&mut self, desk: &Desk, node: &Node) -> bool
+        ensures serving { StillServes node.now.shown self.old self.new }
         ensures ended { AllEnd self.old.hub → AllEnd self.new.hub }
     {
         self.saying.waits = None;
         self.saying.is_short = false;
-        match self.hub.say_next(alloc, node) {
+        match self.hub.say_next(desk.alloc, node) {
             Ok(Said::Looked(Pulled::More)) => {
-                self.spoke(now);
+                self.spoke(desk.time);
                 true
             }
             Ok(Said::Looked(Pulled::UpToDate)) => false,
             Ok(Said::Looked(Pulled::Gone)) => {
-                self.end_feeds(alloc, now);
+                self.end_feeds(desk);
                 true
             }
             Ok(Said::Waits) => {
-                self.saying.waits = Some(now.saturating_add(SAY_PAUSE));
+                self.saying.waits = Some(desk.time.saturating_add(SAY_PAUSE));
                 false
             }
             Err(_) => {
                 self.saying.is_short = true;
-                self.saying.waits = Some(now.saturating_add(MEMORY_PAUSE));
+                self.saying.waits = Some(desk.time.saturating_add(MEMORY_PAUSE));
                 false
             }
         }
@@ -235,38 +226,28 @@ impl Screens {
     }
 
     /// Ends the bodies of all who follow the log.
-    pub(crate) fn end_feeds(&mut self, alloc: Global, now: u64)
-        ensures serving { (nodes : List NodeState) (contest : List ℕ) (sockets : AllSockets)
-            → StillServing nodes contest self.old self.new sockets sockets }
+    pub(crate) fn end_feeds(&mut self, desk: &Desk)
+        ensures serving { StillStand self.old self.new }
         ensures ended { AllEnd self.new.hub }
     {
         let (was_said, bodies) = (self.has_said(), self.following());
         // Who there was no memory for is cut.
-        let _ = self.hub.end_all(alloc, now);
+        let _ = self.hub.end_all(desk.alloc, desk.time);
         self.totals.reset(was_said, bodies);
-        self.spoke(now);
+        self.spoke(desk.time);
     }
 
     /// Writes to all, where something was said.
-    pub(crate) fn drain_due<S: Sockets>(
-        &mut self,
-        alloc: Global,
-        sockets: &mut S,
-        told: &mut Telling,
-        node: &Node,
-        now: u64,
-    )
-        ensures serving { (nodes : List NodeState) (contest : List ℕ)
-            → Contains nodes node.now.shown
-            → StillServing nodes contest self.old self.new
+    pub(crate) fn drain_due<S: Sockets>(&mut self, desk: &mut Desk, sockets: &mut S, node: &Node)
+        ensures serving { StillServesFrom node.now.shown self.old self.new
             (S.socket sockets.old) (S.socket sockets.new) }
     {
         if !self.saying.is_due {
             return;
         }
         self.saying.is_due = false;
-        self.sweep(sockets, told, now);
-        self.drain_all(alloc, sockets, told, node, now);
+        self.sweep(desk, sockets);
+        self.drain_all(desk, sockets, node);
     }
 
     /// When a line feed is due after silence.
@@ -277,54 +258,50 @@ impl Screens {
     }
 
     /// Says a line feed to all, after silence.
-    pub(crate) fn idle(&mut self, alloc: Global, now: u64)
-        ensures serving { (nodes : List NodeState) (contest : List ℕ) (sockets : AllSockets)
-            → StillServing nodes contest self.old self.new sockets sockets }
+    pub(crate) fn idle(&mut self, desk: &Desk)
+        ensures serving { StillStand self.old self.new }
         // once that is due, silence begins again
-        ensures speaks { idles_at self.old ≤ now → self.new.saying.spoke ≡ now }
-        ensures waits { now < idles_at self.old → self.new ≡ self.old }
+        ensures speaks { idles_at self.old ≤ desk.now.time → self.new.saying.spoke ≡ desk.now.time }
+        ensures waits { desk.now.time < idles_at self.old → self.new ≡ self.old }
     {
-        if now < self.idles_at() {
+        if desk.time < self.idles_at() {
             return;
         }
-        let _ = self.hub.say_idle(alloc);
+        let _ = self.hub.say_idle(desk.alloc);
         for at in 0..self.conns.capacity() {
-            self.idle_at(alloc, at, now);
+            self.idle_at(desk, at);
         }
-        self.spoke(now);
+        self.spoke(desk.time);
     }
 
     /// Keeps the connection at a place alive, where that has a key.
-    fn idle_at(&mut self, alloc: Global, at: usize, now: u64)
-        ensures serving { (nodes : List NodeState) (contest : List ℕ) (sockets : AllSockets)
-            → StillServing nodes contest self.old self.new sockets sockets }
+    fn idle_at(&mut self, desk: &Desk, at: usize)
+        ensures serving { StillStand self.old self.new }
     {
         let Some(conn) = self.conns.get(at) else {
             return;
         };
         if let Some(key) = conn.key {
-            let _ = self.hub.idle(alloc, key, now);
+            let _ = self.hub.idle(desk.alloc, key, desk.time);
         }
     }
 
     /// Sends a line feed to a screen that has nothing pending, where one is at this place: one that
     /// is gone altogether refuses it, and so leaves as soon as it has.
-    pub(crate) fn probe_at(&mut self, alloc: Global, at: usize, now: u64)
-        ensures serving { (nodes : List NodeState) (contest : List ℕ) (sockets : AllSockets)
-            → StillServing nodes contest self.old self.new sockets sockets }
+    pub(crate) fn probe_at(&mut self, desk: &Desk, at: usize)
+        ensures serving { StillStand self.old self.new }
     {
         let Some(conn) = self.conns.get(at) else {
             return;
         };
         if let Some(key) = conn.key {
-            let _ = self.hub.probe(alloc, key, now);
+            let _ = self.hub.probe(desk.alloc, key, desk.time);
         }
     }
 
     /// Cuts requests that are late, and screens that took nothing for too long.
     pub(crate) fn cut_late(&mut self, now: u64)
-        ensures serving { (nodes : List NodeState) (contest : List ℕ) (sockets : AllSockets)
-            → StillServing nodes contest self.old self.new sockets sockets }
+        ensures serving { StillStand self.old self.new }
         ensures cuts { KeepsThose (IsOnTime now 60000) self.old.hub.seats.slab
             self.new.hub.seats.slab }
     {

@@ -11,13 +11,16 @@ ghost use Rattle.feed_live.specs.Upstream.{Servers};
 ghost use Rattle.feed_device.specs.Files.{IsKnown};
 ghost use Rattle.feed_live.specs.Saved.{EndsAsRecorded, KeepsFiles, ArePartsOfRecords};
 
+mod following;
+mod serving;
+
+use crate::desk::Desk;
 use crate::options::{LiveLimits, Start};
 use crate::restoring::{Good, Restored};
 use crate::saved::Saved;
-use crate::screens::{Screens, Shown};
+use crate::screens::Screens;
 use crate::source::Source;
-use crate::times::{END_TIME, REPORT, TICK};
-use crate::told::Telling;
+use crate::times::{REPORT, TICK};
 use feed_answer::Place;
 use feed_device::{Devices, Link, Ready, Sockets, Store, Told};
 use feed_node::Node;
@@ -50,7 +53,7 @@ pub struct Live {
     pub(crate) source: Source,
     pub(crate) screens: Screens,
     pub(crate) saved: Option<Saved>,
-    telling: Telling,
+    desk: Desk,
     ticked: u64,
     reported: u64,
     /// How often the feed was published afresh when the state file was looked after last.
@@ -66,9 +69,7 @@ impl Live {
     ghost use Rattle.feed_live.specs.Relaying.{IsRelaying, StillRelaying, OnlyServes};
     ghost use Rattle.feed_live.specs.Taking.{IsTakingInput, StillTaking, StopsTaking, bytes_in};
     ghost use Rattle.feed_live.specs.Saved.{SameSaved};
-    ghost use Rattle.feed_live.specs.Held.{Waits, has_heard};
     ghost use Rattle.feed_live.specs.Owed.{OwesWhatIsKept};
-    ghost use Rattle.slab.specs.Slab.{get};
 
     /// A relay that starts from what the state files had.
     pub fn new<D: Store>(
@@ -112,18 +113,19 @@ impl Live {
         let Restored { mirror, file } = restored;
         let saved = saved_of(store, mirror.node(), file, limits.has_store);
         let feeds = are_none(&places);
-        let mut source = Source::new(alloc, places, identity, mirror, blank, limits, now);
+        let desk = Desk::new(alloc, now);
+        let mut source = Source::new(&desk, places, identity, mirror, blank, limits);
         source.begin_input(feeds, now);
         // What is restored was said before: only what is published from here on is news.
         let mut screens = Screens::new(alloc, limits);
-        screens.relay(alloc, source.node(), now);
+        screens.relay(&desk, source.node());
         Live {
             contest,
             limits,
             source,
             screens,
             saved,
-            telling: Telling::new(alloc),
+            desk,
             ticked: now,
             reported: now,
             epoch: 0,
@@ -135,12 +137,12 @@ impl Live {
 
     /// What happened since this was cleared last.
     pub fn told(&self) -> &[Told] {
-        self.telling.told()
+        self.desk.reports.told()
     }
 
     /// How much more happened that there was no room for.
     pub fn missed(&self) -> u64 {
-        self.telling.missed()
+        self.desk.reports.missed()
     }
 
     /// What was told is forgotten.
@@ -154,7 +156,7 @@ impl Live {
         ensures rest { (self.new.source ≡ self.old.source)
             × (self.new.ends_at ≡ self.old.ends_at) }
     {
-        self.telling.clear();
+        self.desk.reports.clear();
     }
 
     /// What the relay shows.
@@ -218,20 +220,20 @@ impl Live {
         // it is the last one only where the relay ends with its input
         ensures over { result.is_over ≡ true → self.new.ends_at ≢ None }
     {
+        self.desk.begin(alloc, now);
         let held = self.held();
         let had_more = self.screens.begin_turn(held);
         self.note(events);
-        self.say_more(alloc, now);
-        self.take_input(alloc, input, now);
-        self.follow(alloc, &mut devices.link, now);
-        self.save(alloc, &mut devices.store, now);
-        self.tick(alloc, &mut devices.sockets, now);
+        self.say_more();
+        self.take_input(input);
+        self.follow(&mut devices.link);
+        self.save(&mut devices.store);
+        self.tick(&mut devices.sockets);
         let node = self.source.node();
         self.screens
-            .drain_due(alloc, &mut devices.sockets, &mut self.telling, node, now);
-        self.serve(alloc, &mut devices.sockets, events, had_more, now);
-        self.screens
-            .accept(alloc, &mut devices.sockets, &mut self.telling, now);
+            .drain_due(&mut self.desk, &mut devices.sockets, node);
+        self.serve(&mut devices.sockets, events, had_more);
+        self.screens.accept(&mut self.desk, &mut devices.sockets);
         self.next(now)
     }
 
@@ -270,275 +272,6 @@ impl Live {
         }
     }
 
-    /// Says what had to wait.
-    fn say_more(&mut self, alloc: Global, now: u64)
-        ensures serves { (sockets : AllSockets) → OnlyServes self.old self.new sockets sockets }
-        ensures saved { SameSaved self.old self.new }
-    {
-        if self.screens.says_now(now) {
-            self.source.say_more(alloc, &mut self.screens, now);
-        }
-    }
-
-    /// Takes what the input gave: it is the feed, or only its end counts.
-    fn take_input(&mut self, alloc: Global, input: Input<'_>, now: u64)
-        ensures relaying { (exchanges : Exchanges) (sockets : AllSockets)
-            → StillRelaying self.old self.new exchanges exchanges sockets sockets }
-        ensures taking { (sockets : AllSockets) → StillTaking self.old self.new
-            (bytes_in input.entry) sockets sockets }
-        ensures stops { input.entry ≢ Input.End → (sockets : AllSockets)
-            → StopsTaking self.old self.new (bytes_in input.entry) sockets }
-        ensures saved { SameSaved self.old self.new }
-    {
-        match input {
-            Input::Nothing => self.feed(alloc, &[], now),
-            Input::Bytes(piece) => self.feed(alloc, piece, now),
-            Input::End => self.end(alloc, now),
-        }
-    }
-
-    /// Follows bytes of the input, where that is the feed.
-    fn feed(&mut self, alloc: Global, piece: &[u8], now: u64)
-        ensures relaying { (exchanges : Exchanges) (sockets : AllSockets)
-            → StillRelaying self.old self.new exchanges exchanges sockets sockets }
-        ensures taking { (sockets : AllSockets) → StillTaking self.old self.new piece.now
-            sockets sockets }
-        ensures stops { (sockets : AllSockets) → StopsTaking self.old self.new piece.now sockets }
-        ensures saved { SameSaved self.old self.new }
-    {
-        if self.feeds {
-            self.feeds = self
-                .source
-                .take_input(alloc, &mut self.telling, &mut self.screens, piece, now);
-        }
-    }
-
-    /// The input has ended.
-    fn end(&mut self, alloc: Global, now: u64)
-        ensures relaying { (exchanges : Exchanges) (sockets : AllSockets)
-            → StillRelaying self.old self.new exchanges exchanges sockets sockets }
-        ensures taking { (sockets : AllSockets) → StillTaking self.old self.new []
-            sockets sockets }
-        ensures saved { SameSaved self.old self.new }
-    {
-        if self.feeds {
-            self.telling.tell(Told::EndOfInput);
-            self.source.end_input(now);
-        }
-        self.feeds = false;
-        if self.limits.ends_with_input && self.ends_at.is_none() {
-            self.ends_at = Some(now.saturating_add(END_TIME));
-            self.screens.end_feeds(alloc, now);
-        }
-    }
-
-    /// Goes on with the server that is followed, unless something is still to be said.
-    fn follow<L: Link>(&mut self, alloc: Global, link: &mut L, now: u64)
-        ensures relaying { (sockets : AllSockets) → StillRelaying self.old self.new
-            (L.exchanges link.old) (L.exchanges link.new) sockets sockets }
-        // where there is no server
-        ensures nothing { self.old.source.places.items ≡ [] → self.new ≡ self.old }
-        ensures saved { SameSaved self.old self.new }
-    {
-        if self.ends_at.is_some() || !self.source.has_servers() {
-            return;
-        }
-        let was_held = !self.source.is_heard();
-        self.source
-            .tick(alloc, link, &mut self.telling, self.limits.idle, now);
-        self.go_on(alloc, link, now);
-        self.settle(alloc, link, now);
-        if was_held && self.source.is_heard() {
-            self.screens.has_more = true;
-        }
-    }
-
-    /// Goes on with the connection, where there may be more.
-    fn go_on<L: Link>(&mut self, alloc: Global, link: &mut L, now: u64)
-        ensures relaying { (sockets : AllSockets) → StillRelaying self.old self.new
-            (L.exchanges link.old) (L.exchanges link.new) sockets sockets }
-        ensures saved { SameSaved self.old self.new }
-    {
-        if self.source.has_more() && self.screens.says_at().is_none() {
-            self.source
-                .go_on(alloc, link, &mut self.telling, &mut self.screens, now);
-        }
-    }
-
-    /// Shows what came afresh, where that has settled.
-    fn settle<L: Link>(&mut self, alloc: Global, link: &mut L, now: u64)
-        ensures relaying { (sockets : AllSockets) → StillRelaying self.old self.new
-            (L.exchanges link.old) (L.exchanges link.new) sockets sockets }
-        ensures saved { SameSaved self.old self.new }
-    {
-        self.source
-            .settle_due(alloc, link, &mut self.telling, &mut self.screens, now);
-    }
-
-    /// Writes a slice of the state file.
-    fn save<D: Store>(&mut self, alloc: Global, store: &mut D, now: u64)
-        ensures serves { (sockets : AllSockets) → OnlyServes self.old self.new sockets sockets }
-        ensures kept { (nodes : List NodeState)
-            → Contains nodes self.old.source.answers.shown.mirror.node
-            → KeepsFiles nodes (D.files store.old) self.old.saved
-            → KeepsFiles nodes (D.files store.new) self.new.saved }
-        ensures parts { (nodes : List NodeState)
-            → Contains nodes self.old.source.answers.shown.mirror.node
-            → KeepsFiles nodes (D.files store.old) self.old.saved
-            → ArePartsOfRecords nodes (D.files store.old).had
-            → ArePartsOfRecords nodes (D.files store.new).had }
-        // where the feed was published afresh, they have nothing of what was shown before
-        ensures anew { self.old.source.epoch ≢ self.old.epoch → (nodes : List NodeState)
-            → Contains nodes self.old.source.answers.shown.mirror.node
-            → IsKnown (D.files store.old).next
-            → KeepsFiles nodes (D.files store.new) self.new.saved }
-    {
-        let Some(saved) = &mut self.saved else {
-            return;
-        };
-        let epoch = self.source.epoch();
-        saved.begin_where(epoch != self.epoch);
-        self.epoch = epoch;
-        saved.save(alloc, store, &mut self.telling, self.source.node(), now);
-    }
-
-    /// Once a second, looks for who is late; and says a line feed after silence.
-    fn tick<S: Sockets>(&mut self, alloc: Global, sockets: &mut S, now: u64)
-        ensures serves { OnlyServes self.old self.new (S.socket sockets.old)
-            (S.socket sockets.new) }
-        ensures saved { SameSaved self.old self.new }
-    {
-        if self.screens.conns.is_empty() {
-            self.tidy();
-            return;
-        }
-        self.keep_alive(alloc, now);
-        if now.saturating_sub(self.ticked) < TICK {
-            return;
-        }
-        self.look_for_late(sockets, now);
-        self.tidy();
-        if !self.source.is_heard() {
-            self.hold(now);
-        }
-    }
-
-    /// Says a line feed after silence.
-    fn keep_alive(&mut self, alloc: Global, now: u64)
-        ensures serves { (sockets : AllSockets) → OnlyServes self.old self.new sockets sockets }
-        ensures saved { SameSaved self.old self.new }
-    {
-        self.screens.idle(alloc, now);
-    }
-
-    /// Looks for who is late: requests that have waited for room for long enough are refused, others
-    /// cut, and so are screens that take nothing.
-    fn look_for_late<S: Sockets>(&mut self, sockets: &mut S, now: u64)
-        ensures serves { OnlyServes self.old self.new (S.socket sockets.old)
-            (S.socket sockets.new) }
-        ensures saved { SameSaved self.old self.new }
-    {
-        self.ticked = now;
-        self.screens.refuse_overdue(sockets, &mut self.telling, now);
-        self.screens.cut_late(now);
-        self.screens.sweep(sockets, &mut self.telling, now);
-        self.screens.close_past(sockets, &mut self.telling, now);
-    }
-
-    /// Forgets the texts that no screen has any more.
-    fn tidy(&mut self)
-        ensures serves { (sockets : AllSockets) → OnlyServes self.old self.new sockets sockets }
-        ensures saved { SameSaved self.old self.new }
-    {
-        self.source.tidy();
-        self.screens.tidy();
-    }
-
-    /// Requests wait: those that waited for long enough are looked at again.
-    fn hold(&mut self, now: u64)
-        ensures serves { (sockets : AllSockets) → OnlyServes self.old self.new sockets sockets }
-        ensures saved { SameSaved self.old self.new }
-    {
-        self.screens.has_more = true;
-        if now >= self.limits.hold && !self.is_hold_told {
-            self.is_hold_told = true;
-            self.telling.tell(Told::NotHeard);
-        }
-    }
-
-    /// Reads from and writes to the screens that became ready, and those that had more.
-    fn serve<S: Sockets>(
-        &mut self,
-        alloc: Global,
-        sockets: &mut S,
-        events: &[Ready],
-        had_more: bool,
-        now: u64,
-    )
-        ensures serves { OnlyServes self.old self.new (S.socket sockets.old)
-            (S.socket sockets.new) }
-        ensures saved { SameSaved self.old self.new }
-    {
-        self.serve_more(alloc, sockets, had_more, now);
-        for event in events {
-            if let Ready::Screen { at, .. } = *event {
-                self.serve_one(alloc, sockets, at, now);
-            }
-        }
-    }
-
-    /// Reads from and writes to those that had more, where there were some.
-    fn serve_more<S: Sockets>(&mut self, alloc: Global, sockets: &mut S, had_more: bool, now: u64)
-        ensures serves { OnlyServes self.old self.new (S.socket sockets.old)
-            (S.socket sockets.new) }
-        ensures saved { SameSaved self.old self.new }
-    {
-        if !had_more {
-            return;
-        }
-        let shown = Shown {
-            is_held: !self.source.is_heard(),
-            hold: self.limits.hold,
-            contest: self.contest.as_str(),
-        };
-        let answers = &mut self.source.answers;
-        self.screens
-            .serve_more(alloc, sockets, &mut self.telling, answers, &shown, now);
-    }
-
-    /// Reads from and writes to the one at a place.
-    fn serve_one<S: Sockets>(&mut self, alloc: Global, sockets: &mut S, at: usize, now: u64)
-        // until a server was heard, or for so long, a request waits
-        ensures waits { has_heard self.old.source ≡ false
-            → Waits (get self.old.screens.conns at) true self.old.limits.hold now
-            → sockets.new ≡ sockets.old }
-        ensures serves { OnlyServes self.old self.new (S.socket sockets.old)
-            (S.socket sockets.new) }
-        ensures saved { SameSaved self.old self.new }
-    {
-        let shown = Shown {
-            is_held: !self.source.is_heard(),
-            hold: self.limits.hold,
-            contest: self.contest.as_str(),
-        };
-        let answers = &mut self.source.answers;
-        self.screens.serve(alloc, sockets, &mut self.telling, answers, &shown, at, now);
-    }
-
-    /// Tells how many screens there are, where that has changed.
-    fn report(&mut self, now: u64)
-        ensures serves { (sockets : AllSockets) → OnlyServes self.old self.new sockets sockets }
-        ensures saved { SameSaved self.old self.new }
-    {
-        if now.saturating_sub(self.reported) < REPORT {
-            return;
-        }
-        self.reported = now;
-        if let Some(told) = self.screens.report() {
-            self.telling.tell(told);
-        }
-    }
-
     /// What comes next.
     fn next(&mut self, now: u64) -> Turn
         ensures wakes { self.new.screens.has_more ≡ true → result.due ≤ now }
@@ -547,7 +280,7 @@ impl Live {
         ensures saved { SameSaved self.old self.new }
         ensures over { result.is_over ≡ true → self.new.ends_at ≢ None }
     {
-        self.report(now);
+        self.report();
         Turn {
             due: self.due(now),
             takes_input: self.takes_input(),

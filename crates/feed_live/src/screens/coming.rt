@@ -3,17 +3,16 @@
 ghost use Rattle.std.specs.Prelude.{◌≡◌, ◌≢◌, ◌≤◌, ◌+◌, ◌-◌, ◌^◌, ◌⊎◌, [], ℕ, List, None, Some, Err, min, false, true, IsTrue};
 ghost use Rattle.feed_node.specs.States.{NodeState};
 ghost use Rattle.feed_device.specs.Calls.{CalledOnce, CalledAtLeastOnce};
-ghost use Rattle.feed_device.specs.Sockets.{AllSockets, opened, former_of, IsSocket, OtherSockets};
-ghost use Rattle.feed_live.specs.Serving.{StillServing, StillServingWith, SameSeating, IsSent};
+ghost use Rattle.feed_device.specs.Sockets.{opened, former_of, IsSocket, OtherSockets};
+ghost use Rattle.feed_live.specs.Serving.{StillServesAll, StillServingWith, StillStand, SameSeating, IsSent};
 ghost use Rattle.feed_live.specs.Serving.{IsGreeted, key_at};
 
 use crate::conn::{Conn, Stage};
+use crate::desk::Desk;
 use crate::screens::{FULL, PIECE, Screens};
 use crate::times::{ACCEPT_PAUSE, REQUEST_TIME};
-use crate::told::Telling;
 use feed_device::{How, Sockets, Stop, Told};
 use feed_hub::Key;
-use std::alloc::Global;
 use std::net::SocketAddr;
 
 /// How many connections are taken in one turn: so screens have their turns, however many come.
@@ -25,50 +24,37 @@ const FURTHER: usize = 8;
 
 impl Screens {
     /// Takes who waits.
-    pub(crate) fn accept<S: Sockets>(
-        &mut self,
-        alloc: Global,
-        sockets: &mut S,
-        told: &mut Telling,
-        now: u64,
-    )
-        ensures serving { (nodes : List NodeState) (contest : List ℕ)
-            → StillServing nodes contest self.old self.new
+    pub(crate) fn accept<S: Sockets>(&mut self, desk: &mut Desk, sockets: &mut S)
+        ensures serving { StillServesAll self.old self.new
             (S.socket sockets.old) (S.socket sockets.new) }
         // where somebody waits and the time has come, one is asked for at least; or memory ran out,
         // and it pauses
-        ensures asks { self.old.is_waited_for ≡ true → self.old.accept_at ≤ now
+        ensures asks { self.old.is_waited_for ≡ true → self.old.accept_at ≤ desk.old.time
             → CalledAtLeastOnce (S.asked sockets.old) (S.asked sockets.new)
-            ⊎ (self.new.accept_at ≡ min (now + 1000) (2 ^ 64 - 1)) }
+            ⊎ (self.new.accept_at ≡ min (desk.old.time + 1000) (2 ^ 64 - 1)) }
     {
-        if !self.is_waited_for || now < self.accept_at {
+        if !self.is_waited_for || desk.time < self.accept_at {
             return;
         }
-        self.sweep(sockets, told, now);
+        self.sweep(desk, sockets);
         for _ in 0..ACCEPTS {
-            if !self.accept_next(alloc, sockets, told, now) {
+            if !self.accept_next(desk, sockets) {
                 return;
             }
         }
     }
 
     /// Takes one. Whether there may be more.
-    fn accept_next<S: Sockets>(
-        &mut self,
-        alloc: Global,
-        sockets: &mut S,
-        told: &mut Telling,
-        now: u64,
-    ) -> bool
-        ensures serving { (nodes : List NodeState) (contest : List ℕ)
-            → StillServing nodes contest self.old self.new
+    fn accept_next<S: Sockets>(&mut self, desk: &mut Desk, sockets: &mut S) -> bool
+        ensures serving { StillServesAll self.old self.new
             (S.socket sockets.old) (S.socket sockets.new) }
         ensures asks { result ≡ true → CalledOnce (S.asked sockets.old) (S.asked sockets.new) }
         ensures stops { result ≡ false → CalledOnce (S.asked sockets.old) (S.asked sockets.new)
-            ⊎ (self.new.accept_at ≡ min (now + 1000) (2 ^ 64 - 1)) }
+            ⊎ (self.new.accept_at ≡ min (desk.old.time + 1000) (2 ^ 64 - 1)) }
+        ensures time { desk.new.time ≡ desk.old.time }
     {
-        self.make_place(sockets, told, now);
-        match self.accept_one(alloc, sockets, told, now) {
+        self.make_place(desk, sockets);
+        match self.accept_one(desk, sockets) {
             Ok(()) => true,
             Err(Stop::Gone) => true,
             Err(Stop::Waits) => {
@@ -76,7 +62,7 @@ impl Screens {
                 false
             }
             Err(Stop::Failed) => {
-                self.stick(told, now);
+                self.stick(desk);
                 false
             }
         }
@@ -89,18 +75,18 @@ impl Screens {
 
     /// Makes place for a connection, where there is none: those that lost their seats are closed, and
     /// the one that has lingered for longest.
-    fn make_place<S: Sockets>(&mut self, sockets: &mut S, told: &mut Telling, now: u64)
-        ensures serving { (nodes : List NodeState) (contest : List ℕ)
-            → StillServing nodes contest self.old self.new
+    fn make_place<S: Sockets>(&mut self, desk: &mut Desk, sockets: &mut S)
+        ensures serving { StillServesAll self.old self.new
             (S.socket sockets.old) (S.socket sockets.new) }
         ensures asks { S.asked sockets.new ≡ S.asked sockets.old }
+        ensures time { desk.new.time ≡ desk.old.time }
     {
         if !self.has_no_place() {
             return;
         }
-        self.sweep(sockets, told, now);
+        self.sweep(desk, sockets);
         if let Some(at) = self.longest_lingering() {
-            self.end(sockets, told, at, How::Done, now);
+            self.end(desk, sockets, at, How::Done);
         }
     }
 
@@ -116,30 +102,25 @@ impl Screens {
     }
 
     /// No connection is taken for a while.
-    fn stick(&mut self, told: &mut Telling, now: u64)
+    fn stick(&mut self, desk: &mut Desk)
         ensures same { SameSeating self.old self.new }
-        ensures pause { self.new.accept_at ≡ min (now + 1000) (2 ^ 64 - 1) }
+        ensures pause { self.new.accept_at ≡ min (desk.old.time + 1000) (2 ^ 64 - 1) }
+        ensures time { desk.new.time ≡ desk.old.time }
     {
-        self.accept_at = now.saturating_add(ACCEPT_PAUSE);
+        self.accept_at = desk.time.saturating_add(ACCEPT_PAUSE);
         if !self.is_stuck {
-            told.tell(Told::NoAccept);
+            desk.reports.tell(Told::NoAccept);
         }
         self.is_stuck = true;
     }
 
-    fn accept_one<S: Sockets>(
-        &mut self,
-        alloc: Global,
-        sockets: &mut S,
-        told: &mut Telling,
-        now: u64,
-    ) -> Result<(), Stop>
-        ensures serving { (nodes : List NodeState) (contest : List ℕ)
-            → StillServing nodes contest self.old self.new
+    fn accept_one<S: Sockets>(&mut self, desk: &mut Desk, sockets: &mut S) -> Result<(), Stop>
+        ensures serving { StillServesAll self.old self.new
             (S.socket sockets.old) (S.socket sockets.new) }
         // one is asked for, unless memory for it ran out
         ensures asks { result ≢ Err Stop.Failed
             → CalledOnce (S.asked sockets.old) (S.asked sockets.new) }
+        ensures time { desk.new.time ≡ desk.old.time }
     {
         if self.conns.reserve(1).is_err() {
             return Err(Stop::Failed);
@@ -147,18 +128,17 @@ impl Screens {
         let at = self.conns.vacant_key();
         let peer = sockets.accept(at)?;
         self.make_seat();
-        let conn = self.greet(alloc, sockets, told, at, peer, now);
+        let conn = self.greet(desk, sockets, at, peer);
         let _at = self.conns.insert_reserved(conn);
         self.totals.open(self.conns.len());
-        self.dismiss(sockets, told, at, now);
+        self.dismiss(desk, sockets, at);
         Ok(())
     }
 
     /// Where there are as many screens as there may be, the one that sent its end first gives its
     /// seat to who comes: mostly it went away. Its socket is closed by the next `sweep`.
     fn make_seat(&mut self)
-        ensures serving { (nodes : List NodeState) (contest : List ℕ) (sockets : AllSockets)
-            → StillServing nodes contest self.old self.new sockets sockets }
+        ensures serving { StillStand self.old self.new }
         ensures conns { self.new.conns ≡ self.old.conns }
     {
         if !self.hub.is_full() {
@@ -186,12 +166,10 @@ impl Screens {
     /// A connection that came just now gets a seat, or is refused.
     fn greet<S: Sockets>(
         &mut self,
-        alloc: Global,
+        desk: &mut Desk,
         sockets: &mut S,
-        told: &mut Telling,
         at: usize,
         peer: SocketAddr,
-        now: u64,
     ) -> Conn
         ensures asks { S.asked sockets.new ≡ S.asked sockets.old }
         ensures greeted { (nodes : List NodeState) (contest : List ℕ)
@@ -201,23 +179,27 @@ impl Screens {
         ensures former { former_of (S.socket sockets.new at) ≡ former_of (S.socket sockets.old at) }
         ensures conns { self.new.conns ≡ self.old.conns }
         ensures others { OtherSockets (S.socket sockets.old) (S.socket sockets.new) at }
+        ensures time { desk.new.time ≡ desk.old.time }
     {
         self.counts.came = self.counts.came.saturating_add(1);
-        let mut conn = Conn::new(peer, now);
-        let until = now.saturating_add(REQUEST_TIME).saturating_add(self.held);
-        match self.hub.open(alloc, until) {
+        let mut conn = Conn::new(peer, desk.time);
+        let until = desk
+            .time
+            .saturating_add(REQUEST_TIME)
+            .saturating_add(self.held);
+        match self.hub.open(desk.alloc, until) {
             Ok(key) => conn.key = Some(key),
             Err(_) => {
-                self.refuse(sockets, told, at);
+                self.refuse(desk, sockets, at);
                 conn.status = 503;
-                conn.linger(now);
+                conn.linger(desk.time);
             }
         }
         conn
     }
 
     /// One more than there may be is told so.
-    fn refuse<S: Sockets>(&mut self, sockets: &mut S, told: &mut Telling, at: usize)
+    fn refuse<S: Sockets>(&mut self, desk: &mut Desk, sockets: &mut S, at: usize)
         ensures asks { S.asked sockets.new ≡ S.asked sockets.old }
         ensures sent { (nodes : List NodeState) (contest came : List ℕ)
             → IsSocket (S.socket sockets.old at) (opened came [])
@@ -226,41 +208,30 @@ impl Screens {
         ensures others { OtherSockets (S.socket sockets.old) (S.socket sockets.new) at }
         ensures hub { self.new.hub ≡ self.old.hub }
         ensures conns { self.new.conns ≡ self.old.conns }
+        ensures time { desk.new.time ≡ desk.old.time }
     {
         let _ = sockets.write(at, FULL);
         sockets.shut(at);
         self.totals.answer(503);
         if !self.is_full {
-            told.tell(Told::Full);
+            desk.reports.tell(Told::Full);
         }
         self.is_full = true;
     }
 
     /// A request for which there is no room is told that there are too many. Those who take their
     /// texts too slowly are cut, so that who comes next finds room.
-    pub(crate) fn turn_away<S: Sockets>(
-        &mut self,
-        sockets: &mut S,
-        told: &mut Telling,
-        at: usize,
-        now: u64,
-    )
+    pub(crate) fn turn_away<S: Sockets>(&mut self, desk: &mut Desk, sockets: &mut S, at: usize)
         ensures serving { (nodes : List NodeState) (contest unheard : List ℕ)
             → StillServingWith nodes contest at unheard self.old self.new
             (S.socket sockets.old) (S.socket sockets.new) }
     {
-        self.refuse_at(sockets, told, at, now);
-        self.cut_slow(sockets, told, now);
+        self.refuse_at(desk, sockets, at);
+        self.cut_slow(desk, sockets);
     }
 
     /// The connection at a place, whose request comes, is told that there are too many.
-    pub(crate) fn refuse_at<S: Sockets>(
-        &mut self,
-        sockets: &mut S,
-        told: &mut Telling,
-        at: usize,
-        now: u64,
-    )
+    pub(crate) fn refuse_at<S: Sockets>(&mut self, desk: &mut Desk, sockets: &mut S, at: usize)
         ensures serving { (nodes : List NodeState) (contest unheard : List ℕ)
             → StillServingWith nodes contest at unheard self.old self.new
             (S.socket sockets.old) (S.socket sockets.new) }
@@ -269,30 +240,29 @@ impl Screens {
             return;
         };
         self.hub.leave(key);
-        self.refuse(sockets, told, at);
-        self.linger(at, now);
+        self.refuse(desk, sockets, at);
+        self.linger(at, desk.time);
     }
 
     /// Cuts those who take their texts too slowly.
-    pub(crate) fn cut_slow<S: Sockets>(&mut self, sockets: &mut S, told: &mut Telling, now: u64)
-        ensures serving { (nodes : List NodeState) (contest : List ℕ)
-            → StillServing nodes contest self.old self.new
+    pub(crate) fn cut_slow<S: Sockets>(&mut self, desk: &mut Desk, sockets: &mut S)
+        ensures serving { StillServesAll self.old self.new
             (S.socket sockets.old) (S.socket sockets.new) }
     {
         for at in 0..self.conns.capacity() {
-            if self.is_slow(at, now) {
-                self.end(sockets, told, at, How::Cut, now);
+            if self.is_slow(at, desk.time) {
+                self.end(desk, sockets, at, How::Cut);
             }
         }
     }
 
     /// Closes a connection that was refused just now, where its request has come whole: nothing
     /// more comes then, so that it loses nothing of its answer. Else it lingers.
-    fn dismiss<S: Sockets>(&mut self, sockets: &mut S, told: &mut Telling, at: usize, now: u64)
-        ensures serving { (nodes : List NodeState) (contest : List ℕ)
-            → StillServing nodes contest self.old self.new
+    fn dismiss<S: Sockets>(&mut self, desk: &mut Desk, sockets: &mut S, at: usize)
+        ensures serving { StillServesAll self.old self.new
             (S.socket sockets.old) (S.socket sockets.new) }
         ensures asks { S.asked sockets.new ≡ S.asked sockets.old }
+        ensures time { desk.new.time ≡ desk.old.time }
     {
         if !self.lingers(at) {
             return;
@@ -300,7 +270,7 @@ impl Screens {
         let mut buf = [0u8; PIECE];
         let read = sockets.read(at, &mut buf);
         if has_come(&buf, read) {
-            self.end(sockets, told, at, How::Done, now);
+            self.end(desk, sockets, at, How::Done);
         }
     }
 

@@ -4,20 +4,20 @@ ghost use Rattle.std.specs.Prelude.{◌≡◌, ◌≢◌, [], ℕ, List, None, S
 ghost use Rattle.feed_node.specs.States.{NodeState};
 ghost use Rattle.feed_hub.specs.Hub.{prefix_at};
 ghost use Rattle.feed_device.specs.Calls.{CalledOnce, NotCalled};
-ghost use Rattle.feed_device.specs.Sockets.{AllSockets};
 ghost use Rattle.slab.specs.Slab.{get};
 ghost use Rattle.feed_live.specs.declared.conn.Stage.TheVariants.{Asks};
 ghost use Rattle.feed_live.specs.Held.{IsAt};
-ghost use Rattle.feed_live.specs.Serving.{StillServing, SameSeating, SameKeys, LeavesSeat, IsWritable, key_at, keyless};
+ghost use Rattle.feed_live.specs.Serving.{StillServing, StillServesFrom, StillServes, SameSeating};
+ghost use Rattle.feed_live.specs.Serving.{HasKey, SameKeys, LeavesSeat, IsWritable, key_at, keyless};
 
 use crate::conn::{Stage, Wanted};
+use crate::desk::Desk;
 use crate::hand::hand;
-use crate::screens::{Screens, TextId};
-use crate::told::Telling;
+use crate::screens::{Keyed, Screens, TextId};
 use feed_device::{How, Sockets, Stop};
 use feed_hub::{Hub, Key, Refill};
 use feed_node::Node;
-use std::alloc::{AllocError, Global};
+use std::alloc::AllocError;
 
 /// How many bytes of commits one turn makes for those who catch up, and one commit more: so each
 /// turn is short, however many come back at once.
@@ -51,16 +51,12 @@ impl Screens {
     /// Writes to the connection at a place, once: each has its turn.
     pub(crate) fn drain<S: Sockets>(
         &mut self,
-        alloc: Global,
+        desk: &mut Desk,
         sockets: &mut S,
-        told: &mut Telling,
         node: &Node,
         at: usize,
-        now: u64,
     )
-        ensures serving { (nodes : List NodeState) (contest : List ℕ)
-            → Contains nodes node.now.shown
-            → StillServing nodes contest self.old self.new
+        ensures serving { StillServesFrom node.now.shown self.old self.new
             (S.socket sockets.old) (S.socket sockets.new) }
         ensures asks { IsAt (get self.old.conns at) Asks → sockets.new ≡ sockets.old }
         // what is pending at a place that may be written to is offered, once
@@ -71,35 +67,28 @@ impl Screens {
         let Some(key) = self.writable(at) else {
             return;
         };
-        if self.fill(alloc, sockets, told, node, at, key, now) {
-            self.write(alloc, sockets, told, node, at, key, now);
+        let keyed = Keyed { at, key };
+        if self.fill(desk, sockets, node, keyed) {
+            self.write(desk, sockets, node, keyed);
         }
     }
 
     /// Writes to the connection at a place what is pending there, and gets what comes next.
-    fn write<S: Sockets>(
-        &mut self,
-        alloc: Global,
-        sockets: &mut S,
-        told: &mut Telling,
-        node: &Node,
-        at: usize,
-        key: Key,
-        now: u64,
-    )
+    fn write<S: Sockets>(&mut self, desk: &mut Desk, sockets: &mut S, node: &Node, keyed: Keyed)
         ensures serving { (nodes : List NodeState) (contest : List ℕ)
-            → Contains nodes node.now.shown → key_at self.old.conns at ≡ Some (Some key)
+            → Contains nodes node.now.shown → HasKey self.old.conns keyed
             → StillServing nodes contest self.old self.new
             (S.socket sockets.old) (S.socket sockets.new) }
-        ensures offers { CalledOnce (S.offered sockets.old at) (S.offered sockets.new at) }
+        ensures offers { CalledOnce (S.offered sockets.old keyed.at)
+            (S.offered sockets.new keyed.at) }
     {
-        match self.write_once(sockets, at, key, now) {
+        match self.write_once(sockets, keyed, desk.time) {
             Ok(true) => {
-                let has_more = self.fill(alloc, sockets, told, node, at, key, now);
-                self.has_more_to_write(at, has_more);
+                let has_more = self.fill(desk, sockets, node, keyed);
+                self.has_more_to_write(keyed.at, has_more);
             }
             Ok(false) => {}
-            Err(_) => self.end(sockets, told, at, How::Left, now),
+            Err(_) => self.end(desk, sockets, keyed.at, How::Left),
         }
     }
 
@@ -120,115 +109,100 @@ impl Screens {
     /// nothing ever will be, it is shut.
     fn fill<S: Sockets>(
         &mut self,
-        alloc: Global,
+        desk: &mut Desk,
         sockets: &mut S,
-        told: &mut Telling,
         node: &Node,
-        at: usize,
-        key: Key,
-        now: u64,
+        keyed: Keyed,
     ) -> bool
         ensures serving { (nodes : List NodeState) (contest : List ℕ)
-            → Contains nodes node.now.shown → key_at self.old.conns at ≡ Some (Some key)
+            → Contains nodes node.now.shown → HasKey self.old.conns keyed
             → StillServing nodes contest self.old self.new
             (S.socket sockets.old) (S.socket sockets.new) }
-        ensures stays { IsTrue result → key_at self.new.conns at ≡ key_at self.old.conns at }
-        ensures has { prefix_at self.old.hub key ≢ [] → IsTrue result }
+        ensures stays { IsTrue result
+            → key_at self.new.conns keyed.at ≡ key_at self.old.conns keyed.at }
+        ensures has { prefix_at self.old.hub keyed.key ≢ [] → IsTrue result }
         ensures offers { NotCalled (S.offered sockets.old) (S.offered sockets.new) }
     {
-        if !self.hub.prefix(key).is_empty() {
+        if !self.hub.prefix(keyed.key).is_empty() {
             return true;
         }
-        self.pay(at);
-        if self.stays_waiting(at, key) {
+        self.pay(keyed.at);
+        if self.stays_waiting(keyed) {
             return false;
         }
         if self.has_made_most() {
-            self.has_more_to_write(at, true);
+            self.has_more_to_write(keyed.at, true);
             return false;
         }
-        if self.refill(alloc, node, at, key, now).is_err() {
-            self.end(sockets, told, at, How::Memory, now);
+        if self.refill(desk, node, keyed).is_err() {
+            self.end(desk, sockets, keyed.at, How::Memory);
             return false;
         }
-        if !self.hub.prefix(key).is_empty() {
+        if !self.hub.prefix(keyed.key).is_empty() {
             return true;
         }
-        if self.hub.is_over(key) {
-            self.finish(sockets, at, key, now);
+        if self.hub.is_over(keyed.key) {
+            self.finish(sockets, keyed, desk.time);
         }
         false
     }
 
     /// Gets what comes next for a screen. A long commit that no screen has yet waits for room.
-    fn refill(
-        &mut self,
-        alloc: Global,
-        node: &Node,
-        at: usize,
-        key: Key,
-        now: u64,
-    ) -> Result<(), AllocError>
-        ensures serving { (nodes : List NodeState) (contest : List ℕ) (sockets : AllSockets)
-            → Contains nodes node.now.shown
-            → StillServing nodes contest self.old self.new sockets sockets }
+    fn refill(&mut self, desk: &Desk, node: &Node, keyed: Keyed) -> Result<(), AllocError>
+        ensures serving { StillServes node.now.shown self.old self.new }
         ensures keys { SameKeys self.old.conns self.new.conns }
     {
-        let has_room = self.may_take_room(at);
-        let got = self.hub.refill(alloc, node, key, has_room, now)?;
+        let has_room = self.may_take_room(keyed.at);
+        let got = self
+            .hub
+            .refill(desk.alloc, node, keyed.key, has_room, desk.time)?;
         match got {
-            Refill::Goes(number) => self.is_refilled(at, key, number, now),
+            Refill::Goes(number) => self.is_refilled(keyed, number, desk.time),
             Refill::Waits(length) => {
-                self.wait_for_commit(at, key, length, now);
+                self.wait_for_commit(keyed, length, desk.time);
                 Ok(())
             }
         }
     }
 
     /// The screen at a place has what came next: a text with a number counts as pending.
-    fn is_refilled(
-        &mut self,
-        at: usize,
-        key: Key,
-        number: Option<u64>,
-        now: u64,
-    ) -> Result<(), AllocError>
+    fn is_refilled(&mut self, keyed: Keyed, number: Option<u64>, now: u64) -> Result<(), AllocError>
         ensures { SameSeating self.old self.new }
     {
-        let length = self.hub.prefix(key).len();
+        let length = self.hub.prefix(keyed.key).len();
         self.made = self.made.saturating_add(length);
-        self.end_wait(at);
+        self.end_wait(keyed.at);
         match number {
-            Some(number) => self.owe(at, length, TextId::Commit(number), now),
+            Some(number) => self.owe(keyed.at, length, TextId::Commit(number), now),
             None => Ok(()),
         }
     }
 
     /// The screen at a place waits for a commit of so many bytes, which were made in vain; unless it
     /// follows the log by now.
-    fn wait_for_commit(&mut self, at: usize, key: Key, length: usize, now: u64)
+    fn wait_for_commit(&mut self, keyed: Keyed, length: usize, now: u64)
         ensures { SameSeating self.old self.new }
     {
         self.made = self.made.saturating_add(length);
-        if !self.hub.catches_up(key) {
-            self.end_wait(at);
+        if !self.hub.catches_up(keyed.key) {
+            self.end_wait(keyed.at);
             return;
         }
         let made = self.hub.commits_made();
-        self.wait_for(at, Wanted::Commit { length, made }, now);
+        self.wait_for(keyed.at, Wanted::Commit { length, made }, now);
     }
 
     /// All was sent: what still comes is read for a while.
-    fn finish<S: Sockets>(&mut self, sockets: &mut S, at: usize, key: Key, now: u64)
+    fn finish<S: Sockets>(&mut self, sockets: &mut S, keyed: Keyed, now: u64)
         ensures serving { (nodes : List NodeState) (contest : List ℕ)
-            → key_at self.old.conns at ≡ Some (Some key)
+            → HasKey self.old.conns keyed
             → StillServing nodes contest self.old self.new
             (S.socket sockets.old) (S.socket sockets.new) }
         ensures offers { NotCalled (S.offered sockets.old) (S.offered sockets.new) }
     {
-        self.hub.leave(key);
-        sockets.shut(at);
-        self.linger(at, now);
+        self.hub.leave(keyed.key);
+        sockets.shut(keyed.at);
+        self.linger(keyed.at, now);
     }
 
     /// The connection at a place has no key from here on.
@@ -247,25 +221,25 @@ impl Screens {
     fn write_once<S: Sockets>(
         &mut self,
         sockets: &mut S,
-        at: usize,
-        key: Key,
+        keyed: Keyed,
         now: u64,
     ) -> Result<bool, Stop>
         ensures serving { (nodes : List NodeState) (contest : List ℕ)
-            → key_at self.old.conns at ≡ Some (Some key)
+            → HasKey self.old.conns keyed
             → StillServing nodes contest self.old self.new
             (S.socket sockets.old) (S.socket sockets.new) }
-        ensures keys { key_at self.new.conns at ≡ key_at self.old.conns at }
-        ensures offers { CalledOnce (S.offered sockets.old at) (S.offered sockets.new at) }
+        ensures keys { key_at self.new.conns keyed.at ≡ key_at self.old.conns keyed.at }
+        ensures offers { CalledOnce (S.offered sockets.old keyed.at)
+            (S.offered sockets.new keyed.at) }
     {
-        let length = self.hub.prefix(key).len();
-        let count = match hand(&mut self.hub, sockets, at, key, now) {
+        let length = self.hub.prefix(keyed.key).len();
+        let count = match hand(&mut self.hub, sockets, keyed.at, keyed.key, now) {
             Ok(0) => return Err(Stop::Failed),
             Ok(count) => count,
             Err(Stop::Waits) => 0,
             Err(stop) => return Err(stop),
         };
-        self.is_handed(at, count, count < length);
+        self.is_handed(keyed.at, count, count < length);
         Ok(count == length)
     }
 
@@ -281,21 +255,12 @@ impl Screens {
     }
 
     /// Writes to all, after something was said.
-    pub(crate) fn drain_all<S: Sockets>(
-        &mut self,
-        alloc: Global,
-        sockets: &mut S,
-        told: &mut Telling,
-        node: &Node,
-        now: u64,
-    )
-        ensures serving { (nodes : List NodeState) (contest : List ℕ)
-            → Contains nodes node.now.shown
-            → StillServing nodes contest self.old self.new
+    pub(crate) fn drain_all<S: Sockets>(&mut self, desk: &mut Desk, sockets: &mut S, node: &Node)
+        ensures serving { StillServesFrom node.now.shown self.old self.new
             (S.socket sockets.old) (S.socket sockets.new) }
     {
         for at in 0..self.conns.capacity() {
-            self.drain(alloc, sockets, told, node, at, now);
+            self.drain(desk, sockets, node, at);
             if self.conns.get(at).is_some_and(|conn| conn.has_more) {
                 self.has_more = true;
             }

@@ -1,18 +1,19 @@
 //! Who waits for room: long texts that screens have yet to take have a limit together.
 
-ghost use Rattle.std.specs.Prelude.{◌≡◌, ◌≢◌, ◌<◌, ◌≤◌, ◌↔◌, ◌^◌, ◌-◌, [], ℕ, List, None, Some, Contains, min, IsTrue, IfSome, OnOk};
+ghost use Rattle.std.specs.Prelude.{◌≡◌, ◌≢◌, ◌<◌, ◌≤◌, ◌↔◌, ◌^◌, ◌-◌, [], ℕ, List, None, Some, min, IsTrue, OnOk};
 ghost use Rattle.feed_node.specs.States.{NodeState};
 ghost use Rattle.feed_device.specs.Sockets.{AllSockets};
 ghost use Rattle.slab.specs.Slab.{get};
 ghost use Rattle.feed_live.specs.Pending.{total, Pays, text_at};
-ghost use Rattle.feed_live.specs.Serving.{StillServing, SameSeating, ServesBut, HearsAll, key_at};
+ghost use Rattle.feed_live.specs.Serving.{StillServesAll, StillAnswers, StillStand, SameSeating};
+ghost use Rattle.feed_live.specs.Serving.{ServesBut, HasKey, HearsAll};
 ghost use Rattle.feed_live.specs.Held.{SameMirrors};
 
 use crate::conn::Wanted;
-use crate::screens::{Answers, Hearing, Screens, Shown, TextId};
+use crate::desk::Desk;
+use crate::screens::{Answers, Hearing, Keyed, Screens, Shown, TextId};
 use crate::times::ROOM_TIME;
-use crate::told::Telling;
-use feed_device::{How, Sockets};
+use feed_device::Sockets;
 use feed_hub::{Answering, Key, LONG};
 use std::alloc::{AllocError, Global};
 
@@ -31,8 +32,7 @@ impl Screens {
 
     /// Forgets the long texts that no screen has any more.
     pub(crate) fn tidy(&mut self)
-        ensures serving { (nodes : List NodeState) (contest : List ℕ) (sockets : AllSockets)
-            → StillServing nodes contest self.old self.new sockets sockets }
+        ensures serving { StillStand self.old self.new }
     {
         self.hub.tidy();
     }
@@ -133,13 +133,13 @@ impl Screens {
         Some(longest?.1)
     }
 
-    /// Whether the screen at a place, with this key, waits for a commit still. One that follows the
-    /// log by now, or whose body ends, waits for none.
-    pub(crate) fn stays_waiting(&self, at: usize, key: Key) -> bool {
-        self.wants_commit(at)
-            && self.hub.catches_up(key)
-            && !self.may_take_room(at)
-            && !self.may_share(at)
+    /// Whether a screen waits for a commit still. One that follows the log by now, or whose body
+    /// ends, waits for none.
+    pub(crate) fn stays_waiting(&self, keyed: Keyed) -> bool {
+        self.wants_commit(keyed.at)
+            && self.hub.catches_up(keyed.key)
+            && !self.may_take_room(keyed.at)
+            && !self.may_share(keyed.at)
     }
 
     fn wants_commit(&self, at: usize) -> bool {
@@ -167,32 +167,33 @@ impl Screens {
         alloc: Global,
         answering: &Answering,
         contest: &str,
-        key: Key,
-        at: usize,
+        keyed: Keyed,
         piece: &[u8],
     ) -> bool {
-        !self.may_take_room(at) && self.hub.makes_text(alloc, answering, contest, key, piece)
+        !self.may_take_room(keyed.at)
+            && self
+                .hub
+                .makes_text(alloc, answering, contest, keyed.key, piece)
     }
 
     /// A request waits for room, which these bytes end. One that something comes behind can't wait.
     pub(crate) fn wait_for_room(
         &mut self,
-        key: Key,
-        at: usize,
+        keyed: Keyed,
         piece: &[u8],
         now: u64,
     ) -> Result<Hearing, AllocError>
         ensures serving { (nodes : List NodeState) (contest : List ℕ) (sockets : AllSockets)
-            → key_at self.old.conns at ≡ Some (Some key)
-            → ServesBut nodes contest self.old.hub self.old.conns sockets at piece.now
-            → HearsAll nodes contest self.new sockets at result }
+            → HasKey self.old.conns keyed
+            → ServesBut nodes contest self.old.hub self.old.conns sockets keyed.at piece.now
+            → HearsAll nodes contest self.new sockets keyed.at result }
     {
         let until = now.saturating_add(2 * ROOM_TIME);
-        let taken = self.hub.hold(key, piece, until)?;
+        let taken = self.hub.hold(keyed.key, piece, until)?;
         if taken < piece.len() {
             return Ok(Hearing::TooMuch);
         }
-        self.wait_for(at, Wanted::Answer, now);
+        self.wait_for(keyed.at, Wanted::Answer, now);
         Ok(Hearing::Goes)
     }
 
@@ -200,40 +201,30 @@ impl Screens {
     /// answers those who can share the text of the snapshot by now.
     pub(crate) fn serve_waiting<S: Sockets>(
         &mut self,
-        alloc: Global,
+        desk: &mut Desk,
         sockets: &mut S,
-        told: &mut Telling,
         answers: &mut Answers,
         shown: &Shown<'_>,
-        now: u64,
     )
-        ensures serving { (nodes : List NodeState)
-            → Contains nodes answers.old.shown.mirror.node
-            → Contains nodes answers.old.blank.mirror.node
-            → StillServing nodes shown.now.contest.now self.old self.new
+        ensures serving { StillAnswers answers.old shown.now.contest.now self.old self.new
             (S.socket sockets.old) (S.socket sockets.new) }
         ensures mirrors { SameMirrors answers.old answers.new }
     {
-        self.serve_first(alloc, sockets, told, answers, shown, now);
+        self.serve_first(desk, sockets, answers, shown);
         if answers.shown.has_text() {
-            self.answer_sharing(alloc, sockets, told, answers, shown, now);
+            self.answer_sharing(desk, sockets, answers, shown);
         }
     }
 
     /// Serves those who wait for room, one after another, as long as there is some.
     fn serve_first<S: Sockets>(
         &mut self,
-        alloc: Global,
+        desk: &mut Desk,
         sockets: &mut S,
-        told: &mut Telling,
         answers: &mut Answers,
         shown: &Shown<'_>,
-        now: u64,
     )
-        ensures serving { (nodes : List NodeState)
-            → Contains nodes answers.old.shown.mirror.node
-            → Contains nodes answers.old.blank.mirror.node
-            → StillServing nodes shown.now.contest.now self.old self.new
+        ensures serving { StillAnswers answers.old shown.now.contest.now self.old self.new
             (S.socket sockets.old) (S.socket sockets.new) }
         ensures mirrors { SameMirrors answers.old answers.new }
     {
@@ -241,7 +232,7 @@ impl Screens {
             let Some(at) = self.longest_waiting() else {
                 return;
             };
-            self.serve_at(alloc, sockets, told, answers, shown, at, now);
+            self.serve_at(desk, sockets, answers, shown, at);
             if self.waits(at) {
                 return;
             }
@@ -252,23 +243,18 @@ impl Screens {
     /// Answers those whose requests wait for room, where they can share the text of the snapshot.
     fn answer_sharing<S: Sockets>(
         &mut self,
-        alloc: Global,
+        desk: &mut Desk,
         sockets: &mut S,
-        told: &mut Telling,
         answers: &mut Answers,
         shown: &Shown<'_>,
-        now: u64,
     )
-        ensures serving { (nodes : List NodeState)
-            → Contains nodes answers.old.shown.mirror.node
-            → Contains nodes answers.old.blank.mirror.node
-            → StillServing nodes shown.now.contest.now self.old self.new
+        ensures serving { StillAnswers answers.old shown.now.contest.now self.old self.new
             (S.socket sockets.old) (S.socket sockets.new) }
         ensures mirrors { SameMirrors answers.old answers.new }
     {
         for at in 0..self.conns.capacity() {
             if self.wants_answer(at) {
-                self.serve_at(alloc, sockets, told, answers, shown, at, now);
+                self.serve_at(desk, sockets, answers, shown, at);
             }
         }
     }
@@ -287,93 +273,67 @@ impl Screens {
     /// shared: its request is answered, or the screen has its commit. Then it is written to.
     fn serve_at<S: Sockets>(
         &mut self,
-        alloc: Global,
+        desk: &mut Desk,
         sockets: &mut S,
-        told: &mut Telling,
         answers: &mut Answers,
         shown: &Shown<'_>,
         at: usize,
-        now: u64,
     )
-        ensures serving { (nodes : List NodeState)
-            → Contains nodes answers.old.shown.mirror.node
-            → Contains nodes answers.old.blank.mirror.node
-            → StillServing nodes shown.now.contest.now self.old self.new
+        ensures serving { StillAnswers answers.old shown.now.contest.now self.old self.new
             (S.socket sockets.old) (S.socket sockets.new) }
         ensures mirrors { SameMirrors answers.old answers.new }
     {
-        self.answer_at(alloc, sockets, told, answers, shown, at, now);
-        self.drain(alloc, sockets, told, answers.shown.node(), at, now);
+        self.answer_at(desk, sockets, answers, shown, at);
+        self.drain(desk, sockets, answers.shown.node(), at);
     }
 
     /// Answers the request that comes at a place, where it has come whole and there is room for that.
     fn answer_at<S: Sockets>(
         &mut self,
-        alloc: Global,
+        desk: &mut Desk,
         sockets: &mut S,
-        told: &mut Telling,
         answers: &mut Answers,
         shown: &Shown<'_>,
         at: usize,
-        now: u64,
     )
-        ensures serving { (nodes : List NodeState)
-            → Contains nodes answers.old.shown.mirror.node
-            → Contains nodes answers.old.blank.mirror.node
-            → StillServing nodes shown.now.contest.now self.old self.new
+        ensures serving { StillAnswers answers.old shown.now.contest.now self.old self.new
             (S.socket sockets.old) (S.socket sockets.new) }
         ensures mirrors { SameMirrors answers.old answers.new }
     {
         let Some(key) = self.asking(at) else {
             return;
         };
-        match self.hear_of(alloc, answers, shown, key, at, &[], now) {
-            Ok(Hearing::Goes) => {}
-            Ok(Hearing::TooMuch) => self.turn_away(sockets, told, at, now),
-            Err(_) => self.end(sockets, told, at, How::Memory, now),
-        }
+        let heard = self.hear_of(desk, answers, shown, Keyed { at, key }, &[]);
+        self.heed(desk, sockets, at, heard);
     }
 
     /// Tells those that there are too many whose requests have waited for long enough, and cuts those
     /// who take their texts too slowly while somebody waits still.
-    pub(crate) fn refuse_overdue<S: Sockets>(
-        &mut self,
-        sockets: &mut S,
-        told: &mut Telling,
-        now: u64,
-    )
-        ensures serving { (nodes : List NodeState) (contest : List ℕ)
-            → StillServing nodes contest self.old self.new
+    pub(crate) fn refuse_overdue<S: Sockets>(&mut self, desk: &mut Desk, sockets: &mut S)
+        ensures serving { StillServesAll self.old self.new
             (S.socket sockets.old) (S.socket sockets.new) }
     {
         if !self.is_waited {
             return;
         }
         for at in 0..self.conns.capacity() {
-            if self.is_overdue(at, now) {
-                self.refuse_waiting(sockets, told, at, now);
+            if self.is_overdue(at, desk.time) {
+                self.refuse_waiting(desk, sockets, at);
             }
         }
         self.is_waited = self.somebody_waits();
         if self.is_waited {
             self.has_more = true;
-            self.cut_slow(sockets, told, now);
+            self.cut_slow(desk, sockets);
         }
     }
 
     /// Tells the connection at a place, whose request waits, that there are too many.
-    fn refuse_waiting<S: Sockets>(
-        &mut self,
-        sockets: &mut S,
-        told: &mut Telling,
-        at: usize,
-        now: u64,
-    )
-        ensures serving { (nodes : List NodeState) (contest : List ℕ)
-            → StillServing nodes contest self.old self.new
+    fn refuse_waiting<S: Sockets>(&mut self, desk: &mut Desk, sockets: &mut S, at: usize)
+        ensures serving { StillServesAll self.old self.new
             (S.socket sockets.old) (S.socket sockets.new) }
     {
-        self.refuse_at(sockets, told, at, now);
+        self.refuse_at(desk, sockets, at);
     }
 
     /// Whether somebody waits for room.

@@ -2,14 +2,13 @@
 
 ghost use Rattle.std.specs.Prelude.{◌≡◌, ◌++◌, [], List, ℕ, OnOk, false, true, is_ok};
 
+use crate::desk::Desk;
 use crate::figures::Following;
 use crate::screens::Screens;
 use crate::source::Source;
 use crate::source::reading::split_line;
-use crate::told::Telling;
 use feed_device::Told;
 use feed_node::FeedFault;
-use std::alloc::Global;
 
 impl Source {
     ghost use Rattle.feed_live.specs.Relaying.{SameSource, servers_of};
@@ -33,27 +32,25 @@ impl Source {
     /// What was kept of the input is followed, and then bytes that came. Whether it goes on.
     pub(crate) fn take_input(
         &mut self,
-        alloc: Global,
-        told: &mut Telling,
+        desk: &mut Desk,
         screens: &mut Screens,
         piece: &[u8],
-        now: u64,
     ) -> bool
         ensures takes { StillTakesMore self.old self.new piece.now screens.old screens.new result }
         // it ends at its first fault, or where memory runs out, and nowhere else
         ensures stops { result ≡ false → StopsSomewhere self.old self.new piece.now }
         ensures servers { servers_of self.new ≡ servers_of self.old }
     {
-        self.hear(piece, now);
-        match self.feed_all(alloc, screens, piece, now) {
+        self.hear(piece, desk.time);
+        match self.feed_all(desk, screens, piece) {
             Ok(()) => {
-                self.tell_twice(told);
+                self.tell_twice(desk);
                 true
             }
             Err(fault) => {
                 let line = self.settling.lines();
-                told.tell(Told::BadInput { fault, line });
-                self.end_input(now);
+                desk.reports.tell(Told::BadInput { fault, line });
+                self.end_input(desk.time);
                 false
             }
         }
@@ -71,29 +68,27 @@ impl Source {
     /// Follows what was kept, and then bytes that came.
     fn feed_all(
         &mut self,
-        alloc: Global,
+        desk: &Desk,
         screens: &mut Screens,
         piece: &[u8],
-        now: u64,
     ) -> Result<(), FeedFault>
         ensures takes { StillTakesMore self.old self.new piece.now screens.old screens.new
             (is_ok result) }
         ensures stops { TakesMoreOrStops self.old self.new piece.now result }
         ensures servers { servers_of self.new ≡ servers_of self.old }
     {
-        let kept = self.kept(alloc);
+        let kept = self.kept(desk.alloc);
         let bytes = kept.as_slice();
-        self.feed(alloc, screens, bytes, now)?;
-        self.feed_behind(alloc, screens, piece, now)
+        self.feed(desk, screens, bytes)?;
+        self.feed_behind(desk, screens, piece)
     }
 
     /// Follows bytes that came behind what is kept.
     fn feed_behind(
         &mut self,
-        alloc: Global,
+        desk: &Desk,
         screens: &mut Screens,
         piece: &[u8],
-        now: u64,
     ) -> Result<(), FeedFault>
         ensures takes { StillTakes self.old self.new (self.old.rest.items ++ piece.now)
             self.new.rest.items screens.old screens.new result }
@@ -104,7 +99,7 @@ impl Source {
         if !self.rest.is_empty() {
             return self.keep_input(piece);
         }
-        self.feed(alloc, screens, piece, now)
+        self.feed(desk, screens, piece)
     }
 
     /// Keeps bytes of the input. Where there is no memory for them, nothing more of it is followed.
@@ -124,13 +119,7 @@ impl Source {
 
     /// Follows bytes of the input, up to a commit after which nothing more can be said for now.
     /// What comes after that is kept.
-    fn feed(
-        &mut self,
-        alloc: Global,
-        screens: &mut Screens,
-        piece: &[u8],
-        now: u64,
-    ) -> Result<(), FeedFault>
+    fn feed(&mut self, desk: &Desk, screens: &mut Screens, piece: &[u8]) -> Result<(), FeedFault>
         ensures takes { self.old.rest.items ≡ [] → StillTakes self.old self.new piece.now
             self.new.rest.items screens.old screens.new result }
         ensures stops { self.old.rest.items ≡ [] → TakesOrStops self.old self.new piece.now
@@ -144,7 +133,7 @@ impl Source {
             }
             let (line, next) = split_line(rest);
             rest = next;
-            self.feed_line(alloc, screens, line, now)?;
+            self.feed_line(desk, screens, line)?;
         }
         self.keep_input(rest)
     }
@@ -152,10 +141,9 @@ impl Source {
     /// Follows one line, or a part of one.
     fn feed_line(
         &mut self,
-        alloc: Global,
+        desk: &Desk,
         screens: &mut Screens,
         line: &[u8],
-        now: u64,
     ) -> Result<(), FeedFault>
         ensures takes { (next : List ℕ) → StillTakes self.old self.new (line.now ++ next) next
             screens.old screens.new result }
@@ -166,10 +154,10 @@ impl Source {
         ensures rest { self.new.rest.items ≡ self.old.rest.items }
     {
         self.settling.begin_line(line);
-        self.answers.shown.change().feed(alloc, line)?;
-        self.figures.stage(line, now);
-        if screens.relay(alloc, self.answers.shown.node(), now) {
-            self.figures.publish(now);
+        self.answers.shown.change().feed(desk.alloc, line)?;
+        self.figures.stage(line, desk.time);
+        if screens.relay(desk, self.answers.shown.node()) {
+            self.figures.publish(desk.time);
         }
         Ok(())
     }

@@ -7,10 +7,10 @@ ghost use Rattle.feed_follow.specs.Standing.{Standing};
 ghost use Rattle.feed_hub.specs.Upstream.{IsFollowing, IsPushed};
 ghost use Rattle.feed_live.specs.Upstream.{wants_memory};
 
+use crate::desk::Desk;
 use crate::figures::Following;
 use crate::screens::Screens;
 use crate::source::{Reach, Source};
-use crate::told::Telling;
 use feed_device::{Excerpt, Link, Stop, Told, Why};
 use feed_follow::{FollowFault, Progress};
 use feed_node::{FeedFault, Mirror};
@@ -27,34 +27,30 @@ const PIECE: usize = 16_384;
 const LOCATION: &[u8] = b"location:";
 
 impl Source {
-    ghost use Rattle.feed_live.specs.Relaying.{StillFollows, StillServes, SameSource};
+    ghost use Rattle.feed_live.specs.Relaying.{StillFollows, SameSource};
     ghost use Rattle.feed_live.specs.Relaying.{SameButUnread, WasLeft, PushesOnly, followed_by};
-    ghost use Rattle.feed_live.specs.Serving.{StillServing, AllEnd, SaysAll};
-    ghost use Rattle.feed_node.specs.States.{NodeState};
-    ghost use Rattle.feed_device.specs.Sockets.{AllSockets};
+    ghost use Rattle.feed_live.specs.Serving.{StillServes, StillStand, AllEnd, SaysAll};
     ghost use Rattle.feed_live.specs.declared.source.Reach.TheVariants.{Away, Reads as Read};
 
     /// Reads what came, so many times.
     pub(crate) fn read_some<L: Link>(
         &mut self,
-        alloc: Global,
+        desk: &mut Desk,
         link: &mut L,
-        told: &mut Telling,
         screens: &mut Screens,
-        now: u64,
     )
         ensures follows { self.old.reach ≡ Read → StillFollows self.old self.new
             (L.exchanges link.old) (L.exchanges link.new) self.old.rest.items
             self.new.rest.items screens.old screens.new }
     {
-        let rest = self.kept(alloc);
-        self.take(alloc, link, told, screens, rest.as_slice(), now);
+        let rest = self.kept(desk.alloc);
+        self.take(desk, link, screens, rest.as_slice());
         for _ in 0..READS {
             // What is kept comes before what is still to be read.
             if !self.rest.is_empty() || screens.says_at().is_some() || self.reach != Reach::Reads {
                 break;
             }
-            if !self.read(alloc, link, told, screens, now) {
+            if !self.read(desk, link, screens) {
                 return;
             }
         }
@@ -62,14 +58,7 @@ impl Source {
     }
 
     /// One read. Whether there may be more.
-    fn read<L: Link>(
-        &mut self,
-        alloc: Global,
-        link: &mut L,
-        told: &mut Telling,
-        screens: &mut Screens,
-        now: u64,
-    ) -> bool
+    fn read<L: Link>(&mut self, desk: &mut Desk, link: &mut L, screens: &mut Screens) -> bool
         ensures follows { self.old.reach ≡ Read → self.old.rest.items ≡ []
             → StillFollows self.old self.new (L.exchanges link.old) (L.exchanges link.new) []
             self.new.rest.items screens.old screens.new }
@@ -77,35 +66,28 @@ impl Source {
         let mut buf = [0u8; PIECE];
         match link.read(&mut buf) {
             Ok(0) => {
-                self.settle_ended(alloc, link, told, screens, 0, now);
-                self.lost(link, told, Why::Ended, now);
+                self.settle_ended(desk, link, screens, 0);
+                self.lost(desk, link, Why::Ended);
                 false
             }
             Ok(count) => {
-                self.figures.hear(count, self.body_since.is_some(), now);
-                self.settling.hear(count, now);
-                self.take(alloc, link, told, screens, &buf[..count], now);
+                self.figures
+                    .hear(count, self.body_since.is_some(), desk.time);
+                self.settling.hear(count, desk.time);
+                self.take(desk, link, screens, &buf[..count]);
                 self.reach == Reach::Reads
             }
             Err(Stop::Waits) => false,
             Err(_) => {
-                self.settle_ended(alloc, link, told, screens, 0, now);
-                self.lost(link, told, Why::Broke, now);
+                self.settle_ended(desk, link, screens, 0);
+                self.lost(desk, link, Why::Broke);
                 false
             }
         }
     }
 
     /// Bytes came: they are followed up to each line feed, so that one step publishes at most once.
-    fn take<L: Link>(
-        &mut self,
-        alloc: Global,
-        link: &mut L,
-        told: &mut Telling,
-        screens: &mut Screens,
-        piece: &[u8],
-        now: u64,
-    )
+    fn take<L: Link>(&mut self, desk: &mut Desk, link: &mut L, screens: &mut Screens, piece: &[u8])
         ensures follows { self.old.reach ≡ Read → self.old.rest.items ≡ []
             → StillFollows self.old self.new (L.exchanges link.old) (L.exchanges link.new)
             piece.now self.new.rest.items screens.old screens.new }
@@ -116,13 +98,13 @@ impl Source {
             if rest.is_empty() || screens.says_at().is_some() {
                 break;
             }
-            match self.take_next(alloc, link, told, screens, rest, now) {
+            match self.take_next(desk, link, screens, rest) {
                 Some(next) => rest = next,
                 None => return,
             }
         }
         if self.keep(rest).is_err() {
-            self.lost(link, told, Why::Memory, now);
+            self.lost(desk, link, Why::Memory);
         }
     }
 
@@ -147,12 +129,10 @@ impl Source {
     /// was not asked for. What comes after it, where the connection goes on.
     fn take_next<'a, L: Link>(
         &mut self,
-        alloc: Global,
+        desk: &mut Desk,
         link: &mut L,
-        told: &mut Telling,
         screens: &mut Screens,
         piece: &'a [u8],
-        now: u64,
     ) -> Option<&'a [u8]>
         ensures goes_on { IfSome result (λ next. (self.new.reach ≡ self.old.reach)
             × (self.new.rest.items ≡ self.old.rest.items)
@@ -163,10 +143,10 @@ impl Source {
             (L.exchanges link.new) piece.entry.now left screens.old screens.new) }
     {
         if self.is_noted_replay(piece) {
-            self.ignored(link, told, now);
+            self.ignored(desk, link);
             return None;
         }
-        self.take_checked(alloc, link, told, screens, piece, now)
+        self.take_checked(desk, link, screens, piece)
     }
 
     /// What a head says of where the feed is, is noted. Whether the piece begins a replay.
@@ -182,18 +162,18 @@ impl Source {
     }
 
     /// Tells more of a fault: where the feed is said to be, or the line that can't be followed.
-    fn tell_fault(&self, told: &mut Telling, fault: FollowFault, line: &[u8]) {
+    fn tell_fault(&self, desk: &mut Desk, fault: FollowFault, line: &[u8]) {
         if self.returning.has_turned() {
             return;
         }
         let server = self.upstream.place();
         match (fault, self.location) {
             (FollowFault::Status(300..=399), Some(location)) => {
-                told.tell(Told::Moved { server, location });
+                desk.reports.tell(Told::Moved { server, location });
             }
             (FollowFault::Feed(_), _) => {
                 let line = Excerpt::of_line(line);
-                told.tell(Told::Faulty { server, line });
+                desk.reports.tell(Told::Faulty { server, line });
             }
             _ => {}
         }
@@ -203,12 +183,10 @@ impl Source {
     /// connection goes on.
     pub(crate) fn take_line<'a, L: Link>(
         &mut self,
-        alloc: Global,
+        desk: &mut Desk,
         link: &mut L,
-        told: &mut Telling,
         screens: &mut Screens,
         piece: &'a [u8],
-        now: u64,
     ) -> Option<&'a [u8]>
         ensures goes_on { IfSome result (λ next. (self.new.reach ≡ self.old.reach)
             × (self.new.rest.items ≡ self.old.rest.items)
@@ -219,35 +197,35 @@ impl Source {
             (L.exchanges link.new) piece.entry.now left screens.old screens.new) }
     {
         let (line, next) = split_line(piece);
-        match self.push(alloc, line, now) {
+        match self.push(desk, line) {
             Ok(Progress::Head) => Some(next),
             Ok(Progress::Body) => {
-                self.found(told, now);
+                self.found(desk);
                 self.settling.count_line();
-                self.figures.stage(line, now);
-                self.say(alloc, told, screens, now);
+                self.figures.stage(line, desk.time);
+                self.say(desk, screens);
                 Some(next)
             }
             Ok(Progress::Done) => {
-                self.found(told, now);
-                self.say(alloc, told, screens, now);
-                self.settle(alloc, link, told, screens, next.len(), now);
-                self.lost(link, told, Why::Ended, now);
+                self.found(desk);
+                self.say(desk, screens);
+                self.settle(desk, link, screens, next.len());
+                self.lost(desk, link, Why::Ended);
                 None
             }
             Ok(Progress::TokenRefused) => {
-                self.refused(link, told, now);
+                self.refused(desk, link);
                 None
             }
             Err(fault) => {
                 if is_want_of_memory(fault) {
-                    self.lost(link, told, Why::Memory, now);
+                    self.lost(desk, link, Why::Memory);
                     return None;
                 }
-                self.tell_fault(told, fault, line);
-                self.say(alloc, told, screens, now);
-                self.settle_ended(alloc, link, told, screens, next.len(), now);
-                self.lost(link, told, Why::Fault(fault), now);
+                self.tell_fault(desk, fault, line);
+                self.say(desk, screens);
+                self.settle_ended(desk, link, screens, next.len());
+                self.lost(desk, link, Why::Fault(fault));
                 None
             }
         }
@@ -255,7 +233,7 @@ impl Source {
 
     /// The mirror that follows the response takes bytes of it: what comes afresh is shown to nobody
     /// until it has settled.
-    fn push(&mut self, alloc: Global, line: &[u8], now: u64) -> Result<Progress, FollowFault>
+    fn push(&mut self, desk: &Desk, line: &[u8]) -> Result<Progress, FollowFault>
         ensures ok { (start : MirrorState) (before : List ℕ) (standing : Standing)
             → IsFollowing start before standing self.old.upstream.follower (followed_by self.old)
             → IfOk result (IsPushed start (before ++ line.now) self.new.upstream.follower
@@ -267,28 +245,28 @@ impl Source {
         ensures only { PushesOnly self.old self.new }
     {
         match &mut self.coming {
-            Some(coming) => self.upstream.take(alloc, coming, line, now),
+            Some(coming) => self.upstream.take(desk.alloc, coming, line, desk.time),
             None => {
                 let mirror = self.answers.shown.change();
-                self.upstream.take(alloc, mirror, line, now)
+                self.upstream.take(desk.alloc, mirror, line, desk.time)
             }
         }
     }
 
     /// The server does not hold the token: the others are asked with it before it is forgotten. Where
     /// that is the one before the newest, it is asked with the newest first.
-    fn refused<L: Link>(&mut self, link: &mut L, told: &mut Telling, now: u64)
+    fn refused<L: Link>(&mut self, desk: &mut Desk, link: &mut L)
         ensures left { WasLeft self.old self.new (L.exchanges link.old) (L.exchanges link.new) }
     {
         if self.rechecking.is_going() {
-            self.ask_newest(link, now);
+            self.ask_newest(link, desk.time);
             return;
         }
         let refused = Told::Refused {
             server: self.upstream.place(),
         };
-        told.tell_if(!self.returning.has_turned(), refused);
-        self.without_token(link, now);
+        desk.reports.tell_if(!self.returning.has_turned(), refused);
+        self.without_token(link, desk.time);
     }
 
     /// The others are asked with the token, and after that the mirror forgets it.
@@ -302,13 +280,13 @@ impl Source {
     }
 
     /// The server answers with the feed.
-    fn found(&mut self, told: &mut Telling, now: u64)
+    fn found(&mut self, desk: &mut Desk)
         ensures { SameSource self.old self.new }
     {
         if self.body_since.is_some() {
             return;
         }
-        self.body_since = Some(now);
+        self.body_since = Some(desk.time);
         self.has_told_twice = false;
         if !self.is_fresh {
             if !self.rechecking.is_going() && !self.rechecking.is_doubted() {
@@ -316,17 +294,17 @@ impl Source {
             }
             self.settling.go_on();
         }
-        self.figures.find(self.coming.is_some(), now);
+        self.figures.find(self.coming.is_some(), desk.time);
         let found = Told::Found {
             server: self.upstream.place(),
-            away: now.saturating_sub(self.away_since),
+            away: desk.time.saturating_sub(self.away_since),
         };
-        told.tell_if(!self.returning.has_turned(), found);
+        desk.reports.tell_if(!self.returning.has_turned(), found);
     }
 
     /// Says what was published, where it is to be shown now. Where a connection published afresh, no
     /// screen goes on from what it has.
-    pub(crate) fn say(&mut self, alloc: Global, told: &mut Telling, screens: &mut Screens, now: u64)
+    pub(crate) fn say(&mut self, desk: &mut Desk, screens: &mut Screens)
         ensures same { SameSource self.old self.new }
         ensures serves { StillServes self.old.answers.shown.mirror.node screens.old screens.new }
         // what was published afresh is counted, and each body ends that had something of before
@@ -337,26 +315,25 @@ impl Source {
         ensures says { self.old.coming ≡ None
             → SaysAll screens.new self.new.answers.shown.mirror.node }
     {
-        self.tell_twice(told);
+        self.tell_twice(desk);
         if self.coming.is_some() {
-            self.compare(alloc, told);
+            self.compare(desk);
             return;
         }
-        self.end_former(alloc, screens, now);
-        if screens.relay(alloc, self.answers.shown.node(), now) {
+        self.end_former(desk, screens);
+        if screens.relay(desk, self.answers.shown.node()) {
             self.is_heard = true;
-            self.figures.publish(now);
+            self.figures.publish(desk.time);
             self.upstream.published();
             self.rechecking.trust();
-            self.returning.publish(now);
+            self.returning.publish(desk.time);
         }
     }
 
     /// Where a connection published afresh, the bodies of all end that had something of before.
-    fn end_former(&mut self, alloc: Global, screens: &mut Screens, now: u64)
+    fn end_former(&mut self, desk: &Desk, screens: &mut Screens)
         ensures same { SameSource self.old self.new }
-        ensures serves { (nodes : List NodeState) (contest : List ℕ) (sockets : AllSockets)
-            → StillServing nodes contest screens.old screens.new sockets sockets }
+        ensures serves { StillStand screens.old screens.new }
         ensures afresh { self.old.is_fresh ≡ true → IsSome self.old.answers.shown.mirror.since
             → self.new.epoch ≡ min (self.old.epoch + 1) (2 ^ 64 - 1) }
         ensures ended { self.new.epoch ≢ self.old.epoch → AllEnd screens.new.hub }
@@ -364,12 +341,12 @@ impl Source {
         if self.is_fresh && self.answers.shown.mirror().since().is_some() {
             self.is_fresh = false;
             self.epoch = self.epoch.saturating_add(1);
-            screens.end_feeds(alloc, now);
+            screens.end_feeds(desk);
         }
     }
 
     /// Tells of the first time on a connection that it gives one token to two states.
-    pub(crate) fn tell_twice(&mut self, told: &mut Telling)
+    pub(crate) fn tell_twice(&mut self, desk: &mut Desk)
         ensures same { SameSource self.old self.new }
         ensures epoch { self.new.epoch ≡ self.old.epoch }
         ensures fresh { self.new.is_fresh ≡ self.old.is_fresh }
@@ -389,18 +366,18 @@ impl Source {
         } else {
             Some(self.upstream.place())
         };
-        told.tell(Told::GivenTwice { server, token });
+        desk.reports.tell(Told::GivenTwice { server, token });
         self.has_told_twice = true;
     }
 
     /// Says what had to wait.
-    pub(crate) fn say_more(&mut self, alloc: Global, screens: &mut Screens, now: u64)
+    pub(crate) fn say_more(&mut self, desk: &Desk, screens: &mut Screens)
         ensures same { SameSource self.old self.new }
         ensures epoch { self.new.epoch ≡ self.old.epoch }
         ensures serves { StillServes self.old.answers.shown.mirror.node screens.old screens.new }
         ensures says { SaysAll screens.new self.new.answers.shown.mirror.node }
     {
-        screens.relay(alloc, self.answers.shown.node(), now);
+        screens.relay(desk, self.answers.shown.node());
     }
 }
 

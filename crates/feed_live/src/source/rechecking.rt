@@ -7,12 +7,11 @@ ghost use Rattle.std.specs.Option.{option_copied};
 ghost use Rattle.feed_hub.specs.Follows.{MayAskWith};
 ghost use Rattle.feed_live.specs.Upstream.{asked_with};
 
-use crate::figures::Following;
+use crate::desk::Desk;
 use crate::screens::Screens;
 use crate::source::Source;
 use crate::source::reading::{given_twice, is_want_of_memory, split_line};
 use crate::times::QUIET;
-use crate::told::Telling;
 use feed_device::{Excerpt, Link, Told};
 use feed_follow::Follower;
 use feed_node::{Limits, Mirror, Node};
@@ -259,7 +258,7 @@ impl Source {
 
     /// A server has another commit where this relay has its newest one: the others are asked whether
     /// they have that, and then everything is asked for.
-    fn forgot<L: Link>(&mut self, link: &mut L, told: &mut Telling, now: u64)
+    fn forgot<L: Link>(&mut self, desk: &mut Desk, link: &mut L)
         ensures left { WasLeft self.old self.new (L.exchanges link.old) (L.exchanges link.new) }
     {
         if let Some(token) = self.answers.shown.node().token() {
@@ -267,22 +266,20 @@ impl Source {
                 server: self.upstream.place(),
                 token: Excerpt::of(token.text()),
             };
-            told.tell_if(!self.rechecking.is_doubted, forgot);
+            desk.reports.tell_if(!self.rechecking.is_doubted, forgot);
         }
         self.rechecking.is_doubted = true;
-        self.without_token(link, now);
+        self.without_token(link, desk.time);
     }
 
     /// The first line of the piece is taken, or a part of one, unless the server has another commit
     /// where this relay has its newest one. What comes after it, where the connection goes on.
     pub(crate) fn take_checked<'a, L: Link>(
         &mut self,
-        alloc: Global,
+        desk: &mut Desk,
         link: &mut L,
-        told: &mut Telling,
         screens: &mut Screens,
         piece: &'a [u8],
-        now: u64,
     ) -> Option<&'a [u8]>
         ensures goes_on { IfSome result (λ next. (self.new.reach ≡ self.old.reach)
             × (self.new.rest.items ≡ self.old.rest.items)
@@ -292,15 +289,15 @@ impl Source {
             → (left : List ℕ) → StillFollows self.old self.new (L.exchanges link.old)
             (L.exchanges link.new) piece.entry.now left screens.old screens.new) }
     {
-        if self.brings_another(alloc, piece) {
-            self.forgot(link, told, now);
+        if self.brings_another(desk.alloc, piece) {
+            self.forgot(desk, link);
             return None;
         }
-        let Some(next) = self.take_line(alloc, link, told, screens, piece, now) else {
+        let Some(next) = self.take_line(desk, link, screens, piece) else {
             return None;
         };
         if self.differs_again() {
-            self.forgot(link, told, now);
+            self.forgot(desk, link);
             return None;
         }
         Some(next)

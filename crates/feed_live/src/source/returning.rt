@@ -5,10 +5,10 @@
 
 ghost use Rattle.std.specs.Prelude.{◌≡◌, ◌+◌, ◌%◌, min};
 
+use crate::desk::Desk;
 use crate::figures::Following;
 use crate::source::{Reach, Source};
 use crate::times::TURN_TIME;
-use crate::told::Telling;
 use feed_device::{Link, Told};
 use std::mem;
 
@@ -110,27 +110,30 @@ impl Source {
 
     /// The server is left, and the next one is asked at once. It did not fail: the pauses stay as they
     /// are, and so does what is counted of failures.
-    pub(crate) fn turn<L: Link>(&mut self, link: &mut L, told: &mut Telling, now: u64)
+    pub(crate) fn turn<L: Link>(&mut self, desk: &mut Desk, link: &mut L)
         ensures left { WasLeft self.old self.new (L.exchanges link.old) (L.exchanges link.new) }
         ensures next { self.new.upstream.place
             ≡ min (self.old.upstream.place + 1) u64.MAX % self.old.upstream.places }
-        ensures at_once { self.new.upstream.since ≡ now }
+        ensures at_once { self.new.upstream.since ≡ desk.old.time }
         ensures pause { self.new.upstream.pause ≡ self.old.upstream.pause }
         ensures counts { (self.new.upstream.failed ≡ self.old.upstream.failed)
             × (self.new.upstream.refused ≡ self.old.upstream.refused) }
     {
         let server = self.upstream.place();
         let is_told = self.returning.turn(self.places.len());
-        told.tell_if(
+        desk.reports.tell_if(
             is_told,
             Told::Quiet {
                 server,
                 time: self.returning.after,
             },
         );
-        self.leave(link, now);
-        self.figures.change(Following::Away, now);
-        self.upstream
-            .turn_to(server.saturating_add(1), self.answers.shown.change(), now);
+        self.leave(link, desk.time);
+        self.figures.change(Following::Away, desk.time);
+        self.upstream.turn_to(
+            server.saturating_add(1),
+            self.answers.shown.change(),
+            desk.time,
+        );
     }
 }

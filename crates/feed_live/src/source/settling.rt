@@ -2,21 +2,21 @@
 //! have a token on each line send all that ever happened, or all that there is, line by line. No
 //! state but the last one of that is to be shown.
 
-ghost use Rattle.std.specs.Prelude.{◌≡◌, ◌<◌, ℕ, List, length, None, IfOk, IfSome, is_none, option_map, if◌then◌else◌};
+ghost use Rattle.std.specs.Prelude.{◌≡◌, ◌<◌, None, IfOk, IfSome, is_none, option_map, if◌then◌else◌};
 ghost use Rattle.feed_device.specs.Links.{shown_so, all_from};
 ghost use Rattle.feed_node.specs.Mirroring.{new_mirror};
-ghost use Rattle.feed_node.specs.Saved.{restored_from};
 ghost use Rattle.feed_live.specs.Relaying.{followed};
 
+mod showing;
+
+use crate::desk::Desk;
 use crate::figures::Following;
-use crate::screens::Screens;
+use crate::source::Source;
 use crate::source::rate::Rate;
 use crate::source::reading::split_line;
-use crate::source::{Reach, Source};
 use crate::times::{LONGEST_REPLAY, REPLAY_REPORT};
-use crate::told::Telling;
 use feed_audit::{Difference, difference_of};
-use feed_device::{Excerpt, Link, Told, Why};
+use feed_device::{Excerpt, Link, Told};
 use feed_node::{Mirror, Node};
 use std::alloc::{AllocError, Global};
 
@@ -132,15 +132,6 @@ impl Settling {
     }
 }
 
-/// Why a server is left at which a feed settled.
-#[derive(Clone, Copy, PartialEq, Eq)]
-pub(crate) enum Leaves {
-    /// What comes after the token that is shown is asked for.
-    Again,
-    /// Memory ran out.
-    Memory,
-}
-
 /// The mirror that a connection is to follow: one that begins afresh, or the one that is shown.
 pub(crate) fn followed_of<'a>(coming: &'a Option<Mirror>, shown: &'a Mirror) -> &'a Mirror
     ensures { result.now ≡ followed coming.now shown.now }
@@ -197,21 +188,8 @@ fn differ_at(alloc: Global, one: &Node, other: &Node) -> (Excerpt, Excerpt) {
     }
 }
 
-/// A mirror that shows the same, and holds its token alone.
-fn alone(alloc: Global, mirror: &Mirror) -> Result<Mirror, AllocError>
-    ensures { IfOk result (λ alone.
-        alone ≡ restored_from mirror.now.limits mirror.now.node.published) }
-{
-    let text = mirror.save(alloc)?;
-    match Mirror::restore(alloc, mirror.limits(), text.as_slice()) {
-        Ok(alone) => Ok(alone),
-        Err(_) => Err(AllocError),
-    }
-}
-
 impl Source {
-    ghost use Rattle.feed_live.specs.Relaying.{StillFollows, StillShows, SameSource, WasLeft, IsNowShown, ShowsAlone};
-    ghost use Rattle.feed_live.specs.declared.source.Reach.TheVariants.{Reads as Read};
+    ghost use Rattle.feed_live.specs.Relaying.{SameSource};
     ghost use Rattle.feed_live.specs.Held.{is_first_start};
 
     /// A mirror that follows the next connection, where that asks for everything and is to settle.
@@ -228,7 +206,7 @@ impl Source {
     }
 
     /// Compares what comes afresh with what is shown, once, where both are at one token.
-    pub(crate) fn compare(&mut self, alloc: Global, told: &mut Telling)
+    pub(crate) fn compare(&mut self, desk: &mut Desk)
         ensures same { SameSource self.old self.new }
         ensures epoch { self.new.epoch ≡ self.old.epoch }
     {
@@ -244,8 +222,8 @@ impl Source {
         if self.settling.is_same {
             self.is_heard = true;
         } else {
-            let (kind, id) = differ_at(alloc, coming.node(), shown);
-            told.tell(Told::Differs {
+            let (kind, id) = differ_at(desk.alloc, coming.node(), shown);
+            desk.reports.tell(Told::Differs {
                 server: self.upstream.place(),
                 kind,
                 id,
@@ -292,59 +270,33 @@ impl Source {
     }
 
     /// Tells how much has come, where it has not settled for long.
-    fn tell_coming(&mut self, told: &mut Telling, now: u64)
+    fn tell_coming(&mut self, desk: &mut Desk)
         ensures { SameSource self.old self.new }
     {
         let Some(at) = self.tells_at() else {
             return;
         };
-        if at > now {
+        if at > desk.time {
             return;
         }
-        self.settling.told = now;
-        told.tell(Told::Coming {
+        self.settling.told = desk.time;
+        desk.reports.tell(Told::Coming {
             server: self.upstream.place(),
             bytes: self.settling.bytes,
-            time: now.saturating_sub(self.settling.began),
+            time: desk.time.saturating_sub(self.settling.began),
             has_token: self.has_published(),
         });
     }
 
     /// Tells that the connection ends before what came on it has settled.
-    pub(crate) fn tell_unsettled(&self, told: &mut Telling) {
+    pub(crate) fn tell_unsettled(&self, desk: &mut Desk)
+        ensures { desk.new.time ≡ desk.old.time }
+    {
         if self.coming.is_some() && self.settling.bytes > 0 {
-            told.tell(Told::Unsettled {
+            desk.reports.tell(Told::Unsettled {
                 server: self.upstream.place(),
                 bytes: self.settling.bytes,
             });
-        }
-    }
-
-    /// Shows what came afresh, where that has settled by now.
-    pub(crate) fn settle_due<L: Link>(
-        &mut self,
-        alloc: Global,
-        link: &mut L,
-        told: &mut Telling,
-        screens: &mut Screens,
-        now: u64,
-    )
-        ensures follows { StillFollows self.old self.new (L.exchanges link.old)
-            (L.exchanges link.new) self.old.rest.items self.new.rest.items screens.old screens.new }
-    {
-        if self.reach != Reach::Reads {
-            return;
-        }
-        if !self.is_due_to_settle(now) {
-            self.tell_coming(told, now);
-            self.note_at_shown(now);
-            return;
-        }
-        let unread = self.rest.len();
-        match self.settle(alloc, link, told, screens, unread, now) {
-            Some(Leaves::Again) => self.ask_again(link, now),
-            Some(Leaves::Memory) => self.lost(link, told, Why::Memory, now),
-            None => {}
         }
     }
 
@@ -370,142 +322,9 @@ impl Source {
         }
     }
 
-    fn is_due_to_settle(&self, now: u64) -> bool {
-        match self.settles_at() {
-            Some(at) => at <= now,
-            None => false,
-        }
-    }
-
     /// Whether each connection asks for everything.
     pub(crate) fn is_always_fresh(&self) -> bool {
         self.settling.is_always
-    }
-
-    /// What comes after the token that is shown is asked for, at the same server.
-    pub(crate) fn ask_again<L: Link>(&mut self, link: &mut L, now: u64)
-        ensures left { WasLeft self.old self.new (L.exchanges link.old) (L.exchanges link.new) }
-    {
-        self.leave(link, now);
-        self.figures.change(Following::Away, now);
-        let place = self.upstream.place();
-        self.upstream
-            .turn_to(place, self.answers.shown.change(), now);
-    }
-
-    /// The connection ended, or what comes on it can't be followed any more. What came afresh may be
-    /// all, or the server was killed. It counts as all where it ended at the same token the last
-    /// time, too. So many bytes of it are unread.
-    pub(crate) fn settle_ended<L: Link>(
-        &mut self,
-        alloc: Global,
-        link: &mut L,
-        told: &mut Telling,
-        screens: &mut Screens,
-        unread: usize,
-        now: u64,
-    )
-        ensures shows { StillShows self.old self.new (L.exchanges link.old)
-            (L.exchanges link.new) unread screens.old screens.new }
-    {
-        if self.ends_again() {
-            self.settle(alloc, link, told, screens, unread, now);
-        }
-    }
-
-    /// Whether what came afresh ended where it did the last time; its last token is noted.
-    fn ends_again(&mut self) -> bool
-        ensures { SameSource self.old self.new }
-    {
-        let token = match &self.coming {
-            Some(coming) => coming.node().token(),
-            None => None,
-        };
-        let again = match (token, &self.ended) {
-            (Some(token), Some(ended)) => token.text() == ended.text(),
-            _ => false,
-        };
-        self.ended = match token {
-            Some(token) => token.copy().ok(),
-            None => None,
-        };
-        again
-    }
-
-    /// What came afresh takes the place of what is shown, where it has published. Screens go on from
-    /// what they have where it had the same state at that token, and has all since then. Else it is
-    /// shown at its own token alone: it may hold tokens of states that were none. So many bytes that
-    /// came are unread. Why the server is to be left then, if it is.
-    pub(crate) fn settle<L: Link>(
-        &mut self,
-        alloc: Global,
-        link: &mut L,
-        told: &mut Telling,
-        screens: &mut Screens,
-        unread: usize,
-        now: u64,
-    ) -> Option<Leaves>
-        ensures shows { StillShows self.old self.new (L.exchanges link.old)
-            (L.exchanges link.new) unread screens.old screens.new }
-        ensures follows { result ≡ None → self.old.reach ≡ Read → (left : List ℕ)
-            → length left ≡ unread → StillFollows self.old self.new (L.exchanges link.old)
-            (L.exchanges link.new) left left screens.old screens.new }
-        ensures rest { result ≡ None → self.new.rest.items ≡ self.old.rest.items }
-    {
-        if !self.has_published() {
-            return None;
-        }
-        self.tell_settled(told, now);
-        if self.is_alone() {
-            return Some(self.settle_alone(alloc, link, told, screens, unread, now));
-        }
-        self.keep_screens();
-        link.show_all(unread);
-        self.show();
-        self.say(alloc, told, screens, now);
-        None
-    }
-
-    /// What came afresh is shown at its own token alone. What comes after that is asked for.
-    fn settle_alone<L: Link>(
-        &mut self,
-        alloc: Global,
-        link: &mut L,
-        told: &mut Telling,
-        screens: &mut Screens,
-        unread: usize,
-        now: u64,
-    ) -> Leaves
-        ensures shows { StillShows self.old self.new (L.exchanges link.old)
-            (L.exchanges link.new) unread screens.old screens.new }
-    {
-        link.show_once(unread);
-        if self.show_alone(alloc).is_err() {
-            return Leaves::Memory;
-        }
-        self.say(alloc, told, screens, now);
-        Leaves::Again
-    }
-
-    /// Screens go on, where they may: what comes is no fresh publication to them.
-    fn keep_screens(&mut self)
-        ensures { SameSource self.old self.new }
-    {
-        self.settling.was_alone = false;
-        if self.goes_on() {
-            self.is_fresh = false;
-            self.is_heard = true;
-        }
-    }
-
-    fn tell_settled(&mut self, told: &mut Telling, now: u64)
-        ensures { SameSource self.old self.new }
-    {
-        self.figures.change(Following::Answered, now);
-        told.tell(Told::Settled {
-            server: self.upstream.place(),
-            time: now.saturating_sub(self.settling.began),
-        });
     }
 
     /// Whether what comes afresh has published.
@@ -514,14 +333,6 @@ impl Source {
             Some(coming) => coming.since().is_some(),
             None => false,
         }
-    }
-
-    /// Whether what came afresh is to be shown at its own token alone. Once in a row: a server that
-    /// does not go on from that token sends all of it again then.
-    fn is_alone(&self) -> bool {
-        let is_over = self.answers.shown.mirror().since().is_some();
-        let may_be = is_over || !self.settling.is_always;
-        may_be && !self.settling.was_alone && !self.goes_on()
     }
 
     /// Whether a piece begins with the first line of a body that was to begin after our token, and
@@ -545,18 +356,6 @@ impl Source {
         false
     }
 
-    /// The server ignores the token that it was asked with: it is asked for everything, and that is
-    /// to settle. So is each server from here on.
-    pub(crate) fn ignored<L: Link>(&mut self, link: &mut L, told: &mut Telling, now: u64)
-        ensures left { WasLeft self.old self.new (L.exchanges link.old) (L.exchanges link.new) }
-    {
-        told.tell(Told::Ignores {
-            server: self.upstream.place(),
-        });
-        self.settling.is_always = true;
-        self.ask_again(link, now);
-    }
-
     /// Whether screens may go on from what is shown with what came afresh.
     fn goes_on(&self) -> bool {
         self.settling.is_same && self.holds_shown()
@@ -568,27 +367,5 @@ impl Source {
             (Some(coming), Some(token)) => coming.node().holds(token.text()),
             _ => false,
         }
-    }
-
-    /// What came afresh is shown from here on, and goes on to follow.
-    fn show(&mut self)
-        ensures { IsNowShown self.old self.new }
-    {
-        if let Some(coming) = self.coming.take() {
-            *self.answers.shown.change() = coming;
-        }
-    }
-
-    /// What came afresh is shown at its own token alone, and nothing follows.
-    fn show_alone(&mut self, alloc: Global) -> Result<(), AllocError>
-        ensures { ShowsAlone self.old self.new }
-    {
-        if let Some(coming) = &self.coming {
-            let alone = alone(alloc, coming)?;
-            *self.answers.shown.change() = alone;
-        }
-        self.coming = None;
-        self.settling.was_alone = true;
-        Ok(())
     }
 }

@@ -16,7 +16,7 @@ returns-then-not-is_empty-2-clause-serving g c =
 pub returns-then-is_over-clause-serving : goal.returns-then-is_over-clause-serving
 returns-then-is_over-clause-serving g c =
     λ nodes contest among keyed serving.
-    c.finish.ensures.serving nodes contest (c.refill.ensures.keys c.args.at ∙ c.pay.ensures.same.keys c.args.at ∙ keyed)
+    c.finish.ensures.serving nodes contest (c.refill.ensures.keys c.args.keyed.at ∙ c.pay.ensures.same.keys c.args.keyed.at ∙ keyed)
     (c.refill.ensures.serving nodes contest (g.S.Sockets.socket c.args.sockets.now) among (serving_noted c.pay.ensures.same serving))
 
 pub returns-else-is_over-clause-serving : goal.returns-else-is_over-clause-serving

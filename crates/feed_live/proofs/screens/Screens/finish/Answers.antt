@@ -6,6 +6,6 @@ use Rattle.feed_live.proofs.screens.Screens.finish.Goals as goal
 pub returns-clause-serving : goal.returns-clause-serving
 returns-clause-serving g c =
     λ nodes contest keyed serving.
-    serving_finished _ _ c.args.self.now.conns _ _ _ c.args.at c.args.key keyed c.linger.ensures.others c.linger.ensures.key
-    (subst (λ h. ChangesOnly c.args.self.now.hub h c.args.key) (sym c.linger.ensures.hub) c.leave.ensures.rest)
+    serving_finished _ _ c.args.self.now.conns _ _ _ c.args.keyed.at c.args.keyed.key keyed c.linger.ensures.others c.linger.ensures.key
+    (subst (λ h. ChangesOnly c.args.self.now.hub h c.args.keyed.key) (sym c.linger.ensures.hub) c.leave.ensures.rest)
     c.shut.ensures.sockets serving

@@ -15,5 +15,5 @@ none_of bytes is = by (eqb_tells (length bytes) 0)
 pub returns-in-0-clause-serving : goal.returns-in-0-clause-serving
 returns-in-0-clause-serving c =
     λ nodes sockets among keyed serves.
-    hears_none c.hear_once.new.self sockets c.args.at c.parts.rest.now c.in_ok-taken.taken c.in-0.is
-    (c.in_ok-taken.ensures.serving nodes sockets (subst (λ m. Contains nodes m.node) (sym c.parts.invariant.mirror) among) (c.parts.invariant.keys c.args.at ∙ keyed) (c.parts.invariant.serving nodes sockets among keyed serves))
+    hears_none c.hear_once.new.self sockets c.args.keyed.at c.parts.rest.now c.in_ok-taken.taken c.in-0.is
+    (c.in_ok-taken.ensures.serving nodes sockets (subst (λ m. Contains nodes m.node) (sym c.parts.invariant.mirror) among) (c.parts.invariant.keys c.args.keyed.at ∙ keyed) (c.parts.invariant.serving nodes sockets among keyed serves))

@@ -11,9 +11,9 @@ invariant-parts l =
       mirror : l.answering.mirror ≡ l.initial.answering.mirror;
       keys : SameKeys l.initial.self.conns l.self.conns;
       serving : (nodes : List NodeState) (sockets : AllSockets) → Contains nodes l.initial.answering.mirror.node
-          → key_at l.initial.self.conns l.at ≡ Some (Some l.key)
-          → ServesBut nodes l.contest l.initial.self.hub l.initial.self.conns sockets l.at l.initial.rest
-          → ServesBut nodes l.contest l.self.hub l.self.conns sockets l.at l.rest;
+          → key_at l.initial.self.conns l.keyed.at ≡ Some (Some l.keyed.key)
+          → ServesBut nodes l.contest l.initial.self.hub l.initial.self.conns sockets l.keyed.at l.initial.rest
+          → ServesBut nodes l.contest l.self.hub l.self.conns sockets l.keyed.at l.rest;
     }
 
 abbrev pub decreases-parts : goal.decreases-parts

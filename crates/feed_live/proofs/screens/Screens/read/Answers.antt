@@ -15,3 +15,10 @@ returns-in-Err-clause-serving g c =
     λ nodes among serving.
     c.end.ensures.serving nodes c.args.shown.now.contest.now
     (serving_unread c.args.self.now.hub c.args.self.now.conns _ _ c.args.at c.in-Err.ensures.bytes c.in-Err.ensures.others serving)
+
+pub returns-in-Ok-clause-serving : goal.returns-in-Ok-clause-serving
+returns-in-Ok-clause-serving g c =
+    λ nodes among serving.
+    c.heed.ensures.serving nodes c.args.shown.now.contest.now
+    (c.take-heard.ensures.serving nodes _ among
+    (read_so c.args.self.now.hub c.args.self.now.conns _ _ c.args.at _ c.in-Ok.ensures.bytes c.in-Ok.ensures.others serving))

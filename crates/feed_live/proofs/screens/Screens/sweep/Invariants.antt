@@ -11,6 +11,7 @@ invariant-loop-at g l =
     record {
       serving : (nodes : List NodeState) (contest : List ℕ)
           → StillServing nodes contest l.initial.self l.self (g.S.Sockets.socket l.initial.sockets) (g.S.Sockets.socket l.sockets);
+      time : l.desk.time ≡ l.initial.desk.time;
       asks : g.S.Sockets.asked l.sockets ≡ g.S.Sockets.asked l.initial.sockets;
       stays : (at : ℕ) → (get l.self.conns at ≡ get l.initial.self.conns at) ⊎ HasNoSeat l.initial.self.hub (get l.initial.self.conns at);
       seats : (key : Key) → seat_at l.self.hub.seats.slab key ≡ seat_at l.initial.self.hub.seats.slab key;

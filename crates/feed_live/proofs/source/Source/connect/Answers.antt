@@ -32,8 +32,8 @@ returns-clause-follows g c =
             (subst (λ k. IsRequestOf (servers_of c.args.self.now) c.args.self.now.upstream.place k c.in-Ok-Some.request.items) asking
             (subst (λ made. IfSome made (λ text. IsRequestOf (servers_of c.args.self.now) c.args.self.now.upstream.place c.followed_of.result.now text.items)) c.in-Ok-Some.field-0-is c.in-Ok-Some.ensures.asks))) in
             let begun = subst (λ k. IsFollowing k [] in_head c.opened.new.self.follower k) following c.opened.ensures.follows in
-            subst (λ u. MayFollow limits log servers (is_none c.in-Ok.coming) (Connects c.args.now) c.in-Ok-Some.request.items u (g.L.Link.exchanges c.begin_shown.new.link) c.opened.new.self.follower (followed c.in-Ok.coming shown)) (sym c.clear.ensures.items)
-            (begun_follows limits log servers c.in-Ok.coming c.place.result c.in-Ok-Some.request.items _ _ _ c.args.now c.opened.new.self.follower (followed c.in-Ok.coming shown)
+            subst (λ u. MayFollow limits log servers (is_none c.in-Ok.coming) (Connects c.args.desk.now.time) c.in-Ok-Some.request.items u (g.L.Link.exchanges c.begin_shown.new.link) c.opened.new.self.follower (followed c.in-Ok.coming shown)) (sym c.clear.ensures.items)
+            (begun_follows limits log servers c.in-Ok.coming c.place.result c.in-Ok-Some.request.items _ _ _ c.args.desk.now.time c.opened.new.self.follower (followed c.in-Ok.coming shown)
             begins c.begin_shown.ensures.shown known
             (λ honest. let here = follows.1.0 honest in begins_in_log limits log servers c.in-Ok.coming shown c.in-Ok.ensures here.limits_are here.shown_is)
             asks is_request begun),

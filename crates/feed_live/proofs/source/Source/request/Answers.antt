@@ -1,4 +1,4 @@
-use Rattle.std.proofs.Common.{◌≡◌, ◌∙◌, refl, sym, ap, ◌++◌, length, slice_get, Some}
+use Rattle.std.proofs.Common.{◌∙◌, refl, sym, ap, ◌++◌, length, slice_get}
 use Rattle.std.proofs.lemmas.Option.{slice_get_read}
 use Rattle.std.specs.Option.{option_copied}
 use Rattle.feed_answer.specs.RequestText.{request_text_as}

@@ -9,11 +9,11 @@ use Rattle.feed_live.proofs.turn.Live.turn.Goals as goal
 
 pub returns : goal.returns
 returns g c =
-    let begun = screens_only c.args.self.now c.begin_turn-had_more.new.self c.args.self.now.telling (λ nodes shown blank serving. serving_noted c.begin_turn-had_more.ensures serving) in
+    let begun = screens_only c.args.self.now c.begin_turn-had_more.new.self c.begin.new.self (λ nodes shown blank serving. serving_noted c.begin_turn-had_more.ensures serving) in
     let said = serves_then (c.say_more.ensures.serves _) (serves_then (c.note.ensures.serves _) begun) in
-    let drained = screens_only c.tick.new.self c.drain_due.new.self c.drain_due.new.told
+    let drained = screens_only c.tick.new.self c.drain_due.new.self c.drain_due.new.desk
     (λ nodes shown blank serving. c.drain_due.ensures.serving nodes _ (subst (λ n. Contains nodes n) (sym c.node-node.ensures) shown) serving) in
-    let accepted = screens_only c.serve.new.self c.accept.new.self c.accept.new.told (λ nodes shown blank serving. c.accept.ensures.serving nodes _ serving) in
+    let accepted = screens_only c.serve.new.self c.accept.new.self c.accept.new.desk (λ nodes shown blank serving. c.accept.ensures.serving nodes _ serving) in
     let served = serves_then (c.next.ensures.serves _) (serves_then accepted (serves_then c.serve.ensures.serves (serves_then drained (serves_then c.tick.ensures.serves (c.save.ensures.serves _))))) in
     let before : SameSaved c.args.self.now c.follow.new.self = (
       c.follow.ensures.saved.0 ∙ c.take_input.ensures.saved.0 ∙ c.say_more.ensures.saved.0 ∙ c.note.ensures.saved.0,

@@ -1,0 +1,116 @@
+//! How things stand with a server, and why one was left.
+
+use feed_device::Why;
+use feed_follow::FollowFault;
+use std::fmt;
+
+/// How things stand with the server that is followed.
+#[derive(Clone, Copy, Debug, PartialEq, Eq)]
+pub enum Following {
+    /// A server answers with the feed.
+    Answered,
+    /// A server sends all that it has: nothing of it is shown until it has settled.
+    Settling,
+    /// A server is asked, and has not answered yet.
+    Asked,
+    /// No server is asked at the moment.
+    Away,
+    /// The feed comes on the input.
+    Input,
+    /// The input has ended, or can't be followed.
+    Ended,
+}
+
+/// How many kinds of reasons are counted.
+pub(crate) const KINDS: usize = 10;
+
+/// Why an attempt to follow a server failed, as it is counted.
+#[derive(Clone, Copy, Debug, PartialEq, Eq)]
+pub enum Reason {
+    /// It can't be connected to.
+    Refuses,
+    /// It did not take the connection in time.
+    Late,
+    /// It did not answer in time.
+    NoAnswer,
+    /// The connection broke off.
+    Broke,
+    /// The response ended.
+    Ended,
+    /// Nothing came for too long.
+    Silent,
+    /// It answered with a status other than 200.
+    Status,
+    /// It doesn't hold the token that it was asked with.
+    Token,
+    /// What came can't be followed.
+    Feed,
+    /// Memory ran out.
+    Memory,
+}
+
+pub(crate) const REASONS: [Reason; KINDS] = [
+    Reason::Refuses,
+    Reason::Late,
+    Reason::NoAnswer,
+    Reason::Broke,
+    Reason::Ended,
+    Reason::Silent,
+    Reason::Status,
+    Reason::Token,
+    Reason::Feed,
+    Reason::Memory,
+];
+
+impl Reason {
+    /// The word that a metric has for it.
+    pub fn word(self) -> &'static str {
+        match self {
+            Reason::Refuses => "cannot_connect",
+            Reason::Late => "connect_timeout",
+            Reason::NoAnswer => "no_answer",
+            Reason::Broke => "connection_lost",
+            Reason::Ended => "end_of_feed",
+            Reason::Silent => "silent",
+            Reason::Status => "status",
+            Reason::Token => "token_refused",
+            Reason::Feed => "bad_feed",
+            Reason::Memory => "out_of_memory",
+        }
+    }
+}
+
+/// How an attempt to follow a server failed.
+#[derive(Clone, Copy, Debug)]
+pub enum Failure {
+    /// The server was left.
+    Left(Why),
+    /// The server doesn't hold the token that it was asked with.
+    TokenRefused,
+}
+
+impl Failure {
+    pub(crate) fn reason(&self) -> Reason {
+        match self {
+            Failure::TokenRefused => Reason::Token,
+            Failure::Left(Why::Late) => Reason::Late,
+            Failure::Left(Why::NoAnswer) => Reason::NoAnswer,
+            Failure::Left(Why::Broke) => Reason::Broke,
+            Failure::Left(Why::Ended) => Reason::Ended,
+            Failure::Left(Why::Silent) => Reason::Silent,
+            Failure::Left(Why::Memory) => Reason::Memory,
+            Failure::Left(Why::Fault(FollowFault::Status(_))) => Reason::Status,
+            Failure::Left(Why::Fault(_)) => Reason::Feed,
+            Failure::Left(_) => Reason::Refuses,
+        }
+    }
+}
+
+impl fmt::Display for Failure {
+    fn fmt<W: fmt::Write>(&self, f: &mut fmt::Formatter<W>) -> fmt::Result {
+        match self {
+            Failure::Left(why) => write!(f, "{why}"),
+            Failure::TokenRefused => f.write_str("doesn't hold our token"),
+        }
+    }
+}

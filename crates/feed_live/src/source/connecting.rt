@@ -1,0 +1,352 @@
+//! The connection to a server: it is begun, asked and left.
+
+ghost use Rattle.std.specs.Prelude.{◌≡◌, ◌<◌, ◌⊎◌, None, Some, IfOk, IfSome, IsSome, drop, length};
+ghost use Rattle.feed_device.specs.Calls.{CalledOnce};
+ghost use Rattle.feed_node.specs.States.{published_token};
+
+use crate::desk::Desk;
+use crate::screens::Screens;
+use crate::source::rechecking::token_for;
+use crate::source::settling::{begin_shown, followed_of};
+use crate::source::{Reach, Source};
+use crate::times::{CONNECT_TIME, RESPONSE_TIME};
+use feed_answer::request_text_as;
+use feed_device::{Link, Stop, Told, Why};
+use feed_hub::FIRST_PAUSE;
+use feed_node::Mirror;
+use std::alloc::{AllocError, Global};
+
+impl Source {
+    ghost use Rattle.feed_live.specs.Relaying.{StillFollows, SameSource, WasLeft, GoesOnTo, servers_of};
+    ghost use Rattle.feed_live.specs.Upstream.{IsRequestOf, IsRequestWith, asked_with};
+    ghost use Rattle.feed_live.specs.declared.source.Reach.TheVariants.{Away, Asks as Asked};
+    ghost use Rattle.feed_live.specs.declared.screens.Screens.{Screens};
+
+    /// When a server is late: it does not take the connection, or does not answer.
+    pub(crate) fn late_at(&self) -> Option<u64> {
+        match self.reach {
+            Reach::Away => None,
+            Reach::Connects(since) => Some(since.saturating_add(self.connect_time())),
+            _ => match self.body_since {
+                Some(_) => None,
+                None => Some(self.opened.saturating_add(RESPONSE_TIME)),
+            },
+        }
+    }
+
+    /// Why a server is late.
+    fn why_late(&self) -> Why {
+        match self.reach {
+            Reach::Connects(_) => Why::Late,
+            _ => Why::NoAnswer,
+        }
+    }
+
+    /// How long a server may take to take a connection: not long where another one was left for it
+    /// that did not fail.
+    fn connect_time(&self) -> u64 {
+        if self.returning.has_turned() {
+            CONNECT_TIME / 5
+        } else {
+            CONNECT_TIME
+        }
+    }
+
+    /// Leaves a server that is late, silent or has nothing new for long, and begins to connect where
+    /// that is due.
+    pub(crate) fn tick<L: Link>(&mut self, desk: &mut Desk, link: &mut L, idle: u64)
+        ensures follows { (screens : Screens) → StillFollows self.old self.new
+            (L.exchanges link.old) (L.exchanges link.new) self.old.rest.items
+            self.new.rest.items screens screens }
+    {
+        self.leave_due(desk, link, idle);
+        self.hear_quiet(desk);
+        if self.reach == Reach::Away && self.upstream.is_due(desk.time) {
+            self.connect(desk, link);
+        }
+    }
+
+    /// Leaves a server that is late or silent, or has nothing new for long.
+    fn leave_due<L: Link>(&mut self, desk: &mut Desk, link: &mut L, idle: u64)
+        ensures follows { (screens : Screens) → StillFollows self.old self.new
+            (L.exchanges link.old) (L.exchanges link.new) self.old.rest.items
+            self.new.rest.items screens screens }
+    {
+        match self.leaves(idle, desk.time) {
+            Some(why) => self.lost(desk, link, why),
+            None => {
+                if self.is_to_turn(desk.time) {
+                    self.turn(desk, link);
+                } else if self.is_to_ask_newest(desk.time) {
+                    self.ask_newest(link, desk.time);
+                }
+            }
+        }
+    }
+
+    /// Why a server is to be left now, if it is.
+    fn leaves(&self, idle: u64, now: u64) -> Option<Why> {
+        if self.upstream.is_silent(idle, now) {
+            return Some(Why::Silent);
+        }
+        if self.late_at()? <= now {
+            Some(self.why_late())
+        } else {
+            None
+        }
+    }
+
+    /// A server that answers counts as heard after a while, though it publishes nothing. Where what
+    /// it sends has no tokens, that is told.
+    fn hear_quiet(&mut self, desk: &mut Desk)
+        ensures { SameSource self.old self.new }
+    {
+        self.figures.warn(desk, self.upstream.place());
+        if let Some(at) = self.heard_at() {
+            if at <= desk.time {
+                self.is_heard = true;
+            }
+        }
+    }
+
+    /// Begins to connect. From here on the silence of the server counts.
+    fn connect<L: Link>(&mut self, desk: &mut Desk, link: &mut L)
+        ensures follows { (screens : Screens) → StillFollows self.old self.new
+            (L.exchanges link.old) (L.exchanges link.new) self.old.rest.items
+            self.new.rest.items screens screens }
+        // A connection is begun, once; or memory ran out, and the next place is asked after that.
+        ensures begins { self.old.upstream.place < length self.old.places.items
+            → CalledOnce (L.begun link.old) (L.begun link.new)
+            ⊎ ((L.begun link.new ≡ L.begun link.old) × GoesOnTo self.old self.new desk.old.time) }
+    {
+        let coming = match self.begin_afresh(desk.alloc) {
+            Ok(coming) => coming,
+            Err(_) => {
+                self.lost(desk, link, Why::Memory);
+                return;
+            }
+        };
+        let again = match self.begin_again(desk.alloc) {
+            Ok(again) => again,
+            Err(_) => {
+                self.lost(desk, link, Why::Memory);
+                return;
+            }
+        };
+        let request = match self.request(
+            desk.alloc,
+            followed_of(&coming, self.answers.shown.mirror()),
+            again.is_some(),
+        ) {
+            Ok(Some(request)) => request,
+            Ok(None) => return,
+            Err(_) => {
+                self.lost(desk, link, Why::Memory);
+                return;
+            }
+        };
+        let begun = link.connect(self.upstream.place());
+        if begun.is_err() {
+            self.lost(desk, link, why_not(begun));
+            return;
+        }
+        self.request = request;
+        // What is unread of the last connection is forgotten.
+        self.rest.clear();
+        begin_shown(link, &coming);
+        let followed = followed_of(&coming, self.answers.shown.mirror());
+        self.is_fresh = followed.since().is_none();
+        self.upstream.opened(followed, desk.time);
+        self.coming = coming;
+        self.rechecking.begin(again, self.is_fresh);
+        self.settling.begin(desk.time);
+        self.figures.ask(self.upstream.place(), desk.time);
+        self.opened = desk.time;
+        self.is_at_start = true;
+        self.location = None;
+        self.reach = Reach::Connects(desk.time);
+    }
+
+    /// The text that asks the next place for what a mirror lacks, and for its newest commit where
+    /// that is to come again; none where there is no place.
+    fn request(
+        &self,
+        alloc: Global,
+        mirror: &Mirror,
+        is_again: bool,
+    ) -> Result<Option<Vec<u8>>, AllocError>
+        ensures asks { IfOk result (λ made. IfSome made (λ text. IsRequestOf (servers_of self.now)
+            self.now.upstream.place mirror.now text.items)) }
+        ensures token { IfOk result (λ made. IfSome made (λ text. IsRequestWith
+            (servers_of self.now) self.now.upstream.place (asked_with is_again mirror.now)
+            text.items)) }
+        ensures since { IfSome mirror.now.since (λ token.
+            published_token mirror.now.node ≡ Some token) }
+        ensures place { self.now.upstream.place < length self.now.places.items
+            → IfOk result (λ made. IsSome made) }
+    {
+        // The token that is asked with is that of what the mirror shows, or one before it.
+        let _ = mirror.since();
+        let Some(place) = self.places.get(self.upstream.place()) else {
+            return Ok(None);
+        };
+        let mut text = Vec::new(alloc);
+        request_text_as(
+            place,
+            token_for(mirror, is_again),
+            &self.identity,
+            &mut text,
+        )?;
+        Ok(Some(text))
+    }
+
+    /// The server is left, and the next one is asked: after a pause where each of them failed.
+    pub(crate) fn lost<L: Link>(&mut self, desk: &mut Desk, link: &mut L, why: Why)
+        ensures left { WasLeft self.old self.new (L.exchanges link.old) (L.exchanges link.new) }
+        ensures calls { L.begun link.new ≡ L.begun link.old }
+        ensures next { GoesOnTo self.old self.new desk.old.time }
+    {
+        let server = self.upstream.place();
+        let is_told = self.lose();
+        self.rechecking.lose();
+        self.hear_end(why);
+        self.tell_unsettled(desk);
+        self.leave(link, desk.time);
+        self.figures.lose(why, desk.time);
+        self.upstream.lost(self.answers.shown.change(), desk.time);
+        let pause = self.upstream.due(0).saturating_sub(desk.time);
+        forget_after(link, pause);
+        desk.reports
+            .tell_if(is_told, Told::Lost { server, why, pause });
+    }
+
+    /// A server is lost. Whether that is to be told: not where it only had its turn, and did not
+    /// answer.
+    fn lose(&mut self) -> bool
+        ensures same { SameSource self.old self.new }
+        ensures upstream { self.new.upstream ≡ self.old.upstream }
+    {
+        if self.body_since.is_some() {
+            self.returning.lose();
+        }
+        !self.returning.has_turned()
+    }
+
+    /// A server that ended its answer has sent all that comes after our token.
+    fn hear_end(&mut self, why: Why)
+        ensures same { SameSource self.old self.new }
+        ensures upstream { self.new.upstream ≡ self.old.upstream }
+    {
+        if matches!(why, Why::Ended) && self.heard_at().is_some() {
+            self.is_heard = true;
+        }
+    }
+
+    pub(crate) fn leave<L: Link>(&mut self, link: &mut L, now: u64)
+        ensures exchanges { L.exchanges link.new ≡ L.exchanges link.old }
+        ensures calls { L.begun link.new ≡ L.begun link.old }
+        ensures servers { servers_of self.new ≡ servers_of self.old }
+        ensures answers { self.new.answers ≡ self.old.answers }
+        ensures upstream { self.new.upstream ≡ self.old.upstream }
+        ensures away { self.new.reach ≡ Away }
+    {
+        link.close();
+        if self.body_since.is_some() {
+            self.away_since = now;
+        }
+        self.reach = Reach::Away;
+        // What had not settled is dropped.
+        self.coming = None;
+        self.rechecking.leave();
+        self.body_since = None;
+        self.has_more = false;
+    }
+
+    /// Goes on with the connection: an event came for it, or there was more.
+    pub(crate) fn go_on<L: Link>(&mut self, desk: &mut Desk, link: &mut L, screens: &mut Screens)
+        ensures follows { StillFollows self.old self.new (L.exchanges link.old)
+            (L.exchanges link.new) self.old.rest.items self.new.rest.items screens.old screens.new }
+    {
+        self.has_more = false;
+        if let Reach::Connects(_) = self.reach {
+            match link.is_open() {
+                Ok(true) => self.reach = Reach::Asks(0),
+                Ok(false) => return,
+                Err(_) => {
+                    self.lost(desk, link, Why::Refuses);
+                    return;
+                }
+            }
+        }
+        self.ask(desk, link);
+        if self.reach == Reach::Reads {
+            self.read_some(desk, link, screens);
+        }
+    }
+
+    /// Writes the rest of the request, where that isn't written yet.
+    fn ask<L: Link>(&mut self, desk: &mut Desk, link: &mut L)
+        ensures follows { (screens : Screens) → StillFollows self.old self.new
+            (L.exchanges link.old) (L.exchanges link.new) self.old.rest.items
+            self.new.rest.items screens screens }
+    {
+        for _ in 0..self.request.len().saturating_add(1) {
+            let Reach::Asks(count) = self.reach else {
+                return;
+            };
+            if !self.ask_once(desk, link, count) {
+                return;
+            }
+        }
+    }
+
+    /// One write, where so many bytes of the request were written. Whether another may come now.
+    fn ask_once<L: Link>(&mut self, desk: &mut Desk, link: &mut L, count: usize) -> bool
+        ensures follows { self.old.reach ≡ Asked count → (screens : Screens)
+            → StillFollows self.old self.new (L.exchanges link.old) (L.exchanges link.new)
+            self.old.rest.items self.new.rest.items screens screens }
+    {
+        let rest = behind(&self.request, count);
+        if rest.is_empty() {
+            self.reach = Reach::Reads;
+            return false;
+        }
+        match link.write(rest) {
+            Ok(more) => {
+                self.reach = Reach::Asks(count + more);
+                true
+            }
+            Err(Stop::Waits) => false,
+            Err(_) => {
+                self.lost(desk, link, Why::Broke);
+                false
+            }
+        }
+    }
+}
+
+/// Why no connection was begun, where none was.
+fn why_not(begun: Result<(), Why>) -> Why {
+    match begun {
+        Ok(()) => Why::Refuses,
+        Err(why) => why,
+    }
+}
+
+/// Each server failed where the next one is asked after so long a pause: the addresses of names are
+/// asked for again then.
+fn forget_after<L: Link>(link: &mut L, pause: u64)
+    ensures exchanges { L.exchanges link.new ≡ L.exchanges link.old }
+    ensures calls { L.begun link.new ≡ L.begun link.old }
+{
+    if pause >= FIRST_PAUSE {
+        link.forget_addresses();
+    }
+}
+
+/// What comes behind so many bytes; none where there are not more.
+fn behind(bytes: &[u8], count: usize) -> &[u8]
+    ensures { result.now ≡ drop count bytes.now }
+{
+    bytes.get(count..).unwrap_or(&[])
+}

@@ -1,0 +1,233 @@
+//! What came afresh is shown, once it has settled.
+
+ghost use Rattle.std.specs.Prelude.{◌≡◌, ℕ, List, length, None, IfOk};
+ghost use Rattle.feed_node.specs.Saved.{restored_from};
+
+use crate::desk::Desk;
+use crate::figures::Following;
+use crate::screens::Screens;
+use crate::source::{Reach, Source};
+use feed_device::{Link, Told, Why};
+use feed_node::Mirror;
+use std::alloc::{AllocError, Global};
+
+/// Why a server is left at which a feed settled.
+#[derive(Clone, Copy, PartialEq, Eq)]
+pub(crate) enum Leaves {
+    /// What comes after the token that is shown is asked for.
+    Again,
+    /// Memory ran out.
+    Memory,
+}
+
+/// A mirror that shows the same, and holds its token alone.
+fn alone(alloc: Global, mirror: &Mirror) -> Result<Mirror, AllocError>
+    ensures { IfOk result (λ alone.
+        alone ≡ restored_from mirror.now.limits mirror.now.node.published) }
+{
+    let text = mirror.save(alloc)?;
+    match Mirror::restore(alloc, mirror.limits(), text.as_slice()) {
+        Ok(alone) => Ok(alone),
+        Err(_) => Err(AllocError),
+    }
+}
+
+impl Source {
+    ghost use Rattle.feed_live.specs.Relaying.{StillFollows, StillShows, SameSource, WasLeft, IsNowShown, ShowsAlone};
+    ghost use Rattle.feed_live.specs.declared.source.Reach.TheVariants.{Reads as Read};
+
+    /// Shows what came afresh, where that has settled by now.
+    pub(crate) fn settle_due<L: Link>(
+        &mut self,
+        desk: &mut Desk,
+        link: &mut L,
+        screens: &mut Screens,
+    )
+        ensures follows { StillFollows self.old self.new (L.exchanges link.old)
+            (L.exchanges link.new) self.old.rest.items self.new.rest.items screens.old screens.new }
+    {
+        if self.reach != Reach::Reads {
+            return;
+        }
+        if !self.is_due_to_settle(desk.time) {
+            self.tell_coming(desk);
+            self.note_at_shown(desk.time);
+            return;
+        }
+        let unread = self.rest.len();
+        match self.settle(desk, link, screens, unread) {
+            Some(Leaves::Again) => self.ask_again(link, desk.time),
+            Some(Leaves::Memory) => self.lost(desk, link, Why::Memory),
+            None => {}
+        }
+    }
+
+    fn is_due_to_settle(&self, now: u64) -> bool {
+        match self.settles_at() {
+            Some(at) => at <= now,
+            None => false,
+        }
+    }
+
+    /// The connection ended, or what comes on it can't be followed any more. What came afresh may be
+    /// all, or the server was killed. It counts as all where it ended at the same token the last
+    /// time, too. So many bytes of it are unread.
+    pub(crate) fn settle_ended<L: Link>(
+        &mut self,
+        desk: &mut Desk,
+        link: &mut L,
+        screens: &mut Screens,
+        unread: usize,
+    )
+        ensures shows { StillShows self.old self.new (L.exchanges link.old)
+            (L.exchanges link.new) unread screens.old screens.new }
+    {
+        if self.ends_again() {
+            self.settle(desk, link, screens, unread);
+        }
+    }
+
+    /// Whether what came afresh ended where it did the last time; its last token is noted.
+    fn ends_again(&mut self) -> bool
+        ensures { SameSource self.old self.new }
+    {
+        let token = match &self.coming {
+            Some(coming) => coming.node().token(),
+            None => None,
+        };
+        let again = match (token, &self.ended) {
+            (Some(token), Some(ended)) => token.text() == ended.text(),
+            _ => false,
+        };
+        self.ended = match token {
+            Some(token) => token.copy().ok(),
+            None => None,
+        };
+        again
+    }
+
+    /// What came afresh takes the place of what is shown, where it has published. Screens go on from
+    /// what they have where it had the same state at that token, and has all since then. Else it is
+    /// shown at its own token alone: it may hold tokens of states that were none. So many bytes that
+    /// came are unread. Why the server is to be left then, if it is.
+    pub(crate) fn settle<L: Link>(
+        &mut self,
+        desk: &mut Desk,
+        link: &mut L,
+        screens: &mut Screens,
+        unread: usize,
+    ) -> Option<Leaves>
+        ensures shows { StillShows self.old self.new (L.exchanges link.old)
+            (L.exchanges link.new) unread screens.old screens.new }
+        ensures follows { result ≡ None → self.old.reach ≡ Read → (left : List ℕ)
+            → length left ≡ unread → StillFollows self.old self.new (L.exchanges link.old)
+            (L.exchanges link.new) left left screens.old screens.new }
+        ensures rest { result ≡ None → self.new.rest.items ≡ self.old.rest.items }
+    {
+        if !self.has_published() {
+            return None;
+        }
+        self.tell_settled(desk);
+        if self.is_alone() {
+            return Some(self.settle_alone(desk, link, screens, unread));
+        }
+        self.keep_screens();
+        link.show_all(unread);
+        self.show();
+        self.say(desk, screens);
+        None
+    }
+
+    /// What came afresh is shown at its own token alone. What comes after that is asked for.
+    fn settle_alone<L: Link>(
+        &mut self,
+        desk: &mut Desk,
+        link: &mut L,
+        screens: &mut Screens,
+        unread: usize,
+    ) -> Leaves
+        ensures shows { StillShows self.old self.new (L.exchanges link.old)
+            (L.exchanges link.new) unread screens.old screens.new }
+    {
+        link.show_once(unread);
+        if self.show_alone(desk.alloc).is_err() {
+            return Leaves::Memory;
+        }
+        self.say(desk, screens);
+        Leaves::Again
+    }
+
+    /// Screens go on, where they may: what comes is no fresh publication to them.
+    fn keep_screens(&mut self)
+        ensures { SameSource self.old self.new }
+    {
+        self.settling.was_alone = false;
+        if self.goes_on() {
+            self.is_fresh = false;
+            self.is_heard = true;
+        }
+    }
+
+    fn tell_settled(&mut self, desk: &mut Desk)
+        ensures { SameSource self.old self.new }
+    {
+        self.figures.change(Following::Answered, desk.time);
+        desk.reports.tell(Told::Settled {
+            server: self.upstream.place(),
+            time: desk.time.saturating_sub(self.settling.began),
+        });
+    }
+
+    /// Whether what came afresh is to be shown at its own token alone. Once in a row: a server that
+    /// does not go on from that token sends all of it again then.
+    fn is_alone(&self) -> bool {
+        let is_over = self.answers.shown.mirror().since().is_some();
+        let may_be = is_over || !self.settling.is_always;
+        may_be && !self.settling.was_alone && !self.goes_on()
+    }
+
+    /// What came afresh is shown from here on, and goes on to follow.
+    fn show(&mut self)
+        ensures { IsNowShown self.old self.new }
+    {
+        if let Some(coming) = self.coming.take() {
+            *self.answers.shown.change() = coming;
+        }
+    }
+
+    /// What came afresh is shown at its own token alone, and nothing follows.
+    fn show_alone(&mut self, alloc: Global) -> Result<(), AllocError>
+        ensures { ShowsAlone self.old self.new }
+    {
+        if let Some(coming) = &self.coming {
+            let alone = alone(alloc, coming)?;
+            *self.answers.shown.change() = alone;
+        }
+        self.coming = None;
+        self.settling.was_alone = true;
+        Ok(())
+    }
+
+    /// What comes after the token that is shown is asked for, at the same server.
+    pub(crate) fn ask_again<L: Link>(&mut self, link: &mut L, now: u64)
+        ensures left { WasLeft self.old self.new (L.exchanges link.old) (L.exchanges link.new) }
+    {
+        self.leave(link, now);
+        self.figures.change(Following::Away, now);
+        let place = self.upstream.place();
+        self.upstream
+            .turn_to(place, self.answers.shown.change(), now);
+    }
+
+    /// The server ignores the token that it was asked with: it is asked for everything, and that is
+    /// to settle. So is each server from here on.
+    pub(crate) fn ignored<L: Link>(&mut self, desk: &mut Desk, link: &mut L)
+        ensures left { WasLeft self.old self.new (L.exchanges link.old) (L.exchanges link.new) }
+    {
+        desk.reports.tell(Told::Ignores {
+            server: self.upstream.place(),
+        });
+        self.settling.is_always = true;
+        self.ask_again(link, desk.time);
+    }
+}

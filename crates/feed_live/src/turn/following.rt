@@ -1,0 +1,147 @@
+//! The part of a turn that follows: the input, or a server; and writes the state file.
+
+ghost use Rattle.std.specs.Prelude.{◌≡◌, ◌≢◌, [], List, Contains};
+ghost use Rattle.feed_node.specs.States.{NodeState};
+ghost use Rattle.feed_device.specs.Files.{IsKnown};
+ghost use Rattle.feed_device.specs.Links.{Exchanges};
+ghost use Rattle.feed_device.specs.Sockets.{AllSockets};
+
+use crate::times::END_TIME;
+use crate::turn::{Input, Live};
+use feed_device::{Link, Store, Told};
+
+impl Live {
+    ghost use Rattle.feed_live.specs.Relaying.{StillRelaying, OnlyServes};
+    ghost use Rattle.feed_live.specs.Taking.{StillTaking, StopsTaking, bytes_in};
+    ghost use Rattle.feed_live.specs.Saved.{ArePartsOfRecords, KeepsFiles, SameSaved};
+
+    /// Says what had to wait.
+    pub(super) fn say_more(&mut self)
+        ensures serves { (sockets : AllSockets) → OnlyServes self.old self.new sockets sockets }
+        ensures saved { SameSaved self.old self.new }
+    {
+        if self.screens.says_now(self.desk.time) {
+            self.source.say_more(&self.desk, &mut self.screens);
+        }
+    }
+
+    /// Takes what the input gave: it is the feed, or only its end counts.
+    pub(super) fn take_input(&mut self, input: Input<'_>)
+        ensures relaying { (exchanges : Exchanges) (sockets : AllSockets)
+            → StillRelaying self.old self.new exchanges exchanges sockets sockets }
+        ensures taking { (sockets : AllSockets) → StillTaking self.old self.new
+            (bytes_in input.entry) sockets sockets }
+        ensures stops { input.entry ≢ Input.End → (sockets : AllSockets)
+            → StopsTaking self.old self.new (bytes_in input.entry) sockets }
+        ensures saved { SameSaved self.old self.new }
+    {
+        match input {
+            Input::Nothing => self.feed(&[]),
+            Input::Bytes(piece) => self.feed(piece),
+            Input::End => self.end(),
+        }
+    }
+
+    /// Follows bytes of the input, where that is the feed.
+    fn feed(&mut self, piece: &[u8])
+        ensures relaying { (exchanges : Exchanges) (sockets : AllSockets)
+            → StillRelaying self.old self.new exchanges exchanges sockets sockets }
+        ensures taking { (sockets : AllSockets) → StillTaking self.old self.new piece.now
+            sockets sockets }
+        ensures stops { (sockets : AllSockets) → StopsTaking self.old self.new piece.now sockets }
+        ensures saved { SameSaved self.old self.new }
+    {
+        if self.feeds {
+            self.feeds = self
+                .source
+                .take_input(&mut self.desk, &mut self.screens, piece);
+        }
+    }
+
+    /// The input has ended.
+    fn end(&mut self)
+        ensures relaying { (exchanges : Exchanges) (sockets : AllSockets)
+            → StillRelaying self.old self.new exchanges exchanges sockets sockets }
+        ensures taking { (sockets : AllSockets) → StillTaking self.old self.new []
+            sockets sockets }
+        ensures saved { SameSaved self.old self.new }
+    {
+        if self.feeds {
+            self.desk.reports.tell(Told::EndOfInput);
+            self.source.end_input(self.desk.time);
+        }
+        self.feeds = false;
+        if self.limits.ends_with_input && self.ends_at.is_none() {
+            self.ends_at = Some(self.desk.time.saturating_add(END_TIME));
+            self.screens.end_feeds(&self.desk);
+        }
+    }
+
+    /// Goes on with the server that is followed, unless something is still to be said.
+    pub(super) fn follow<L: Link>(&mut self, link: &mut L)
+        ensures relaying { (sockets : AllSockets) → StillRelaying self.old self.new
+            (L.exchanges link.old) (L.exchanges link.new) sockets sockets }
+        // where there is no server
+        ensures nothing { self.old.source.places.items ≡ [] → self.new ≡ self.old }
+        ensures saved { SameSaved self.old self.new }
+    {
+        if self.ends_at.is_some() || !self.source.has_servers() {
+            return;
+        }
+        let was_held = !self.source.is_heard();
+        self.source.tick(&mut self.desk, link, self.limits.idle);
+        self.go_on(link);
+        self.settle(link);
+        if was_held && self.source.is_heard() {
+            self.screens.has_more = true;
+        }
+    }
+
+    /// Goes on with the connection, where there may be more.
+    fn go_on<L: Link>(&mut self, link: &mut L)
+        ensures relaying { (sockets : AllSockets) → StillRelaying self.old self.new
+            (L.exchanges link.old) (L.exchanges link.new) sockets sockets }
+        ensures saved { SameSaved self.old self.new }
+    {
+        if self.source.has_more() && self.screens.says_at().is_none() {
+            self.source.go_on(&mut self.desk, link, &mut self.screens);
+        }
+    }
+
+    /// Shows what came afresh, where that has settled.
+    fn settle<L: Link>(&mut self, link: &mut L)
+        ensures relaying { (sockets : AllSockets) → StillRelaying self.old self.new
+            (L.exchanges link.old) (L.exchanges link.new) sockets sockets }
+        ensures saved { SameSaved self.old self.new }
+    {
+        self.source
+            .settle_due(&mut self.desk, link, &mut self.screens);
+    }
+
+    /// Writes a slice of the state file.
+    pub(super) fn save<D: Store>(&mut self, store: &mut D)
+        ensures serves { (sockets : AllSockets) → OnlyServes self.old self.new sockets sockets }
+        ensures kept { (nodes : List NodeState)
+            → Contains nodes self.old.source.answers.shown.mirror.node
+            → KeepsFiles nodes (D.files store.old) self.old.saved
+            → KeepsFiles nodes (D.files store.new) self.new.saved }
+        ensures parts { (nodes : List NodeState)
+            → Contains nodes self.old.source.answers.shown.mirror.node
+            → KeepsFiles nodes (D.files store.old) self.old.saved
+            → ArePartsOfRecords nodes (D.files store.old).had
+            → ArePartsOfRecords nodes (D.files store.new).had }
+        // where the feed was published afresh, they have nothing of what was shown before
+        ensures anew { self.old.source.epoch ≢ self.old.epoch → (nodes : List NodeState)
+            → Contains nodes self.old.source.answers.shown.mirror.node
+            → IsKnown (D.files store.old).next
+            → KeepsFiles nodes (D.files store.new) self.new.saved }
+    {
+        let Some(saved) = &mut self.saved else {
+            return;
+        };
+        let epoch = self.source.epoch();
+        saved.begin_where(epoch != self.epoch);
+        self.epoch = epoch;
+        saved.save(&mut self.desk, store, self.source.node());
+    }
+}

@@ -1,0 +1,147 @@
+//! The part of a turn that serves the screens.
+
+ghost use Rattle.std.specs.Prelude.{◌≡◌, false, true};
+ghost use Rattle.slab.specs.Slab.{get};
+ghost use Rattle.feed_device.specs.Sockets.{AllSockets};
+
+use crate::screens::Shown;
+use crate::times::{REPORT, TICK};
+use crate::turn::Live;
+use feed_device::{Ready, Sockets, Told};
+
+impl Live {
+    ghost use Rattle.feed_live.specs.Relaying.{OnlyServes};
+    ghost use Rattle.feed_live.specs.Saved.{SameSaved};
+    ghost use Rattle.feed_live.specs.Held.{Waits, has_heard};
+
+    /// Once a second, looks for who is late; and says a line feed after silence.
+    pub(super) fn tick<S: Sockets>(&mut self, sockets: &mut S)
+        ensures serves { OnlyServes self.old self.new (S.socket sockets.old)
+            (S.socket sockets.new) }
+        ensures saved { SameSaved self.old self.new }
+    {
+        if self.screens.conns.is_empty() {
+            self.tidy();
+            return;
+        }
+        self.keep_alive();
+        if self.desk.time.saturating_sub(self.ticked) < TICK {
+            return;
+        }
+        self.look_for_late(sockets);
+        self.tidy();
+        if !self.source.is_heard() {
+            self.hold();
+        }
+    }
+
+    /// Says a line feed after silence.
+    fn keep_alive(&mut self)
+        ensures serves { (sockets : AllSockets) → OnlyServes self.old self.new sockets sockets }
+        ensures saved { SameSaved self.old self.new }
+    {
+        self.screens.idle(&self.desk);
+    }
+
+    /// Looks for who is late: requests that have waited for room for long enough are refused, others
+    /// cut, and so are screens that take nothing.
+    fn look_for_late<S: Sockets>(&mut self, sockets: &mut S)
+        ensures serves { OnlyServes self.old self.new (S.socket sockets.old)
+            (S.socket sockets.new) }
+        ensures saved { SameSaved self.old self.new }
+    {
+        self.ticked = self.desk.time;
+        self.screens.refuse_overdue(&mut self.desk, sockets);
+        self.screens.cut_late(self.desk.time);
+        self.screens.sweep(&mut self.desk, sockets);
+        self.screens.close_past(&mut self.desk, sockets);
+    }
+
+    /// Forgets the texts that no screen has any more.
+    fn tidy(&mut self)
+        ensures serves { (sockets : AllSockets) → OnlyServes self.old self.new sockets sockets }
+        ensures saved { SameSaved self.old self.new }
+    {
+        self.source.tidy();
+        self.screens.tidy();
+    }
+
+    /// Requests wait: those that waited for long enough are looked at again.
+    fn hold(&mut self)
+        ensures serves { (sockets : AllSockets) → OnlyServes self.old self.new sockets sockets }
+        ensures saved { SameSaved self.old self.new }
+    {
+        self.screens.has_more = true;
+        if self.desk.time >= self.limits.hold && !self.is_hold_told {
+            self.is_hold_told = true;
+            self.desk.reports.tell(Told::NotHeard);
+        }
+    }
+
+    /// Reads from and writes to the screens that became ready, and those that had more.
+    pub(super) fn serve<S: Sockets>(&mut self, sockets: &mut S, events: &[Ready], had_more: bool)
+        ensures serves { OnlyServes self.old self.new (S.socket sockets.old)
+            (S.socket sockets.new) }
+        ensures saved { SameSaved self.old self.new }
+    {
+        self.serve_more(sockets, had_more);
+        for event in events {
+            if let Ready::Screen { at, .. } = *event {
+                self.serve_one(sockets, at);
+            }
+        }
+    }
+
+    /// Reads from and writes to those that had more, where there were some.
+    fn serve_more<S: Sockets>(&mut self, sockets: &mut S, had_more: bool)
+        ensures serves { OnlyServes self.old self.new (S.socket sockets.old)
+            (S.socket sockets.new) }
+        ensures saved { SameSaved self.old self.new }
+    {
+        if !had_more {
+            return;
+        }
+        let shown = Shown {
+            is_held: !self.source.is_heard(),
+            hold: self.limits.hold,
+            contest: self.contest.as_str(),
+        };
+        let answers = &mut self.source.answers;
+        self.screens
+            .serve_more(&mut self.desk, sockets, answers, &shown);
+    }
+
+    /// Reads from and writes to the one at a place.
+    fn serve_one<S: Sockets>(&mut self, sockets: &mut S, at: usize)
+        // until a server was heard, or for so long, a request waits
+        ensures waits { has_heard self.old.source ≡ false
+            → Waits (get self.old.screens.conns at) true self.old.limits.hold self.old.desk.time
+            → sockets.new ≡ sockets.old }
+        ensures serves { OnlyServes self.old self.new (S.socket sockets.old)
+            (S.socket sockets.new) }
+        ensures saved { SameSaved self.old self.new }
+    {
+        let shown = Shown {
+            is_held: !self.source.is_heard(),
+            hold: self.limits.hold,
+            contest: self.contest.as_str(),
+        };
+        let answers = &mut self.source.answers;
+        self.screens
+            .serve(&mut self.desk, sockets, answers, &shown, at);
+    }
+
+    /// Tells how many screens there are, where that has changed.
+    pub(super) fn report(&mut self)
+        ensures serves { (sockets : AllSockets) → OnlyServes self.old self.new sockets sockets }
+        ensures saved { SameSaved self.old self.new }
+    {
+        if self.desk.time.saturating_sub(self.reported) < REPORT {
+            return;
+        }
+        self.reported = self.desk.time;
+        if let Some(told) = self.screens.report() {
+            self.desk.reports.tell(told);
+        }
+    }
+}
