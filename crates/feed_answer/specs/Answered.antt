@@ -23,15 +23,23 @@ pub record AnswerParts : Type 0 where
 -- the answer that refuses
 abbrev pub refusing : Refusal → AnswerParts
 refusing refusal =
-    record { status = refusal_code refusal; framing = Close; text = refusal_text refusal;
-        session = None }
+    record {
+      status = refusal_code refusal;
+      framing = Close;
+      text = refusal_text refusal;
+      session = None;
+    }
 
 -- the answer with the feed, where the node opens a session; the last case never comes: `opens`
 -- gives no want of memory
 abbrev pub answer_opened : Framing → Result Started OpenFault → AnswerParts
 answer_opened framing (Ok started) =
-    record { status = 200; framing = framing; text = opening_text framing started.text;
-        session = Some started.token }
+    record {
+      status = 200;
+      framing = framing;
+      text = opening_text framing started.text;
+      session = Some started.token;
+    }
 answer_opened framing (Err NotYet) = refusing NothingPublished
 answer_opened framing (Err NotHeld) = refusing TokenNotHeld
 answer_opened framing (Err Memory) = refusing NothingPublished

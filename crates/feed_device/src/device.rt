@@ -5,10 +5,11 @@ ghost use Rattle.std.specs.Io.KnownBytes.{WriteAppends};
 ghost use Rattle.feed_device.specs.Calls.{CalledOnce, AllCalls, NotCalled, OthersNotCalled};
 ghost use Rattle.feed_device.specs.Files.{StateFiles, unknown_files, file_text, IsKnown, OtherFilesStay, HasAppended, IsLeftOf, gone_on_from};
 ghost use Rattle.feed_device.specs.declared.device.FileSlot.TheVariants.{Next};
+ghost use Rattle.feed_device.specs.declared.device.Stop.TheVariants.{Failed};
 ghost use Rattle.feed_device.specs.Links.{Exchange, BeginsLink, WritesSome, Receives, shown_so, once_at, all_from};
 ghost use Rattle.feed_device.specs.Sockets.{Socket, IsAccept, GivesBytes, IsWrite, closed, goes_on_with, SameSockets, OtherSockets};
 
-use crate::told::Why;
+use crate::report::Why;
 use std::alloc::AllocError;
 use std::net::SocketAddr;
 
@@ -25,6 +26,8 @@ pub enum Stop {
 }
 
 impl From<AllocError> for Stop {
+    ghost from_gives = { λ _ stop. stop ≡ Failed };
+
     fn from(_error: AllocError) -> Stop {
         Stop::Failed
     }

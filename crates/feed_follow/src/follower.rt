@@ -192,11 +192,6 @@ impl Follower {
         self.part = Part::Closed;
     }
 
-    /// Whether the body is read that ends where the connection does.
-    pub fn ends_with_connection(&self) -> bool {
-        self.part == Part::ToEnd
-    }
-
     /// The response has ended, or is left.
     pub fn end(self, mirror: &mut Mirror)
         ensures { mirror.new ≡ cut_off mirror.old }

@@ -177,7 +177,7 @@ abbrev pub ServedLive : ℕ → Service → Exchange → Intake → Result Serve
 ServedLive turn service spoken start (Ok served) now =
     ((answer : AnswerParts) × (text : List ℕ)
     × HasAnswer service.contest.now start.primary.node service.framing service.back
-        spoken.source spoken.left answer
+    spoken.source spoken.left answer
     × SendsLive turn start answer text served now
     × Appends spoken.written_old spoken.written_new text)
     × TakesAll turn start served now
@@ -191,18 +191,18 @@ ServedLive turn service spoken start (Err fault.Turns) now =
 ServedLive turn service spoken start (Err fault.Write) now =
     (answer : AnswerParts)
     × HasAnswer service.contest.now start.primary.node service.framing service.back
-        spoken.source spoken.left answer
+    spoken.source spoken.left answer
     × WroteLive turn start answer now spoken.written_old spoken.written_new
 ServedLive turn service spoken start (Err (fault.Commit why)) now =
     (answer : AnswerParts)
     × HasAnswer service.contest.now start.primary.node service.framing service.back
-        spoken.source spoken.left answer
+    spoken.source spoken.left answer
     × WroteRefused turn start answer why now spoken.written_old spoken.written_new
 ServedLive turn service spoken start (Err fault.Memory) now =
     (Appends spoken.written_old spoken.written_new [] × (now ≡ start))
     ⊎ ((answer : AnswerParts)
     × HasAnswer service.contest.now start.primary.node service.framing service.back
-        spoken.source spoken.left answer
+    spoken.source spoken.left answer
     × WroteLive turn start answer now spoken.written_old spoken.written_new)
 ServedLive turn service spoken start (Err (fault.Follow why)) now = ⊥
 

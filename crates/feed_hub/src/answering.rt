@@ -1,9 +1,10 @@
 //! A mirror that answers many.
 
-ghost use Rattle.std.specs.Prelude.{◌≡◌, ◌<◌, ◌^◌, None, Some, IsTrue, IfOk, is_some, length};
+ghost use Rattle.std.specs.Prelude.{◌≡◌, ◌↔◌, ◌<◌, ◌^◌, None, Some, IsTrue, IfOk, is_some, length};
 ghost use Rattle.feed_note.specs.Texts.{published_text};
 ghost use Rattle.feed_answer.specs.Served.{opening_text};
-ghost use Rattle.feed_hub.specs.Answering.{IsOpeningOf, NumbersText};
+ghost use Rattle.feed_answer.specs.Replied.{reply_of};
+ghost use Rattle.feed_hub.specs.Answering.{IsOpeningOf, NumbersText, NeedsText, TellsText};
 
 use crate::screen::bytes_of;
 use bytes::Bytes;
@@ -107,6 +108,8 @@ impl Answering {
         ensures fits { IfOk result (λ opened. length opened.0 < 2 ^ 64) }
         ensures shared { IfOk result (λ opened. IsTrue opened.1
             → self.new.opening ≡ Some opened.0) }
+        // who takes such frames shares it
+        ensures shares { framing ≡ self.old.framing → IfOk result (λ opened. IsTrue opened.1) }
         ensures made { NumbersText self.old.opening self.new.opening self.old.made self.new.made }
         ensures mirror { self.new.mirror ≡ self.old.mirror }
         ensures framing { self.new.framing ≡ self.old.framing }
@@ -130,13 +133,25 @@ impl Answering {
         head: &[u8],
         contest: &str,
         framing: Framing,
-    ) -> bool {
+    ) -> Result<bool, AllocError>
+        ensures { IfOk result (TellsText head.now contest.now self.now.mirror.node framing
+            self.now.framing self.now.opening) }
+    {
         if is_needed(head) {
-            return false;
+            return Ok(false);
         }
-        match reply_to(alloc, head, self.node(), contest, framing, 0) {
-            Ok(Reply::Snapshot(framing, _)) => { framing != self.framing || self.opening.is_none() }
-            _ => false,
+        let reply = reply_to(alloc, head, self.node(), contest, framing, 0)?;
+        Ok(self.needs_text(&reply))
+    }
+
+    /// Whether a reply opens with the snapshot, and no text is kept that is framed so.
+    fn needs_text(&self, reply: &Reply) -> bool
+        ensures { IsTrue result
+            ↔ NeedsText self.now.framing self.now.opening (reply_of reply.now) }
+    {
+        match reply {
+            Reply::Snapshot(framing, _) => *framing != self.framing || self.opening.is_none(),
+            Reply::Whole(_) => false,
         }
     }
 

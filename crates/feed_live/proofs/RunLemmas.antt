@@ -1,25 +1,29 @@
 -- How turns make a run, and what holds at each moment of one.
-use Rattle.std.proofs.Common.{◌≡◌, refl, sym, ap, ◌∙◌, subst, ℕ, ◌+◌, List, [], ◌∷◌, ◌++◌, append-nil, length, Option, Some, None, arith}
-use Rattle.std.specs.Prelude.{option_map, Contains, Result, Ok, Err, OnErr, OnOk, true, false}
+use Rattle.std.proofs.Common.{◌≡◌, ◌≢◌, ◌⊎◌, inl, inr, refl, sym, ap, ◌∙◌, subst, ℕ, ◌+◌, List, [], ◌∷◌, ◌++◌, append-nil, append_assoc, length, Option, Some, None, arith}
+use Rattle.std.specs.Prelude.{◌≤◌, ◌-◌, ◌^◌, suc, min, Bool, option_map, IfSome, Contains, Result, Ok, Err, OnErr, OnOk, true, false}
 use Rattle.std.specs.List.{AllByRecursion}
 use Rattle.std.specs.Result.{IsErr}
+use Rattle.slab.specs.Slab.{slab_len}
 use Rattle.feed_settings.specs.Limits.{Limits}
-use Rattle.feed_node.specs.Mirroring.{MirrorState}
+use Rattle.feed_node.specs.Mirroring.{MirrorState, new_mirror}
 use Rattle.feed_node.specs.States.{NodeState}
-use Rattle.feed_world.specs.Log.{Log}
-use Rattle.feed_device.specs.Calls.{CalledOnce}
+use Rattle.feed_world.specs.Log.{Log, numbered}
 use Rattle.feed_device.specs.Files.{StateFiles}
 use Rattle.feed_device.specs.Links.{Exchanges}
 use Rattle.feed_device.specs.Sockets.{AllSockets}
+use Rattle.feed_live.specs.declared.options.Setup.{Setup}
+use Rattle.feed_live.specs.declared.turn.Input.{Input}
+use Rattle.feed_live.specs.declared.turn.Input.TheVariants.{Nothing, Bytes, End}
 use Rattle.feed_live.specs.declared.turn.Live.{Live}
+use Rattle.feed_live.specs.declared.turn.Turn.{Turn}
 use Rattle.feed_live.specs.Laws.{ShowsTheLog}
 use Rattle.feed_live.specs.Relaying.{IsRelaying, StillRelaying}
-use Rattle.feed_live.specs.Running.{Moment, moment_of, shown_at, KeepsFilesAt, came_more, IsTurn, IsRun, HasRun, AreNodesOf, KeepsToTheLog, RunsKeepToTheLog, IsKnownHonestInput, InputRunsKeepToTheLog}
+use Rattle.feed_live.specs.Running.{Came, nothing_came, has_ended_by, came_on, came_more, HostCalls, waited_for, reported_once, Surroundings, surroundings, Moment, moment_of, mirror_at, shown_at, KeepsFilesAt, at_once, RunsFrom, IsOver, IsTurn, IsSameRelay, IsRun, waited_at, calls_in, HasRun, servers_of_setup, AreUnused, BeginsInLog, AreAllFilesOfLog, Begins, IsKnownHonestInput, TakesAllAt, HasEndedAt, StopsAt, EndsOrStops, TakesItsInput, KeepsToTheLog}
 use Rattle.feed_live.specs.Saved.{ArePartsOfRecords, KeepsFiles}
-use Rattle.feed_live.specs.Taking.{IsTakingInput, StillTaking}
+use Rattle.feed_live.specs.Taking.{IsTakingInput, StillTaking, StopsInput, bytes_in}
 use Rattle.feed_live.specs.Upstream.{Servers, AreKnownHonest}
 use Rattle.feed_live.proofs.HonestLemmas.{relays_show_the_log, input_shows_the_log}
-use Rattle.feed_live.proofs.StateLemmas.{among_states}
+use Rattle.feed_live.proofs.StateLemmas.{among_states, among_first, among_rest}
 
 pub at_err : {A E : Type 0} (P : Type 0) (r : Result A E) → P → OnErr r P
 at_err P (Ok x) p = tt
@@ -31,54 +35,71 @@ no_ok P (Err e) err = tt
 
 -- ---- one turn
 
--- what was told is forgotten behind a turn
-pub cleared : {old : Moment} {live after : Live} {exchanges : Exchanges} {sockets : AllSockets} {files_then : StateFiles} {input : Option (List ℕ)}
-    → IsTurn old (moment_of live exchanges sockets files_then input)
-    → ((e : Exchanges) (s : AllSockets) → StillRelaying live after e e s s) → ((s : AllSockets) → StillTaking live after [] s s)
-    → after.source ≡ live.source → after.saved ≡ live.saved → after.epoch ≡ live.epoch
-    → IsTurn old (moment_of after exchanges sockets files_then input)
-cleared {old} {live} {after} {exchanges} {sockets} {files_then} {input} turn relaying taking source saved epoch =
+-- it is over, too, where nothing but what is told of it has changed
+still_over : {live after : Live} {now : ℕ} → IsSameRelay live after → IsOver live now → IsOver after now
+still_over {live} {after} {now} same over =
     record {
-      relaying = λ limits log servers is. relaying exchanges sockets limits log servers (turn.relaying limits log servers is);
-      bytes = turn.bytes;
-      came = turn.came;
-      taking = λ limits log begun came is.
-          subst (λ all. IsTakingInput limits log begun all after sockets) (append-nil (came ++ turn.bytes))
-          (taking sockets limits log begun (came ++ turn.bytes) (turn.taking limits log begun came is));
-      kept = λ nodes has files.
-          subst (KeepsFiles nodes files_then) (sym saved) (turn.kept nodes (subst (λ s. Contains nodes s.answers.shown.mirror.node) source has) files);
-      parts = λ nodes has files parts. turn.parts nodes (subst (λ s. Contains nodes s.answers.shown.mirror.node) source has) files parts;
-      anew = λ newer nodes has known.
-          subst (KeepsFiles nodes files_then) (sym saved)
-          (turn.anew (λ same. newer (ap (λ s. s.epoch) source ∙ same)) nodes (subst (λ s. Contains nodes s.answers.shown.mirror.node) source has) known);
+      at = over.at;
+      ends = same.ends_at ∙ over.ends;
+      over = subst (λ screens. (over.at ≤ now) ⊎ ((slab_len screens.conns ≡ 0) × IfSome after.saved (λ saved. saved.has_more ≡ false))) (sym same.screens)
+          (subst (λ files. (over.at ≤ now) ⊎ ((slab_len live.screens.conns ≡ 0) × IfSome files (λ saved. saved.has_more ≡ false))) (sym same.saved) over.over);
     }
 
--- what the input gave before is what it had given then
-pub given_so : {live after : Live} {exchanges exchanges_then : Exchanges} {sockets sockets_then : AllSockets} {files files_then : StateFiles}
-    {input before came now : Option (List ℕ)} → before ≡ input → now ≡ came
-    → IsTurn (moment_of live exchanges sockets files before) (moment_of after exchanges_then sockets_then files_then came)
-    → IsTurn (moment_of live exchanges sockets files input) (moment_of after exchanges_then sockets_then files_then now)
-given_so {live} {after} {exchanges} {exchanges_then} {sockets} {sockets_then} {files} {files_then} {input} {before} {came} {now} was is turn =
-    subst (λ i. IsTurn (moment_of live exchanges sockets files i) (moment_of after exchanges_then sockets_then files_then now)) was
-    (subst (λ i. IsTurn (moment_of live exchanges sockets files before) (moment_of after exchanges_then sockets_then files_then i)) (sym is) turn)
+-- what was reported is forgotten behind a turn
+pub cleared : {old : Moment} {live after : Live} {next : Turn} {time : Option ℕ} {around : Surroundings} → IsTurn old (moment_of live next time around)
+    → ((e : Exchanges) (s : AllSockets) → StillRelaying live after e e s s) → ((s : AllSockets) → StillTaking live after [] s s)
+    → IsSameRelay live after → IsTurn old (moment_of after next time around)
+cleared {old} {live} {after} {next} {time} {around} turn relaying taking same =
+    record {
+      given = turn.given;
+      now = turn.now;
+      came = turn.came;
+      time = turn.time;
+      relaying = λ limits log servers is. relaying around.exchanges around.sockets limits log servers (turn.relaying limits log servers is);
+      taking = λ limits log begun came is.
+          subst (λ all. IsTakingInput limits log begun all after around.sockets) (append-nil (came ++ bytes_in turn.given))
+          (taking around.sockets limits log begun (came ++ bytes_in turn.given) (turn.taking limits log begun came is));
+      stops = λ goes_on limits log begun input is feeds ends.
+          let stopped = turn.stops goes_on limits log begun input is feeds (sym same.feeds ∙ ends) in (
+            stopped.0,
+            subst (λ s. StopsInput begun (input ++ bytes_in turn.given) stopped.0 s.answers.shown.mirror) (sym same.source) stopped.1,
+          );
+      kept = λ nodes has files.
+          subst (KeepsFiles nodes around.files) (sym same.saved) (turn.kept nodes (subst (λ s. Contains nodes s.answers.shown.mirror.node) same.source has) files);
+      parts = λ nodes has files parts. turn.parts nodes (subst (λ s. Contains nodes s.answers.shown.mirror.node) same.source has) files parts;
+      anew = λ newer nodes has known.
+          subst (KeepsFiles nodes around.files) (sym same.saved)
+          (turn.anew (λ is. newer (ap (λ s. s.epoch) same.source ∙ is)) nodes (subst (λ s. Contains nodes s.answers.shown.mirror.node) same.source has) known);
+      wakes = λ more. turn.wakes (subst (λ s. s.has_more ≡ true) same.screens more);
+      awake = subst (λ reported. next.due ≤ min (reported + 60000) (2 ^ 64 - 1)) (sym same.reported) turn.awake;
+      over = λ is. still_over same (turn.over is);
+    }
+
+-- what the input gave before is what it had given then, and the time stays while a turn is told
+pub given_so : {live after : Live} {waits next : Turn} {earlier_time time time_now : Option ℕ} {exchanges exchanges_then : Exchanges} {sockets sockets_then : AllSockets} {files files_then : StateFiles}
+    {input before came now : Option Came} → before ≡ input → now ≡ came → time_now ≡ time
+    → IsTurn (moment_of live waits earlier_time (surroundings exchanges sockets files before)) (moment_of after next time (surroundings exchanges_then sockets_then files_then came))
+    → IsTurn (moment_of live waits earlier_time (surroundings exchanges sockets files input)) (moment_of after next time_now (surroundings exchanges_then sockets_then files_then now))
+given_so {live} {after} {waits} {next} {earlier_time} {time} {time_now} {exchanges} {exchanges_then} {sockets} {sockets_then} {files} {files_then} {input} {before} {came} {now} was is stays turn =
+    subst (λ t. IsTurn (moment_of live waits earlier_time (surroundings exchanges sockets files input)) (moment_of after next t (surroundings exchanges_then sockets_then files_then now))) (sym stays)
+    (subst (λ i. IsTurn (moment_of live waits earlier_time (surroundings exchanges sockets files i)) (moment_of after next time (surroundings exchanges_then sockets_then files_then now))) was
+    (subst (λ i. IsTurn (moment_of live waits earlier_time (surroundings exchanges sockets files before)) (moment_of after next time (surroundings exchanges_then sockets_then files_then i))) (sym is) turn))
 
 -- ---- turn after turn
 
-once_more : (old new : Option ℕ) → CalledOnce old new → new ≡ option_map (λ waits. 1 + waits) old
-once_more None new once = once
-once_more (Some count) new once = once ∙ ap (λ k. Some k) (omega arith)
+tells_more : (n m k : ℕ) (reports : Option ℕ) → k ≡ m + n → option_map (λ t. m + t) (option_map (λ t. n + t) reports) ≡ option_map (λ t. k + t) reports
+tells_more n m k None is = refl
+tells_more n m k (Some reports) is = ap (λ (t : ℕ). Some t) (omega (arith, is))
 
-none_more : (waited : Option ℕ) → waited ≡ option_map (λ waits. 0 + waits) waited
-none_more None = refl
-none_more (Some count) = ap (λ k. Some k) (omega arith)
+waited_both : (later earlier : List Moment) → waited_at (later ++ earlier) ≡ waited_at later ++ waited_at earlier
+waited_both [] earlier = refl
+waited_both (moment ∷ later) earlier = ap (λ (turns : List Turn). moment.next ∷ turns) (waited_both later earlier)
 
-more_waits : (n m : ℕ) (waited between after : Option ℕ) → between ≡ option_map (λ waits. n + waits) waited
-    → after ≡ option_map (λ waits. m + waits) between → after ≡ option_map (λ waits. (n + m) + waits) waited
-more_waits n m None between after one two = two ∙ ap (option_map (λ waits. m + waits)) one
-more_waits n m (Some count) between after one two = two ∙ ap (option_map (λ waits. m + waits)) one ∙ ap (λ k. Some k) (omega arith)
-
-pub waited_once : (old between new : Option ℕ) → new ≡ between → CalledOnce old between → CalledOnce old new
-waited_once old between new same once = same ∙ once
+waits_more : (later earlier : List Moment) (waits : Option (List Turn))
+    → option_map (λ turns. waited_at later ++ turns) (option_map (λ turns. waited_at earlier ++ turns) waits) ≡ option_map (λ turns. waited_at (later ++ earlier) ++ turns) waits
+waits_more later earlier None = refl
+waits_more later earlier (Some waits) =
+    ap (λ (turns : List Turn). Some turns) (sym (ap (λ (turns : List Turn). turns ++ waits) (waited_both later earlier) ∙ append_assoc (waited_at later) (waited_at earlier) waits))
 
 lengths : {A : Type 0} (xs ys : List A) → length (xs ++ ys) ≡ length xs + length ys
 lengths [] ys = omega arith
@@ -87,102 +108,202 @@ lengths (x ∷ xs) ys = omega (arith, lengths xs ys)
 both_turns : (n m : ℕ) (later earlier : List Moment) → length later ≡ m → length earlier ≡ n → length (later ++ earlier) ≡ n + m
 both_turns n m later earlier two one = lengths later earlier ∙ omega (arith, two, one)
 
+abbrev calls_of : Option (List Turn) → Option ℕ → HostCalls
+calls_of waits reports = record { waits = waits; reports = reports }
+
+both_same : (waits waits_now : Option (List Turn)) (reports tells_now : Option ℕ) → waits ≡ waits_now → reports ≡ tells_now → calls_of waits reports ≡ calls_of waits_now tells_now
+both_same waits waits_now reports tells_now one two = ap (λ (w : Option (List Turn)). calls_of w reports) one ∙ ap (λ (t : Option ℕ). calls_of waits_now t) two
+
+calls_then : (later earlier : List Moment) (calls : HostCalls) → calls_in later (calls_in earlier calls) ≡ calls_in (later ++ earlier) calls
+calls_then later earlier calls =
+    both_same _ _ _ _ (waits_more later earlier calls.waits) (tells_more (length earlier) (length later) (length (later ++ earlier)) calls.reports (lengths later earlier))
+
+none_told : (reports : Option ℕ) → reports ≡ option_map (λ t. 0 + t) reports
+none_told None = refl
+none_told (Some reports) = ap (λ (t : ℕ). Some t) (omega arith)
+
+none_waited : (waits : Option (List Turn)) → waits ≡ option_map (λ turns. [] ++ turns) waits
+none_waited None = refl
+none_waited (Some waits) = refl
+
+no_calls : (calls : HostCalls) → calls ≡ calls_in [] calls
+no_calls calls = both_same _ _ _ _ (none_waited calls.waits) (none_told calls.reports)
+
+one_told : (reports : Option ℕ) → option_map (λ t. suc t) reports ≡ option_map (λ t. 1 + t) reports
+one_told None = refl
+one_told (Some reports) = ap (λ (t : ℕ). Some t) (omega arith)
+
+once : (moment : Moment) (calls : HostCalls) → reported_once (waited_for moment.next calls) ≡ calls_in (moment ∷ []) calls
+once moment calls = both_same _ _ _ _ refl (one_told calls.reports)
+
 joined : (first between last : Moment) (earlier later : List Moment) → IsRun first earlier between → IsRun between later last → IsRun first (later ++ earlier) last
 joined first between last earlier [] one two = subst (IsRun first earlier) (sym two) one
 joined first between last earlier (before ∷ later) one two = (two.0, joined first between before earlier later one two.1)
 
-pub no_turn : {before after : Moment} {waited waited_now : Option ℕ} → after ≡ before → waited_now ≡ waited → HasRun before after waited waited_now 0
-no_turn {waited = waited} same none = record { earlier = []; run = same; turns = refl; waits = none ∙ none_more waited }
+pub no_turn : {before after : Moment} {calls calls_now : HostCalls} → after ≡ before → calls_now ≡ calls → HasRun before after calls calls_now 0
+no_turn {calls = calls} same none = record { earlier = []; run = same; turns = refl; calls = none ∙ no_calls calls }
 
-pub one_turn : {before after : Moment} {waited waited_now : Option ℕ} → IsTurn before after → CalledOnce waited waited_now → HasRun before after waited waited_now 1
-one_turn {before} {waited = waited} {waited_now = waited_now} turn once =
-    record { earlier = before ∷ []; run = (turn, refl); turns = refl; waits = once_more waited waited_now once }
+pub one_turn : {before after : Moment} {calls calls_then calls_now : HostCalls} → IsTurn before after → calls_then ≡ waited_for before.next calls → calls_now ≡ reported_once calls_then
+    → HasRun before after calls calls_now 1
+one_turn {before} {calls = calls} turn waits reports =
+    record { earlier = before ∷ []; run = (turn, refl); turns = refl; calls = reports ∙ ap reported_once waits ∙ once before calls }
+
+-- such a run, where the host failed before the turn or behind it
+pub failed_run : {first : Moment} {live : Live} {next : Turn} {time : Option ℕ} {around : Surroundings} {calls calls_now : HostCalls} {n : ℕ}
+    → HasRun first (moment_of live next time around) calls calls_now n → n ≤ 1
+    → (count : ℕ) × (count ≤ 1) × (next : Turn) × (time : Option ℕ) × HasRun first (moment_of live next time around) calls calls_now count
+failed_run {next = next} {time = time} {n = n} run few = (n, few, next, time, run)
+
+-- nothing was touched
+pub untouched : (exchanges : Exchanges) (sockets : AllSockets) {files files_now : StateFiles} {input input_now : Option Came}
+    → files_now ≡ files → input_now ≡ input → surroundings exchanges sockets files_now input_now ≡ surroundings exchanges sockets files input
+untouched exchanges sockets {files} {files_now} {input} {input_now} one two =
+    ap (λ (f : StateFiles). surroundings exchanges sockets f input_now) one ∙ ap (λ (i : Option Came). surroundings exchanges sockets files i) two
 
 -- one run behind another
-pub then_on : {first between last : Moment} {waited waited_then waited_now : Option ℕ} {n m : ℕ} → HasRun between last waited_then waited_now m → HasRun first between waited waited_then n
-    → HasRun first last waited waited_now (n + m)
-then_on {first} {between} {last} {waited} {waited_then} {waited_now} {n} {m} two one =
+pub then_on : {first between last : Moment} {calls calls_between calls_now : HostCalls} {n m : ℕ} → HasRun between last calls_between calls_now m → HasRun first between calls calls_between n
+    → HasRun first last calls calls_now (n + m)
+then_on {first} {between} {last} {calls} {calls_between} {calls_now} {n} {m} two one =
     record {
       earlier = two.earlier ++ one.earlier;
       run = joined first between last one.earlier two.earlier one.run two.run;
       turns = both_turns n m two.earlier one.earlier two.turns one.turns;
-      waits = more_waits n m waited waited_then waited_now one.waits two.waits;
+      calls = two.calls ∙ ap (calls_in two.earlier) one.calls ∙ calls_then two.earlier one.earlier calls;
     }
-
--- there was a run of so many turns
-pub some_run : {first last : Moment} {waited waited_now : Option ℕ} {n : ℕ} → HasRun first last waited waited_now n → (count : ℕ) × HasRun first last waited waited_now count
-some_run {n = n} run = (n, run)
 
 -- ---- what holds at each moment
 
 module _ (limits : Limits) (log : Log) where
   abbrev ShowsAt : Moment → Type 0
-  ShowsAt moment = ShowsTheLog limits log moment.live moment.sockets
-
-  -- what it shows is among the nodes
-  has_shown : (nodes : List NodeState) → AreNodesOf limits log nodes → (moment : Moment) → ShowsAt moment → Contains nodes (shown_at moment)
-  has_shown nodes of moment shows = of.may_show (shown_at moment) (among_states limits log (shown_at moment) shows.shown)
+  ShowsAt moment = ShowsTheLog limits log moment.live moment.around.sockets
 
   -- what the files have at the last moment
-  files_to : (nodes : List NodeState) → AreNodesOf limits log nodes → (first last : Moment) (earlier : List Moment) → IsRun first earlier last
-      → AllByRecursion ShowsAt (last ∷ earlier) → KeepsFilesAt nodes first → ArePartsOfRecords nodes first.files.had → KeepsFilesAt nodes last × ArePartsOfRecords nodes last.files.had
-  files_to nodes of first last [] run shows keeps parts = (subst (KeepsFilesAt nodes) (sym run) keeps, subst (λ m. ArePartsOfRecords nodes m.files.had) (sym run) parts)
-  files_to nodes of first last (before ∷ earlier) run shows keeps parts =
-      let files = files_to nodes of first before earlier run.1 shows.1 keeps parts in
-      let has = has_shown nodes of last shows.0 in
-      (run.0.kept nodes has files.0, run.0.parts nodes has files.0 files.1)
+  files_to : (nodes : List NodeState) (files : StateFiles) → AreAllFilesOfLog limits log nodes files → (first last : Moment) (earlier : List Moment) → IsRun first earlier last
+      → AllByRecursion ShowsAt (last ∷ earlier) → KeepsFilesAt nodes first → ArePartsOfRecords nodes first.around.files.had → KeepsFilesAt nodes last × ArePartsOfRecords nodes last.around.files.had
+  files_to nodes files of first last [] run shows keeps parts =
+      (subst (KeepsFilesAt nodes) (sym run) keeps, subst (λ m. ArePartsOfRecords nodes m.around.files.had) (sym run) parts)
+  files_to nodes files of first last (before ∷ earlier) run shows keeps parts =
+      let kept = files_to nodes files of first before earlier run.1 shows.1 keeps parts in
+      let has = of.may_show (shown_at last) (among_states limits log (shown_at last) shows.0.shown) in
+      (run.0.kept nodes has kept.0, run.0.parts nodes has kept.0 kept.1)
 
   -- and at each
-  all_files : (nodes : List NodeState) → AreNodesOf limits log nodes → (first last : Moment) (earlier : List Moment) → IsRun first earlier last
-      → AllByRecursion ShowsAt (last ∷ earlier) → KeepsFilesAt nodes first → ArePartsOfRecords nodes first.files.had → AllByRecursion (λ m. ArePartsOfRecords nodes m.files.had) (last ∷ earlier)
-  all_files nodes of first last [] run shows keeps parts = ((files_to nodes of first last [] run shows keeps parts).1, tt)
-  all_files nodes of first last (before ∷ earlier) run shows keeps parts = (
-    (files_to nodes of first last (before ∷ earlier) run shows keeps parts).1,
-    all_files nodes of first before earlier run.1 shows.1 keeps parts,
+  all_files : (nodes : List NodeState) (files : StateFiles) → AreAllFilesOfLog limits log nodes files → (first last : Moment) (earlier : List Moment) → IsRun first earlier last
+      → AllByRecursion ShowsAt (last ∷ earlier) → KeepsFilesAt nodes first → ArePartsOfRecords nodes first.around.files.had
+      → AllByRecursion (λ m. ArePartsOfRecords nodes m.around.files.had) (last ∷ earlier)
+  all_files nodes files of first last [] run shows keeps parts = ((files_to nodes files of first last [] run shows keeps parts).1, tt)
+  all_files nodes files of first last (before ∷ earlier) run shows keeps parts = (
+    (files_to nodes files of first last (before ∷ earlier) run shows keeps parts).1,
+    all_files nodes files of first before earlier run.1 shows.1 keeps parts,
   )
 
-  keeps_to : (first last : Moment) (earlier : List Moment) → IsRun first earlier last → AllByRecursion ShowsAt (last ∷ earlier) → KeepsToTheLog limits log first (last ∷ earlier)
-  keeps_to first last earlier run shows = record { shows = shows; files = λ nodes of keeps parts. all_files nodes of first last earlier run shows keeps parts }
-
   -- a relay that follows servers
-  module _ (servers : Servers) (first : Moment) (relaying : IsRelaying limits log servers first.exchanges first.live first.sockets) where
-    relaying_to : (last : Moment) (earlier : List Moment) → IsRun first earlier last → IsRelaying limits log servers last.exchanges last.live last.sockets
-    relaying_to last [] run = subst (λ m. IsRelaying limits log servers m.exchanges m.live m.sockets) (sym run) relaying
+  module _ (servers : Servers) (first : Moment) (relaying : IsRelaying limits log servers first.around.exchanges first.live first.around.sockets) where
+    relaying_to : (last : Moment) (earlier : List Moment) → IsRun first earlier last → IsRelaying limits log servers last.around.exchanges last.live last.around.sockets
+    relaying_to last [] run = subst (λ m. IsRelaying limits log servers m.around.exchanges m.live m.around.sockets) (sym run) relaying
     relaying_to last (before ∷ earlier) run = run.0.relaying limits log servers (relaying_to before earlier run.1)
 
-    shows_to : (last : Moment) (earlier : List Moment) → IsRun first earlier last → AreKnownHonest limits log servers last.exchanges → ShowsAt last
-    shows_to last earlier run honest = relays_show_the_log limits log servers last.exchanges last.live last.sockets honest (relaying_to last earlier run)
+    shows_to : (last : Moment) (earlier : List Moment) → IsRun first earlier last → AreKnownHonest limits log servers last.around.exchanges → ShowsAt last
+    shows_to last earlier run honest = relays_show_the_log limits log servers last.around.exchanges last.live last.around.sockets honest (relaying_to last earlier run)
 
     all_show : (last : Moment) (earlier : List Moment) → IsRun first earlier last
-        → AllByRecursion (λ m. AreKnownHonest limits log servers m.exchanges) (last ∷ earlier) → AllByRecursion ShowsAt (last ∷ earlier)
+        → AllByRecursion (λ m. AreKnownHonest limits log servers m.around.exchanges) (last ∷ earlier) → AllByRecursion ShowsAt (last ∷ earlier)
     all_show last [] run honest = (shows_to last [] run honest.0, tt)
     all_show last (before ∷ earlier) run honest = (shows_to last (before ∷ earlier) run honest.0, all_show before earlier run.1 honest.1)
 
   -- a relay whose feed is its input
-  module _ (begun : MirrorState) (first : Moment) (none_came : first.input ≡ Some []) (taking : IsTakingInput limits log begun [] first.live first.sockets) where
+  module _ (begun : MirrorState) (first : Moment) (none_came : first.around.input ≡ Some nothing_came) (taking : IsTakingInput limits log begun [] first.live first.around.sockets) where
     -- what came so far
     abbrev TakesTo : Moment → Type 0
-    TakesTo moment = (input : List ℕ) × (moment.input ≡ Some input) × IsTakingInput limits log begun input moment.live moment.sockets
+    TakesTo moment = (came : Came) × (moment.around.input ≡ Some came) × IsTakingInput limits log begun came.bytes moment.live moment.around.sockets
 
     taking_to : (last : Moment) (earlier : List Moment) → IsRun first earlier last → TakesTo last
-    taking_to last [] run = subst TakesTo (sym run) ([], none_came, taking)
+    taking_to last [] run = subst TakesTo (sym run) (nothing_came, none_came, taking)
     taking_to last (before ∷ earlier) run =
         let so_far = taking_to before earlier run.1 in
-        (so_far.0 ++ run.0.bytes, run.0.came ∙ ap (came_more run.0.bytes) so_far.1, run.0.taking limits log begun so_far.0 so_far.2)
+        (came_on run.0.given so_far.0, run.0.came ∙ ap (came_more run.0.given) so_far.1, run.0.taking limits log begun so_far.0.bytes so_far.2)
 
-    takes_so_far : (last : Moment) → TakesTo last → IsKnownHonestInput limits log begun last.input → ShowsAt last
+    takes_so_far : (last : Moment) → TakesTo last → IsKnownHonestInput limits log begun last.around.input → ShowsAt last
     takes_so_far last takes honest =
-        input_shows_the_log limits log begun takes.0 last.live last.sockets (subst (IsKnownHonestInput limits log begun) takes.1 honest) takes.2
+        input_shows_the_log limits log begun takes.0.bytes last.live last.around.sockets (subst (IsKnownHonestInput limits log begun) takes.1 honest) takes.2
 
     all_take : (last : Moment) (earlier : List Moment) → IsRun first earlier last
-        → AllByRecursion (λ m. IsKnownHonestInput limits log begun m.input) (last ∷ earlier) → AllByRecursion ShowsAt (last ∷ earlier)
+        → AllByRecursion (λ m. IsKnownHonestInput limits log begun m.around.input) (last ∷ earlier) → AllByRecursion ShowsAt (last ∷ earlier)
     all_take last [] run honest = (takes_so_far last (taking_to last [] run) honest.0, tt)
     all_take last (before ∷ earlier) run honest = (takes_so_far last (taking_to last (before ∷ earlier) run) honest.0, all_take before earlier run.1 honest.1)
 
-pub runs_keep_to_the_log : RunsKeepToTheLog
-runs_keep_to_the_log limits log servers first last earlier relaying run honest =
-    keeps_to limits log first last earlier run (all_show limits log servers first relaying last earlier run honest)
+    -- what a turn does with its input, where all was taken before it
+    takes_on : (before last : Moment) (earlier : List Moment) → IsTurn before last → TakesTo before → before.live.feeds ≡ true → (feeds : Bool) → last.live.feeds ≡ feeds
+        → TakesAllAt begun last ⊎ EndsOrStops begun (last ∷ before ∷ earlier)
+    takes_on before last earlier turn takes was true is =
+        inl (record {
+          came = came_on turn.given takes.0;
+          known = turn.came ∙ ap (came_more turn.given) takes.1;
+          feeds = is;
+          takes = (turn.taking limits log begun takes.0.bytes takes.2).takes is;
+        })
+    takes_on before last earlier turn takes was false is = ends turn.given refl
+      where
+        known : last.around.input ≡ Some (came_on turn.given takes.0)
+        known = turn.came ∙ ap (came_more turn.given) takes.1
 
-pub input_runs_keep_to_the_log : InputRunsKeepToTheLog
-input_runs_keep_to_the_log limits log begun first last earlier none_came taking run honest =
-    keeps_to limits log first last earlier run (all_take limits log begun first none_came taking last earlier run honest)
+        stops : turn.given ≢ End → TakesAllAt begun last ⊎ EndsOrStops begun (last ∷ before ∷ earlier)
+        stops goes_on =
+            let stopped = turn.stops goes_on limits log begun takes.0.bytes takes.2 was is in
+            inr (last, among_first last (before ∷ earlier), inr (record { came = came_on turn.given takes.0; known = known; fault = stopped.0; stops = stopped.1 }))
+
+        ends : (what : Input) → turn.given ≡ what → TakesAllAt begun last ⊎ EndsOrStops begun (last ∷ before ∷ earlier)
+        ends Nothing nothing = stops (λ end. let no : Nothing ≡ End = sym nothing ∙ end in cc)
+        ends (Bytes piece) bytes = stops (λ end. let no : Bytes piece ≡ End = sym bytes ∙ end in cc)
+        ends End end =
+            inr (last, among_first last (before ∷ earlier), inl (record { came = came_on turn.given takes.0; known = known; ended = ap (λ (g : Input). has_ended_by g takes.0.has_ended) end }))
+
+    takes_next : (before last : Moment) (earlier : List Moment) → IsTurn before last → TakesTo before → TakesAllAt begun before ⊎ EndsOrStops begun (before ∷ earlier)
+        → TakesAllAt begun last ⊎ EndsOrStops begun (last ∷ before ∷ earlier)
+    takes_next before last earlier turn takes (inl all) = takes_on before last earlier turn takes all.feeds last.live.feeds refl
+    takes_next before last earlier turn takes (inr over) = inr (over.0, among_rest last (before ∷ earlier) over.0 over.1, over.2)
+
+    takes_input : first.live.feeds ≡ true → (last : Moment) (earlier : List Moment) → IsRun first earlier last → TakesItsInput begun (last ∷ earlier)
+    takes_input feeds last [] run =
+        (inl (subst (TakesAllAt begun) (sym run) (record { came = nothing_came; known = none_came; feeds = feeds; takes = taking.takes feeds })), tt)
+    takes_input feeds last (before ∷ earlier) run =
+        let so_far = takes_input feeds before earlier run.1 in
+        (takes_next before last earlier run.0 (taking_to before earlier run.1) so_far.0, so_far)
+
+-- a run from such a start keeps to the log
+pub keeps_to_the_log : (setup : Setup) (found : Surroundings) (first last : Moment) (earlier : List Moment) → Begins setup found.files first.around.files first.live
+    → first.around.sockets ≡ found.sockets → first.around.input ≡ found.input → IsRun first earlier last → KeepsToTheLog setup found (last ∷ earlier)
+keeps_to_the_log setup found first last earlier begins sockets input run =
+    record {
+      servers = λ log some of_log unused honest.
+          all_show setup.kept log (servers_of_setup setup) first
+          (begins.relaying log first.around.exchanges first.around.sockets some of_log (subst AreUnused (sym sockets) unused)) last earlier run honest;
+      input = λ log none unused came honest.
+          all_take setup.kept log (new_mirror setup.kept) first (input ∙ came)
+          (begins.taking log first.around.sockets none (subst AreUnused (sym sockets) unused)) last earlier run honest;
+      taken = λ none unused came.
+          takes_input setup.kept (numbered []) (new_mirror setup.kept) first (input ∙ came)
+          (begins.taking (numbered []) first.around.sockets none (subst AreUnused (sym sockets) unused)) (begins.feeds none) last earlier run;
+      files = λ log nodes of shows.
+          all_files setup.kept log nodes found.files of first last earlier run shows (begins.kept log nodes of)
+          (subst (ArePartsOfRecords nodes) (sym begins.had) of.of_log.parts);
+    }
+
+-- so it is with turns that led from there to the end, whatever they came to
+pub runs_from : {A E : Type 0} (setup : Setup) (found : Surroundings) (first last : Moment) {calls calls_begun calls_now : HostCalls} {count : ℕ} (result : Result A E)
+    → Begins setup found.files first.around.files first.live → first.next ≡ at_once → first.around.sockets ≡ found.sockets → first.around.input ≡ found.input → calls_begun ≡ calls
+    → HasRun first last calls_begun calls_now count → OnOk result ((last.next.is_over ≡ true) ⊎ (count ≡ 2 ^ 64 - 1)) → RunsFrom setup found last.around calls calls_now result
+runs_from setup found first last {count = count} result begins at_first sockets input same run ends =
+    record {
+      first = first;
+      contest = begins.contest;
+      first_is = at_first;
+      last = last;
+      last_is = refl;
+      ran = record {
+        count = count;
+        run = record { earlier = run.earlier; run = run.run; turns = run.turns; calls = run.calls ∙ ap (calls_in run.earlier) same };
+        ends = ends;
+      };
+      keeps = keeps_to_the_log setup found first last run.earlier begins sockets input run.run;
+    }

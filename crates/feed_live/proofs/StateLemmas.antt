@@ -17,10 +17,10 @@ use Rattle.feed_live.proofs.ServingLemmas.{number_tells}
 
 -- ---- lists
 
-among_first : {X : Type 0} (x : X) (xs : List X) → Contains (x ∷ xs) x
+pub among_first : {X : Type 0} (x : X) (xs : List X) → Contains (x ∷ xs) x
 among_first x xs = Contains-append_left (x ∷ []) xs x (Contains-push [] x)
 
-among_rest : {X : Type 0} (x : X) (xs : List X) (y : X) → Contains xs y → Contains (x ∷ xs) y
+pub among_rest : {X : Type 0} (x : X) (xs : List X) (y : X) → Contains xs y → Contains (x ∷ xs) y
 among_rest x xs y there = Contains-append_right (x ∷ []) xs y there
 
 among_none : {X : Type 0} (y : X) → Contains [] y → ⊥

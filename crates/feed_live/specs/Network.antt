@@ -73,7 +73,7 @@ pub record StartsFromLog (log : Log) (relay : Relay) : Type 0 where
   pub relaying : IsRelaying relay.limits log relay.servers (Some relay.exchanges) relay.live
       relay.sockets
 
--- A turn of a relay, by `Live::turn`, or `Live::clear_told` between two of them: on each of its
+-- A turn of a relay, by `Live::turn`, or `Live::clear_reports` between two of them: on each of its
 -- connections so far it has read what others have written before this turn.
 pub record Turns (log : Log) (before : Network) (old new : Relay) : Type 0 where
   pub limits : new.limits ≡ old.limits

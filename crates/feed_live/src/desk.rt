@@ -1,6 +1,6 @@
 //! What each part of a turn has at hand.
 
-use crate::told::Telling;
+use crate::report::Reports;
 use std::alloc::Global;
 
 /// What each part of a turn has at hand. The relay owns it: of a part that was borrowed, each
@@ -10,7 +10,7 @@ pub(crate) struct Desk {
     /// Where memory is taken.
     pub(crate) alloc: Global,
     /// What is reported.
-    pub(crate) reports: Telling,
+    pub(crate) reports: Reports,
     /// When the turn is, in milliseconds.
     pub(crate) time: u64,
 }
@@ -19,7 +19,7 @@ impl Desk {
     pub(crate) fn new(alloc: Global, now: u64) -> Desk {
         Desk {
             alloc,
-            reports: Telling::new(alloc),
+            reports: Reports::new(alloc),
             time: now,
         }
     }

@@ -9,7 +9,7 @@ pub use crate::figures::reasons::{Failure, Following, Reason};
 use crate::screens::Screens;
 use crate::times::LONG_WAIT;
 use crate::turn::Live;
-use feed_device::{Told, Why};
+use feed_device::{Report, Why};
 use memchr::memmem;
 use std::alloc::{AllocError, Global};
 use std::cmp::Reverse;
@@ -43,7 +43,7 @@ pub struct FeedFigures {
     /// them did.
     pub waiting: u64,
     pub waiting_since: u64,
-    /// Whether it was told of this connection that they wait for long.
+    /// Whether it was reported of this connection that they wait for long.
     pub(crate) is_warned: bool,
 }
 
@@ -135,7 +135,7 @@ impl FeedFigures {
         self.fail(Failure::TokenRefused, now);
     }
 
-    /// When it is told that changes wait for a token for long.
+    /// When it is reported that changes wait for a token for long.
     pub(crate) fn warns_at(&self) -> Option<u64> {
         if self.waiting == 0 || self.is_warned {
             return None;
@@ -143,7 +143,7 @@ impl FeedFigures {
         Some(self.waiting_since.saturating_add(LONG_WAIT))
     }
 
-    /// Tells that changes of a server wait for a token for long, once for each connection.
+    /// Reports that changes of a server wait for a token for long, once for each connection.
     pub(crate) fn warn(&mut self, desk: &mut Desk, server: usize) {
         let Some(at) = self.warns_at() else {
             return;
@@ -152,7 +152,7 @@ impl FeedFigures {
             return;
         }
         self.is_warned = true;
-        desk.reports.tell(Told::NoToken {
+        desk.reports.add(Report::NoToken {
             server,
             changes: self.waiting,
             time: desk.time.saturating_sub(self.waiting_since),

@@ -3,8 +3,8 @@
 //!
 //! The turn has no handle. What it reads from and writes to is given (`Devices`), and so is the
 //! time, in milliseconds. Whoever runs it waits until a device is ready, or the time has come that
-//! the turn named, and runs the next one: so does `run`, on a `Host`. What happened is told as
-//! values (`Told`).
+//! the turn named, and runs the next one: so does `run`, on a `Host`. What happened is reported
+//! as values (`Report`).
 //!
 //! A turn goes from upstream to the screens: what upstream sent is followed and said first, then
 //! whoever is gone is closed, then screens are written to and read from, and new ones come last. So
@@ -21,6 +21,7 @@ mod host;
 mod laws;
 mod options;
 mod relay;
+mod report;
 mod restoring;
 mod running;
 mod saved;
@@ -28,19 +29,18 @@ mod screens;
 mod source;
 mod starting;
 mod times;
-mod told;
 mod turn;
 
 pub use audited::audited_laws;
-pub use feed_device::{Before, Devices, How, Link, Ready, Sockets, Stop, Store, Told, Why};
+pub use feed_device::{Before, Devices, How, Link, Ready, Report, Sockets, Stop, Store, Why};
 pub use figures::{
     Failure, FeedFigures, FileFigures, Following, Reason, ScreenFigures, ScreenRow, ScreenTotals,
 };
 pub use host::{Given, Host};
 pub use laws::{foreign_laws, live_laws, network_laws};
-pub use options::{LiveLimits, Start};
+pub use options::{LiveLimits, Setup, Start};
 pub use restoring::{Restored, restore};
-pub use running::{run, run_laws};
+pub use running::{RunFault, run};
 pub use starting::restore_from;
 pub use times::LONG_WAIT;
 pub use turn::{Input, Live, Turn};

@@ -1,8 +1,10 @@
 //! What a relay is asked to be.
 
+ghost use Rattle.std.specs.Prelude.{◌≡◌, ◌≢◌, [], true, false};
+
 use crate::restoring::Restored;
 use feed_answer::{Framing, Identity, Place};
-use feed_node::Mirror;
+use feed_node::{Limits, Mirror};
 
 /// How many screens, and how far back and how silent they may be.
 #[derive(Clone, Copy, Debug)]
@@ -35,12 +37,39 @@ pub struct LiveLimits {
     pub hold: u64,
     /// Whether what was restored is served before a server was heard.
     pub serves_old: bool,
-    /// Whether each screen is told of.
+    /// Whether each screen is reported.
     pub is_verbose: bool,
     /// Whether there is a file that the state is kept in.
     pub has_store: bool,
     /// Whether the relay ends with the input.
     pub ends_with_input: bool,
+}
+
+/// What a run of a relay is set to.
+#[derive(Drop)]
+pub struct Setup {
+    /// The contest whose feed is served.
+    pub contest: String,
+    pub limits: LiveLimits,
+    /// How much is kept of the feed.
+    pub kept: Limits,
+    /// The servers that are asked, as `Start` has them; none where the feed is the input.
+    pub places: Vec<Place>,
+    /// As whom they are asked.
+    pub identity: Identity,
+}
+
+impl Setup {
+    /// Whether the relay begins with what its state files have: where its feed is the input, it
+    /// begins anew.
+    pub(crate) fn reads_files(&self) -> bool
+        ensures stored { result ≡ true → self.now.limits.has_store ≡ true }
+        ensures input { self.now.places.items ≡ [] → result ≡ false }
+        ensures servers { self.now.limits.has_store ≡ true → self.now.places.items ≢ []
+            → result ≡ true }
+    {
+        self.limits.has_store && !self.places.is_empty()
+    }
 }
 
 /// What a relay starts from.

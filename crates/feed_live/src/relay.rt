@@ -9,7 +9,7 @@ ghost use Rattle.feed_live.specs.Serving.{AllEnd, SaysAll, idles_at};
 use crate::desk::Desk;
 use crate::screens::{Counts, Screens};
 use crate::times::{MEMORY_PAUSE, SAY_PAUSE, STALL};
-use feed_device::{Sockets, Told};
+use feed_device::{Report, Sockets};
 use feed_hub::Said;
 use feed_node::{Node, Pulled};
 
@@ -87,8 +87,8 @@ impl Screens {
         }
     }
 
-    /// How many screens there are, where some came or went since that was told.
-    pub(crate) fn report(&mut self) -> Option<Told>
+    /// How many screens there are, where some came or went since that was reported.
+    pub(crate) fn report(&mut self) -> Option<Report>
         ensures { SameSeating self.old self.new }
     {
         self.is_full = false;
@@ -98,7 +98,7 @@ impl Screens {
             return None;
         }
         self.counts = Counts::none();
-        Some(Told::Screens {
+        Some(Report::Screens {
             now: self.conns.len(),
             came: counts.came,
             ended: counts.ended,

@@ -22,7 +22,7 @@ use crate::relay::Saying;
 use crate::screens::pending::Pending;
 pub(crate) use crate::screens::pending::TextId;
 use crate::screens::sending::leave;
-use feed_device::{How, Sockets, Told};
+use feed_device::{How, Report, Sockets};
 use feed_hub::{Answering, Hub, Key};
 use slab::Slab;
 use std::alloc::Global;
@@ -55,7 +55,7 @@ pub(crate) enum Hearing {
     Done,
 }
 
-/// What came and went since that was told last.
+/// What came and went since that was reported last.
 #[derive(Clone, Copy)]
 pub(crate) struct Counts {
     pub(crate) came: u64,
@@ -127,7 +127,7 @@ pub(crate) struct Screens {
     /// Somebody waits to be taken; not before this time.
     pub(crate) is_waited_for: bool,
     pub(crate) accept_at: u64,
-    /// That was told in this minute.
+    /// That was reported in this minute.
     pub(crate) is_full: bool,
     pub(crate) is_stuck: bool,
     // where there is no connection, nothing is pending
@@ -190,7 +190,7 @@ impl Screens {
         leave(&mut self.hub, conn.key);
         self.count(how);
         if self.limits.is_verbose {
-            desk.reports.tell(Told::Screen {
+            desk.reports.add(Report::Screen {
                 peer: conn.peer,
                 how,
                 status: conn.status,

@@ -57,10 +57,10 @@ pub(crate) struct Source {
     request: Vec<u8>,
     /// When the connection was begun.
     opened: u64,
-    /// Since when a response has a good head; and whether that was told.
+    /// Since when a response has a good head.
     body_since: Option<u64>,
-    /// It was told that this connection gives one token to two states.
-    has_told_twice: bool,
+    /// It was reported that this connection gives one token to two states.
+    has_reported_twice: bool,
     returning: Returning,
     rechecking: Rechecking,
     is_heard: bool,
@@ -118,7 +118,7 @@ impl Source {
             request: Vec::new(desk.alloc),
             opened: desk.time,
             body_since: None,
-            has_told_twice: false,
+            has_reported_twice: false,
             returning: Returning::new(limits.return_after, desk.time),
             rechecking: Rechecking::new(limits.rechecks),
             is_heard: has_nothing || limits.serves_old,
@@ -188,7 +188,7 @@ impl Source {
             self.late_at(),
             self.returns_at(),
             self.settles_at(),
-            self.tells_at(),
+            self.reports_at(),
             self.heard_at(),
             self.newest_at(),
             self.figures.warns_at(),

@@ -15,7 +15,7 @@ pub(crate) const QUIET: u64 = 1_000;
 /// time.
 pub(crate) const LONGEST_REPLAY: u64 = 600_000;
 
-/// How often it is told that it has not settled yet.
+/// How often it is reported that it has not settled yet.
 pub(crate) const REPLAY_REPORT: u64 = 30_000;
 
 /// How long each of those has that are asked in turn, or as long as the one before them where that
@@ -66,8 +66,8 @@ pub(crate) const RETRY: u64 = 30_000;
 /// How often late requests and screens that take nothing are looked for.
 pub(crate) const TICK: u64 = 1_000;
 
-/// How often the number of screens is told, where it has changed.
-pub(crate) const REPORT: u64 = 60_000;
+/// How often the number of screens is reported, where it has changed.
+pub(crate) const SCREENS_REPORT: u64 = 60_000;
 
 /// For how long a relay that ends sends on what is left.
 pub(crate) const END_TIME: u64 = 2_000;

@@ -20,9 +20,9 @@ use crate::restoring::{Good, Restored};
 use crate::saved::Saved;
 use crate::screens::Screens;
 use crate::source::Source;
-use crate::times::{REPORT, TICK};
+use crate::times::{SCREENS_REPORT, TICK};
 use feed_answer::Place;
-use feed_device::{Devices, Link, Ready, Sockets, Store, Told};
+use feed_device::{Devices, Link, Ready, Report, Sockets, Store};
 use feed_node::Node;
 use std::alloc::Global;
 
@@ -62,7 +62,7 @@ pub struct Live {
     feeds: bool,
     /// When a relay that ends does so at the latest.
     ends_at: Option<u64>,
-    is_hold_told: bool,
+    is_hold_reported: bool,
 }
 
 impl Live {
@@ -70,6 +70,7 @@ impl Live {
     ghost use Rattle.feed_live.specs.Taking.{IsTakingInput, StillTaking, StopsTaking, bytes_in};
     ghost use Rattle.feed_live.specs.Saved.{SameSaved};
     ghost use Rattle.feed_live.specs.Owed.{OwesWhatIsKept};
+    ghost use Rattle.feed_live.specs.Running.{IsOver, IsSameRelay};
 
     /// A relay that starts from what the state files had.
     pub fn new<D: Store>(
@@ -103,6 +104,7 @@ impl Live {
             → KeepsFiles nodes (D.files store.new) result.saved }
         ensures had { (D.files store.new).had ≡ (D.files store.old).had }
         ensures contest { result.contest ≡ contest }
+        ensures feeds { start.places.items ≡ [] → result.feeds ≡ true }
     {
         let Start {
             places,
@@ -131,13 +133,13 @@ impl Live {
             epoch: 0,
             feeds,
             ends_at: None,
-            is_hold_told: false,
+            is_hold_reported: false,
         }
     }
 
     /// What happened since this was cleared last.
-    pub fn told(&self) -> &[Told] {
-        self.desk.reports.told()
+    pub fn reports(&self) -> &[Report] {
+        self.desk.reports.all()
     }
 
     /// How much more happened that there was no room for.
@@ -145,16 +147,14 @@ impl Live {
         self.desk.reports.missed()
     }
 
-    /// What was told is forgotten.
-    pub fn clear_told(&mut self)
+    /// What was reported is forgotten.
+    pub fn clear_reports(&mut self)
         // nothing changes of what is shown, kept, and handed to screens
         ensures relaying { (exchanges : Exchanges) (sockets : AllSockets)
             → StillRelaying self.old self.new exchanges exchanges sockets sockets }
         ensures taking { (sockets : AllSockets) → StillTaking self.old self.new []
             sockets sockets }
-        ensures saved { SameSaved self.old self.new }
-        ensures rest { (self.new.source ≡ self.old.source)
-            × (self.new.ends_at ≡ self.old.ends_at) }
+        ensures rest { IsSameRelay self.old self.new }
     {
         self.desk.reports.clear();
     }
@@ -211,14 +211,14 @@ impl Live {
         // where some screen has more to read or to write, the next turn is due at once
         ensures wakes { self.new.screens.has_more ≡ true → result.due ≤ now }
 
-        // a minute after the number of screens was told last, at the latest
+        // a minute after the number of screens was reported last, at the latest
         ensures awake { result.due ≤ min (self.new.reported + 60000) (2 ^ 64 - 1) }
 
         // what counts as owed is what connections have yet to take, and nothing where there is none
         ensures owed { OwesWhatIsKept self.new.screens }
 
-        // it is the last one only where the relay ends with its input
-        ensures over { result.is_over ≡ true → self.new.ends_at ≢ None }
+        // it is the last one only where the relay ends with its input, and that is over
+        ensures over { result.is_over ≡ true → IsOver self.new now }
     {
         self.desk.begin(alloc, now);
         let held = self.held();
@@ -278,7 +278,7 @@ impl Live {
         ensures awake { result.due ≤ min (self.new.reported + 60000) (2 ^ 64 - 1) }
         ensures serves { (sockets : AllSockets) → OnlyServes self.old self.new sockets sockets }
         ensures saved { SameSaved self.old self.new }
-        ensures over { result.is_over ≡ true → self.new.ends_at ≢ None }
+        ensures over { result.is_over ≡ true → IsOver self.new now }
     {
         self.report();
         Turn {
@@ -293,7 +293,7 @@ impl Live {
     }
 
     fn is_over(&self, now: u64) -> bool
-        ensures { result ≡ true → self.now.ends_at ≢ None }
+        ensures { result ≡ true → IsOver self.now now }
     {
         match self.ends_at {
             Some(at) => at <= now || self.screens.conns.is_empty() && self.is_saved(),
@@ -302,7 +302,9 @@ impl Live {
     }
 
     /// Whether the state file has all that was published, as far as it can be written.
-    fn is_saved(&self) -> bool {
+    fn is_saved(&self) -> bool
+        ensures { result ≡ true → IfSome self.now.saved (λ saved. saved.has_more ≡ false) }
+    {
         match &self.saved {
             Some(saved) => !saved.has_more(),
             None => true,
@@ -314,7 +316,7 @@ impl Live {
         ensures wakes { self.now.screens.has_more ≡ true → result ≤ now }
         ensures awake { result ≤ min (self.now.reported + 60000) (2 ^ 64 - 1) }
     {
-        let mut due = self.reported.saturating_add(REPORT);
+        let mut due = self.reported.saturating_add(SCREENS_REPORT);
         if !self.screens.conns.is_empty() {
             due = due
                 .min(self.ticked.saturating_add(TICK))

@@ -1,3 +1,4 @@
 pub mod Counted
+pub mod Guard
 pub mod Room
 pub mod Tally

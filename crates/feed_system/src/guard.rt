@@ -1,6 +1,7 @@
 //! Who may connect.
 
-ghost use Rattle.std.specs.Prelude.{IsTrue};
+ghost use Rattle.std.specs.Prelude.{◌≡◌, ◌↔◌, IsTrue};
+ghost use Rattle.feed_system.specs.Guard.{may_connect};
 
 use feed_arguments::{Network, Origin, is_in_any};
 
@@ -13,14 +14,18 @@ pub(crate) struct Guard {
 
 impl Guard {
     /// Without networks everybody may connect.
-    pub(crate) fn new(networks: Option<Vec<Network>>) -> Guard {
+    pub(crate) fn new(networks: Option<Vec<Network>>) -> Guard
+        ensures { result.networks ≡ networks }
+    {
         Guard {
             networks,
             refused: 0,
         }
     }
 
-    fn is_within(&self, origin: Origin) -> bool {
+    fn is_within(&self, origin: Origin) -> bool
+        ensures { result ≡ may_connect self.now.networks origin }
+    {
         match &self.networks {
             Some(networks) => is_in_any(networks.as_slice(), origin),
             None => true,
@@ -30,7 +35,9 @@ impl Guard {
     /// Whether who comes from an address stays, where there is room for one more of it; the others
     /// are counted.
     pub(crate) fn lets_in(&mut self, origin: Origin, has_room: bool) -> bool
-        ensures { IsTrue result → IsTrue has_room }
+        ensures stays { IsTrue result ↔ (IsTrue has_room
+            × IsTrue (may_connect self.old.networks origin)) }
+        ensures networks { self.new.networks ≡ self.old.networks }
     {
         let stays = has_room && self.is_within(origin);
         if !stays {

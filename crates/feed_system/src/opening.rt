@@ -1,5 +1,8 @@
 //! Ports are listened at, before a relay's first turn.
 
+ghost use Rattle.std.specs.Prelude.{IfOk, option_map};
+ghost use Rattle.feed_system.specs.Guard.{AreListed};
+
 use crate::guard::Guard;
 use crate::hosts::Host;
 use crate::link::{LINK, Servers};
@@ -86,7 +89,10 @@ fn listener_of(
 }
 
 /// The networks that may connect, where they are listed.
-fn allowed(alloc: Global, options: &LiveOptions<'_>) -> Result<Option<Vec<Network>>, OpenFault> {
+fn allowed(alloc: Global, options: &LiveOptions<'_>) -> Result<Option<Vec<Network>>, OpenFault>
+    ensures { IfOk result (λ networks.
+        AreListed (option_map (λ list. list.now) options.now.allow) networks) }
+{
     let Some(list) = options.allow else {
         return Ok(None);
     };
@@ -117,7 +123,10 @@ fn status_address(options: &LiveOptions<'_>) -> Result<Option<SocketAddr>, OpenF
 }
 
 /// The port that screens come to, and who may.
-fn port(rt: &HostRuntime, poll: &Poll, options: &LiveOptions<'_>) -> Result<Port, OpenFault> {
+fn port(rt: &HostRuntime, poll: &Poll, options: &LiveOptions<'_>) -> Result<Port, OpenFault>
+    ensures { IfOk result (λ port.
+        AreListed (option_map (λ list. list.now) options.now.allow) port.guard.networks) }
+{
     let guard = Guard::new(allowed(rt.alloc(), options)?);
     let listener = listener_of(rt, poll, screens_address(options)?, LISTENER)?;
     let registry = poll.registry().try_clone()?;
@@ -125,11 +134,10 @@ fn port(rt: &HostRuntime, poll: &Poll, options: &LiveOptions<'_>) -> Result<Port
 }
 
 /// Who watches the relay, and the port that they come to.
-fn watchers(
-    rt: &HostRuntime,
-    poll: &Poll,
-    options: &LiveOptions<'_>,
-) -> Result<Watchers, OpenFault> {
+fn watchers(rt: &HostRuntime, poll: &Poll, options: &LiveOptions<'_>) -> Result<Watchers, OpenFault>
+    ensures { IfOk result (λ watchers.
+        AreListed (option_map (λ list. list.now) options.now.allow) watchers.guard.networks) }
+{
     let guard = Guard::new(allowed(rt.alloc(), options)?);
     let listener = listener_of(rt, poll, status_address(options)?, WATCHERS)?;
     let registry = poll.registry().try_clone()?;

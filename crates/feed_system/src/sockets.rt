@@ -1,7 +1,8 @@
 //! The screens' sockets.
 
 ghost use Rattle.std.specs.Prelude.{◌≡◌, ◌≤◌, ◌↔◌, length, IfOk, IsTrue};
-ghost use Rattle.feed_system.specs.Room.{MayHaveOneMore};
+ghost use Rattle.feed_system.specs.Guard.{may_connect};
+ghost use Rattle.feed_system.specs.Room.{LeavesOthers, MayHaveOneMore};
 
 use crate::guard::Guard;
 use crate::tally::{Owner, Tally};
@@ -87,7 +88,9 @@ impl Port {
         listener: Option<TcpListener>,
         guard: Guard,
         per_address: Option<u64>,
-    ) -> Port {
+    ) -> Port
+        ensures guard { result.guard ≡ guard }
+    {
         let tally = match per_address {
             Some(most) => Some(Tally::new(alloc, most)),
             None => None,
@@ -122,7 +125,10 @@ impl Port {
 
     /// Takes leave of a connection of somebody, if there is one that sends no more. That it went
     /// away would only be found when it is written to for the second time.
-    fn make_room(&mut self, owner: Owner) {
+    fn make_room(&mut self, owner: Owner)
+        ensures guard { self.new.guard ≡ self.old.guard }
+        ensures others { LeavesOthers self.old.tally self.new.tally owner }
+    {
         let Some(tally) = &mut self.tally else {
             return;
         };
@@ -130,14 +136,19 @@ impl Port {
             return;
         };
         tally.remove(at);
-        if let Some(stream) = self.stream(at) {
+        if let Some(Some(stream)) = self.streams.get_mut(at) {
             let _ = stream.shutdown(Shutdown::Both);
         }
     }
 
     /// Whether who connects stays.
     fn lets_in(&mut self, origin: Origin, owner: Owner) -> bool
-        ensures { IsTrue result → MayHaveOneMore self.new.tally owner }
+        ensures room { IsTrue result → MayHaveOneMore self.new.tally owner }
+        ensures within { IsTrue result
+            → IsTrue (may_connect self.old.guard.networks origin) }
+        ensures stays { MayHaveOneMore self.old.tally owner
+            → IsTrue (may_connect self.old.guard.networks origin) → IsTrue result }
+        ensures networks { self.new.guard.networks ≡ self.old.guard.networks }
     {
         if !self.has_room(owner) {
             self.make_room(owner);

@@ -3,12 +3,12 @@
 
 use crate::link::{LINK, Servers};
 use crate::opening::LISTENER;
+use crate::reporting::{is_reported, stamp, text_of};
 use crate::sockets::{FIRST_SCREEN, Port};
 use crate::standard::{ERRORS, ErrorStream, INPUT, InputStream};
-use crate::telling::{is_told, stamp, text_of};
 use crate::watchers::{FIRST_WATCHER, WATCHERS, Watchers};
 use feed_arguments::Verbosity;
-use feed_device::{Ready, Told};
+use feed_device::{Ready, Report};
 use feed_state::StateStore;
 use feed_status::Watch;
 use mio::event::Event;
@@ -152,33 +152,33 @@ impl System<'_> {
         }
     }
 
-    /// Tells what happened with these servers, as much as is asked for; so many things more
+    /// Reports what happened with these servers, as much as is asked for; so many things more
     /// happened that nobody kept. What can be written without a wait is.
-    pub fn tell(
+    pub fn report(
         &mut self,
-        told: &[Told],
+        reports: &[Report],
         missed: u64,
         servers: &Servers<'_>,
         verbosity: Verbosity,
     ) {
-        for told in told {
-            self.tell_one(told, servers, verbosity);
+        for report in reports {
+            self.report_one(report, servers, verbosity);
         }
         self.errors.miss(missed);
-        self.tell_missed();
+        self.report_missed();
         self.errors.write(self.rt, self.poll.registry());
     }
 
-    fn tell_one(&mut self, told: &Told, servers: &Servers<'_>, verbosity: Verbosity) {
-        if !is_told(told, verbosity) {
+    fn report_one(&mut self, report: &Report, servers: &Servers<'_>, verbosity: Verbosity) {
+        if !is_reported(report, verbosity) {
             return;
         }
-        if let Ok(text) = text_of(self.rt.alloc(), told, servers) {
+        if let Ok(text) = text_of(self.rt.alloc(), report, servers) {
             self.line(text.as_str());
         }
     }
 
-    fn tell_missed(&mut self) {
+    fn report_missed(&mut self) {
         if !self.errors.has_missed() {
             return;
         }

@@ -136,10 +136,27 @@ impl Tally {
     }
 
     /// The number of a connection of somebody that sends no more, if there is one.
-    pub(crate) fn ended(&self, owner: Owner) -> Option<usize> {
+    pub(crate) fn ended(&self, owner: Owner) -> Option<usize>
+        ensures { IfSome result (λ at. owner_at self.now.owners.items at ≡ Some owner) }
+    {
         let mut ended = self.ended.range((owner, 0)..=(owner, usize::MAX));
         let (_, at) = ended.next()?;
-        Some(*at)
+        // That it counts as theirs is seen here, so that nobody gives way to somebody else.
+        if self.is_of(*at, owner) {
+            Some(*at)
+        } else {
+            None
+        }
+    }
+
+    /// Whether the connection at a number counts as somebody's.
+    fn is_of(&self, at: usize, owner: Owner) -> bool
+        ensures { IsTrue result → owner_at self.now.owners.items at ≡ Some owner }
+    {
+        match self.owner(at) {
+            Some(other) => other == owner,
+            None => false,
+        }
     }
 }
 

@@ -2,6 +2,8 @@
 //! answered with what the relay is at that moment, and change nothing of it. Where all places are
 //! taken, who is not being answered gives way to who waits.
 
+ghost use Rattle.std.specs.Prelude.{◌≡◌};
+
 use crate::guard::Guard;
 use crate::sockets::{read_once, write_once};
 use feed_answer::{HEAD_BYTES, HeadRead, look_at_request};
@@ -165,7 +167,9 @@ impl Watchers {
         registry: Registry,
         listener: Option<TcpListener>,
         guard: Guard,
-    ) -> Watchers {
+    ) -> Watchers
+        ensures guard { result.guard ≡ guard }
+    {
         Watchers {
             registry,
             listener,

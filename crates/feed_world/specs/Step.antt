@@ -47,7 +47,7 @@ committed world changes =
       framing = world.framing;
       log = world.log ++ changes ∷ [];
       primary = renewed world.limits.history (numbered (world.log ++ changes ∷ []))
-      (world.primary.at + 1)
+          (world.primary.at + 1)
           world.primary.low;
       mirrors = world.mirrors;
     }

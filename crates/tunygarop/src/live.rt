@@ -7,10 +7,11 @@ mod watching;
 use feed_commands::{Fault, LiveOptions, Verbosity};
 use feed_device::Devices;
 use feed_host::Failure;
-use feed_live::{Following, Given, Host, Input, Live, Turn, run};
-use feed_state::StateStore;
+use feed_live::{Following, Given, Host, Input, Live, Restored, RunFault, Turn, run};
+use feed_state::{About, StateStore};
 use feed_system::{Port, Servers, System};
-use making::{Prepared, needs_memory, of_system, prepare};
+use making::{Prepared, fault_of_system, prepare};
+use restoring::report_of;
 use std::alloc::AllocError;
 use std::io;
 use watching::{View, Watched, Words};
@@ -19,9 +20,11 @@ use watching::{View, Watched, Words};
 #[derive(Drop)]
 struct Engine<'r> {
     rt: &'r HostRuntime,
+    options: &'r LiveOptions<'r>,
     system: System<'r>,
     watched: Watched,
-    verbosity: Verbosity,
+    /// What is told of the state file, where there is one.
+    about: Option<About>,
     /// Whether there may be more of the input, where that is read at all.
     goes_on: bool,
     waited: Waited,
@@ -160,16 +163,19 @@ impl<'r> Engine<'r> {
         Ok(())
     }
 
+    /// Tells a line, unless little is told.
+    fn line(&mut self, text: &str) {
+        if self.options.verbosity != Verbosity::Quiet {
+            self.system.line(text);
+        }
+    }
+
     /// Says where screens are listened to, where they are.
-    fn tell_port(&mut self, options: &LiveOptions<'_>) -> Result<(), Fault> {
-        if let Some(port) = options.listen {
-            let address = options.address;
-            let text = needs_memory(format!(in self.rt.alloc();
-                "listening at {address}, port {port}"
-            ))?;
-            if options.verbosity != Verbosity::Quiet {
-                self.system.line(text.as_str());
-            }
+    fn report_port(&mut self) -> Result<(), AllocError> {
+        if let Some(port) = self.options.listen {
+            let address = self.options.address;
+            let text = format!(in self.rt.alloc(); "listening at {address}, port {port}")?;
+            self.line(text.as_str());
         }
         Ok(())
     }
@@ -177,6 +183,14 @@ impl<'r> Engine<'r> {
 
 impl<'r> Host<Port, Servers<'r>, StateStore<&'r HostRuntime>> for Engine<'r> {
     type Error = io::Error;
+
+    fn begin(&mut self, restored: &Restored) -> io::Result<()> {
+        if let Some(text) = report_of(self.rt.alloc(), self.options, self.about, restored)? {
+            self.line(text.as_str());
+        }
+        self.report_port()?;
+        Ok(())
+    }
 
     fn wait(&mut self, live: &Live, turn: Turn) -> io::Result<()> {
         let takes_input = self.goes_on && turn.takes_input;
@@ -193,28 +207,33 @@ impl<'r> Host<Port, Servers<'r>, StateStore<&'r HostRuntime>> for Engine<'r> {
         }
     }
 
-    fn tell(
+    fn report(
         &mut self,
         live: &Live,
         devices: &Devices<Port, Servers<'r>, StateStore<&'r HostRuntime>>,
     ) -> io::Result<()> {
         self.measure(live)?;
         self.watch(live, devices)?;
-        let (told, missed) = (live.told(), live.missed());
+        let (reports, missed) = (live.reports(), live.missed());
         self.system
-            .tell(told, missed, &devices.link, self.verbosity);
+            .report(reports, missed, &devices.link, self.options.verbosity);
         Ok(())
     }
 }
 
 /// Follows a server, or standard input, and serves what that publishes.
-pub(crate) fn live_feed(rt: &HostRuntime, options: &LiveOptions<'_>) -> Result<(), Failure> {
+pub(crate) fn live_feed<'r>(
+    rt: &'r HostRuntime,
+    options: &'r LiveOptions<'r>,
+) -> Result<(), Failure> {
     let Prepared {
+        setup,
         mut engine,
         mut devices,
-        mut live,
     } = prepare(rt, options)?;
-    engine.tell_port(options)?;
-    let ended = run(rt.alloc(), &mut engine, &mut devices, &mut live);
-    Ok(of_system(ended)?)
+    match run(rt.alloc(), setup, &mut engine, &mut devices) {
+        Ok(()) => Ok(()),
+        Err(RunFault::Memory) => Err(Failure::from(Fault::Memory)),
+        Err(RunFault::Host(error)) => Err(Failure::from(fault_of_system(error))),
+    }
 }

@@ -8,7 +8,7 @@ ghost use Rattle.feed_hub.specs.Steps.{idled, taken, HasNext, IsCatchingUp, IsWa
 ghost use Rattle.feed_hub.specs.Answering.{NumbersText};
 ghost use Rattle.feed_hub.specs.Asking.{IsSeatFull};
 ghost use Rattle.feed_hub.specs.Seats.{seat_at, Others, SameSeats, KeepsThose, IsOnTime, Watched, IsWatcher, IsAskingSeat, IsOverSeat};
-ghost use Rattle.feed_hub.specs.Hub.{IsSeated, IsStillSeated, IsAnsweredBy, prefix_at, SameLimits, ChangesOnly, IsNew, TakesOfHead, IsAnswered, SharesTheText, HearsOf, HearsAt, HoldsAt, Refills};
+ghost use Rattle.feed_hub.specs.Hub.{IsSeated, IsStillSeated, IsAnsweredBy, prefix_at, SameLimits, ChangesOnly, IsNew, TakesOfHead, IsAnswered, SharesTheText, HearsOf, HearsAt, HoldsAt, TellsTextAt, Refills};
 
 use crate::answering::Answering;
 use crate::asking::Asking;
@@ -221,18 +221,16 @@ impl Hub {
         contest: &str,
         key: Key,
         piece: &[u8],
-    ) -> bool
-        ensures { IsTrue result → IsAskingSeat (seat_at self.now.seats.slab key) }
+    ) -> Result<bool, AllocError>
+        ensures { IfOk result (TellsTextAt self.now.broadcast contest.now
+            answering.now.mirror.node answering.now.framing answering.now.opening piece.now
+            (seat_at self.now.seats.slab key)) }
     {
         let Some(Seat::Asks(asking)) = self.seats.get(key) else {
-            return false;
+            return Ok(false);
         };
-        match asking.with(alloc, piece) {
-            Ok(head) => {
-                answering.makes_text(alloc, head.as_slice(), contest, self.broadcast.framing())
-            }
-            Err(_) => false,
-        }
+        let head = asking.with(alloc, piece)?;
+        answering.makes_text(alloc, head.as_slice(), contest, self.broadcast.framing())
     }
 
     /// Gets what comes next for a screen that has been handed all of its own; one that is as far as

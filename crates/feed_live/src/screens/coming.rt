@@ -11,7 +11,7 @@ use crate::conn::{Conn, Stage};
 use crate::desk::Desk;
 use crate::screens::{FULL, PIECE, Screens};
 use crate::times::{ACCEPT_PAUSE, REQUEST_TIME};
-use feed_device::{How, Sockets, Stop, Told};
+use feed_device::{How, Report, Sockets, Stop};
 use feed_hub::Key;
 use std::net::SocketAddr;
 
@@ -109,7 +109,7 @@ impl Screens {
     {
         self.accept_at = desk.time.saturating_add(ACCEPT_PAUSE);
         if !self.is_stuck {
-            desk.reports.tell(Told::NoAccept);
+            desk.reports.add(Report::NoAccept);
         }
         self.is_stuck = true;
     }
@@ -214,7 +214,7 @@ impl Screens {
         sockets.shut(at);
         self.totals.answer(503);
         if !self.is_full {
-            desk.reports.tell(Told::Full);
+            desk.reports.add(Report::Full);
         }
         self.is_full = true;
     }

@@ -162,6 +162,7 @@ impl Screens {
     }
 
     /// Whether these bytes end a request for which there is no room: a text has to be made for it.
+    /// Where memory runs out for that look, the hub hears them all the same, and may run out of it.
     pub(crate) fn has_no_room(
         &self,
         alloc: Global,
@@ -170,10 +171,13 @@ impl Screens {
         keyed: Keyed,
         piece: &[u8],
     ) -> bool {
-        !self.may_take_room(keyed.at)
-            && self
-                .hub
-                .makes_text(alloc, answering, contest, keyed.key, piece)
+        if self.may_take_room(keyed.at) {
+            return false;
+        }
+        let makes = self
+            .hub
+            .makes_text(alloc, answering, contest, keyed.key, piece);
+        makes.unwrap_or(false)
     }
 
     /// A request waits for room, which these bytes end. One that something comes behind can't wait.

@@ -11,7 +11,7 @@ use crate::source::settling::{begin_shown, followed_of};
 use crate::source::{Reach, Source};
 use crate::times::{CONNECT_TIME, RESPONSE_TIME};
 use feed_answer::request_text_as;
-use feed_device::{Link, Stop, Told, Why};
+use feed_device::{Link, Report, Stop, Why};
 use feed_hub::FIRST_PAUSE;
 use feed_node::Mirror;
 use std::alloc::{AllocError, Global};
@@ -97,7 +97,7 @@ impl Source {
     }
 
     /// A server that answers counts as heard after a while, though it publishes nothing. Where what
-    /// it sends has no tokens, that is told.
+    /// it sends has no tokens, that is reported.
     fn hear_quiet(&mut self, desk: &mut Desk)
         ensures { SameSource self.old self.new }
     {
@@ -207,20 +207,20 @@ impl Source {
         ensures next { GoesOnTo self.old self.new desk.old.time }
     {
         let server = self.upstream.place();
-        let is_told = self.lose();
+        let is_reported = self.lose();
         self.rechecking.lose();
         self.hear_end(why);
-        self.tell_unsettled(desk);
+        self.report_unsettled(desk);
         self.leave(link, desk.time);
         self.figures.lose(why, desk.time);
         self.upstream.lost(self.answers.shown.change(), desk.time);
         let pause = self.upstream.due(0).saturating_sub(desk.time);
         forget_after(link, pause);
         desk.reports
-            .tell_if(is_told, Told::Lost { server, why, pause });
+            .add_if(is_reported, Report::Lost { server, why, pause });
     }
 
-    /// A server is lost. Whether that is to be told: not where it only had its turn, and did not
+    /// A server is lost. Whether that is to be reported: not where it only had its turn, and did not
     /// answer.
     fn lose(&mut self) -> bool
         ensures same { SameSource self.old self.new }

@@ -7,7 +7,7 @@ use crate::figures::Following;
 use crate::screens::Screens;
 use crate::source::Source;
 use crate::source::reading::split_line;
-use feed_device::Told;
+use feed_device::Report;
 use feed_node::FeedFault;
 
 impl Source {
@@ -44,12 +44,12 @@ impl Source {
         self.hear(piece, desk.time);
         match self.feed_all(desk, screens, piece) {
             Ok(()) => {
-                self.tell_twice(desk);
+                self.report_twice(desk);
                 true
             }
             Err(fault) => {
                 let line = self.settling.lines();
-                desk.reports.tell(Told::BadInput { fault, line });
+                desk.reports.add(Report::BadInput { fault, line });
                 self.end_input(desk.time);
                 false
             }

@@ -11,7 +11,7 @@ use crate::desk::Desk;
 use crate::figures::Following;
 use crate::screens::Screens;
 use crate::source::{Reach, Source};
-use feed_device::{Excerpt, Link, Stop, Told, Why};
+use feed_device::{Excerpt, Link, Report, Stop, Why};
 use feed_follow::{FollowFault, Progress};
 use feed_node::{FeedFault, Mirror};
 use memchr::memchr;
@@ -161,19 +161,19 @@ impl Source {
         self.is_replay(piece)
     }
 
-    /// Tells more of a fault: where the feed is said to be, or the line that can't be followed.
-    fn tell_fault(&self, desk: &mut Desk, fault: FollowFault, line: &[u8]) {
+    /// Reports more of a fault: where the feed is said to be, or the line that can't be followed.
+    fn report_fault(&self, desk: &mut Desk, fault: FollowFault, line: &[u8]) {
         if self.returning.has_turned() {
             return;
         }
         let server = self.upstream.place();
         match (fault, self.location) {
             (FollowFault::Status(300..=399), Some(location)) => {
-                desk.reports.tell(Told::Moved { server, location });
+                desk.reports.add(Report::Moved { server, location });
             }
             (FollowFault::Feed(_), _) => {
                 let line = Excerpt::of_line(line);
-                desk.reports.tell(Told::Faulty { server, line });
+                desk.reports.add(Report::Faulty { server, line });
             }
             _ => {}
         }
@@ -222,7 +222,7 @@ impl Source {
                     self.lost(desk, link, Why::Memory);
                     return None;
                 }
-                self.tell_fault(desk, fault, line);
+                self.report_fault(desk, fault, line);
                 self.say(desk, screens);
                 self.settle_ended(desk, link, screens, next.len());
                 self.lost(desk, link, Why::Fault(fault));
@@ -262,10 +262,10 @@ impl Source {
             self.ask_newest(link, desk.time);
             return;
         }
-        let refused = Told::Refused {
+        let refused = Report::Refused {
             server: self.upstream.place(),
         };
-        desk.reports.tell_if(!self.returning.has_turned(), refused);
+        desk.reports.add_if(!self.returning.has_turned(), refused);
         self.without_token(link, desk.time);
     }
 
@@ -287,7 +287,7 @@ impl Source {
             return;
         }
         self.body_since = Some(desk.time);
-        self.has_told_twice = false;
+        self.has_reported_twice = false;
         if !self.is_fresh {
             if !self.rechecking.is_going() && !self.rechecking.is_doubted() {
                 self.upstream.held();
@@ -295,11 +295,11 @@ impl Source {
             self.settling.go_on();
         }
         self.figures.find(self.coming.is_some(), desk.time);
-        let found = Told::Found {
+        let found = Report::Found {
             server: self.upstream.place(),
             away: desk.time.saturating_sub(self.away_since),
         };
-        desk.reports.tell_if(!self.returning.has_turned(), found);
+        desk.reports.add_if(!self.returning.has_turned(), found);
     }
 
     /// Says what was published, where it is to be shown now. Where a connection published afresh, no
@@ -315,7 +315,7 @@ impl Source {
         ensures says { self.old.coming ≡ None
             → SaysAll screens.new self.new.answers.shown.mirror.node }
     {
-        self.tell_twice(desk);
+        self.report_twice(desk);
         if self.coming.is_some() {
             self.compare(desk);
             return;
@@ -345,13 +345,13 @@ impl Source {
         }
     }
 
-    /// Tells of the first time on a connection that it gives one token to two states.
-    pub(crate) fn tell_twice(&mut self, desk: &mut Desk)
+    /// Reports the first time on a connection that it gives one token to two states.
+    pub(crate) fn report_twice(&mut self, desk: &mut Desk)
         ensures same { SameSource self.old self.new }
         ensures epoch { self.new.epoch ≡ self.old.epoch }
         ensures fresh { self.new.is_fresh ≡ self.old.is_fresh }
     {
-        if self.has_told_twice {
+        if self.has_reported_twice {
             return;
         }
         let twice = match &self.coming {
@@ -366,8 +366,8 @@ impl Source {
         } else {
             Some(self.upstream.place())
         };
-        desk.reports.tell(Told::GivenTwice { server, token });
-        self.has_told_twice = true;
+        desk.reports.add(Report::GivenTwice { server, token });
+        self.has_reported_twice = true;
     }
 
     /// Says what had to wait.
@@ -381,7 +381,7 @@ impl Source {
     }
 }
 
-/// The token that a connection gave to two states, as it is told.
+/// The token that a connection gave to two states, as it is reported.
 pub(crate) fn given_twice(mirror: &Mirror) -> Option<Excerpt> {
     let token = mirror.given_twice()?;
     Some(Excerpt::of(token.text()))

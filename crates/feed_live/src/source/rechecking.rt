@@ -12,7 +12,7 @@ use crate::screens::Screens;
 use crate::source::Source;
 use crate::source::reading::{given_twice, is_want_of_memory, split_line};
 use crate::times::QUIET;
-use feed_device::{Excerpt, Link, Told};
+use feed_device::{Excerpt, Link, Report};
 use feed_follow::Follower;
 use feed_node::{Limits, Mirror, Node};
 use std::alloc::{AllocError, Global};
@@ -262,11 +262,11 @@ impl Source {
         ensures left { WasLeft self.old self.new (L.exchanges link.old) (L.exchanges link.new) }
     {
         if let Some(token) = self.answers.shown.node().token() {
-            let forgot = Told::Forgot {
+            let forgot = Report::Forgot {
                 server: self.upstream.place(),
                 token: Excerpt::of(token.text()),
             };
-            desk.reports.tell_if(!self.rechecking.is_doubted, forgot);
+            desk.reports.add_if(!self.rechecking.is_doubted, forgot);
         }
         self.rechecking.is_doubted = true;
         self.without_token(link, desk.time);

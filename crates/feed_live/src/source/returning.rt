@@ -9,7 +9,7 @@ use crate::desk::Desk;
 use crate::figures::Following;
 use crate::source::{Reach, Source};
 use crate::times::TURN_TIME;
-use feed_device::{Link, Told};
+use feed_device::{Link, Report};
 use std::mem;
 
 /// For how many times as long the first one is followed, once each had its turn, until they have
@@ -24,8 +24,8 @@ pub(crate) struct Returning {
     after: u64,
     published: u64,
     turns: usize,
-    /// Whether it was told that one was left so.
-    was_told: bool,
+    /// Whether it was reported that one was left so.
+    was_reported: bool,
 }
 
 impl Returning {
@@ -34,7 +34,7 @@ impl Returning {
             after,
             published: now,
             turns: 0,
-            was_told: false,
+            was_reported: false,
         }
     }
 
@@ -45,14 +45,14 @@ impl Returning {
     }
 
     /// Another one of so many servers has its turn: the first turn of a round, where each had one.
-    /// Whether that is to be told: not where it was, and none was lost since then.
+    /// Whether that is to be reported: not where it was, and none was lost since then.
     fn turn(&mut self, servers: usize) -> bool {
         self.turns = if self.turns < servers {
             self.turns.saturating_add(1)
         } else {
             1
         };
-        !mem::replace(&mut self.was_told, true)
+        !mem::replace(&mut self.was_reported, true)
     }
 
     /// Whether a server was left for having nothing new.
@@ -75,7 +75,7 @@ impl Returning {
     /// A server was lost that was followed: what becomes of the others is news again.
     pub(crate) fn lose(&mut self) {
         self.turns = 0;
-        self.was_told = false;
+        self.was_reported = false;
     }
 }
 
@@ -120,10 +120,10 @@ impl Source {
             × (self.new.upstream.refused ≡ self.old.upstream.refused) }
     {
         let server = self.upstream.place();
-        let is_told = self.returning.turn(self.places.len());
-        desk.reports.tell_if(
-            is_told,
-            Told::Quiet {
+        let is_reported = self.returning.turn(self.places.len());
+        desk.reports.add_if(
+            is_reported,
+            Report::Quiet {
                 server,
                 time: self.returning.after,
             },

@@ -16,7 +16,7 @@ use crate::source::rate::Rate;
 use crate::source::reading::split_line;
 use crate::times::{LONGEST_REPLAY, REPLAY_REPORT};
 use feed_audit::{Difference, difference_of};
-use feed_device::{Excerpt, Link, Told};
+use feed_device::{Excerpt, Link, Report};
 use feed_node::{Mirror, Node};
 use std::alloc::{AllocError, Global};
 
@@ -44,8 +44,8 @@ pub(crate) struct Settling {
     lines: u64,
     /// Whether the last line that was begun has not ended yet.
     is_within: bool,
-    /// When it was told last how much has come.
-    told: u64,
+    /// When it was reported last how much has come.
+    reported: u64,
     /// Whether it was at the token that is shown, and had the same state there.
     is_compared: bool,
     is_same: bool,
@@ -65,7 +65,7 @@ impl Settling {
             bytes: 0,
             lines: 0,
             is_within: false,
-            told: 0,
+            reported: 0,
             is_compared: false,
             is_same: false,
             was_alone: false,
@@ -76,7 +76,7 @@ impl Settling {
     pub(crate) fn begin(&mut self, now: u64) {
         *self = Settling {
             began: now,
-            told: now,
+            reported: now,
             was_alone: self.was_alone,
             ..Settling::new(self.pause, self.is_always, self.is_strange)
         };
@@ -223,7 +223,7 @@ impl Source {
             self.is_heard = true;
         } else {
             let (kind, id) = differ_at(desk.alloc, coming.node(), shown);
-            desk.reports.tell(Told::Differs {
+            desk.reports.add(Report::Differs {
                 server: self.upstream.place(),
                 kind,
                 id,
@@ -245,13 +245,13 @@ impl Source {
         Some(late.min(self.settling.calm_at()))
     }
 
-    /// When it is told the next time how much has come.
-    pub(crate) fn tells_at(&self) -> Option<u64> {
+    /// When it is reported the next time how much has come.
+    pub(crate) fn reports_at(&self) -> Option<u64> {
         self.coming.as_ref()?;
         if self.is_at_shown() {
             return None;
         }
-        Some(self.settling.told.saturating_add(REPLAY_REPORT))
+        Some(self.settling.reported.saturating_add(REPLAY_REPORT))
     }
 
     /// How many lines and bytes came of what has not settled yet.
@@ -269,18 +269,18 @@ impl Source {
         self.coming.is_some() && self.answers.shown.node().token().is_none()
     }
 
-    /// Tells how much has come, where it has not settled for long.
-    fn tell_coming(&mut self, desk: &mut Desk)
+    /// Reports how much has come, where it has not settled for long.
+    fn report_coming(&mut self, desk: &mut Desk)
         ensures { SameSource self.old self.new }
     {
-        let Some(at) = self.tells_at() else {
+        let Some(at) = self.reports_at() else {
             return;
         };
         if at > desk.time {
             return;
         }
-        self.settling.told = desk.time;
-        desk.reports.tell(Told::Coming {
+        self.settling.reported = desk.time;
+        desk.reports.add(Report::Coming {
             server: self.upstream.place(),
             bytes: self.settling.bytes,
             time: desk.time.saturating_sub(self.settling.began),
@@ -288,12 +288,12 @@ impl Source {
         });
     }
 
-    /// Tells that the connection ends before what came on it has settled.
-    pub(crate) fn tell_unsettled(&self, desk: &mut Desk)
+    /// Reports that the connection ends before what came on it has settled.
+    pub(crate) fn report_unsettled(&self, desk: &mut Desk)
         ensures { desk.new.time ≡ desk.old.time }
     {
         if self.coming.is_some() && self.settling.bytes > 0 {
-            desk.reports.tell(Told::Unsettled {
+            desk.reports.add(Report::Unsettled {
                 server: self.upstream.place(),
                 bytes: self.settling.bytes,
             });

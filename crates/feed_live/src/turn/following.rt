@@ -8,7 +8,7 @@ ghost use Rattle.feed_device.specs.Sockets.{AllSockets};
 
 use crate::times::END_TIME;
 use crate::turn::{Input, Live};
-use feed_device::{Link, Store, Told};
+use feed_device::{Link, Report, Store};
 
 impl Live {
     ghost use Rattle.feed_live.specs.Relaying.{StillRelaying, OnlyServes};
@@ -67,7 +67,7 @@ impl Live {
         ensures saved { SameSaved self.old self.new }
     {
         if self.feeds {
-            self.desk.reports.tell(Told::EndOfInput);
+            self.desk.reports.add(Report::EndOfInput);
             self.source.end_input(self.desk.time);
         }
         self.feeds = false;

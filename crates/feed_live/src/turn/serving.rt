@@ -5,9 +5,9 @@ ghost use Rattle.slab.specs.Slab.{get};
 ghost use Rattle.feed_device.specs.Sockets.{AllSockets};
 
 use crate::screens::Shown;
-use crate::times::{REPORT, TICK};
+use crate::times::{SCREENS_REPORT, TICK};
 use crate::turn::Live;
-use feed_device::{Ready, Sockets, Told};
+use feed_device::{Ready, Report, Sockets};
 
 impl Live {
     ghost use Rattle.feed_live.specs.Relaying.{OnlyServes};
@@ -72,9 +72,9 @@ impl Live {
         ensures saved { SameSaved self.old self.new }
     {
         self.screens.has_more = true;
-        if self.desk.time >= self.limits.hold && !self.is_hold_told {
-            self.is_hold_told = true;
-            self.desk.reports.tell(Told::NotHeard);
+        if self.desk.time >= self.limits.hold && !self.is_hold_reported {
+            self.is_hold_reported = true;
+            self.desk.reports.add(Report::NotHeard);
         }
     }
 
@@ -131,17 +131,17 @@ impl Live {
             .serve(&mut self.desk, sockets, answers, &shown, at);
     }
 
-    /// Tells how many screens there are, where that has changed.
+    /// Reports how many screens there are, where that has changed.
     pub(super) fn report(&mut self)
         ensures serves { (sockets : AllSockets) → OnlyServes self.old self.new sockets sockets }
         ensures saved { SameSaved self.old self.new }
     {
-        if self.desk.time.saturating_sub(self.reported) < REPORT {
+        if self.desk.time.saturating_sub(self.reported) < SCREENS_REPORT {
             return;
         }
         self.reported = self.desk.time;
-        if let Some(told) = self.screens.report() {
-            self.desk.reports.tell(told);
+        if let Some(report) = self.screens.report() {
+            self.desk.reports.add(report);
         }
     }
 }

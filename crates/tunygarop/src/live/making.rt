@@ -1,6 +1,5 @@
-//! What a relay is made of, before its first turn: state files are read, and ports opened.
+//! What a relay is made of, before it begins: state files are taken, and ports opened.
 
-use crate::live::restoring::told_of;
 use crate::live::watching::Watched;
 use crate::live::{Engine, Waited};
 use feed_answer::{Identity, Place};
@@ -9,10 +8,10 @@ use feed_commands::{
 };
 use feed_device::Devices;
 use feed_host::{Failure, Hosts, identity_of};
-use feed_live::{Live, LiveLimits, Restored, Start, Store, restore_from};
-use feed_node::{Limits, Mirror};
-use feed_state::{Kept, StateFault, StateStore, take_state};
-use feed_system::{Host, OpenFault, Opened, Port, Servers, System, open};
+use feed_live::{LiveLimits, Setup};
+use feed_node::Limits;
+use feed_state::{Kept, StateFault, StateStore, Texts, take_state};
+use feed_system::{Host, OpenFault, Opened, Port, Servers, open};
 use std::alloc::{AllocError, Global};
 use std::fs::File;
 use std::io;
@@ -81,7 +80,7 @@ fn push<T: Drop>(list: &mut Vec<T>, item: T) -> Result<(), Fault> {
     }
 }
 
-pub(super) fn needs_memory<T: Drop>(outcome: Result<T, AllocError>) -> Result<T, Fault> {
+fn needs_memory<T: Drop>(outcome: Result<T, AllocError>) -> Result<T, Fault> {
     match outcome {
         Ok(value) => Ok(value),
         Err(_) => Err(Fault::Memory),
@@ -89,13 +88,17 @@ pub(super) fn needs_memory<T: Drop>(outcome: Result<T, AllocError>) -> Result<T,
 }
 
 /// A call of the system failed.
-pub(super) fn of_system<T: Drop>(outcome: io::Result<T>) -> Result<T, Fault> {
+pub(super) fn fault_of_system(error: io::Error) -> Fault {
+    match error.kind() {
+        ErrorKind::OutOfMemory => Fault::Memory,
+        _ => Fault::Read,
+    }
+}
+
+fn of_system<T: Drop>(outcome: io::Result<T>) -> Result<T, Fault> {
     match outcome {
         Ok(value) => Ok(value),
-        Err(error) => match error.kind() {
-            ErrorKind::OutOfMemory => Err(Fault::Memory),
-            _ => Err(Fault::Read),
-        },
+        Err(error) => Err(fault_of_system(error)),
     }
 }
 
@@ -121,21 +124,6 @@ fn kept_limits(options: &LiveOptions<'_>) -> Limits {
         Some(bytes) => kept.with_memory(bytes).unwrap_or(kept),
         None => kept,
     }
-}
-
-/// What the state files have that a relay begins with: nothing where there are none, or the feed is
-/// the input, which begins anew.
-fn restored(
-    rt: &HostRuntime,
-    options: &LiveOptions<'_>,
-    store: &mut StateStore<&HostRuntime>,
-) -> Result<Restored, Fault> {
-    let limits = kept_limits(options);
-    if options.upstream.is_none() {
-        drop(store.read());
-        drop(store.read_former());
-    }
-    needs_memory(restore_from(rt.alloc(), limits, store))
 }
 
 /// Why there is nothing to run on.
@@ -203,12 +191,11 @@ fn limits_of(options: &LiveOptions<'_>) -> LiveLimits {
     }
 }
 
-/// What a relay starts from, before anything is opened.
+/// What a relay is set to, before anything is opened.
 #[derive(Drop)]
 struct Plan {
-    contest: String,
-    identity: Identity,
-    asked: Asked,
+    setup: Setup,
+    hosts: Vec<Host>,
     kept: Option<Kept<File>>,
 }
 
@@ -220,33 +207,36 @@ fn of_state(alloc: Global, path: &str, fault: &StateFault) -> Failure {
     }
 }
 
+/// What the files had is let go where the feed is the input, which begins anew.
+fn to_be_read(rt: &HostRuntime, options: &LiveOptions<'_>, kept: Kept<File>) -> Kept<File> {
+    if options.upstream.is_some() {
+        return kept;
+    }
+    let Kept {
+        state,
+        texts,
+        about,
+    } = kept;
+    drop(texts);
+    Kept {
+        state,
+        texts: Texts {
+            before: Vec::new(rt.alloc()),
+            file: Vec::new(rt.alloc()),
+        },
+        about,
+    }
+}
+
 /// Takes the state file, where there is to be one.
 fn kept(rt: &HostRuntime, options: &LiveOptions<'_>) -> Result<Option<Kept<File>>, Failure> {
     let Some(path) = options.state else {
         return Ok(None);
     };
     match take_state(rt, path, options.contest, VERSION, options.is_new) {
-        Ok(kept) => Ok(Some(kept)),
+        Ok(kept) => Ok(Some(to_be_read(rt, options, kept))),
         Err(fault) => Err(of_state(rt.alloc(), path, &fault)),
     }
-}
-
-/// What the state files have, for a relay that asks these servers.
-fn start_of(
-    rt: &HostRuntime,
-    options: &LiveOptions<'_>,
-    store: &mut StateStore<&HostRuntime>,
-    places: Vec<Place>,
-    identity: Identity,
-) -> Result<Start, Fault> {
-    let blank = needs_memory(Mirror::new(rt.alloc(), kept_limits(options)))?;
-    let restored = restored(rt, options, store)?;
-    Ok(Start {
-        restored,
-        blank,
-        places,
-        identity,
-    })
 }
 
 /// As whom servers are asked: as nobody in particular where the feed is the input.
@@ -261,17 +251,19 @@ fn identity(rt: &HostRuntime, options: &LiveOptions<'_>) -> Result<Identity, Fai
 fn make_plan(rt: &HostRuntime, options: &LiveOptions<'_>) -> Result<Plan, Failure> {
     let contest = needs_memory(String::from_str(rt.alloc(), options.contest))?;
     let identity = identity(rt, options)?;
-    let asked = match servers(rt, options, &identity) {
+    let Asked { hosts, places } = match servers(rt, options, &identity) {
         Ok(asked) => asked,
         Err(fault) => return Err(of_servers(rt.alloc(), fault)),
     };
     let kept = kept(rt, options)?;
-    Ok(Plan {
+    let setup = Setup {
         contest,
+        limits: limits_of(options),
+        kept: kept_limits(options),
+        places,
         identity,
-        asked,
-        kept,
-    })
+    };
+    Ok(Plan { setup, hosts, kept })
 }
 
 /// Listens, and makes what the relay runs on.
@@ -288,58 +280,36 @@ fn system_of<'r>(
     }
 }
 
-/// Tells what the state file had, unless little is told.
-fn tell_state(system: &mut System<'_>, options: &LiveOptions<'_>, told: Option<String>) {
-    if let Some(text) = told {
-        if options.verbosity != Verbosity::Quiet {
-            system.line(text.as_str());
-        }
-    }
-}
-
-/// A relay, and all that it runs on.
+/// What a relay is set to, and all that it runs on.
 #[derive(Drop)]
 pub(super) struct Prepared<'r> {
+    pub(super) setup: Setup,
     pub(super) engine: Engine<'r>,
     pub(super) devices: Devices<Port, Servers<'r>, StateStore<&'r HostRuntime>>,
-    pub(super) live: Live,
 }
 
-/// Makes a relay and all that it runs on, and listens.
+/// Makes all that a relay runs on, and listens.
 pub(super) fn prepare<'r>(
     rt: &'r HostRuntime,
-    options: &LiveOptions<'_>,
+    options: &'r LiveOptions<'r>,
 ) -> Result<Prepared<'r>, Failure> {
     let start = of_system(Instant::now(rt))?;
     let watched = needs_memory(Watched::new(rt, options))?;
-    let Plan {
-        contest,
-        identity,
-        asked,
-        kept,
-    } = make_plan(rt, options)?;
-    let Asked { hosts, places } = asked;
+    let Plan { setup, hosts, kept } = make_plan(rt, options)?;
     let about = kept.as_ref().map(|kept| kept.about);
-    let Opened {
-        mut system,
-        mut devices,
-    } = system_of(rt, options, kept, hosts, start)?;
-    let store = &mut devices.store;
-    let from = start_of(rt, options, store, places, identity)?;
-    let told = needs_memory(told_of(rt.alloc(), options, about, &from.restored))?;
-    tell_state(&mut system, options, told);
-    let live = Live::new(rt.alloc(), contest, limits_of(options), from, store, 0);
+    let Opened { system, devices } = system_of(rt, options, kept, hosts, start)?;
     let engine = Engine {
         rt,
+        options,
         system,
         watched,
-        verbosity: options.verbosity,
+        about,
         goes_on: options.upstream.is_none() || options.until_eof,
         waited: Waited::none(),
     };
     Ok(Prepared {
+        setup,
         engine,
         devices,
-        live,
     })
 }

@@ -1,4 +1,4 @@
-//! What is told of the state file at the start.
+//! What is reported of the state file at the start.
 
 use feed_commands::LiveOptions;
 use feed_live::Restored;
@@ -21,8 +21,8 @@ fn reason(options: &LiveOptions<'_>, about: About) -> &'static str {
     }
 }
 
-/// What is told of a state file, where there is one.
-pub(super) fn told_of(
+/// What is reported of a state file, where there is one.
+pub(super) fn report_of(
     alloc: Global,
     options: &LiveOptions<'_>,
     about: Option<About>,

@@ -1,26 +1,36 @@
-use Rattle.std.proofs.Common.{◌∙◌, inl}
-use Rattle.feed_live.proofs.RunLemmas.{then_on, no_ok}
+use Rattle.std.proofs.Common.{refl, inl, inr}
+use Rattle.std.specs.Prelude.{Option}
+use Rattle.feed_device.specs.Files.{StateFiles}
+use Rattle.feed_live.specs.Running.{Surroundings, Came, moment_of, surroundings, at_once}
+use Rattle.feed_live.proofs.RunLemmas.{runs_from, untouched}
 use Rattle.feed_live.proofs.running.run.Goals as goal
 
-pub returns-in_err-next-clause-run : goal.returns-in_err-next-clause-run
-returns-in_err-next-clause-run g c =
-    record {
-      count = _;
-      run = then_on c.in_err-next.ensures.err.1 c.loop.invariant.run;
-      ends = no_ok _ c.from_residual.result c.from_residual.ensures.0;
-    }
+pub returns-in_err-live-clause-run : goal.returns-in_err-live-clause-run
+returns-in_err-live-clause-run g c =
+    inr (record {
+      failed = c.from_residual.ensures.0;
+      same = untouched (g.L.Link.exchanges c.args.devices.now.link) (g.S.Sockets.socket c.args.devices.now.sockets) c.in_err-live.ensures.err c.in_err-live.ensures.input;
+      calls = c.in_err-live.ensures.calls;
+    })
 
-pub loop-preserved : goal.loop-preserved
-loop-preserved g c =
-    record {
-      run = then_on c.in_ok-next.ensures.turn c.loop.invariant.run;
-      failed = c.in_ok-next.ensures.failed ∙ c.loop.invariant.failed;
-    }
+pub returns-in-Ok-clause-run : goal.returns-in-Ok-clause-run
+returns-in-Ok-clause-run g c =
+    let ran = c.in-Ok.ensures.run in
+    let around = λ (files : StateFiles) (input : Option Came). surroundings (g.L.Link.exchanges c.args.devices.now.link) (g.S.Sockets.socket c.args.devices.now.sockets) files input in
+    let found : Surroundings = around (g.D.Store.files c.args.devices.now.store) (g.H.Host.input c.args.host.now) in
+    inl (runs_from c.args.setup found
+    (moment_of c.in_ok-live.live at_once (g.H.Host.time c.begin.new.host) (around (g.D.Store.files c.begin.new.store) (g.H.Host.input c.begin.new.host)))
+    (moment_of c.run_turns.new.live ran.0 ran.1 (surroundings (g.L.Link.exchanges c.run_turns.new.devices.link) (g.S.Sockets.socket c.run_turns.new.devices.sockets)
+    (g.D.Store.files c.run_turns.new.devices.store) (g.H.Host.input c.run_turns.new.host)))
+    _ c.in_ok-live.ensures.begins refl refl c.in_ok-live.ensures.input c.in_ok-live.ensures.calls ran.2.run ran.2.ends)
 
-pub returns-then-next-clause-run : goal.returns-then-next-clause-run
-returns-then-next-clause-run g c =
-    record {
-      count = _;
-      run = then_on c.in_ok-next.ensures.turn c.loop.invariant.run;
-      ends = inl (c.in_ok-next.ensures.over c.if-next.true);
-    }
+pub returns-clause-run : goal.returns-clause-run
+returns-clause-run g c =
+    let ran = c.in-Err.ensures.run in
+    let around = λ (files : StateFiles) (input : Option Came). surroundings (g.L.Link.exchanges c.args.devices.now.link) (g.S.Sockets.socket c.args.devices.now.sockets) files input in
+    let found : Surroundings = around (g.D.Store.files c.args.devices.now.store) (g.H.Host.input c.args.host.now) in
+    inl (runs_from c.args.setup found
+    (moment_of c.in_ok-live.live at_once (g.H.Host.time c.begin.new.host) (around (g.D.Store.files c.begin.new.store) (g.H.Host.input c.begin.new.host)))
+    (moment_of c.run_turns.new.live ran.0 ran.1 (surroundings (g.L.Link.exchanges c.run_turns.new.devices.link) (g.S.Sockets.socket c.run_turns.new.devices.sockets)
+    (g.D.Store.files c.run_turns.new.devices.store) (g.H.Host.input c.run_turns.new.host)))
+    _ c.in_ok-live.ensures.begins refl refl c.in_ok-live.ensures.input c.in_ok-live.ensures.calls ran.2.run tt)

@@ -7,7 +7,7 @@ use crate::desk::Desk;
 use crate::figures::Following;
 use crate::screens::Screens;
 use crate::source::{Reach, Source};
-use feed_device::{Link, Told, Why};
+use feed_device::{Link, Report, Why};
 use feed_node::Mirror;
 use std::alloc::{AllocError, Global};
 
@@ -50,7 +50,7 @@ impl Source {
             return;
         }
         if !self.is_due_to_settle(desk.time) {
-            self.tell_coming(desk);
+            self.report_coming(desk);
             self.note_at_shown(desk.time);
             return;
         }
@@ -127,7 +127,7 @@ impl Source {
         if !self.has_published() {
             return None;
         }
-        self.tell_settled(desk);
+        self.report_settled(desk);
         if self.is_alone() {
             return Some(self.settle_alone(desk, link, screens, unread));
         }
@@ -168,11 +168,11 @@ impl Source {
         }
     }
 
-    fn tell_settled(&mut self, desk: &mut Desk)
+    fn report_settled(&mut self, desk: &mut Desk)
         ensures { SameSource self.old self.new }
     {
         self.figures.change(Following::Answered, desk.time);
-        desk.reports.tell(Told::Settled {
+        desk.reports.add(Report::Settled {
             server: self.upstream.place(),
             time: desk.time.saturating_sub(self.settling.began),
         });
@@ -224,7 +224,7 @@ impl Source {
     pub(crate) fn ignored<L: Link>(&mut self, desk: &mut Desk, link: &mut L)
         ensures left { WasLeft self.old self.new (L.exchanges link.old) (L.exchanges link.new) }
     {
-        desk.reports.tell(Told::Ignores {
+        desk.reports.add(Report::Ignores {
             server: self.upstream.place(),
         });
         self.settling.is_always = true;

@@ -5,13 +5,13 @@ use Rattle.feed_live.proofs.source.Source.lost.Goals as goal
 pub returns-clause-left : goal.returns-clause-left
 returns-clause-left g c =
     let shown : c.lost.new.mirror ≡ cut_off c.args.self.now.answers.shown.mirror =
-    c.lost.ensures.mirror ∙ ap cut_off (c.change.ensures.mirror ∙ ap (λ a. a.shown.mirror) c.leave.ensures.answers ∙ c.hear_end.ensures.same.shown ∙ c.lose-is_told.ensures.same.shown) in
+    c.lost.ensures.mirror ∙ ap cut_off (c.change.ensures.mirror ∙ ap (λ a. a.shown.mirror) c.leave.ensures.answers ∙ c.hear_end.ensures.same.shown ∙ c.lose-is_reported.ensures.same.shown) in
     record {
-      servers = c.leave.ensures.servers ∙ c.hear_end.ensures.same.servers ∙ c.lose-is_told.ensures.same.servers;
+      servers = c.leave.ensures.servers ∙ c.hear_end.ensures.same.servers ∙ c.lose-is_reported.ensures.same.servers;
       exchanges = c.forget_after.ensures.exchanges ∙ c.leave.ensures.exchanges;
       reach = c.leave.ensures.away;
       follower = c.lost.ensures.paused.0;
       limits = ap (λ m. m.limits) shown;
       node = ap (λ m. m.node) shown;
-      blank = ap (λ a. a.blank.mirror) c.leave.ensures.answers ∙ c.hear_end.ensures.same.blank ∙ c.lose-is_told.ensures.same.blank;
+      blank = ap (λ a. a.blank.mirror) c.leave.ensures.answers ∙ c.hear_end.ensures.same.blank ∙ c.lose-is_reported.ensures.same.blank;
     }

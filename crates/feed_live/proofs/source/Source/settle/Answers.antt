@@ -10,12 +10,12 @@ returns-then-not-has_published-clause-shows g c = λ limits log servers contest 
 
 pub returns-then-is_alone-clause-shows : goal.returns-then-is_alone-clause-shows
 returns-then-is_alone-clause-shows g c =
-    λ limits log servers contest sockets to. c.settle_alone.ensures.shows limits log servers contest sockets (same_to_show limits log servers c.args.screens.now c.tell_settled.ensures to)
+    λ limits log servers contest sockets to. c.settle_alone.ensures.shows limits log servers contest sockets (same_to_show limits log servers c.args.screens.now c.report_settled.ensures to)
 
 pub returns-clause-shows : goal.returns-clause-shows
 returns-clause-shows g c =
     λ limits log servers contest sockets to.
-    let kept = same_to_show limits log servers c.args.screens.now c.keep_screens.ensures (same_to_show limits log servers c.args.screens.now c.tell_settled.ensures to) in (
+    let kept = same_to_show limits log servers c.args.screens.now c.keep_screens.ensures (same_to_show limits log servers c.args.screens.now c.report_settled.ensures to) in (
       c.say.ensures.same.servers ∙ c.show.ensures.servers ∙ kept.0,
       λ honest.
           let shown = shows_now limits log servers c.args.unread _ _ c.show_all.ensures.shown c.show.ensures kept.1 kept.2 honest in
@@ -25,10 +25,10 @@ returns-clause-shows g c =
 pub returns-clause-follows : goal.returns-clause-follows
 returns-clause-follows g c =
     λ none reads left is limits log servers contest sockets follows. (
-      c.say.ensures.same.servers ∙ c.show.ensures.servers ∙ c.keep_screens.ensures.servers ∙ c.tell_settled.ensures.servers ∙ follows.0,
+      c.say.ensures.same.servers ∙ c.show.ensures.servers ∙ c.keep_screens.ensures.servers ∙ c.report_settled.ensures.servers ∙ follows.0,
       with_same limits log servers c.say.ensures.same _ left left refl
           (with_screens limits log servers _ (λ shows serving. c.say.ensures.serves (states_of limits log) contest sockets (among_shown limits log shows) serving)
           (with_now_shown limits log servers left _ _ (c.show_all.ensures.shown ∙ ap (λ n. option_map (shown_so all_from n) (g.L.Link.exchanges c.args.link.now)) (sym is))
-          (c.keep_screens.ensures.reach ∙ c.tell_settled.ensures.reach ∙ reads) c.show.ensures
-          (with_same limits log servers c.keep_screens.ensures _ left left refl (with_same limits log servers c.tell_settled.ensures _ left left refl follows.1)))),
+          (c.keep_screens.ensures.reach ∙ c.report_settled.ensures.reach ∙ reads) c.show.ensures
+          (with_same limits log servers c.keep_screens.ensures _ left left refl (with_same limits log servers c.report_settled.ensures _ left left refl follows.1)))),
     )

@@ -9,9 +9,9 @@ pub returns-then-not-is_due_to_settle : goal.returns-then-not-is_due_to_settle
 returns-then-not-is_due_to_settle g c =
     record {
       follows = λ limits log servers contest sockets follows. (
-        c.note_at_shown.ensures.servers ∙ c.tell_coming.ensures.servers ∙ follows.0,
+        c.note_at_shown.ensures.servers ∙ c.report_coming.ensures.servers ∙ follows.0,
         with_same limits log servers c.note_at_shown.ensures _ _ _ c.note_at_shown.ensures.rest
-            (with_same limits log servers c.tell_coming.ensures _ _ _ c.tell_coming.ensures.rest follows.1),
+            (with_same limits log servers c.report_coming.ensures _ _ _ c.report_coming.ensures.rest follows.1),
       );
     }
 

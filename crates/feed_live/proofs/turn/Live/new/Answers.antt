@@ -38,4 +38,5 @@ returns g c =
           c.saved_of-saved.ensures.kept nodes text written known (subst (λ n. IfSome c.args.start.restored.file (EndsAsRecorded nodes text n)) (sym c.node.ensures.node) good);
       had = c.saved_of-saved.ensures.had;
       contest = refl;
+      feeds = λ none. c.are_none-feeds.ensures.none (c.deref.ensures.value ∙ none);
     }

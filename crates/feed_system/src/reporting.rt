@@ -1,8 +1,8 @@
-//! What is told on standard error: a line for each thing that happened, with the time in UTC.
+//! What is reported on standard error: a line for each thing that happened, with the time in UTC.
 
 use crate::link::Servers;
 use feed_arguments::Verbosity;
-use feed_device::{Excerpt, Told};
+use feed_device::{Excerpt, Report};
 use jiff::Timestamp;
 use std::alloc::{AllocError, Global};
 use std::time::{SystemTime, UNIX_EPOCH};
@@ -22,7 +22,7 @@ pub(crate) fn stamp(rt: &HostRuntime) -> Timestamp {
     }
 }
 
-/// What is told where a state file was written last at a time, in seconds since 1970, this token was
+/// What is reported where a state file was written last at a time, in seconds since 1970, this token was
 /// restored, and so many bytes were left away.
 pub fn restored_text(
     alloc: Global,
@@ -40,68 +40,68 @@ fn time_of(seconds: i64) -> Timestamp {
     Timestamp::from_second(seconds).unwrap_or(Timestamp::UNIX_EPOCH)
 }
 
-/// Whether a thing is told of at all.
-pub(crate) fn is_told(told: &Told, verbosity: Verbosity) -> bool {
+/// Whether a thing is reported at all.
+pub(crate) fn is_reported(report: &Report, verbosity: Verbosity) -> bool {
     match verbosity {
         Verbosity::Verbose => true,
-        Verbosity::Normal => !matches!(told, Told::Screen { .. }),
+        Verbosity::Normal => !matches!(report, Report::Screen { .. }),
         Verbosity::Quiet => false,
     }
 }
 
-/// The text of what is told, without the time.
+/// The text of a report, without the time.
 pub(crate) fn text_of(
     alloc: Global,
-    told: &Told,
+    report: &Report,
     servers: &Servers<'_>,
 ) -> Result<String, AllocError> {
-    match *told {
-        Told::Found { server, away } => {
+    match *report {
+        Report::Found { server, away } => {
             let name = servers.name(alloc, server)?;
             format!(in alloc; "upstream {name}: answers, after {away} ms")
         }
-        Told::Lost { server, why, pause } => {
+        Report::Lost { server, why, pause } => {
             let name = servers.name(alloc, server)?;
             format!(in alloc; "upstream {name}: {why}; next in {pause} ms")
         }
-        Told::Quiet { server, time } => {
+        Report::Quiet { server, time } => {
             let name = servers.name(alloc, server)?;
             let seconds = time / 1_000;
             format!(in alloc; "upstream {name}: nothing new for {seconds} s; another one is asked")
         }
-        Told::Moved { server, location } => {
+        Report::Moved { server, location } => {
             let name = servers.name(alloc, server)?;
             let location = location.text();
             format!(in alloc; "upstream {name}: the feed is at {location}: name that server")
         }
-        Told::Faulty { server, line } => {
+        Report::Faulty { server, line } => {
             let name = servers.name(alloc, server)?;
             let line = line.text();
             format!(in alloc; "upstream {name}: can't follow from this line on: {line}")
         }
-        Told::Refused { server } => {
+        Report::Refused { server } => {
             let name = servers.name(alloc, server)?;
             format!(in alloc; "upstream {name}: doesn't hold our token")
         }
-        Told::Ignores { server } => {
+        Report::Ignores { server } => {
             let name = servers.name(alloc, server)?;
             format!(in alloc; "upstream {name}: ignores since_token; from here on as with --fresh")
         }
-        Told::Differs { server, kind, id } => {
+        Report::Differs { server, kind, id } => {
             let name = servers.name(alloc, server)?;
             let (kind, id) = (kind.text(), id.text());
             format!(in alloc;
                 "upstream {name}: has another state at our token, first at {kind} {id}"
             )
         }
-        Told::GivenTwice { server, token } => {
+        Report::GivenTwice { server, token } => {
             let name = feed_of(alloc, servers, server)?;
             let token = token.text();
             format!(in alloc;
                 "{name}: gave the token {token} to two states; what came with it again is left away"
             )
         }
-        Told::Forgot { server, token } => {
+        Report::Forgot { server, token } => {
             let name = servers.name(alloc, server)?;
             let token = token.text();
             format!(in alloc;
@@ -109,18 +109,22 @@ pub(crate) fn text_of(
                  if no other server has ours, everything is asked for"
             )
         }
-        Told::Settled { server, time } => {
+        Report::Settled { server, time } => {
             let name = servers.name(alloc, server)?;
             format!(in alloc; "upstream {name}: all of it came, in {time} ms")
         }
-        _ => text_of_coming(alloc, told, servers),
+        _ => text_of_coming(alloc, report, servers),
     }
 }
 
-/// The text of what is told of a feed that has not settled.
-fn text_of_coming(alloc: Global, told: &Told, servers: &Servers<'_>) -> Result<String, AllocError> {
-    match *told {
-        Told::Coming {
+/// The text of a report of a feed that has not settled.
+fn text_of_coming(
+    alloc: Global,
+    report: &Report,
+    servers: &Servers<'_>,
+) -> Result<String, AllocError> {
+    match *report {
+        Report::Coming {
             server,
             bytes,
             time,
@@ -135,7 +139,7 @@ fn text_of_coming(alloc: Global, told: &Told, servers: &Servers<'_>) -> Result<S
             };
             format!(in alloc; "upstream {name}: {bytes} bytes came in {seconds} s, {state}")
         }
-        Told::NoToken {
+        Report::NoToken {
             server,
             changes,
             time,
@@ -146,49 +150,49 @@ fn text_of_coming(alloc: Global, told: &Told, servers: &Servers<'_>) -> Result<S
                 "upstream {name}: no token so far; {changes} changes wait for one for {seconds} s"
             )
         }
-        Told::Unsettled { server, bytes } => {
+        Report::Unsettled { server, bytes } => {
             let name = servers.name(alloc, server)?;
             format!(in alloc;
                 "upstream {name}: {bytes} bytes came, and had not settled: none is shown (see --settle)"
             )
         }
-        _ => text_of_rest(alloc, told),
+        _ => text_of_rest(alloc, report),
     }
 }
 
-fn text_of_rest(alloc: Global, told: &Told) -> Result<String, AllocError> {
-    match *told {
-        Told::BadInput { fault, line } => {
+fn text_of_rest(alloc: Global, report: &Report) -> Result<String, AllocError> {
+    match *report {
+        Report::BadInput { fault, line } => {
             format!(in alloc; "input: line {line}: {fault}; nothing more of it is read")
         }
-        Told::EndOfInput => String::from_str(alloc, "end of the input"),
-        Told::Screens {
+        Report::EndOfInput => String::from_str(alloc, "end of the input"),
+        Report::Screens {
             now,
             came,
             ended,
             cut,
         } => format!(in alloc; "screens: {now}; {came} came, {ended} ended, {cut} cut"),
-        Told::Full => String::from_str(alloc, "screens: too many, one more is answered 503"),
-        Told::NoAccept => {
+        Report::Full => String::from_str(alloc, "screens: too many, one more is answered 503"),
+        Report::NoAccept => {
             String::from_str(
                 alloc,
                 "screens: none can be taken (too many open files?), for 1 s",
             )
         }
-        Told::NotHeard => String::from_str(alloc, "screens: answered 503, no upstream was heard"),
-        Told::Saved { bytes } => {
+        Report::NotHeard => String::from_str(alloc, "screens: answered 503, no upstream was heard"),
+        Report::Saved { bytes } => {
             format!(in alloc; "state: begun again, with a snapshot of {bytes} bytes")
         }
-        Told::NotSaved { pause } => {
+        Report::NotSaved { pause } => {
             format!(in alloc; "state: can't be written; tried again in {pause} ms")
         }
-        _ => text_of_screen(alloc, told),
+        _ => text_of_screen(alloc, report),
     }
 }
 
-fn text_of_screen(alloc: Global, told: &Told) -> Result<String, AllocError> {
-    match *told {
-        Told::Screen {
+fn text_of_screen(alloc: Global, report: &Report) -> Result<String, AllocError> {
+    match *report {
+        Report::Screen {
             peer,
             how,
             status,

@@ -68,13 +68,13 @@ impl fmt::Display for How {
     }
 }
 
-/// How many bytes of a text are told.
-const MOST_TOLD: usize = 120;
+/// How many bytes of a text are reported.
+const LONGEST_EXCERPT: usize = 120;
 
 /// The first bytes of a text: at most 120, and whole characters.
 #[derive(Clone, Copy, Debug)]
 pub struct Excerpt {
-    bytes: [u8; MOST_TOLD],
+    bytes: [u8; LONGEST_EXCERPT],
     length: usize,
 }
 
@@ -83,12 +83,12 @@ impl Excerpt {
         let mut length: usize = 0;
         for c in text.chars() {
             let end = length.saturating_add(c.len_utf8());
-            if end > MOST_TOLD {
+            if end > LONGEST_EXCERPT {
                 break;
             }
             length = end;
         }
-        let mut bytes = [0; MOST_TOLD];
+        let mut bytes = [0; LONGEST_EXCERPT];
         for (place, byte) in bytes.iter_mut().zip(text.as_bytes()) {
             *place = *byte;
         }
@@ -96,25 +96,25 @@ impl Excerpt {
     }
 
     /// The first bytes of a line that somebody else wrote. A byte that is no printable character of
-    /// ASCII is told as `?`.
+    /// ASCII is reported as `?`.
     pub fn of_line(line: &[u8]) -> Excerpt {
-        let mut bytes = [0; MOST_TOLD];
+        let mut bytes = [0; LONGEST_EXCERPT];
         for (place, byte) in bytes.iter_mut().zip(line) {
             *place = printable(*byte);
         }
         Excerpt {
             bytes,
-            length: line.len().min(MOST_TOLD),
+            length: line.len().min(LONGEST_EXCERPT),
         }
     }
 
     pub fn text(&self) -> &str {
-        let told = self.bytes.get(..self.length).unwrap_or(&[]);
-        str::from_utf8(told).unwrap_or("?")
+        let bytes = self.bytes.get(..self.length).unwrap_or(&[]);
+        str::from_utf8(bytes).unwrap_or("?")
     }
 }
 
-/// A byte as it is told.
+/// A byte as it is reported.
 fn printable(byte: u8) -> u8 {
     if byte == b' ' || byte.is_ascii_graphic() {
         byte
@@ -123,9 +123,9 @@ fn printable(byte: u8) -> u8 {
     }
 }
 
-/// What happened. Times are in milliseconds, and servers are told by their numbers.
+/// What happened, as it is reported. Times are in milliseconds, and servers have their numbers.
 #[derive(Clone, Copy, Debug)]
-pub enum Told {
+pub enum Report {
     /// A server answers, after so long without one.
     Found {
         server: usize,
