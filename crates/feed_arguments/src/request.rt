@@ -228,7 +228,7 @@ impl Local<'_> {
 pub enum Request<'a> {
     /// A command that reads standard input alone.
     Local(Local<'a>),
-    /// Whether each state of the screen's record on standard input is one of the primary's.
+    /// Whether each state of a screen's record is one of the primary's.
     Audit(AuditOptions<'a>),
     /// Whether two servers have the same state at each token that both have.
     Compare(CompareOptions<'a>),

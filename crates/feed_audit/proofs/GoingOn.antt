@@ -5,12 +5,11 @@ use Rattle.feed_settings.specs.Limits.{Limits}
 use Rattle.feed_note.specs.Publishing.{Published}
 use Rattle.feed_node.specs.Mirroring.{MirrorState, mirror_after, new_mirror, present_opening}
 use Rattle.feed_node.specs.Reading.{Opening}
-use Rattle.feed_audit.specs.Answers.{AgreementFrom, StrayingFrom, IsVerdictFrom, IsVerdictOn, FailsFrom, begun_by}
+use Rattle.feed_audit.specs.Answers.{AgreementFrom, StrayingFrom, PrimaryFaults, ScreenFaults, IsVerdictFrom, IsVerdictOn, FailsFrom, begun_by}
 use Rattle.feed_audit.specs.Connections.{Recorded, is_chunked}
 use Rattle.feed_audit.specs.Parting.{IsFeedVerdict, IsPartVerdict, FailsInBody}
 use Rattle.feed_audit.specs.Records.{MayGoOn, opening_of}
 use Rattle.feed_audit.specs.States.{Start}
-use Rattle.feed_audit.specs.Walks.{FaultsIn}
 use Rattle.feed_audit.specs.declared.verdict.AuditFault.{AuditFault}
 use Rattle.feed_audit.specs.declared.verdict.AuditFault.TheVariants as fault
 use Rattle.feed_audit.specs.declared.verdict.Verdict.{Verdict}
@@ -33,10 +32,12 @@ module _ (limits : Limits) (primary : List ℕ) (old begun : MirrorState) (at : 
   feed_verdict new (verdict.Strays s) h = (may, subst (λ o. StrayingFrom (start_at limits o) primary at.body s) same h)
 
   pub feed_fails : (why : AuditFault) → FailsFrom (begun_by limits begun) primary at.body why → FailsInBody limits primary old at why
-  feed_fails (fault.Primary line why) f = f
-  feed_fails (fault.Screen line why) f = record { may = may; faults = subst (λ o. FaultsIn (start_at limits o) at.body line why) same f }
+  feed_fails (fault.Primary line why) f = record { may = may; faults = subst (λ o. PrimaryFaults (start_at limits o) primary at.body line why) same f }
+  feed_fails (fault.Screen line why) f = record { may = may; faults = subst (λ o. ScreenFaults (start_at limits o) primary at.body line why) same f }
   feed_fails (fault.Chunked line) f = absurd f
   feed_fails (fault.OtherToken line) f = absurd f
+  feed_fails (fault.PrimaryUnread why) f = f
+  feed_fails (fault.ScreenUnread why) f = f
   feed_fails fault.Memory f = tt
 
 -- a feed that can't go on
@@ -49,6 +50,8 @@ can_not_go_on limits primary old at (fault.OtherToken line) f =
     let h = f (λ e. absurd (cc)) in
     let first = h.0 in
     record { other = h.1; first = cc }
+can_not_go_on limits primary old at (fault.PrimaryUnread why) f = let h = (f (λ e. absurd (cc))).0 in absurd (cc)
+can_not_go_on limits primary old at (fault.ScreenUnread why) f = let h = (f (λ e. absurd (cc))).0 in absurd (cc)
 can_not_go_on limits primary old at fault.Memory f = tt
 
 -- ---- a connection

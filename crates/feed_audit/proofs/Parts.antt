@@ -379,13 +379,21 @@ module _ (limits : Limits) (primary : List ℕ) where
   fails_feed : (screen text body : List ℕ) (before states : ℕ) (since : Option (List ℕ)) (mirror : MirrorState) (next : Option Next) (why : AuditFault)
       (r : Reached limits primary screen text before states true since mirror) → IfNone next (EndsWith text body) → IfSome next (GoesOnWith since text body)
       → FailsInBody limits primary mirror (part r.at true since body) why → FailsToAuditRecord limits primary screen (faults_behind why before)
-  fails_feed screen text body before states since mirror next (fault.Primary line why) r ends on f = f
+  fails_feed screen text body before states since mirror next (fault.Primary line why) r ends on f = record {
+    at = part r.at true since body;
+    states = r.all;
+    mirror = mirror;
+    reaches = reaches_by screen text body before states since mirror next r ends on;
+    fails = f;
+  }
   fails_feed screen text body before states since mirror next (fault.Screen line why) r ends on f =
       fails_part screen text body before states line since mirror next (FaultsInFeed limits primary why) r ends on f
   fails_feed screen text body before states since mirror next (fault.Chunked line) r ends on f =
       fails_part screen text body before states line since mirror next (BeginsInChunks limits primary) r ends on f
   fails_feed screen text body before states since mirror next (fault.OtherToken line) r ends on f =
       fails_part screen text body before states line since mirror next (HasOtherToken limits primary) r ends on f
+  fails_feed screen text body before states since mirror next (fault.PrimaryUnread why) r ends on f = f
+  fails_feed screen text body before states since mirror next (fault.ScreenUnread why) r ends on f = f
   fails_feed screen text body before states since mirror next fault.Memory r ends on f = tt
 
   pub fails_at : (screen text body : List ℕ) (before states : ℕ) (is_feed : Bool) (since : Option (List ℕ)) (mirror : MirrorState) (next : Option Next) (why : AuditFault)

@@ -1,17 +1,20 @@
 -- How many states a text has that was read so far.
-use Rattle.std.proofs.Common.{◌≡◌, ◌≢◌, refl, sym, ap, ◌∙◌, subst, ℕ, ◌+◌, ◌≤◌, min, List, [], ◌∷◌, ◌++◌, length, arith}
+use Rattle.std.proofs.Common.{◌≡◌, refl, sym, ap, ◌∙◌, subst, ℕ, ◌+◌, ◌≤◌, min, List, [], ◌∷◌, ◌++◌, length, arith}
 use Rattle.feed_settings.specs.Limits.{Limits}
 use Rattle.feed_note.specs.declared.line.Line.{Line}
 use Rattle.feed_text.specs.Limits.{line_bytes}
 use Rattle.feed_node.specs.Mirroring.{MirrorState, first_opening, publications}
 use Rattle.feed_node.specs.Reading.{AllGood}
-use Rattle.feed_node.specs.declared.fault.FeedFault.{FeedFault}
 use Rattle.feed_node.specs.declared.fault.FeedFault.TheVariants as feed
 use Rattle.feed_audit.specs.declared.verdict.AuditFault.{AuditFault}
 use Rattle.feed_audit.specs.declared.verdict.AuditFault.TheVariants as told
 use Rattle.feed_audit.specs.Answers.{HasStates, FailsToCount}
 use Rattle.feed_audit.specs.States.{afresh}
-use Rattle.feed_audit.specs.Walks.{Walked, ReadsMore, GoesToEnd, FaultsIn}
+use Rattle.feed_audit.specs.Stops.{primary_fault, IsUnreadPrimary}
+use Rattle.feed_audit.specs.Walks.{Walked, ReadsMore, GoesToEnd, StopsAt}
+use Rattle.feed_audit.specs.declared.reading.Stop.{Stop}
+use Rattle.feed_audit.specs.declared.reading.Stop.TheVariants as stopped
+use Rattle.feed_audit.specs.declared.reading.Unread.TheVariants as unread
 use Rattle.feed_audit.proofs.Agreeing.{good_of, all_lines}
 
 -- the text was read so far, and its states are counted
@@ -45,14 +48,24 @@ counts_all limits text left count new_count states old new a g =
       counted = a.counted ∙ ap (λ n. min n 18446744073709551615) (sym g.passes.counted);
     }
 
-module _ (limits : Limits) (primary : List ℕ) (told_as : AuditFault) (line : ℕ) where
-  count_fails_by : (fault : FeedFault) → FaultsIn (afresh limits) primary line fault → told_as ≡ told.Primary line fault → FailsToCount limits primary told_as
-  count_fails_by fault f e = subst (FailsToCount limits primary) (sym e) f
+-- what stopped the reading, as it is told
+pub count_stops : (limits : Limits) (primary : List ℕ) (notes : List Line) (stop : Stop) (lines : ℕ)
+    → StopsAt (afresh limits) primary notes (min (lines + 1) 18446744073709551615) stop → FailsToCount limits primary (primary_fault stop lines)
+count_stops limits primary notes (stopped.Feed feed.NotOpen) lines f = (f (λ e. absurd (cc))).faults
+count_stops limits primary notes (stopped.Feed feed.LongLine) lines f = (f (λ e. absurd (cc))).faults
+count_stops limits primary notes (stopped.Feed (feed.Line why)) lines f = (f (λ e. absurd (cc))).faults
+count_stops limits primary notes (stopped.Feed feed.StageFull) lines f = (f (λ e. absurd (cc))).faults
+count_stops limits primary notes (stopped.Feed feed.Memory) lines f = tt
+count_stops limits primary notes (stopped.Unread unread.Failed) lines f = λ e. absurd (cc)
+count_stops limits primary notes (stopped.Unread unread.TooLong) lines f = λ e. absurd (cc)
+count_stops limits primary notes (stopped.Unread unread.Memory) lines f = tt
 
-  pub count_fails : (fault : FeedFault) → (fault ≢ feed.Memory → FaultsIn (afresh limits) primary line fault) → (fault ≡ feed.Memory → told_as ≡ told.Memory)
-      → (fault ≢ feed.Memory → told_as ≡ told.Primary line fault) → FailsToCount limits primary told_as
-  count_fails feed.NotOpen f m o = count_fails_by feed.NotOpen (f (λ e. absurd (cc))) (o (λ e. absurd (cc)))
-  count_fails feed.LongLine f m o = count_fails_by feed.LongLine (f (λ e. absurd (cc))) (o (λ e. absurd (cc)))
-  count_fails (feed.Line why) f m o = count_fails_by (feed.Line why) (f (λ e. absurd (cc))) (o (λ e. absurd (cc)))
-  count_fails feed.StageFull f m o = count_fails_by feed.StageFull (f (λ e. absurd (cc))) (o (λ e. absurd (cc)))
-  count_fails feed.Memory f m o = subst (FailsToCount limits primary) (sym (m refl)) tt
+-- and that it can't be opened again
+pub count_unread : (limits : Limits) (primary : List ℕ) (why : AuditFault) → IsUnreadPrimary why → FailsToCount limits primary why
+count_unread limits primary (told.Primary line why) f = absurd f
+count_unread limits primary (told.Screen line why) f = absurd f
+count_unread limits primary (told.Chunked line) f = absurd f
+count_unread limits primary (told.OtherToken line) f = absurd f
+count_unread limits primary (told.PrimaryUnread why) f = f
+count_unread limits primary (told.ScreenUnread why) f = absurd f
+count_unread limits primary told.Memory f = tt

@@ -1,5 +1,5 @@
 -- What an audit answers.
-use Rattle.std.specs.Prelude.{◌≡◌, ℕ, ◌+◌, min, Some, List, [], ◌∷◌, ◌++◌, length}
+use Rattle.std.specs.Prelude.{◌≡◌, ◌≢◌, ℕ, ◌+◌, min, Option, Some, List, [], ◌∷◌, ◌++◌, length}
 use Rattle.feed_settings.specs.Limits.{Limits}
 use Rattle.feed_note.specs.Lines.{lines, ended}
 use Rattle.feed_note.specs.Publishing.{Published}
@@ -7,9 +7,12 @@ use Rattle.feed_note.specs.declared.line.Line.{Line}
 use Rattle.feed_node.specs.Mirroring.{MirrorState, first_opening, mirror_after, present_opening, publications}
 use Rattle.feed_node.specs.Reading.{AllGood, Reads}
 use Rattle.feed_node.specs.States.{NodeState}
+use Rattle.feed_node.specs.declared.fault.FeedFault.{FeedFault}
 use Rattle.feed_audit.specs.Differences.{Explains}
+use Rattle.feed_audit.specs.Fronts.{IsLeft}
 use Rattle.feed_audit.specs.States.{Start, afresh, IsStateFrom, IsStateOf, AgreesFrom}
-use Rattle.feed_audit.specs.Walks.{Walked, FaultsIn}
+use Rattle.feed_audit.specs.Stops.{IsOfRecord}
+use Rattle.feed_audit.specs.Walks.{Walked, AllAre, FaultsIn, FaultsFirst}
 use Rattle.feed_audit.specs.declared.verdict.AuditFault.{AuditFault}
 use Rattle.feed_audit.specs.declared.verdict.AuditFault.TheVariants as fault
 use Rattle.feed_audit.specs.declared.verdict.Stray.{Stray}
@@ -49,13 +52,31 @@ IsVerdictFrom start primary screen (verdict.Agrees states) =
     AgreementFrom start primary screen states
 IsVerdictFrom start primary screen (verdict.Strays stray) = StrayingFrom start primary screen stray
 
--- the first lines of a text are good, up to one with this fault; a want of memory says nothing
+-- The first lines of the primary's text are good, up to one with this fault. They publish something
+-- else than the screen's text does at some place.
+pub record PrimaryFaults (start : Start) (primary screen : List ℕ) (line : ℕ)
+    (why : FeedFault) : Type 0 where
+  pub faults : FaultsIn (afresh start.limits) primary line why
+  pub state : Published
+  pub is : IsStateFrom start screen state
+  pub lacks : AllAre (afresh start.limits) (λ shown. shown ≢ state) faults.notes
+
+-- the first lines of the screen's text are good, up to one with this fault, and each state that they
+-- publish is one of the primary's
+pub record ScreenFaults (start : Start) (primary screen : List ℕ) (line : ℕ)
+    (why : FeedFault) : Type 0 where
+  pub faults : FaultsIn start screen line why
+  pub agrees : AllAre start (IsStateOf start.limits primary) faults.notes
+
+-- a line of a text can't be read; a want of memory says nothing
 abbrev pub FailsFrom : Start → List ℕ → List ℕ → AuditFault → Type 0
 FailsFrom start primary screen (fault.Primary line why) =
-    FaultsIn (afresh start.limits) primary line why
-FailsFrom start primary screen (fault.Screen line why) = FaultsIn start screen line why
+    PrimaryFaults start primary screen line why
+FailsFrom start primary screen (fault.Screen line why) = ScreenFaults start primary screen line why
 FailsFrom start primary screen (fault.Chunked line) = ⊥
 FailsFrom start primary screen (fault.OtherToken line) = ⊥
+FailsFrom start primary screen (fault.PrimaryUnread why) = IsOfRecord why
+FailsFrom start primary screen (fault.ScreenUnread why) = IsOfRecord why
 FailsFrom start primary screen fault.Memory = Unit {0}
 
 -- on a connection of this mirror that begins now
@@ -89,12 +110,31 @@ FailsToCount limits primary (fault.Primary line why) = FaultsIn (afresh limits) 
 FailsToCount limits primary (fault.Screen line why) = ⊥
 FailsToCount limits primary (fault.Chunked line) = ⊥
 FailsToCount limits primary (fault.OtherToken line) = ⊥
+FailsToCount limits primary (fault.PrimaryUnread why) = IsOfRecord why
+FailsToCount limits primary (fault.ScreenUnread why) = ⊥
 FailsToCount limits primary fault.Memory = Unit {0}
 
--- a mirror has read some of the lines of a text on a fresh connection
-abbrev pub HasReadLines : Limits → List ℕ → List ℕ → ℕ → MirrorState → Type 0
-HasReadLines limits text behind lines mirror =
-    (notes : List Line) × Walked (afresh limits) text behind notes lines mirror
+-- the same, where the lines before that one don't publish what a node shows
+abbrev pub FailsToLocate : Limits → List ℕ → NodeState → AuditFault → Type 0
+FailsToLocate limits primary wanted (fault.Primary line why) =
+    FaultsFirst (afresh limits) primary [] wanted line why
+FailsToLocate limits primary wanted (fault.Screen line why) = ⊥
+FailsToLocate limits primary wanted (fault.Chunked line) = ⊥
+FailsToLocate limits primary wanted (fault.OtherToken line) = ⊥
+FailsToLocate limits primary wanted (fault.PrimaryUnread why) = IsOfRecord why
+FailsToLocate limits primary wanted (fault.ScreenUnread why) = ⊥
+FailsToLocate limits primary wanted fault.Memory = Unit {0}
+
+-- a mirror has read some of the lines of a text on a fresh connection, and the others are left
+abbrev pub HasReadLines : Limits → List ℕ → Option (List ℕ) → ℕ → MirrorState → Type 0
+HasReadLines limits text left lines mirror =
+    IsLeft left (λ behind. (notes : List Line) × Walked (afresh limits) text behind notes lines mirror)
+
+-- nothing of it was read, and all of it is left
+pub record StartsReading (limits : Limits) (text : List ℕ) (left : Option (List ℕ))
+    (mirror : MirrorState) : Type 0 where
+  pub whole : left ≡ Some text
+  pub walked : Walked (afresh limits) text text [] 0 mirror
 
 -- what the node shows is no state of the text
 abbrev pub IsStrange : Limits → List ℕ → NodeState → Type 0

@@ -1,9 +1,12 @@
 pub mod Answers
 pub mod Connections
 pub mod Differences
+pub mod Fronts
+pub mod InMemory
 pub mod Parting
 pub mod Places
 pub mod Records
 pub mod States
+pub mod Stops
 pub mod Told
 pub mod Walks

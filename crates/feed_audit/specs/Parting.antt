@@ -8,9 +8,9 @@ use Rattle.feed_note.specs.Lines.{HasNoLineFeed, lines, ended}
 use Rattle.feed_node.specs.Mirroring.{MirrorState, new_mirror}
 use Rattle.feed_audit.specs.Answers.{StrayingFrom}
 use Rattle.feed_audit.specs.Connections.{Cut, Recorded, part, OpensNone, IsFilled, is_blank, is_marked, is_success, since_in, status_in, AreConnectionsOf}
-use Rattle.feed_audit.specs.Records.{AllAgree, FeedAgrees, FaultsInFeed, BeginsInChunks, HasOtherToken, MayGoOn, start_of}
-use Rattle.feed_audit.specs.States.{afresh, IsStateOf}
-use Rattle.feed_audit.specs.Walks.{FaultsIn}
+use Rattle.feed_audit.specs.Records.{AllAgree, FeedAgrees, FaultsInFeed, FaultsBesideFeed, BeginsInChunks, HasOtherToken, MayGoOn, start_of}
+use Rattle.feed_audit.specs.States.{IsStateOf}
+use Rattle.feed_audit.specs.Stops.{IsOfRecord}
 use Rattle.feed_audit.specs.declared.connections.Body.{Body}
 use Rattle.feed_audit.specs.declared.connections.Next.{Next}
 use Rattle.feed_audit.specs.declared.connections.Opening.{Opening}
@@ -128,11 +128,13 @@ IsPartVerdict limits primary false old at answer new = (answer ≡ verdict.Agree
 
 abbrev pub FailsInBody : Limits → List ℕ → MirrorState → Recorded → AuditFault → Type 0
 FailsInBody limits primary old at (fault.Primary line why) =
-    FaultsIn (afresh limits) primary line why
+    FaultsBesideFeed limits primary why line old at
 FailsInBody limits primary old at (fault.Screen line why) =
     FaultsInFeed limits primary why old at line
 FailsInBody limits primary old at (fault.Chunked line) = BeginsInChunks limits primary old at line
 FailsInBody limits primary old at (fault.OtherToken line) = HasOtherToken limits primary old at line
+FailsInBody limits primary old at (fault.PrimaryUnread why) = IsOfRecord why
+FailsInBody limits primary old at (fault.ScreenUnread why) = IsOfRecord why
 FailsInBody limits primary old at fault.Memory = Unit {0}
 
 -- the connections before this text agree, and this is the mirror then
@@ -156,4 +158,6 @@ faults_behind (fault.Primary line why) before = fault.Primary line why
 faults_behind (fault.Screen line why) before = fault.Screen (min (before + line) most) why
 faults_behind (fault.Chunked line) before = fault.Chunked (min (before + line) most)
 faults_behind (fault.OtherToken line) before = fault.OtherToken (min (before + line) most)
+faults_behind (fault.PrimaryUnread why) before = fault.PrimaryUnread why
+faults_behind (fault.ScreenUnread why) before = fault.ScreenUnread why
 faults_behind fault.Memory before = fault.Memory

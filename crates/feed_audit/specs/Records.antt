@@ -5,10 +5,10 @@ use Rattle.feed_settings.specs.Limits.{Limits}
 use Rattle.feed_node.specs.Mirroring.{MirrorState, new_mirror, mirror_after, first_opening, present_opening}
 use Rattle.feed_node.specs.Reading.{Opening}
 use Rattle.feed_node.specs.declared.fault.FeedFault.{FeedFault}
-use Rattle.feed_audit.specs.Answers.{AgreementFrom, StrayingFrom}
+use Rattle.feed_audit.specs.Answers.{AgreementFrom, StrayingFrom, PrimaryFaults, ScreenFaults}
 use Rattle.feed_audit.specs.Connections.{AreConnectionsOf, Recorded, is_chunked}
-use Rattle.feed_audit.specs.States.{Start, afresh}
-use Rattle.feed_audit.specs.Walks.{FaultsIn}
+use Rattle.feed_audit.specs.States.{Start}
+use Rattle.feed_audit.specs.Stops.{IsOfRecord}
 use Rattle.feed_audit.specs.declared.verdict.AuditFault.{AuditFault}
 use Rattle.feed_audit.specs.declared.verdict.AuditFault.TheVariants as fault
 use Rattle.feed_audit.specs.declared.verdict.Stray.{Stray}
@@ -92,8 +92,16 @@ module _ (limits : Limits) (primary : List ℕ) where
   IsRecordVerdict screen (verdict.Agrees states) = RecordAgrees screen states
   IsRecordVerdict screen (verdict.Strays stray) = RecordStrays screen stray
 
-  -- a connection of the record is a feed, this is so of the mirror, of what it carried and of one
-  -- of its lines, and all connections before it agree
+  -- a connection of the record is a feed, this is so of the mirror and of what it carried, and all
+  -- connections before it agree
+  pub record FailsAtPart (screen : List ℕ) (P : MirrorState → Recorded → Type 0) : Type 0 where
+    pub at : Recorded
+    pub states : ℕ
+    pub mirror : MirrorState
+    pub reaches : Reaches screen at states mirror
+    pub fails : P mirror at
+
+  -- the same of one of its lines, too
   pub record FailsInPart (screen : List ℕ) (line : ℕ)
       (P : MirrorState → Recorded → ℕ → Type 0) : Type 0 where
     pub at : Recorded
@@ -104,11 +112,18 @@ module _ (limits : Limits) (primary : List ℕ) where
     pub fails : P mirror at its_own
     pub counted : line ≡ min (at.before + its_own) most_counted
 
-  -- a line of it is the first that can't be read
+  -- a line of it is the first that can't be read, and the states before it are the primary's
   pub record FaultsInFeed (why : FeedFault) (mirror : MirrorState) (at : Recorded)
       (line : ℕ) : Type 0 where
     pub may : MayGoOn mirror at.since
-    pub faults : FaultsIn (start_of mirror at.since) at.body line why
+    pub faults : ScreenFaults (start_of mirror at.since) primary at.body line why
+
+  -- a line of the primary's is the first that can't be read, and the lines before it lack a state of
+  -- what the connection carried
+  pub record FaultsBesideFeed (why : FeedFault) (line : ℕ) (mirror : MirrorState)
+      (at : Recorded) : Type 0 where
+    pub may : MayGoOn mirror at.since
+    pub faults : PrimaryFaults (start_of mirror at.since) primary at.body line why
 
   -- what it carried begins with a chunk's size
   pub record BeginsInChunks (mirror : MirrorState) (at : Recorded) (line : ℕ) : Type 0 where
@@ -123,8 +138,11 @@ module _ (limits : Limits) (primary : List ℕ) where
   -- the first lines of the primary's record are good, or of a connection of the screen's, up to one
   -- with this fault; or that was carried in chunks, or can't go on; a want of memory says nothing
   abbrev pub FailsToAuditRecord : List ℕ → AuditFault → Type 0
-  FailsToAuditRecord screen (fault.Primary line why) = FaultsIn (afresh limits) primary line why
+  FailsToAuditRecord screen (fault.Primary line why) =
+      FailsAtPart screen (FaultsBesideFeed why line)
   FailsToAuditRecord screen (fault.Screen line why) = FailsInPart screen line (FaultsInFeed why)
   FailsToAuditRecord screen (fault.Chunked line) = FailsInPart screen line BeginsInChunks
   FailsToAuditRecord screen (fault.OtherToken line) = FailsInPart screen line HasOtherToken
+  FailsToAuditRecord screen (fault.PrimaryUnread why) = IsOfRecord why
+  FailsToAuditRecord screen (fault.ScreenUnread why) = IsOfRecord why
   FailsToAuditRecord screen fault.Memory = Unit {0}

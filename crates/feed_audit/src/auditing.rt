@@ -1,14 +1,20 @@
 //! Whether each state of a screen's record is a state of the primary's.
 
-ghost use Rattle.std.specs.Prelude.{◌≡◌, IfOk, IfErr, IfSome, IfNone, Some};
+ghost use Rattle.std.specs.Prelude.{◌≡◌, ℕ, List, IfOk, IfErr, IfSome, Some, true, false};
 ghost use Rattle.feed_node.specs.States.{published_token};
-ghost use Rattle.feed_audit.specs.Answers.{IsVerdict, IsVerdictOn, begun_by, FailsFrom, FailsToAudit, FailsToCount, HasReadLines, IsStrange};
-ghost use Rattle.feed_audit.specs.States.{afresh, IsStateOf};
-ghost use Rattle.feed_audit.specs.Walks.{Finds, IsSince};
+ghost use Rattle.feed_audit.specs.Answers.{IsVerdict, IsVerdictOn, begun_by, FailsFrom, FailsToAudit, FailsToLocate, HasReadLines, IsStrange};
+ghost use Rattle.feed_audit.specs.Fronts.{IsLeft};
+ghost use Rattle.feed_audit.specs.States.{Start, afresh, IsStateOf};
+ghost use Rattle.feed_audit.specs.Walks.{Walked, Finds, IsSince};
+ghost use Rattle.feed_audit.specs.Stops.{IsUnread, IsUnreadPrimary};
+ghost use Rattle.feed_note.specs.declared.line.Line.{Line as Note};
 ghost use Rattle.feed_audit.specs.declared.verdict.AuditFault.TheVariants as told;
 
+use crate::again::read_again;
 use crate::explaining::explain;
+use crate::reading::{Lines, Replayed, Stop};
 use crate::since::Since;
+use crate::text_lines::TextLines;
 use crate::verdict::{AuditFault, Stray, Verdict, of_primary, of_screen};
 use crate::walk::{find, next_state};
 use feed_node::{Limits, Mirror, Node};
@@ -27,100 +33,125 @@ fn token_of(node: &Node) -> Result<Name, AuditFault>
     Ok(token.copy()?)
 }
 
-/// Looks for what a node shows among the primary's states: behind those that were read, and else
-/// among all of them. Answers what follows it; none where there is no such state.
-fn locate<'a>(
+/// Looks for what a node shows among the primary's states behind those that were read. It is not
+/// there where a line on the way can't be fed.
+fn find_behind<P: Lines>(
     alloc: Global,
-    limits: Limits,
-    primary: &'a [u8],
+    primary: &mut P,
     mirror: &mut Mirror,
-    behind: &'a [u8],
     lines: &mut usize,
     wanted: &Node,
     since: &mut Since,
-) -> Result<Option<&'a [u8]>, AuditFault>
-    requires reading { HasReadLines limits primary.now behind.now lines.old mirror.old }
-    requires since { IsSince since.old mirror.old.node wanted.now.shown }
-    ensures some { IfOk result (λ found. IfSome found (λ behind.
-        Finds (afresh limits) primary.now behind.now lines.new mirror.new wanted.now.shown)) }
-    ensures none { IfOk result (λ found. IfNone found
-        (IsStrange limits primary.now wanted.now.shown)) }
-    ensures err { IfErr result (λ fault. FailsToCount limits primary.now fault) }
+) -> Result<bool, AuditFault>
+    ensures some { (start : Start) (all behind : List ℕ) (notes : List Note)
+        → P.left primary.old ≡ Some behind → Walked start all behind notes lines.old mirror.old
+        → IsSince since.old mirror.old.node wanted.now.shown
+        → IfOk result (λ found. found ≡ true → IsLeft (P.left primary.new)
+        (λ behind. Finds start all behind lines.new mirror.new wanted.now.shown)) }
+    ensures err { IfErr result IsUnreadPrimary }
+    ensures whole { P.whole primary.new ≡ P.whole primary.old }
+    ensures unread { IfErr result (IsUnread (P.unread primary.new) (λ _. ⊥)) }
+{
+    match find(alloc, mirror, primary, lines, wanted, since) {
+        Ok(found) => Ok(found),
+        Err(Stop::Feed(_)) => Ok(false),
+        Err(Stop::Unread(why)) => Err(of_primary(Stop::Unread(why), *lines)),
+    }
+}
+
+/// Looks for what a node shows among the primary's states: behind those that were read, and else
+/// among all of them. Answers whether there is such a state, behind which the record is left.
+fn locate<P: Replayed>(
+    alloc: Global,
+    limits: Limits,
+    primary: &mut P,
+    mirror: &mut Mirror,
+    lines: &mut usize,
+    wanted: &Node,
+    since: &mut Since,
+) -> Result<bool, AuditFault>
+    ensures some { (text : List ℕ) → P.whole primary.old ≡ Some text
+        → HasReadLines limits text (P.left primary.old) lines.old mirror.old
+        → IsSince since.old mirror.old.node wanted.now.shown
+        → IfOk result (λ found. found ≡ true → IsLeft (P.left primary.new) (λ behind.
+        Finds (afresh limits) text behind lines.new mirror.new wanted.now.shown)) }
+    ensures none { (text : List ℕ) → P.whole primary.old ≡ Some text
+        → IfOk result (λ found. found ≡ false → IsStrange limits text wanted.now.shown) }
+    ensures err { (text : List ℕ) → P.whole primary.old ≡ Some text
+        → IfErr result (FailsToLocate limits text wanted.now.shown) }
+    ensures whole { P.whole primary.new ≡ P.whole primary.old }
+    ensures unread { IfErr result (IsUnread (P.unread primary.new) (λ _. ⊥)) }
 {
     // What `none` rests on.
     line_laws();
-    if let Ok(Some(behind)) = find(alloc, mirror, behind, lines, wanted, since) {
-        return Ok(Some(behind));
+    if find_behind(alloc, primary, mirror, lines, wanted, since)? {
+        return Ok(true);
     }
-    *mirror = Mirror::new(alloc, limits)?;
-    mirror.begin();
+    *mirror = read_again(alloc, limits, primary)?;
     *lines = 0;
     *since = Since::unknown(alloc);
     match find(alloc, mirror, primary, lines, wanted, since) {
         Ok(found) => Ok(found),
-        Err(fault) => Err(of_primary(fault, *lines)),
+        Err(stop) => Err(of_primary(stop, *lines)),
     }
 }
 
 /// Whether each state that a connection of the screen publishes is one that the primary's record
-/// publishes under the same token. The connection begins now on this mirror, and carries the
-/// screen's text.
-pub(crate) fn audit_on(
+/// publishes under the same token. The connection begins now on this mirror, and carries what is
+/// left of the screen's text.
+pub(crate) fn audit_on<P: Replayed, L: Lines>(
     alloc: Global,
     limits: Limits,
-    primary: &[u8],
-    screen: &[u8],
+    primary: &mut P,
+    screen: &mut L,
     theirs: &mut Mirror,
 ) -> Result<Verdict, AuditFault>
     requires limits { theirs.old.limits ≡ limits }
-    requires shown { IfSome theirs.old.node.published (IsStateOf limits primary.now) }
-    ensures ok { IfOk result (λ verdict.
-        IsVerdictOn (begun_by limits theirs.old) primary.now screen.now verdict theirs.new) }
-    ensures err { IfErr result (λ fault.
-        FailsFrom (begun_by limits theirs.old) primary.now screen.now fault) }
+    requires shown { (text : List ℕ) → P.whole primary.old ≡ Some text
+        → IfSome theirs.old.node.published (IsStateOf limits text) }
+    ensures ok { (text body : List ℕ) → P.whole primary.old ≡ Some text
+        → L.left screen.old ≡ Some body → IfOk result (λ verdict.
+        IsVerdictOn (begun_by limits theirs.old) text body verdict theirs.new) }
+    ensures err { (text body : List ℕ) → P.whole primary.old ≡ Some text
+        → L.left screen.old ≡ Some body → IfErr result (λ fault.
+        FailsFrom (begun_by limits theirs.old) text body fault) }
+    ensures limits { theirs.new.limits ≡ limits }
+    ensures whole { P.whole primary.new ≡ P.whole primary.old }
+    ensures unread { IfErr result (IsUnread (P.unread primary.new) (L.unread screen.new)) }
 {
     // What `ok` rests on.
     line_laws();
     theirs.begin();
-    let mut ours = Mirror::new(alloc, limits)?;
-    ours.begin();
-    let mut our_rest = primary;
+    let mut ours = read_again(alloc, limits, primary)?;
     let mut our_lines = 0;
-    let mut rest = screen;
     let mut lines = 0;
     let mut since = Since::unknown(alloc);
     let mut states: usize = 0;
     'states: loop {
-        match next_state(alloc, theirs, rest, &mut lines) {
-            Err(fault) => return Err(of_screen(fault, lines)),
-            Ok(None) => return Ok(Verdict::Agrees(states)),
-            Ok(Some(behind)) => {
-                rest = behind;
-                since.note_theirs(theirs.node())?;
-                match locate(
+        match next_state(alloc, theirs, screen, &mut lines) {
+            Err(stop) => return Err(of_screen(stop, lines)),
+            Ok(false) => return Ok(Verdict::Agrees(states)),
+            Ok(true) => {
+                let wanted = theirs.node();
+                since.note_theirs(wanted)?;
+                if !locate(
                     alloc,
                     limits,
                     primary,
                     &mut ours,
-                    our_rest,
                     &mut our_lines,
-                    theirs.node(),
+                    wanted,
                     &mut since,
                 )? {
-                    Some(behind) => {
-                        our_rest = behind;
-                        since.meet();
-                    }
-                    None => {
-                        let difference = explain(alloc, limits, primary, theirs.node())?;
-                        return Ok(Verdict::Strays(Stray {
-                            token: token_of(theirs.node())?,
-                            before: states,
-                            line: lines,
-                            difference,
-                        }));
-                    }
+                    let difference = explain(alloc, limits, primary, wanted)?;
+                    return Ok(Verdict::Strays(Stray {
+                        token: token_of(wanted)?,
+                        before: states,
+                        line: lines,
+                        difference,
+                    }));
                 }
+                since.meet();
                 states = states.saturating_add(1);
             }
         }
@@ -139,5 +170,7 @@ pub fn audit(
     ensures err { IfErr result (λ fault. FailsToAudit limits primary.now screen.now fault) }
 {
     let mut theirs = Mirror::new(alloc, limits)?;
-    audit_on(alloc, limits, primary, screen, &mut theirs)
+    let mut ours = TextLines::new(primary);
+    let mut text = TextLines::new(screen);
+    audit_on(alloc, limits, &mut ours, &mut text, &mut theirs)
 }

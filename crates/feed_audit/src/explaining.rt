@@ -1,14 +1,17 @@
 //! Why a state is none of the primary's.
 
-ghost use Rattle.std.specs.Prelude.{◌≡◌, IfOk, IfErr, IsTrue, Some};
+ghost use Rattle.std.specs.Prelude.{◌≡◌, ℕ, List, IfOk, IfErr, IsTrue, Some};
 ghost use Rattle.feed_note.specs.Publishing.{Published};
-ghost use Rattle.feed_audit.specs.Answers.{FailsToCount, IsStrange};
+ghost use Rattle.feed_audit.specs.Answers.{FailsToLocate, IsStrange};
 ghost use Rattle.feed_audit.specs.Differences.{Explains, TellsDifference};
+ghost use Rattle.feed_audit.specs.Stops.{IsUnread};
 
+use crate::again::read_again;
 use crate::difference::{Difference, difference_of};
+use crate::reading::Replayed;
 use crate::verdict::{AuditFault, of_primary};
 use crate::walk::next_state;
-use feed_node::{Limits, Mirror, Node};
+use feed_node::{Limits, Node};
 use feed_note::line_laws;
 use std::alloc::{AllocError, Global};
 
@@ -45,29 +48,29 @@ fn tell(alloc: Global, node: &Node, wanted: &Node) -> Result<Difference, AllocEr
 
 /// Why a state that a node shows is none of the primary's: that has none under its token, or the
 /// first one differs.
-pub(crate) fn explain(
+pub(crate) fn explain<P: Replayed>(
     alloc: Global,
     limits: Limits,
-    primary: &[u8],
+    primary: &mut P,
     wanted: &Node,
 ) -> Result<Difference, AuditFault>
-    requires { IsStrange limits primary.now wanted.now.shown }
-    ensures ok { IfOk result (λ told. (state : Published)
-        → wanted.now.shown.published ≡ Some state → Explains limits primary.now state told) }
-    ensures err { IfErr result (λ fault. FailsToCount limits primary.now fault) }
+    ensures ok { (text : List ℕ) → P.whole primary.old ≡ Some text
+        → IsStrange limits text wanted.now.shown → IfOk result (λ told. (state : Published)
+        → wanted.now.shown.published ≡ Some state → Explains limits text state told) }
+    ensures err { (text : List ℕ) → P.whole primary.old ≡ Some text
+        → IfErr result (FailsToLocate limits text wanted.now.shown) }
+    ensures whole { P.whole primary.new ≡ P.whole primary.old }
+    ensures unread { IfErr result (IsUnread (P.unread primary.new) (λ _. ⊥)) }
 {
     // What `ok` rests on.
     line_laws();
-    let mut mirror = Mirror::new(alloc, limits)?;
-    mirror.begin();
+    let mut mirror = read_again(alloc, limits, primary)?;
     let mut lines = 0;
-    let mut rest = primary;
     'states: loop {
-        match next_state(alloc, &mut mirror, rest, &mut lines) {
-            Err(fault) => return Err(of_primary(fault, lines)),
-            Ok(None) => return Ok(Difference::NoToken),
-            Ok(Some(behind)) => {
-                rest = behind;
+        match next_state(alloc, &mut mirror, primary, &mut lines) {
+            Err(stop) => return Err(of_primary(stop, lines)),
+            Ok(false) => return Ok(Difference::NoToken),
+            Ok(true) => {
                 if has_token(mirror.node(), wanted) {
                     return Ok(tell(alloc, mirror.node(), wanted)?);
                 }

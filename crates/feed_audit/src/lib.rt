@@ -1,14 +1,17 @@
 //! Whether each state of a screen's record is a state of the primary's.
 #![tactic(auto)]
 
+mod again;
 mod auditing;
 mod connections;
 mod counting;
 mod difference;
 mod explaining;
 mod laws;
+mod reading;
 mod record;
 mod since;
+mod text_lines;
 mod told;
 mod told_json;
 mod verdict;
@@ -18,7 +21,9 @@ pub use auditing::audit;
 pub use counting::count_states;
 pub use difference::{Difference, Side, difference_of};
 pub use laws::state_laws;
+pub use reading::{Front, Lines, Replayed, Unread};
 pub use record::audit_record;
+pub use text_lines::TextLines;
 pub use told::{print_agreement, print_stray};
 pub use told_json::{print_agreement_json, print_stray_json};
 pub use verdict::{AuditFault, Stray, Verdict};

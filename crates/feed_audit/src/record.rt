@@ -1,14 +1,17 @@
 //! An audit of a record of several connections.
 
-ghost use Rattle.std.specs.Prelude.{◌≡◌, ◌≢◌, ◌⊎◌, ◌+◌, ℕ, true, false, min, IfOk, IfErr, OnOk, IsTrue, IfSome, Some};
+ghost use Rattle.std.specs.Prelude.{◌≡◌, ◌≢◌, ◌⊎◌, ◌+◌, ℕ, List, true, false, min, IfOk, IfErr, OnOk, IsTrue, IfSome, Some};
 ghost use Rattle.std.specs.Option.{option_copied};
 ghost use Rattle.feed_node.specs.Mirroring.{new_mirror, present_opening};
 ghost use Rattle.feed_audit.specs.Parting.{IsPartVerdict, FailsInBody, faults_behind, most, part_of};
 ghost use Rattle.feed_audit.specs.States.{IsStateOf};
 ghost use Rattle.feed_audit.specs.Records.{IsRecordVerdict, FailsToAuditRecord, MayGoOn, opening_of};
+ghost use Rattle.feed_audit.specs.Stops.{IsUnread};
 
 use crate::auditing::audit_on;
 use crate::connections::{begins_in_chunks, next_connection};
+use crate::reading::Replayed;
+use crate::text_lines::TextLines;
 use crate::verdict::{AuditFault, Stray, Verdict};
 use feed_node::{Limits, Mirror};
 use std::alloc::Global;
@@ -66,21 +69,26 @@ fn choose(
 }
 
 /// Whether each state that a connection carried is one of the primary's; what is no feed has none.
-fn audit_connection(
+fn audit_connection<P: Replayed>(
     alloc: Global,
     limits: Limits,
-    primary: &[u8],
+    primary: &mut P,
     carried: Carried<'_>,
     mirror: &mut Mirror,
 ) -> Result<Verdict, AuditFault>
     requires limits { mirror.old.limits ≡ limits }
-    requires shown { IfSome mirror.old.node.published (IsStateOf limits primary.now) }
-    ensures ok { (before : ℕ) → IfOk result (λ verdict.
-        IsPartVerdict limits primary.now carried.entry.is_feed mirror.old
+    requires shown { (text : List ℕ) → P.whole primary.old ≡ Some text
+        → IfSome mirror.old.node.published (IsStateOf limits text) }
+    ensures ok { (text : List ℕ) → P.whole primary.old ≡ Some text → (before : ℕ)
+        → IfOk result (λ verdict. IsPartVerdict limits text carried.entry.is_feed mirror.old
         (part_of before carried.entry) verdict mirror.new) }
-    ensures err { (before : ℕ) → IfErr result (λ fault.
-        FailsInBody limits primary.now mirror.old (part_of before carried.entry) fault) }
+    ensures err { (text : List ℕ) → P.whole primary.old ≡ Some text → (before : ℕ)
+        → IfErr result (λ fault.
+        FailsInBody limits text mirror.old (part_of before carried.entry) fault) }
     ensures feed { IfErr result (λ _. carried.entry.is_feed ≡ true) }
+    ensures limits { OnOk result (mirror.new.limits ≡ limits) }
+    ensures whole { P.whole primary.new ≡ P.whole primary.old }
+    ensures unread { IfErr result (IsUnread (P.unread primary.new) (λ _. ⊥)) }
 {
     if !carried.is_feed {
         return Ok(Verdict::Agrees(0));
@@ -89,7 +97,8 @@ fn audit_connection(
         return Err(AuditFault::Chunked(1));
     }
     choose(alloc, limits, carried.since, mirror)?;
-    audit_on(alloc, limits, primary, carried.body, mirror)
+    let mut body = TextLines::new(carried.body);
+    audit_on(alloc, limits, primary, &mut body, mirror)
 }
 
 /// A fault of a connection, by its line in the record.
@@ -101,6 +110,8 @@ fn fault_behind(fault: AuditFault, before: usize) -> AuditFault
         AuditFault::Chunked(line) => AuditFault::Chunked(before.saturating_add(line)),
         AuditFault::OtherToken(line) => AuditFault::OtherToken(before.saturating_add(line)),
         AuditFault::Primary(line, why) => AuditFault::Primary(line, why),
+        AuditFault::PrimaryUnread(why) => AuditFault::PrimaryUnread(why),
+        AuditFault::ScreenUnread(why) => AuditFault::ScreenUnread(why),
         AuditFault::Memory => AuditFault::Memory,
     }
 }
@@ -131,16 +142,18 @@ fn stray_behind(stray: Stray, before: usize, states: usize) -> Stray
 /// lines `# connection` before them. Each is read as a fresh one, and so is the primary's record; but
 /// behind a line `# connection since TOKEN` it goes on where those before it ended, whose last
 /// state's token that has to be.
-pub fn audit_record(
+pub fn audit_record<P: Replayed>(
     alloc: Global,
     limits: Limits,
-    primary: &[u8],
+    primary: &mut P,
     screen: &[u8],
 ) -> Result<Verdict, AuditFault>
-    ensures ok { IfOk result (λ verdict.
-        IsRecordVerdict limits primary.now screen.now verdict) }
-    ensures err { IfErr result (λ fault.
-        FailsToAuditRecord limits primary.now screen.now fault) }
+    ensures ok { (text : List ℕ) → P.whole primary.old ≡ Some text
+        → IfOk result (IsRecordVerdict limits text screen.now) }
+    ensures err { (text : List ℕ) → P.whole primary.old ≡ Some text
+        → IfErr result (FailsToAuditRecord limits text screen.now) }
+    ensures whole { P.whole primary.new ≡ P.whole primary.old }
+    ensures unread { IfErr result (IsUnread (P.unread primary.new) (λ _. ⊥)) }
 {
     let mut mirror = Mirror::new(alloc, limits)?;
     let mut text = screen;

@@ -1,9 +1,10 @@
 //! What an audit answers.
 
-ghost use Rattle.std.specs.Prelude.{◌≡◌, ◌≢◌, ◌+◌, min};
-ghost use Rattle.feed_audit.specs.declared.verdict.AuditFault.TheVariants.{Memory, Primary, Screen};
+ghost use Rattle.std.specs.Prelude.{◌≡◌};
+ghost use Rattle.feed_audit.specs.Stops.{primary_fault, screen_fault};
 
 use crate::difference::Difference;
+use crate::reading::{Stop, Unread};
 use feed_node::FeedFault;
 use feed_tables::Name;
 use std::alloc::AllocError;
@@ -45,11 +46,19 @@ pub enum AuditFault {
     /// A connection of the screen's record goes on from another token than the last one so far.
     #[error("screen: line {0}: it goes on from another token than that of the last state")]
     OtherToken(usize),
+    /// The primary's record can't be read to where that state would be.
+    #[error("primary: {0}")]
+    PrimaryUnread(Unread),
+    /// The screen's record can't be read on. All states before that are the primary's.
+    #[error("screen: {0}")]
+    ScreenUnread(Unread),
     #[error("out of memory")]
     Memory,
 }
 
 impl From<AllocError> for AuditFault {
+    ghost use Rattle.feed_audit.specs.declared.verdict.AuditFault.TheVariants.{Memory};
+
     ghost from_gives = { λ _ fault. fault ≡ Memory };
 
     fn from(_error: AllocError) -> AuditFault {
@@ -58,25 +67,23 @@ impl From<AllocError> for AuditFault {
 }
 
 /// The fault of the primary's record behind so many lines.
-pub(crate) fn of_primary(fault: FeedFault, lines: usize) -> AuditFault
-    ensures memory { fault ≡ FeedFault.Memory → result ≡ Memory }
-    ensures other { fault ≢ FeedFault.Memory
-        → result ≡ Primary (min (lines + 1) usize.MAX) fault }
+pub(crate) fn of_primary(stop: Stop, lines: usize) -> AuditFault
+    ensures { result ≡ primary_fault stop lines }
 {
-    match fault {
-        FeedFault::Memory => AuditFault::Memory,
-        _ => AuditFault::Primary(lines.saturating_add(1), fault),
+    match stop {
+        Stop::Feed(FeedFault::Memory) | Stop::Unread(Unread::Memory) => AuditFault::Memory,
+        Stop::Feed(fault) => AuditFault::Primary(lines.saturating_add(1), fault),
+        Stop::Unread(why) => AuditFault::PrimaryUnread(why),
     }
 }
 
 /// The same of the screen's.
-pub(crate) fn of_screen(fault: FeedFault, lines: usize) -> AuditFault
-    ensures memory { fault ≡ FeedFault.Memory → result ≡ Memory }
-    ensures other { fault ≢ FeedFault.Memory
-        → result ≡ Screen (min (lines + 1) usize.MAX) fault }
+pub(crate) fn of_screen(stop: Stop, lines: usize) -> AuditFault
+    ensures { result ≡ screen_fault stop lines }
 {
-    match fault {
-        FeedFault::Memory => AuditFault::Memory,
-        _ => AuditFault::Screen(lines.saturating_add(1), fault),
+    match stop {
+        Stop::Feed(FeedFault::Memory) | Stop::Unread(Unread::Memory) => AuditFault::Memory,
+        Stop::Feed(fault) => AuditFault::Screen(lines.saturating_add(1), fault),
+        Stop::Unread(why) => AuditFault::ScreenUnread(why),
     }
 }

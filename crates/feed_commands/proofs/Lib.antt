@@ -1,9 +1,10 @@
 mod AuditLemmas
 mod CheckLemmas
 mod CommandLemmas
+mod DeviceLinesLemmas
 pub mod FindingsLemmas
-mod InputLemmas
 mod InTurnLemmas
+mod InputLemmas
 pub mod LineLemmas
 mod MappedLemmas
 pub mod PlacingLemmas

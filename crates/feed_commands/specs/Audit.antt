@@ -1,9 +1,12 @@
 -- What the command `audit` reads and prints.
 use Rattle.std.specs.Prelude.{◌≡◌, ◌⊎◌, ℕ, ◌≤◌, Bool, true, false, List, Option}
 use Rattle.std.specs.Io.KnownBytes.{Appends, Keeps}
-use Rattle.feed_audit.specs.Answers.{HasStates}
+use Rattle.feed_audit.specs.Answers.{HasStates, FailsToCount}
 use Rattle.feed_audit.specs.Records.{RecordAgrees, RecordStrays, FailsToAuditRecord}
+use Rattle.feed_audit.specs.Stops.{IsUnread}
 use Rattle.feed_audit.specs.Told.{agreement_text, agreement_json, stray_text, stray_json}
+use Rattle.feed_audit.specs.declared.reading.Unread.{Unread}
+use Rattle.feed_audit.specs.declared.verdict.AuditFault.{AuditFault}
 use Rattle.feed_audit.specs.declared.verdict.Stray.{Stray}
 use Rattle.feed_http.specs.Device.{AppendsPrefix}
 use Rattle.feed_arguments.specs.declared.request.AuditOptions.{AuditOptions}
@@ -23,6 +26,11 @@ agreement_told false states primary = agreement_text states primary
 abbrev pub stray_told : Bool → Bool → Stray → List ℕ
 stray_told true whole stray = stray_json stray
 stray_told false whole stray = stray_text whole stray
+
+-- a record can't be read on, and this is so of it; of another fault nothing is said
+abbrev pub IsUnreadRecord : (Unread → Type 0) → (Unread → Type 0) → Fault → Type 0
+IsUnreadRecord primary screen (fault.Audit why) = IsUnread primary screen why
+IsUnreadRecord primary screen why = Unit {0}
 
 module _ (options : AuditOptions) (primary screen : List ℕ) where
   -- nothing is wrong with the records, each state of the screen's is one of the primary's, and the
@@ -45,13 +53,21 @@ module _ (options : AuditOptions) (primary screen : List ℕ) where
   abbrev pub PrintsAgreement : Option (List ℕ) → Option (List ℕ) → Type 0
   PrintsAgreement old new = (text : List ℕ) × TellsAgreement text × Appends old new text
 
+  -- the records agree, and the primary's has a line further on that can't be read
+  abbrev pub FailsBehind : AuditFault → Type 0
+  FailsBehind why = (states : ℕ) × RecordAgrees options.limits primary screen states
+      × FailsToCount options.limits primary why
+
+  -- a line of a record can't be read
+  abbrev pub FailsToCompare : AuditFault → Type 0
+  FailsToCompare why = FailsToAuditRecord options.limits primary screen why ⊎ FailsBehind why
+
   -- what was printed where the command fails
   abbrev pub AuditFails : Fault → Option (List ℕ) → Option (List ℕ) → Type 0
   AuditFails fault.Differs old new = (text : List ℕ) × TellsStray text × Appends old new text
   AuditFails fault.Unpublished old new =
       RecordAgrees options.limits primary screen 0 × Keeps old new
-  AuditFails (fault.Audit why) old new =
-      FailsToAuditRecord options.limits primary screen why × Keeps old new
+  AuditFails (fault.Audit why) old new = FailsToCompare why × Keeps old new
   AuditFails fault.Write old new =
       (text : List ℕ) × (TellsAgreement text ⊎ TellsStray text) × AppendsPrefix old new text
   AuditFails fault.Memory old new = Keeps old new

@@ -1,5 +1,6 @@
 -- Why a command fails, for the fault of what it calls, and the statuses that the program ends with.
 use Rattle.std.specs.Prelude.{◌≡◌, ◌⊎◌, ◌+◌, ◌≤◌, ℕ, Bool, true, false, List, length, Option, None, Some, Result, Ok, Err, if◌then◌else◌}
+use Rattle.feed_audit.specs.declared.reading.Unread.TheVariants as unread
 use Rattle.feed_audit.specs.declared.verdict.AuditFault.{AuditFault}
 use Rattle.feed_audit.specs.declared.verdict.AuditFault.TheVariants as audit
 use Rattle.feed_settings.specs.declared.place.PlaceFault.{PlaceFault}
@@ -91,9 +92,14 @@ abbrev pub goes_on : Result Served NetworkFault → Bool
 goes_on (Ok served) = true
 goes_on (Err why) = is_one_connections (fault_of_network why)
 
--- 5 for want of memory, 4 for a device's fault, 2 for a faulty input or response and for records
--- that differ, 3 where nothing is published or no state has the token, 1 for servers that can't be
--- named so
+-- a record that can't be read is a device's fault, but for one that is too long
+abbrev pub status_of_audit : AuditFault → ℕ
+status_of_audit (audit.PrimaryUnread unread.Failed) = 4
+status_of_audit (audit.ScreenUnread unread.Failed) = 4
+status_of_audit why = 2
+
+-- 5 for want of memory, 4 for a device's fault, 2 for a faulty input or response and for records that
+-- differ, 3 where nothing is published or no state has the token, 1 for servers that can't be named so
 abbrev pub status_of : Fault → ℕ
 status_of fault.Memory = 5
 status_of fault.Read = 4
@@ -104,7 +110,7 @@ status_of (fault.Feed why) = 2
 status_of (fault.Survey why) = 2
 status_of (fault.Batches why) = 2
 status_of (fault.Play why) = if is_memory why.cause then 5 else 2
-status_of (fault.Audit why) = 2
+status_of (fault.Audit why) = status_of_audit why
 status_of fault.Differs = 2
 status_of fault.Unpublished = 3
 status_of fault.NoToken = 3

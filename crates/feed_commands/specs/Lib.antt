@@ -1,6 +1,7 @@
 pub mod Audit
 pub mod Check
 pub mod Commands
+pub mod DeviceLines
 pub mod Fault
 pub mod Findings
 pub mod InTurn
@@ -8,6 +9,7 @@ pub mod Openings
 pub mod Play
 pub mod Printing
 pub mod Pull
+pub mod RecordLines
 pub mod Relay
 pub mod Serve
 pub mod StateAt

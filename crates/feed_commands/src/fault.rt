@@ -3,7 +3,7 @@ ghost use Rattle.std.specs.Prelude.{◌≡◌};
 
 use crate::placing::{Spot, spot_of};
 use feed_arguments::AddressFault;
-use feed_audit::AuditFault;
+use feed_audit::{AuditFault, Unread};
 use feed_http::{EngineFault, PlaceFault};
 use feed_node::{CommitFault, FeedFault};
 use feed_note::{LineStop, SurveyFault};
@@ -62,7 +62,7 @@ pub enum Fault {
     /// The input, a script, was not played to its end.
     #[error("{0}")]
     Play(PlayFault),
-    /// A line of one of two records can't be read.
+    /// One of two records can't be read, or a line of it.
     #[error("{0}")]
     Audit(AuditFault),
     /// A state of the screen's record is none of the primary's.
@@ -101,6 +101,10 @@ impl Fault {
             Fault::Read | Fault::Write | Fault::Turns => 4,
             Fault::Play(fault) if fault.is_want_of_memory() => 5,
             Fault::TooLong | Fault::Feed(_) | Fault::Survey(_) | Fault::Batches(_) => 2,
+            Fault::Audit(
+                AuditFault::PrimaryUnread(Unread::Failed)
+                | AuditFault::ScreenUnread(Unread::Failed),
+            ) => 4,
             Fault::Play(_) | Fault::Audit(_) | Fault::Differs => 2,
             Fault::Unpublished | Fault::NoToken => 3,
             Fault::Place(_) | Fault::Address(_) => REFUSED,

@@ -3,11 +3,13 @@
 
 mod buffer;
 mod commands;
+mod device_lines;
 mod fault;
 mod input;
 mod opening;
 mod placing;
 mod printing;
+mod record_lines;
 mod snapshot;
 mod telling;
 
@@ -16,14 +18,17 @@ pub use commands::pull::{print_pulled, pull_outcome, servers_of, start_mirror};
 pub use commands::relay::print_relayed;
 pub use commands::serve::{Source, serve_all, start_source};
 pub use commands::{perform, run};
+pub use device_lines::{DeviceLines, STREAMED_BYTES};
 pub use fault::{Fault, FeedStop, REFUSED, SurveyStop};
 pub use feed_arguments::{
     AddressFault, AuditOptions, CompareOptions, LiveOptions, Local, NoCommand, PROGRAM,
     PullOptions, RelayOptions, Request, ServeOptions, TablesOptions, UpstreamOptions, VERSION,
     Verbosity, addresses, parse_words,
 };
+pub use feed_audit::{AuditFault, Replayed, TextLines, Unread};
 pub use feed_http::{device, memory, stream};
 pub use feed_play::{PlayCause, PlayFault, play};
 pub use feed_relay::{Accept, Dial, NetworkFault, Server};
 pub use placing::{Counting, Spot};
+pub use record_lines::{Record, RecordLines};
 pub use telling::{tell, tell_about};

@@ -1,10 +1,17 @@
 //! The command `audit`, over files and the standard streams.
 
-use crate::ahead::{file_ahead, input_ahead};
+ghost use Rattle.feed_commands.specs.DeviceLines.{FailsToOpen};
+
+use crate::ahead::{file_ahead, file_part_ahead, input_ahead};
 use crate::ending::Failure;
 use feed_commands::stream::Stream;
-use feed_commands::{AuditOptions, Fault, print_verdict, read_record};
-use std::io::ErrorKind;
+use feed_commands::{
+    AuditFault, AuditOptions, Fault, Record, RecordLines, Replayed, TextLines, Unread,
+    print_verdict, read_record,
+};
+use std::fs::File;
+use std::io::{BufReader, ErrorKind, Take};
+use std::{fs, io};
 
 /// The name that stands for standard input.
 const INPUT: &str = "-";
@@ -19,6 +26,12 @@ struct Texts {
 const PRIMARY_FILE: Texts = Texts {
     unread: "the primary's record can't be read",
     long: "the primary's record has over 512 MiB",
+};
+
+/// The same of a file that is read line by line.
+const PRIMARY_LINES: Texts = Texts {
+    unread: "the primary's record can't be read",
+    long: "the primary's record has over 1 TiB",
 };
 
 const PRIMARY_INPUT: Texts = Texts {
@@ -47,16 +60,69 @@ impl Texts {
     }
 }
 
+/// Why a file can't be opened. Its length says nothing then.
+fn unread_by(error: &io::Error) -> Unread
+    ensures { FailsToOpen (Unit {0}) result }
+{
+    match error.kind() {
+        ErrorKind::OutOfMemory => Unread::Memory,
+        _ => Unread::Failed,
+    }
+}
+
+/// The fault of a record that can't be read.
+fn fault_of(why: Unread) -> Fault {
+    match why {
+        Unread::Failed => Fault::Read,
+        Unread::TooLong => Fault::TooLong,
+        Unread::Memory => Fault::Memory,
+    }
+}
+
+/// A file that is read from its beginning as often as it has to be, up to where it ended at first.
+#[derive(Drop)]
+struct RecordFile<'a> {
+    rt: &'a HostRuntime,
+    name: &'a str,
+    bytes: u64,
+}
+
+impl<'a> Record for RecordFile<'a> {
+    type Reader = Stream<BufReader<Take<File>>>;
+
+    ghost shut = { λ _. Unit {0} };
+
+    fn open(&self) -> Result<Stream<BufReader<Take<File>>>, Unread> {
+        match file_part_ahead(self.rt, self.name, self.bytes) {
+            Ok(file) => Ok(Stream::new(file)),
+            Err(error) => Err(unread_by(&error)),
+        }
+    }
+}
+
+/// The file of this name, where it is one that can be read again.
+fn record_file<'a>(rt: &'a HostRuntime, name: &'a str) -> Option<RecordFile<'a>> {
+    if name == INPUT {
+        return None;
+    }
+    let attributes = fs::metadata(rt, name).ok()?;
+    if !attributes.is_file() {
+        return None;
+    }
+    Some(RecordFile {
+        rt,
+        name,
+        bytes: attributes.len(),
+    })
+}
+
 /// What the file of this name has.
 fn read_file(rt: &HostRuntime, name: &str, texts: Texts) -> Result<Vec<u8>, Failure> {
     match file_ahead(rt, name) {
         Ok(file) => {
             read_record(rt.alloc(), &mut Stream::new(file)).map_err(|fault| texts.failure(fault))
         }
-        Err(error) => match error.kind() {
-            ErrorKind::OutOfMemory => Err(Failure::from(Fault::Memory)),
-            _ => Err(texts.failure(Fault::Read)),
-        },
+        Err(error) => Err(texts.failure(fault_of(unread_by(&error)))),
     }
 }
 
@@ -68,7 +134,7 @@ fn read_input(rt: &HostRuntime, texts: Texts) -> Result<Vec<u8>, Failure> {
     read_record(rt.alloc(), &mut Stream::new(input)).map_err(|fault| texts.failure(fault))
 }
 
-/// The primary's record.
+/// The primary's record, which can be read once alone.
 fn read_primary(rt: &HostRuntime, name: &str) -> Result<Vec<u8>, Failure> {
     if name == INPUT {
         read_input(rt, PRIMARY_INPUT)
@@ -85,17 +151,33 @@ fn read_screen(rt: &HostRuntime, name: Option<&str>) -> Result<Vec<u8>, Failure>
     }
 }
 
-/// Prints whether each state of the screen's record is one of the primary's. One of both records at
-/// most is on standard input.
-pub fn audit_records(rt: &HostRuntime, options: &AuditOptions<'_>) -> Result<(), Failure> {
-    let primary = read_primary(rt, options.primary)?;
+/// Prints whether each state of the screen's record is one of the primary's.
+fn audit_with<P: Replayed>(
+    rt: &HostRuntime,
+    options: &AuditOptions<'_>,
+    primary: &mut P,
+) -> Result<(), Failure> {
     let screen = read_screen(rt, options.screen)?;
-    print_verdict(
-        rt.alloc(),
-        options,
-        primary.as_slice(),
-        screen.as_slice(),
-        &mut Stream::new(rt.stdout()),
-    )?;
-    Ok(())
+    let mut out = Stream::new(rt.stdout());
+    match print_verdict(rt.alloc(), options, primary, screen.as_slice(), &mut out) {
+        Ok(()) => Ok(()),
+        Err(Fault::Audit(AuditFault::PrimaryUnread(why))) => {
+            Err(PRIMARY_LINES.failure(fault_of(why)))
+        }
+        Err(fault) => Err(Failure::from(fault)),
+    }
+}
+
+/// Prints whether each state of the screen's record is one of the primary's. One of both records at
+/// most is on standard input. That of the primary is read line by line where it is a file that can
+/// be read again, and else whole.
+pub fn audit_records(rt: &HostRuntime, options: &AuditOptions<'_>) -> Result<(), Failure> {
+    let Some(file) = record_file(rt, options.primary) else {
+        let primary = read_primary(rt, options.primary)?;
+        return audit_with(rt, options, &mut TextLines::new(primary.as_slice()));
+    };
+    match RecordLines::open(rt.alloc(), file) {
+        Ok(mut primary) => audit_with(rt, options, &mut primary),
+        Err(why) => Err(PRIMARY_LINES.failure(fault_of(why))),
+    }
 }

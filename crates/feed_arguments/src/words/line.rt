@@ -118,8 +118,8 @@ fn audit<'a>(alloc: Global) -> Result<Command<'a>, AllocError>
     ensures { IfOk result (λ c. app_of c ≡ words.audit) }
 {
     let about =
-        "Tells whether each state of the screen's record on standard input is one of the primary's, \
-        or compares two servers";
+        "Tells whether each state of a screen's record is one of the primary's, or compares two \
+        servers";
     let audit = add_options(alloc, Ok(command(alloc, "audit", about)), &audited());
     let audit = add_options(alloc, audit, &compared());
     let verbose = "Print objects that differ whole, however long they are";

@@ -1,7 +1,7 @@
 //! Two records, compared.
-ghost use Rattle.std.specs.Prelude.{◌≡◌, IfOk, IfErr, OnOk, OnErr, IsErrOf};
+ghost use Rattle.std.specs.Prelude.{◌≡◌, ℕ, List, IfOk, IfErr, OnOk, OnErr, IsErrOf, Some};
 ghost use Rattle.std.specs.Io.KnownBytes.{Appends};
-ghost use Rattle.feed_commands.specs.Audit.{record_bytes, agreement_told, stray_told, PrintsAgreement, AuditFails};
+ghost use Rattle.feed_commands.specs.Audit.{record_bytes, agreement_told, stray_told, PrintsAgreement, AuditFails, IsUnreadRecord};
 ghost use Rattle.feed_commands.specs.Check.{IsWholeWithin, FailsWithin};
 ghost use Rattle.feed_http.specs.Device.{AppendsPrefix, HasFailed};
 
@@ -9,8 +9,8 @@ use crate::fault::Fault;
 use crate::input::read_within;
 use feed_arguments::AuditOptions;
 use feed_audit::{
-    Stray, Verdict, audit_record, count_states, print_agreement, print_agreement_json, print_stray,
-    print_stray_json,
+    Replayed, Stray, Verdict, audit_record, count_states, print_agreement, print_agreement_json,
+    print_stray, print_stray_json,
 };
 use feed_http::device::{FeedRead, FeedWrite, write_all};
 use std::alloc::{AllocError, Global};
@@ -82,17 +82,20 @@ fn print_text<W: FeedWrite>(text: &[u8], out: &mut W) -> Result<(), Fault>
 /// a state is not the primary's, the fault is `Differs`, behind what is printed of the first such
 /// state. Where the screen's publishes nothing, and where a line of a record can't be read, nothing
 /// is printed.
-pub fn print_verdict<W: FeedWrite>(
+pub fn print_verdict<P: Replayed, W: FeedWrite>(
     alloc: Global,
     options: &AuditOptions<'_>,
-    primary: &[u8],
+    primary: &mut P,
     screen: &[u8],
     out: &mut W,
 ) -> Result<(), Fault>
-    ensures ok { OnOk result (PrintsAgreement options.now primary.now screen.now
+    ensures ok { (text : List ℕ) → P.whole primary.old ≡ Some text
+        → OnOk result (PrintsAgreement options.now text screen.now
         (W.contents out.old) (W.contents out.new)) }
-    ensures err { IfErr result (λ why. AuditFails options.now primary.now screen.now why
+    ensures err { (text : List ℕ) → P.whole primary.old ≡ Some text
+        → IfErr result (λ why. AuditFails options.now text screen.now why
         (W.contents out.old) (W.contents out.new)) }
+    ensures unread { IfErr result (IsUnreadRecord (P.unread primary.new) (λ _. ⊥)) }
     ensures write { IsErrOf result Fault.Write
         → HasFailed (W.failures out.old) (W.failures out.new) }
     ensures quiet { ¬ (IsErrOf result Fault.Write)

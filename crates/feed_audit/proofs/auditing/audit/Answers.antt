@@ -1,4 +1,4 @@
-use Rattle.std.proofs.Common.{subst}
+use Rattle.std.proofs.Common.{rules, subst}
 use Rattle.std.specs.Prelude.{IfErr}
 use Rattle.std.proofs.lemmas.Result.{IfOk-weaker}
 use Rattle.feed_audit.specs.Answers.{IsVerdictOn, FailsFrom, begun_by}
@@ -9,8 +9,10 @@ use Rattle.feed_audit.proofs.auditing.audit.Goals as goal
 pub returns-clause-ok : goal.returns-clause-ok
 returns-clause-ok c =
     IfOk-weaker c.audit_on.result _ _ (λ v h. verdict_of (afresh c.args.limits) c.args.primary.now c.args.screen.now _ v
-    (subst (λ m. IsVerdictOn (begun_by c.args.limits m) c.args.primary.now c.args.screen.now v c.audit_on.new.theirs) c.in_ok-theirs.ensures h)) c.audit_on.ensures.ok
+    (subst (λ m. IsVerdictOn (begun_by c.args.limits m) c.args.primary.now c.args.screen.now v c.audit_on.new.theirs) c.in_ok-theirs.ensures h))
+    (c.audit_on.ensures.ok c.args.primary.now c.args.screen.now (search rules) (search rules))
 
 pub returns-clause-err : goal.returns-clause-err
 returns-clause-err c =
-    subst (λ m. IfErr c.audit_on.result (λ why. FailsFrom (begun_by c.args.limits m) c.args.primary.now c.args.screen.now why)) c.in_ok-theirs.ensures c.audit_on.ensures.err
+    subst (λ m. IfErr c.audit_on.result (λ why. FailsFrom (begun_by c.args.limits m) c.args.primary.now c.args.screen.now why)) c.in_ok-theirs.ensures
+    (c.audit_on.ensures.err c.args.primary.now c.args.screen.now (search rules) (search rules))

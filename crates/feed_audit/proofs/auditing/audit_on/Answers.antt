@@ -1,80 +1,117 @@
-use Rattle.std.proofs.Common.{refl, sym, ap, ◌∙◌, subst, []}
-use Rattle.std.specs.Prelude.{IfSome, IfNone}
+use Rattle.std.proofs.Common.{◌≡◌, ℕ, List, Some, refl, sym, ap, ◌∙◌, subst, [], true}
 use Rattle.std.proofs.lemmas.Result.{err_from_is_err_and}
 use Rattle.feed_node.specs.States.{NodeState}
-use Rattle.feed_audit.specs.Answers.{IsStrange, begun_by}
-use Rattle.feed_audit.specs.States.{afresh}
-use Rattle.feed_audit.specs.Walks.{ReadsMore, GoesToEnd, CommitsOn, Finds, IsSince}
-use Rattle.feed_audit.proofs.Agreeing.{walked_begun, walked_none, since_unknown, fails_on, fails_screen}
-use Rattle.feed_audit.proofs.Verdicts.{agrees_none, agreement, agrees_on, meets_now, straying}
+use Rattle.feed_audit.specs.Answers.{FailsFrom, begun_by}
+use Rattle.feed_audit.specs.Fronts.{IsLeft}
+use Rattle.feed_audit.specs.States.{Start, afresh}
+use Rattle.feed_audit.specs.Walks.{CommitsOn, IsNextState, Finds}
+use Rattle.feed_audit.proofs.Agreeing.{walked_begun, since_unknown, screen_stops}
+use Rattle.feed_audit.proofs.Missing.{unread_fails, locate_fails}
+use Rattle.feed_audit.proofs.Verdicts.{Agrees, agrees_none, agreement, agrees_on, meets_now, straying}
 use Rattle.feed_audit.proofs.auditing.audit_on.Goals as goal
 
 pub states-init : goal.states-init
-states-init c = record {
-  ours = ([], walked_none c.args.limits c.args.primary.now _ _ c.in_ok-ours.ensures c.begin-2.ensures.stands c.begin-2.ensures.limits);
-  theirs = agrees_none _ _ _ _ c.requires.shown (walked_begun c.args.limits c.args.screen.now c.args.theirs.now _ c.begin.ensures.stands (c.begin.ensures.limits ∙ c.requires.limits));
-  since = since_unknown _ _ _ c.unknown-since.ensures;
+states-init g c = record {
+  ours = λ text body is at. let s = c.in_ok-ours.ensures.ok text is in (text, s.whole, ([], s.walked));
+  theirs = λ text body is at. (
+    body,
+    at,
+    agrees_none _ _ _ _ (c.requires.shown text is) (walked_begun c.args.limits body c.args.theirs.now _ c.begin.ensures.stands (c.begin.ensures.limits ∙ c.requires.limits)),
+  );
+  since = λ text body is at. since_unknown _ _ _ c.unknown-since.ensures;
+  limits = c.begin.ensures.limits ∙ c.requires.limits;
+  whole = c.read_again.ensures.whole;
 }
 
+pub returns-in_err-ours-clause-err : goal.returns-in_err-ours-clause-err
+returns-in_err-ours-clause-err g c text body is at =
+    let e = err_from_is_err_and c.from_residual.result c.from_residual.ensures.1 in
+    rw (e.1, e.2) (unread_fails (begun_by c.args.limits c.args.theirs.now) text body _ c.in_err-ours.ensures.err)
+
+pub returns-then-not-branch-clause-ok : goal.returns-then-not-branch-clause-ok
+returns-then-not-branch-clause-ok g c text body is at =
+    let a = c.states.invariant.theirs text body is at in
+    let start = begun_by c.args.limits c.args.theirs.now in
+    let next = subst (λ found. IsNextState found start body (g.L.Lines.left c.next_state.new.text) a.2.notes c.next_state.new.lines c.states.theirs c.next_state.new.mirror) c.in-Ok-true.field-0-test
+    (c.in-Ok-true.ensures.ok start body a.0 a.2.notes a.1 a.2.walked) in
+    let strange = c.in_ok-locate-in-Ok-true.ensures.none text (c.states.invariant.whole ∙ is) c.if-not-branch.true in
+    straying c.line_laws.ensures.one_meaning start text body _ next.0.0 _ _ _ c.next_state.new.mirror
+    c.node-wanted.result.now.shown c.node-wanted.result.now.shown _ a.2 next.0.2 c.node-wanted.ensures.node c.node-wanted.ensures.node strange c.in_ok-token_of-in-Ok-true.ensures.ok
+    c.node-wanted.result.now.shown c.node-wanted.ensures.node (c.in_ok-difference-in-Ok-true.ensures.ok text (c.locate.ensures.whole ∙ (c.states.invariant.whole ∙ is)) strange) refl
+
 pub returns-in-Err-clause-err : goal.returns-in-Err-clause-err
-returns-in-Err-clause-err c =
-    let a = c.states.invariant.theirs in
+returns-in-Err-clause-err g c text body is at =
+    let a = c.states.invariant.theirs text body is at in
     let start = begun_by c.args.limits c.args.theirs.now in
-    fails_screen start c.args.primary.now c.args.screen.now _ _ c.in-Err.fault (c.in-Err.ensures.err start c.args.screen.now a.notes a.walked)
-    c.of_screen.ensures.memory c.of_screen.ensures.other
+    subst (FailsFrom start text body) (sym c.of_screen.ensures)
+    (screen_stops start text body a.2.notes a.2.all c.in-Err.stop c.next_state.new.lines (c.in-Err.ensures.err start body a.0 a.2.notes a.1 a.2.walked))
 
-pub returns-in-Ok-None-clause-ok : goal.returns-in-Ok-None-clause-ok
-returns-in-Ok-None-clause-ok c =
-    let a = c.states.invariant.theirs in
+pub returns-in-Ok-false-clause-ok : goal.returns-in-Ok-false-clause-ok
+returns-in-Ok-false-clause-ok g c text body is at =
+    let a = c.states.invariant.theirs text body is at in
     let start = begun_by c.args.limits c.args.theirs.now in
-    let g = subst (λ o. IfNone o (GoesToEnd start c.args.screen.now a.notes c.next_state.new.lines c.next_state.new.mirror)) c.in-Ok-None.field-0-is
-    (c.in-Ok-None.ensures.none start c.args.screen.now a.notes a.walked) in
-    agreement c.line_laws.ensures.one_meaning _ _ _ _ _ _ _ _ _ a g
+    agreement c.line_laws.ensures.one_meaning _ _ _ _ _ _ _ _ _ a.2
+    (subst (λ found. IsNextState found start body (g.L.Lines.left c.next_state.new.text) a.2.notes c.next_state.new.lines c.states.theirs c.next_state.new.mirror) c.in-Ok-false.field-0-test
+    (c.in-Ok-false.ensures.ok start body a.0 a.2.notes a.1 a.2.walked))
 
-pub locate-requires-clause-since : goal.locate-requires-clause-since
-locate-requires-clause-since c =
-    let a = c.states.invariant.theirs in
-    let commits = subst (λ o. IfSome o (λ _. CommitsOn c.states.theirs.node c.next_state.new.mirror.node)) c.in-Ok-Some.field-0-is
-    (c.in-Ok-Some.ensures.commits (begun_by c.args.limits c.args.theirs.now) c.args.screen.now a.notes a.walked) in
-    let known = c.in_ok-note_theirs-in-Ok-Some.ensures c.states.ours.node c.states.theirs.node c.states.invariant.since
-    (subst (λ n. CommitsOn c.states.theirs.node n) (sym c.node.ensures.node) commits) in
-    subst (λ n. IsSince c.note_theirs.new.self c.states.ours.node n) (c.node.ensures.node ∙ sym c.node-in-Ok-Some.ensures.node) known
+pub returns-in_err-locate-in-Ok-true-clause-err : goal.returns-in_err-locate-in-Ok-true-clause-err
+returns-in_err-locate-in-Ok-true-clause-err g c text body is at =
+    let e = err_from_is_err_and c.from_residual-in_err-locate-in-Ok-true.result c.from_residual-in_err-locate-in-Ok-true.ensures.1 in
+    let start = begun_by c.args.limits c.args.theirs.now in
+    let a = c.states.invariant.theirs text body is at in
+    let next = subst (λ found. IsNextState found start body (g.L.Lines.left c.next_state.new.text) a.2.notes c.next_state.new.lines c.states.theirs c.next_state.new.mirror) c.in-Ok-true.field-0-test
+    (c.in-Ok-true.ensures.ok start body a.0 a.2.notes a.1 a.2.walked) in
+    rw (e.1, e.2)
+    (locate_fails start text body _ _ _ c.next_state.new.mirror c.node-wanted.result.now.shown _ next.0.2.walked next.1.some c.node-wanted.ensures.node
+    (c.in_err-locate-in-Ok-true.ensures.err text (c.states.invariant.whole ∙ is)))
 
-pub explain-requires : goal.explain-requires
-explain-requires c =
-    let strange = subst (λ o. IfNone o (IsStrange c.args.limits c.args.primary.now c.node-in-Ok-Some.result.now.shown)) c.in-None.is c.in_ok-behind-in-Ok-Some.ensures.none in
-    subst (IsStrange c.args.limits c.args.primary.now) (c.node-in-Ok-Some.ensures.node ∙ sym c.node-in-None.ensures.node) strange
-
-pub returns-in_err-behind-in-Ok-Some-clause-err : goal.returns-in_err-behind-in-Ok-Some-clause-err
-returns-in_err-behind-in-Ok-Some-clause-err c =
-    let e = err_from_is_err_and c.from_residual-in_err-behind-in-Ok-Some.result c.from_residual-in_err-behind-in-Ok-Some.ensures.1 in
-    rw (e.1, e.2) (fails_on (begun_by c.args.limits c.args.theirs.now) c.args.primary.now c.args.screen.now _ c.in_err-behind-in-Ok-Some.ensures.err)
-
-pub returns-in_err-difference-in-None-clause-err : goal.returns-in_err-difference-in-None-clause-err
-returns-in_err-difference-in-None-clause-err c =
-    let e = err_from_is_err_and c.from_residual-in_err-difference-in-None.result c.from_residual-in_err-difference-in-None.ensures.1 in
-    rw (e.1, e.2) (fails_on (begun_by c.args.limits c.args.theirs.now) c.args.primary.now c.args.screen.now _ c.in_err-difference-in-None.ensures.err)
-
-pub returns-in-None-clause-ok : goal.returns-in-None-clause-ok
-returns-in-None-clause-ok c =
-    let a = c.states.invariant.theirs in
-    let on = subst (λ o. IfSome o (λ behind. ReadsMore (begun_by c.args.limits c.args.theirs.now) c.args.screen.now behind.now a.notes c.next_state.new.lines c.next_state.new.mirror)) c.in-Ok-Some.field-0-is
-    (c.in-Ok-Some.ensures.some (begun_by c.args.limits c.args.theirs.now) c.args.screen.now a.notes a.walked) in
-    let strange = subst (λ o. IfNone o (IsStrange c.args.limits c.args.primary.now c.node-in-Ok-Some.result.now.shown)) c.in-None.is c.in_ok-behind-in-Ok-Some.ensures.none in
-    straying c.line_laws.ensures.one_meaning (begun_by c.args.limits c.args.theirs.now) c.args.primary.now c.args.screen.now _ c.in-Ok-Some.behind.now _ _ _ c.next_state.new.mirror
-    c.node-in-Ok-Some.result.now.shown c.node-in-None-2.result.now.shown _ a on c.node-in-Ok-Some.ensures.node c.node-in-None-2.ensures.node strange c.in_ok-token_of-in-None.ensures.ok
-    c.node-in-None.result.now.shown c.node-in-None.ensures.node c.in_ok-difference-in-None.ensures.ok refl
+pub returns-in_err-difference-in-Ok-true-clause-err : goal.returns-in_err-difference-in-Ok-true-clause-err
+returns-in_err-difference-in-Ok-true-clause-err g c text body is at =
+    let e = err_from_is_err_and c.from_residual-in_err-difference-in-Ok-true.result c.from_residual-in_err-difference-in-Ok-true.ensures.1 in
+    let start = begun_by c.args.limits c.args.theirs.now in
+    let a = c.states.invariant.theirs text body is at in
+    let next = subst (λ found. IsNextState found start body (g.L.Lines.left c.next_state.new.text) a.2.notes c.next_state.new.lines c.states.theirs c.next_state.new.mirror) c.in-Ok-true.field-0-test
+    (c.in-Ok-true.ensures.ok start body a.0 a.2.notes a.1 a.2.walked) in
+    rw (e.1, e.2)
+    (locate_fails start text body _ _ _ c.next_state.new.mirror c.node-wanted.result.now.shown _ next.0.2.walked next.1.some c.node-wanted.ensures.node
+    (c.in_err-difference-in-Ok-true.ensures.err text (c.locate.ensures.whole ∙ (c.states.invariant.whole ∙ is))))
 
 pub states-preserved : goal.states-preserved
-states-preserved c =
-    let a = c.states.invariant.theirs in
-    let on = subst (λ o. IfSome o (λ behind. ReadsMore (begun_by c.args.limits c.args.theirs.now) c.args.screen.now behind.now a.notes c.next_state.new.lines c.next_state.new.mirror)) c.in-Ok-Some.field-0-is
-    (c.in-Ok-Some.ensures.some (begun_by c.args.limits c.args.theirs.now) c.args.screen.now a.notes a.walked) in
-    let found = subst (λ o. IfSome o (λ behind. Finds (afresh c.args.limits) c.args.primary.now behind.now c.locate.new.lines c.locate.new.mirror c.node-in-Ok-Some.result.now.shown)) c.in-Some.is
-    c.in_ok-behind-in-Ok-Some.ensures.some in
-    record {
-      ours = (found.notes, found.walked);
-      theirs = agrees_on _ _ _ _ _ _ _ _ _ _ _ _ _ _ _ a on c.node-in-Ok-Some.ensures.node found c.saturating_add-states.ensures;
-      since = meets_now c.meet.new.self c.locate.new.mirror.node c.next_state.new.mirror.node c.meet.ensures.ours c.meet.ensures.theirs
-          (found.same ∙ ap (λ (n : NodeState). n.published) c.node-in-Ok-Some.ensures.node);
-    }
+states-preserved g c = record {
+  ours = λ text body is at. let f = found text body is at in (f.0, f.1, (f.2.notes, f.2.walked));
+  theirs = theirs;
+  since = λ text body is at.
+      let f = found text body is at in
+      meets_now c.meet.new.self c.locate.new.mirror.node c.next_state.new.mirror.node c.meet.ensures.ours c.meet.ensures.theirs
+      (f.2.same ∙ ap (λ (n : NodeState). n.published) c.node-wanted.ensures.node);
+  limits = c.next_state.ensures.limits ∙ c.states.invariant.limits;
+  whole = c.locate.ensures.whole ∙ c.states.invariant.whole;
+}
+  where
+    start : Start
+    start = begun_by c.args.limits c.args.theirs.now
+
+    next : (text body : List ℕ) → g.P.Lines.whole c.args.primary.now ≡ Some text → g.L.Lines.left c.args.screen.now ≡ Some body
+        → (a : IsLeft (g.L.Lines.left c.states.screen) (λ rest. Agrees start text body rest c.states.lines c.states.states c.states.theirs))
+        × IsNextState true start body (g.L.Lines.left c.next_state.new.text) a.2.notes c.next_state.new.lines c.states.theirs c.next_state.new.mirror
+    next text body is at =
+        let a = c.states.invariant.theirs text body is at in (
+          a,
+          subst (λ found. IsNextState found start body (g.L.Lines.left c.next_state.new.text) a.2.notes c.next_state.new.lines c.states.theirs c.next_state.new.mirror) c.in-Ok-true.field-0-test
+              (c.in-Ok-true.ensures.ok start body a.0 a.2.notes a.1 a.2.walked),
+        )
+
+    found : (text body : List ℕ) → g.P.Lines.whole c.args.primary.now ≡ Some text → g.L.Lines.left c.args.screen.now ≡ Some body
+        → IsLeft (g.P.Lines.left c.locate.new.primary) (λ behind. Finds (afresh c.args.limits) text behind c.locate.new.lines c.locate.new.mirror c.node-wanted.result.now.shown)
+    found text body is at =
+        let n = next text body is at in
+        let known = c.in_ok-note_theirs-in-Ok-true.ensures c.states.ours.node c.states.theirs.node (c.states.invariant.since text body is at)
+        (subst (λ n. CommitsOn c.states.theirs.node n) (sym c.node-wanted.ensures.node) n.1.1) in
+        c.in_ok-locate-in-Ok-true.ensures.some text (c.states.invariant.whole ∙ is) (c.states.invariant.ours text body is at) known c.if-not-branch.false
+
+    theirs : (text body : List ℕ) → g.P.Lines.whole c.args.primary.now ≡ Some text → g.L.Lines.left c.args.screen.now ≡ Some body
+        → IsLeft (g.L.Lines.left c.next_state.new.text) (λ rest. Agrees start text body rest c.next_state.new.lines c.saturating_add-states.result c.next_state.new.mirror)
+    theirs text body is at =
+        let n = next text body is at in
+        let f = found text body is at in
+        (n.1.0.0, n.1.0.1, agrees_on _ _ _ _ _ _ _ _ _ _ _ _ _ _ _ n.0.2 n.1.0.2 c.node-wanted.ensures.node f.2 c.saturating_add-states.ensures)

@@ -1,16 +1,25 @@
 -- The states so far are the primary's.
-use Rattle.std.proofs.Common.{length}
+use Rattle.std.proofs.Common.{◌≡◌, ℕ, List, Some}
 use Rattle.feed_audit.specs.Answers.{HasReadLines, begun_by}
+use Rattle.feed_audit.specs.Fronts.{IsLeft}
 use Rattle.feed_audit.specs.Walks.{IsSince}
 use Rattle.feed_audit.proofs.Verdicts.{Agrees}
 use Rattle.feed_audit.proofs.auditing.audit_on.Given as goal
 
 abbrev pub invariant-states : goal.invariant-states
-invariant-states l = record {
-  ours : HasReadLines l.fn.limits l.primary l.our_rest l.our_lines l.ours;
-  theirs : Agrees (begun_by l.fn.limits l.fn.theirs) l.primary l.screen l.rest l.lines l.states l.theirs;
-  since : IsSince l.since l.ours.node l.theirs.node;
-}
+invariant-states g l =
+    let primary = g.P.Lines in
+    let screen = g.L.Lines in
+    record {
+      ours : (text body : List ℕ) → primary.whole l.fn.primary ≡ Some text → screen.left l.fn.screen ≡ Some body
+          → HasReadLines l.fn.limits text (primary.left l.primary) l.our_lines l.ours;
+      theirs : (text body : List ℕ) → primary.whole l.fn.primary ≡ Some text → screen.left l.fn.screen ≡ Some body
+          → IsLeft (screen.left l.screen) (λ rest. Agrees (begun_by l.fn.limits l.fn.theirs) text body rest l.lines l.states l.theirs);
+      since : (text body : List ℕ) → primary.whole l.fn.primary ≡ Some text → screen.left l.fn.screen ≡ Some body
+          → IsSince l.since l.ours.node l.theirs.node;
+      limits : l.theirs.limits ≡ l.fn.limits;
+      whole : primary.whole l.primary ≡ primary.whole l.fn.primary;
+    }
 
 abbrev pub decreases-states : goal.decreases-states
-decreases-states l = length l.rest
+decreases-states g l = g.L.Lines.room l.screen

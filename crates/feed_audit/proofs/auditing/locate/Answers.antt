@@ -1,28 +1,37 @@
-use Rattle.std.proofs.Common.{subst, []}
-use Rattle.std.specs.Prelude.{IfSome}
+use Rattle.std.proofs.Common.{[], sym, subst, ◌∙◌}
+use Rattle.std.proofs.lemmas.Result.{err_from_is_err_and}
+use Rattle.feed_audit.specs.Answers.{FailsToLocate}
 use Rattle.feed_audit.specs.States.{afresh}
-use Rattle.feed_audit.specs.Walks.{Finds}
-use Rattle.feed_audit.proofs.Agreeing.{strange, walked_none, since_unknown, if_none_on}
-use Rattle.feed_audit.proofs.Tallying.{count_fails}
+use Rattle.feed_audit.proofs.Agreeing.{strange, since_unknown}
+use Rattle.feed_audit.proofs.Missing.{locate_unread, locate_stops}
 use Rattle.feed_audit.proofs.auditing.locate.Goals as goal
 
-pub returns-in-Ok-Some-clause-some : goal.returns-in-Ok-Some-clause-some
-returns-in-Ok-Some-clause-some c =
-    subst (λ o. IfSome o (λ behind. Finds (afresh c.args.limits) c.args.primary.now behind.now c.find.new.lines c.find.new.mirror c.args.wanted.now.shown))
-    c.in-Ok-Some.field-0-is (c.in-Ok-Some.ensures.some (afresh c.args.limits) c.args.primary.now _ c.requires.reading.1 c.requires.since)
+pub returns-in_err-find_behind-clause-err : goal.returns-in_err-find_behind-clause-err
+returns-in_err-find_behind-clause-err g c text is =
+    let e = err_from_is_err_and c.from_residual.result c.from_residual.ensures.1 in
+    rw (e.1, e.2) (locate_unread c.args.limits text c.args.wanted.now.shown _ c.in_err-find_behind.ensures.err)
+
+pub returns-in_err-mirror-clause-err : goal.returns-in_err-mirror-clause-err
+returns-in_err-mirror-clause-err g c text is =
+    let e = err_from_is_err_and c.from_residual-in_err-mirror.result c.from_residual-in_err-mirror.ensures.1 in
+    rw (e.1, e.2) (locate_unread c.args.limits text c.args.wanted.now.shown _ c.in_err-mirror.ensures.err)
+
+pub returns-then-branch-clause-some : goal.returns-then-branch-clause-some
+returns-then-branch-clause-some g c text is read since found =
+    c.in_ok-find_behind.ensures.some (afresh c.args.limits) text read.0 read.2.0 read.1 read.2.1 since c.if-branch.true
 
 pub returns-in-Ok-clause-some : goal.returns-in-Ok-clause-some
-returns-in-Ok-clause-some c =
-    let w = walked_none c.args.limits c.args.primary.now _ _ c.in_ok-mirror.ensures c.begin.ensures.stands c.begin.ensures.limits in
-    c.in-Ok.ensures.some (afresh c.args.limits) c.args.primary.now [] w (since_unknown _ _ _ c.unknown.ensures)
+returns-in-Ok-clause-some g c text is read since found =
+    let s = c.in_ok-mirror.ensures.ok text (c.find_behind.ensures.whole ∙ is) in
+    c.in-Ok.ensures.some (afresh c.args.limits) text text [] s.whole s.walked (since_unknown _ _ _ c.unknown.ensures) found
 
 pub returns-in-Ok-clause-none : goal.returns-in-Ok-clause-none
-returns-in-Ok-clause-none c =
-    let w = walked_none c.args.limits c.args.primary.now _ _ c.in_ok-mirror.ensures c.begin.ensures.stands c.begin.ensures.limits in
-    if_none_on c.in-Ok.found (strange c.line_laws.ensures.one_meaning c.args.limits c.args.primary.now _ _ _) (c.in-Ok.ensures.none (afresh c.args.limits) c.args.primary.now [] w)
+returns-in-Ok-clause-none g c text is none =
+    let s = c.in_ok-mirror.ensures.ok text (c.find_behind.ensures.whole ∙ is) in
+    strange c.line_laws.ensures.one_meaning c.args.limits text _ _ _ (c.in-Ok.ensures.none (afresh c.args.limits) text text [] s.whole s.walked none)
 
 pub returns-in-Err-clause-err : goal.returns-in-Err-clause-err
-returns-in-Err-clause-err c =
-    let w = walked_none c.args.limits c.args.primary.now _ _ c.in_ok-mirror.ensures c.begin.ensures.stands c.begin.ensures.limits in
-    count_fails c.args.limits c.args.primary.now _ _ c.in-Err.fault (c.in-Err.ensures.err (afresh c.args.limits) c.args.primary.now [] w)
-    c.of_primary.ensures.memory c.of_primary.ensures.other
+returns-in-Err-clause-err g c text is =
+    let s = c.in_ok-mirror.ensures.ok text (c.find_behind.ensures.whole ∙ is) in
+    subst (FailsToLocate c.args.limits text c.args.wanted.now.shown) (sym c.of_primary.ensures)
+    (locate_stops c.args.limits text c.args.wanted.now.shown c.in-Err.stop c.find.new.lines (c.in-Err.ensures.err (afresh c.args.limits) text text [] s.whole s.walked))
