@@ -61,8 +61,8 @@ pub record PrimaryFaults (start : Start) (primary screen : List ℕ) (line : ℕ
   pub is : IsStateFrom start screen state
   pub lacks : AllAre (afresh start.limits) (λ shown. shown ≢ state) faults.notes
 
--- the first lines of the screen's text are good, up to one with this fault, and each state that they
--- publish is one of the primary's
+-- the first lines of the screen's text are good, up to one with this fault, and each state that
+-- they publish is one of the primary's
 pub record ScreenFaults (start : Start) (primary screen : List ℕ) (line : ℕ)
     (why : FeedFault) : Type 0 where
   pub faults : FaultsIn start screen line why
@@ -128,7 +128,8 @@ FailsToLocate limits primary wanted fault.Memory = Unit {0}
 -- a mirror has read some of the lines of a text on a fresh connection, and the others are left
 abbrev pub HasReadLines : Limits → List ℕ → Option (List ℕ) → ℕ → MirrorState → Type 0
 HasReadLines limits text left lines mirror =
-    IsLeft left (λ behind. (notes : List Line) × Walked (afresh limits) text behind notes lines mirror)
+    IsLeft left (λ behind.
+    (notes : List Line) × Walked (afresh limits) text behind notes lines mirror)
 
 -- nothing of it was read, and all of it is left
 pub record StartsReading (limits : Limits) (text : List ℕ) (left : Option (List ℕ))

@@ -118,8 +118,8 @@ module _ (limits : Limits) (primary : List ℕ) where
     pub may : MayGoOn mirror at.since
     pub faults : ScreenFaults (start_of mirror at.since) primary at.body line why
 
-  -- a line of the primary's is the first that can't be read, and the lines before it lack a state of
-  -- what the connection carried
+  -- a line of the primary's is the first that can't be read, and the lines before it lack a state
+  -- of what the connection carried
   pub record FaultsBesideFeed (why : FeedFault) (line : ℕ) (mirror : MirrorState)
       (at : Recorded) : Type 0 where
     pub may : MayGoOn mirror at.since

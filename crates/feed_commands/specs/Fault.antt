@@ -98,8 +98,9 @@ status_of_audit (audit.PrimaryUnread unread.Failed) = 4
 status_of_audit (audit.ScreenUnread unread.Failed) = 4
 status_of_audit why = 2
 
--- 5 for want of memory, 4 for a device's fault, 2 for a faulty input or response and for records that
--- differ, 3 where nothing is published or no state has the token, 1 for servers that can't be named so
+-- 5 for want of memory, 4 for a device's fault, 2 for a faulty input or response and for records
+-- that differ, 3 where nothing is published or no state has the token, 1 for servers that can't be
+-- named so
 abbrev pub status_of : Fault → ℕ
 status_of fault.Memory = 5
 status_of fault.Read = 4

@@ -113,8 +113,8 @@ shown_at moment = (mirror_at moment).node
 abbrev pub KeepsFilesAt : List NodeState → Moment → Type 0
 KeepsFilesAt nodes moment = KeepsFiles nodes moment.around.files moment.live.saved
 
--- A relay that ends with its input is over: its time has come; or nobody is connected, and the state
--- file has all that was published, as far as it can be written.
+-- A relay that ends with its input is over: its time has come; or nobody is connected, and the
+-- state file has all that was published, as far as it can be written.
 pub record IsOver (live : Live) (now : ℕ) : Type 0 where
   pub at : ℕ
   pub ends : live.ends_at ≡ Some at

@@ -14,46 +14,64 @@ use Rattle.feed_node.specs.Staging.{Standing}
 use Rattle.feed_node.specs.Mirroring.{Connection, MirrorState}
 
 abbrev pub published_code : Coded Published
-published_code = code_by (Contents × List ℕ) (coded× contents_code text_code) (λ p. (p.tables, p.token)) (λ p. record { tables = p.0; token = p.1 }) (λ _. refl)
+published_code = code_by
+    (Contents × List ℕ) (coded× contents_code text_code) (λ p. (p.tables, p.token))
+    (λ p. record { tables = p.0; token = p.1 }) (λ _. refl)
 
 abbrev pub commit_code : Coded Commit
-commit_code = code_by (List Change × List ℕ) (coded× (coded_list change_code) text_code) (λ c. (c.changes, c.token)) (λ p. record { changes = p.0; token = p.1 }) (λ _. refl)
+commit_code = code_by
+    (List Change × List ℕ) (coded× (coded_list change_code) text_code) (λ c. (c.changes, c.token))
+    (λ p. record { changes = p.0; token = p.1 }) (λ _. refl)
 
 abbrev pub state_code : Coded NodeState
-state_code =
-    code_by (Option Published × (List (List ℕ) × List Commit)) (coded× (coded_option published_code) (coded× (coded_list text_code) (coded_list commit_code)))
-    (λ n. (n.published, (n.held, n.kept))) (λ p. record { published = p.0; held = p.1.0; kept = p.1.1 }) (λ _. refl)
+state_code = code_by
+    (Option Published × (List (List ℕ) × List Commit))
+    (coded× (coded_option published_code) (coded× (coded_list text_code) (coded_list commit_code)))
+    (λ n. (n.published, (n.held, n.kept)))
+    (λ p. record { published = p.0; held = p.1.0; kept = p.1.1 }) (λ _. refl)
 
 abbrev pub history_code : Coded History
-history_code = code_by (ℕ × Option ℕ) (coded× coded_ℕ (coded_option coded_ℕ)) (λ h. (h.commits, h.bytes)) (λ p. record { commits = p.0; bytes = p.1 }) (λ _. refl)
+history_code = code_by
+    (ℕ × Option ℕ) (coded× coded_ℕ (coded_option coded_ℕ)) (λ h. (h.commits, h.bytes))
+    (λ p. record { commits = p.0; bytes = p.1 }) (λ _. refl)
 
 abbrev pub latest_code : Coded Latest
-latest_code = code_by (List Commit × History) (coded× (coded_list commit_code) history_code) (λ l. (l.items, l.history)) (λ p. record { items = p.0; history = p.1 }) (λ _. refl)
+latest_code = code_by
+    (List Commit × History) (coded× (coded_list commit_code) history_code)
+    (λ l. (l.items, l.history)) (λ p. record { items = p.0; history = p.1 }) (λ _. refl)
 
 abbrev pub node_code : Coded Node
-node_code = code_by (NodeState × History) (coded× state_code history_code) (λ n. (n.shown, n.history)) (λ p. record { shown = p.0; history = p.1 }) (λ _. refl)
+node_code = code_by
+    (NodeState × History) (coded× state_code history_code) (λ n. (n.shown, n.history))
+    (λ p. record { shown = p.0; history = p.1 }) (λ _. refl)
 
 abbrev pub limits_code : Coded Limits
-limits_code =
-    code_by (History × (ℕ × Option ℕ)) (coded× history_code (coded× coded_ℕ (coded_option coded_ℕ)))
-    (λ l. (l.history, (l.staged, l.memory))) (λ p. record { history = p.0; staged = p.1.0; memory = p.1.1 }) (λ _. refl)
+limits_code = code_by
+    (History × (ℕ × Option ℕ)) (coded× history_code (coded× coded_ℕ (coded_option coded_ℕ)))
+    (λ l. (l.history, (l.staged, l.memory)))
+    (λ p. record { history = p.0; staged = p.1.0; memory = p.1.1 }) (λ _. refl)
 
 abbrev pub standing_code : Coded Standing
-standing_code =
-    code_by (Node × (Bool × List Change)) (coded× node_code (coded× coded_bool (coded_list change_code)))
-    (λ s. (s.node, (s.afresh, s.changes))) (λ p. record { node = p.0; afresh = p.1.0; changes = p.1.1 }) (λ _. refl)
+standing_code = code_by
+    (Node × (Bool × List Change)) (coded× node_code (coded× coded_bool (coded_list change_code)))
+    (λ s. (s.node, (s.afresh, s.changes)))
+    (λ p. record { node = p.0; afresh = p.1.0; changes = p.1.1 }) (λ _. refl)
 
 abbrev pub connection_code : Coded Connection
-connection_code =
-    code_by (List Change × (List ℕ × Bool)) (coded× (coded_list change_code) (coded× text_code coded_bool))
-    (λ c. (c.changes, (c.unfinished, c.awaits_reset))) (λ p. record { changes = p.0; unfinished = p.1.0; awaits_reset = p.1.1 }) (λ _. refl)
+connection_code = code_by
+    (List Change × (List ℕ × Bool)) (coded× (coded_list change_code) (coded× text_code coded_bool))
+    (λ c. (c.changes, (c.unfinished, c.awaits_reset)))
+    (λ p. record { changes = p.0; unfinished = p.1.0; awaits_reset = p.1.1 }) (λ _. refl)
 
 abbrev pub mirror_code : Coded MirrorState
-mirror_code =
-    code_by (Limits × (NodeState × (Option (List ℕ) × Option Connection))) (coded× limits_code (coded× state_code (coded× (coded_option text_code) (coded_option connection_code))))
-    (λ m. (m.limits, (m.node, (m.since, m.connection)))) (λ p. record { limits = p.0; node = p.1.0; since = p.1.1.0; connection = p.1.1.1 }) (λ _. refl)
+mirror_code = code_by
+    (Limits × (NodeState × (Option (List ℕ) × Option Connection))) (coded× limits_code
+    (coded× state_code (coded× (coded_option text_code) (coded_option connection_code))))
+    (λ m. (m.limits, (m.node, (m.since, m.connection))))
+    (λ p. record { limits = p.0; node = p.1.0; since = p.1.1.0; connection = p.1.1.1 }) (λ _. refl)
 
 abbrev pub primary_code : Coded PrimaryState
-primary_code =
-    code_by (Limits × (ℕ × NodeState)) (coded× limits_code (coded× coded_ℕ state_code))
-    (λ s. (s.limits, (s.count, s.node))) (λ p. record { limits = p.0; count = p.1.0; node = p.1.1 }) (λ _. refl)
+primary_code = code_by
+    (Limits × (ℕ × NodeState)) (coded× limits_code (coded× coded_ℕ state_code))
+    (λ s. (s.limits, (s.count, s.node))) (λ p. record { limits = p.0; count = p.1.0; node = p.1.1 })
+    (λ _. refl)

@@ -1,4 +1,5 @@
--- How many bytes the texts of objects have, and the names that they stand under; and what came of objects that changed.
+-- How many bytes the texts of objects have, and the names that they stand under; and what came of
+-- objects that changed.
 use Rattle.std.specs.Prelude.{◌≡◌, ℕ, ◌+◌, min, Bool, true, false, List, [], ◌∷◌, length, Option, None, Some}
 use Rattle.std.specs.FinMap.{FinMap, find, get, entries}
 use Rattle.feed_tables.specs.Bytes.{byte_order}
@@ -40,7 +41,8 @@ changes_bytes [] = 0
 changes_bytes (change ∷ changes) = change_bytes change + changes_bytes changes
 
 -- how much of what is held goes where items are taken away and then others put in
-abbrev pub lost_in : {V W : Type 0} → Scale V → FinMap byte_order W → FinMap byte_order V → FinMap byte_order V → ℕ
+abbrev pub lost_in : {V W : Type 0} → Scale V → FinMap byte_order W → FinMap byte_order V
+    → FinMap byte_order V → ℕ
 lost_in scale gone items held =
     weighed_in scale held (entries gone) + weighed_in scale (map_less gone held) (entries items)
 
@@ -71,8 +73,8 @@ by_come changed kind table = come_at kind (get changed kind) table
 abbrev pub by_bytes_after : FinMap byte_order Ids → Scale Table
 by_bytes_after changed kind table = by_bytes kind (changed_table table (get changed kind))
 
--- objects changed in a table: it is the new one then; it had and has so many objects, and so many bytes went and came,
--- each the last number of 64 bits where they are more
+-- objects changed in a table: it is the new one then; it had and has so many objects, and so many
+-- bytes went and came, each the last number of 64 bits where they are more
 abbrev pub Merges : List ℕ → Ids → Table → Table → Merged → Type 0
 Merges kind ids old new result = (new ≡ merged old ids)
     × (result.before ≡ min (object_count old) 18446744073709551615)
@@ -81,11 +83,14 @@ Merges kind ids old new result = (new ≡ merged old ids)
     × (result.bytes.come ≡ min (bytes_come kind ids old) 18446744073709551615)
 
 -- they changed in the table of a type among others; where there is none, nothing changed
-abbrev pub MergesAmong : List ℕ → List (List ℕ × Table) → List (List ℕ × Table) → Ids → Merged → Bool → Type 0
+abbrev pub MergesAmong : List ℕ → List (List ℕ × Table) → List (List ℕ × Table) → Ids → Merged
+    → Bool → Type 0
 MergesAmong kind es fs ids result false = (find byte_order kind es ≡ None) × (fs ≡ es)
-MergesAmong kind es fs ids result true = (old : Table) × (new : Table) × Swaps kind es fs new old true × Merges kind ids old new result
+MergesAmong kind es fs ids result true =
+    (old : Table) × (new : Table) × Swaps kind es fs new old true × Merges kind ids old new result
 
 -- the same among tables by their types
 abbrev pub MergesIn : List ℕ → Contents → Contents → Ids → Merged → Bool → Type 0
 MergesIn kind m n ids result false = (get m kind ≡ None) × (n ≡ m)
-MergesIn kind m n ids result true = (old : Table) × (new : Table) × Exchanges kind m n new old true × Merges kind ids old new result
+MergesIn kind m n ids result true =
+    (old : Table) × (new : Table) × Exchanges kind m n new old true × Merges kind ids old new result

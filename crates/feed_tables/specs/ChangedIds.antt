@@ -52,18 +52,25 @@ with_all_ids changed contents =
 
 -- these objects of a type are those, with one put under its id
 abbrev pub HasSet : Ids → Ids → List ℕ → List ℕ → Type 0
-HasSet old new id object = (objects : Objects) → over_ids objects new ≡ insert (over_ids objects old) id object
+HasSet old new id object =
+    (objects : Objects) → over_ids objects new ≡ insert (over_ids objects old) id object
 
 -- among what becomes of the objects of types, an object was put under its id in that of a type;
 -- where there is none, nothing changed, and the node came back
-abbrev pub SetsAmong : List ℕ → List (List ℕ × Ids) → List (List ℕ × Ids) → List ℕ → List ℕ → Option (Box (Fork (List ℕ)) Global) → Type 0
-SetsAmong kind es fs id object None = (old : Ids) × (new : Ids) × Swaps kind es fs new old true × HasSet old new id object
-SetsAmong kind es fs id object (Some node) = (find byte_order kind es ≡ None) × (fs ≡ es) × (node.value.id ≡ id) × (node.value.item ≡ object)
+abbrev pub SetsAmong : List ℕ → List (List ℕ × Ids) → List (List ℕ × Ids) → List ℕ → List ℕ
+    → Option (Box (Fork (List ℕ)) Global) → Type 0
+SetsAmong kind es fs id object None =
+    (old : Ids) × (new : Ids) × Swaps kind es fs new old true × HasSet old new id object
+SetsAmong kind es fs id object (Some node) =
+    (find byte_order kind es ≡ None) × (fs ≡ es) × (node.value.id ≡ id) × (node.value.item ≡ object)
 
 -- the same among what becomes of objects by their types
-abbrev pub SetsIn : List ℕ → FinMap byte_order Ids → FinMap byte_order Ids → List ℕ → List ℕ → Option (Box (Fork (List ℕ)) Global) → Type 0
-SetsIn kind m n id object None = (old : Ids) × (new : Ids) × Exchanges kind m n new old true × HasSet old new id object
-SetsIn kind m n id object (Some node) = (get m kind ≡ None) × (n ≡ m) × (node.value.id ≡ id) × (node.value.item ≡ object)
+abbrev pub SetsIn : List ℕ → FinMap byte_order Ids → FinMap byte_order Ids → List ℕ → List ℕ
+    → Option (Box (Fork (List ℕ)) Global) → Type 0
+SetsIn kind m n id object None =
+    (old : Ids) × (new : Ids) × Exchanges kind m n new old true × HasSet old new id object
+SetsIn kind m n id object (Some node) =
+    (get m kind ≡ None) × (n ≡ m) × (node.value.id ≡ id) × (node.value.item ≡ object)
 
 -- a table weighs what it does after objects change
 abbrev pub count_after : Table → Option Ids → ℕ

@@ -4,7 +4,8 @@ use Rattle.std.specs.List.{FoldsTo}
 use Rattle.feed_tables.specs.declared.change.Change.{Change}
 
 -- one of the changes failed, after those before it were taken; those behind it were not given
-abbrev pub FailsIn : {L : Type 0} (takes fails : L → Change → L → Type 0) → L → List Change → L → Type 0
+abbrev pub FailsIn : {L : Type 0} (takes fails : L → Change → L → Type 0) → L → List Change → L
+    → Type 0
 FailsIn {L} takes fails old changes new =
     (taken : List Change) × (failed : Change) × (left : List Change)
     × (changes ≡ taken ++ failed ∷ left)

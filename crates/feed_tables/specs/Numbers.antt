@@ -28,7 +28,8 @@ mixed number rest = number
 -- the part of a name among so many, by its last eight bytes as digits and those before them mixed
 abbrev pub part_of : ℕ → List ℕ → ℕ
 part_of parts name =
-    bit_and ((decimal 0 (drop (length name - 8) name) + mixed 0 (take (length name - 8) name)) % 2 ^ 64)
+    bit_and
+    ((decimal 0 (drop (length name - 8) name) + mixed 0 (take (length name - 8) name)) % 2 ^ 64)
     (parts - 1)
 
 -- the numbers of the names of all parts

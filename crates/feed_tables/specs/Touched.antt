@@ -26,8 +26,8 @@ AgreeAt contents others (Empty kind) = get contents kind ≡ get others kind
 AgreeAt contents others (Single kind object) = get contents kind ≡ get others kind
 AgreeAt contents others (Clear kind) = get contents kind ≡ get others kind
 
--- What changes made of tables is what others made of them, if the same is held wherever one of all these could have made
--- a difference.
+-- What changes made of tables is what others made of them, if the same is held wherever one of all
+-- these could have made a difference.
 abbrev pub AgreeWhereTouched : Type 0
 AgreeWhereTouched =
     (base : Contents) (changes others : List Change)

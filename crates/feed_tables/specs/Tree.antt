@@ -38,12 +38,14 @@ abbrev pub with_id : {V : Type 0} → ForkOf V → List ℕ → ForkOf V
 with_id fork id = record fork { id = id }
 
 -- an item took the place of the one under a name; where there is none, nothing changed
-abbrev pub Swaps : {V : Type 0} → List ℕ → List (List ℕ × V) → List (List ℕ × V) → V → V → Bool → Type 0
+abbrev pub Swaps : {V : Type 0} → List ℕ → List (List ℕ × V) → List (List ℕ × V) → V → V → Bool
+    → Type 0
 Swaps id es fs old new true = (find byte_order id es ≡ Some new) × (fs ≡ put byte_order id old es)
 Swaps id es fs old new false = (find byte_order id es ≡ None) × (fs ≡ es) × (new ≡ old)
 
 -- the first item was taken out; where there is none, nothing changed
-abbrev pub FirstTaken : {V : Type 0} → List (List ℕ × V) → List (List ℕ × V) → Option (Box (ForkOf V) Global) → Type 0
+abbrev pub FirstTaken : {V : Type 0} → List (List ℕ × V) → List (List ℕ × V)
+    → Option (Box (ForkOf V) Global) → Type 0
 FirstTaken es fs None = (es ≡ []) × (fs ≡ [])
 FirstTaken es fs (Some node) = es ≡ (node.value.id, node.value.item) ∷ fs
 
@@ -58,5 +60,6 @@ named id None = None
 named id (Some item) = Some (id, item)
 
 -- a map with each name taken out
-abbrev pub without_all : {V W : Type 0} → List (List ℕ × V) → FinMap byte_order W → FinMap byte_order W
+abbrev pub without_all : {V W : Type 0} → List (List ℕ × V) → FinMap byte_order W
+    → FinMap byte_order W
 without_all es m = fold (λ n e. remove n e.0) m es

@@ -9,4 +9,7 @@ use Rattle.feed_tables.specs.Tree.{entries_of}
 -- no side is deeper than the node has items
 pub depth_le-length : {V : Type 0} (n : Node V) → max (deep-Node V n) 0 ≤ length (entries_of n)
 depth_le-length Leaf = omega arith
-depth_le-length (Fork fork) = omega (arith, length-append fork.value.left ((fork.value.id, fork.value.item) ∷ fork.value.right))
+depth_le-length (Fork fork) = omega (
+  arith,
+  length-append fork.value.left ((fork.value.id, fork.value.item) ∷ fork.value.right),
+)
