@@ -1,13 +1,11 @@
 -- What a server writes is followed, prefix by prefix.
-use Rattle.std.proofs.Common.{◌≡◌, inl, inr, ⊎_elim, ℕ, ◌+◌, ◌-◌, ◌<◌, ◌≤◌, Bool, true, false, cond, List, [], ◌++◌, length, take, drop, refl, sym, ap, ◌∙◌, subst, arith, append-nil, append_assoc, length-append, length-take, take-append-drop}
-use Rattle.std.specs.Prelude.{nat_lt, ◌==◌}
+use Rattle.std.proofs.Common.{◌≡◌, inl, inr, ⊎_elim, ℕ, ◌+◌, ◌-◌, ◌<◌, ◌≤◌, Bool, false, cond, List, [], ◌++◌, length, take, drop, refl, sym, ap, ◌∙◌, subst, arith, append-nil, append_assoc, length-append, length-take, take-append-drop}
+use Rattle.std.specs.Prelude.{nat_lt}
 use Rattle.std.specs.List.{flat_map}
 use Rattle.std.proofs.Math.Seq.{take-length}
 use Rattle.std.proofs.lemmas.Bool.{cond_both}
 use Rattle.std.proofs.lemmas.Bool.Decides.{nat_tests}
 use Rattle.std.proofs.lemmas.List.{take-append-le, take_all}
-use Rattle.std.proofs.lemmas.List.Sums.{sum_by-append}
-use Rattle.httparse.specs.Ascii.{line_feed}
 use Rattle.httparse.specs.Grammar.{ResponseHead, print_response, ReadsResponse}
 use Rattle.httparse.proofs.GrammarLemmas.{response_prefix_free}
 use Rattle.feed_settings.specs.declared.framing.Framing.{Framing}
@@ -22,7 +20,8 @@ use Rattle.feed_answer.specs.Carried.{response_text, ended_text, carried_by, sta
 use Rattle.feed_answer.specs.FollowLaws.{StandsOnly, HeadsAreRead, ResponsesAreFollowed, EndsAreFollowed, PrefixesCarryMore, WholeCarriesAll, RefusalsAreFollowed}
 use Rattle.feed_answer.proofs.FrameLemmas.{frames_end}
 use Rattle.feed_answer.proofs.PrefixLemmas.{take_past, prefix_carried, chunks_prefix, plain_prefix, ended_prefix, all_carried, more_carried}
-use Rattle.feed_answer.proofs.OurHeads.{IsWritten, feed_tree, feed_written, feed_codings, feed_lengths, feed_behind, feed_done, refusal_tree, refusal_written, refusal_status, refusal_codings, refusal_lengths, refusal_behind}
+use Rattle.feed_answer.proofs.OurHeads.{IsWritten, feed_tree, feed_written, feed_codings, feed_lengths, feed_behind, feed_done, refusal_tree, refusal_written, refusal_status, refusal_codings, refusal_lengths, refusal_behind, below as less_so}
+use Rattle.feed_follow.proofs.HeadLemmas.{line_count-append}
 
 -- ---- the heads
 
@@ -57,9 +56,6 @@ heads_are_read = (
 )
 
 -- ---- prefixes of a text that begins with a head of ours
-
-line_count-append : (a b : List ℕ) → line_count (a ++ b) ≡ line_count a + line_count b
-line_count-append a b = sum_by-append (λ x. cond (x == line_feed) 1 0) a b
 
 module _ (once : StandsOnce) (text rest : List ℕ) (head : ResponseHead)
     (w : IsWritten text head) where
@@ -128,9 +124,6 @@ not_less n m h = grind (arith, nat_tests)
 
 at_most_so : (n m : ℕ) → nat_lt n m ≡ false → m ≤ n
 at_most_so n m h = grind (arith, nat_tests)
-
-less_so : (n m : ℕ) → nat_lt n m ≡ true → n < m
-less_so n m h = grind (arith, nat_tests)
 
 -- ---- answers with the feed
 

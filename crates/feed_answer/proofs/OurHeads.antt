@@ -22,15 +22,12 @@ use Rattle.feed_answer.specs.Answer.{feed_head, refusal_code, refusal_phrase, re
 use Rattle.feed_answer.specs.Carried.{refusal_standing}
 use Rattle.feed_answer.specs.FollowLaws.{codings}
 use Rattle.feed_answer.specs.FrameLaws.{IsUnfinished}
-use Rattle.feed_answer.proofs.RequestLemmas.{field}
+use Rattle.feed_answer.proofs.RequestLemmas.{at_most, field}
 
 -- ---- tests of a head
 
 abbrev passes_field : Field → Bool
 passes_field f = is_token f.name && list_all is_value_byte f.raw
-
-at_most : (n m : ℕ) → nat_le n m ≡ true → n ≤ m
-at_most n m h = grind (arith, nat_tests)
 
 over_zero : (n : ℕ) → nat_lt 0 n ≡ true → 0 < n
 over_zero n h = grind (arith, nat_tests)
@@ -74,7 +71,7 @@ abbrev passes_size : List ℕ → List Field → Bool
 passes_size text fields =
     nat_le (length text) 8192 && (nat_lt (line_count text) 66 && nat_le (length fields) 64)
 
-below : (n m : ℕ) → nat_lt n m ≡ true → n < m
+pub below : (n m : ℕ) → nat_lt n m ≡ true → n < m
 below n m h = grind (arith, nat_tests)
 
 same_number : (n m : ℕ) → (n == m) ≡ true → n ≡ m

@@ -198,7 +198,7 @@ broken text bytes is = record {
   payload_is = refl;
 }
 
-nothing_carried : (framing : Framing) (texts : List (List ℕ)) → carried_in framing texts 0 ≡ 0
+pub nothing_carried : (framing : Framing) (texts : List (List ℕ)) → carried_in framing texts 0 ≡ 0
 nothing_carried framing [] = refl
 nothing_carried framing (text ∷ texts) =
     let none : 0 - length (frame framing text) ≡ 0 = omega arith in
@@ -224,7 +224,7 @@ frame_holds Chunked (b ∷ bytes) =
     let total = spelled_length (digits 16 false (length (b ∷ bytes))) (b ∷ bytes) in
     inr (omega (arith, total))
 
-all_of_frame : (framing : Framing) (text : List ℕ) (n : ℕ) → length (frame framing text) ≤ n
+pub all_of_frame : (framing : Framing) (text : List ℕ) (n : ℕ) → length (frame framing text) ≤ n
     → min (n - bytes_before framing text) (length text) ≡ length text
 all_of_frame framing text n more = elim (frame_holds framing text) [
   | inl none ↦ omega (arith, none)

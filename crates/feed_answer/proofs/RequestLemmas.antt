@@ -1,5 +1,5 @@
 -- A request that is written here is read as it was meant.
-use Rattle.std.proofs.Common.{◌≡◌, ◌≢◌, refl, sym, ap, ap₂, ◌∙◌, subst, ℕ, zero, suc, ◌+◌, ◌*◌, ◌/◌, ◌%◌, ◌<◌, ◌≤◌, Bool, true, false, cond, not, ◌&&◌, ◌||◌, ◌==◌, ◌⊎◌, inl, inr, ⊎_elim, List, [], ◌∷◌, ◌++◌, length, take, drop, All, IsUtf8, codes, append_assoc, append-nil, length-append, arith}
+use Rattle.std.proofs.Common.{◌≡◌, ◌≢◌, refl, sym, ap, ◌∙◌, subst, ℕ, zero, suc, ◌+◌, ◌*◌, ◌/◌, ◌%◌, ◌<◌, ◌≤◌, Bool, true, false, cond, not, ◌&&◌, ◌||◌, ◌==◌, ◌⊎◌, inl, inr, ⊎_elim, List, [], ◌∷◌, ◌++◌, length, take, drop, All, IsUtf8, codes, append_assoc, append-nil, length-append, arith}
 use Rattle.std.specs.Prelude.{if◌then◌else◌, Option, Some, None, IfSome, option_map, find, bytes_eq, Ok, Err, Result, nat_lt, nat_le, slice_index}
 use Rattle.std.specs.List.{list_all, prefix_len}
 use Rattle.std.specs.Str.Lossy.{utf8_lossy}
@@ -29,6 +29,7 @@ use Rattle.feed_follow.specs.Heads.{IsHeadSize, line_count}
 use Rattle.feed_answer.specs.RequestText.{head_text, feed_path, since_query, request_text}
 use Rattle.feed_answer.specs.Asked.{Requests, form_text, parameter, since_token}
 use Rattle.feed_answer.specs.Laws.{RequestIsRead}
+use Rattle.feed_note.proofs.LinesCut.{first_true as both_left, second_true as both_right, both}
 
 -- ---- tests of bytes
 
@@ -36,17 +37,6 @@ use Rattle.feed_answer.specs.Laws.{RequestIsRead}
 abbrev pub all_below : (ℕ → Bool) → ℕ → Bool
 all_below test zero = true
 all_below test (suc n) = test n && all_below test n
-
-both_left : (a b : Bool) → (a && b) ≡ true → a ≡ true
-both_left true b h = refl
-both_left false b h = h
-
-both_right : (a b : Bool) → (a && b) ≡ true → b ≡ true
-both_right true b h = h
-both_right false b h = let no : ◌≡◌ {A = Bool} false true = h in cc
-
-both : (a b : Bool) → a ≡ true → b ≡ true → (a && b) ≡ true
-both a b h k = ap₂ ◌&&◌ h k
 
 below : (test : ℕ → Bool) (n : ℕ) → all_below test n ≡ true → (b : ℕ) → b < n → test b ≡ true
 below test zero h b less = absurd (omega arith)
@@ -569,7 +559,7 @@ parts_ok true false contest x y e = let no : ◌≡◌ {A = Result Place PlaceFa
 parts_ok false base contest x y e = let no : ◌≡◌ {A = Result Place PlaceFault} (Err BadHost)
     (Ok y) = e in absurd (cc)
 
-at_most : (n m : ℕ) → nat_le n m ≡ true → n ≤ m
+pub at_most : (n m : ℕ) → nat_le n m ≡ true → n ≤ m
 at_most n m h = grind (arith, nat_tests)
 
 not_zero : (n : ℕ) → 0 < n → (n == 0) ≡ false

@@ -1,5 +1,5 @@
 -- Why what is looked for can't be told to be missing.
-use Rattle.std.proofs.Common.{◌≡◌, ◌≢◌, refl, sym, ap, ◌∙◌, ℕ, ◌+◌, min, List, [], Option, None, Some, true≢false}
+use Rattle.std.proofs.Common.{◌≡◌, ◌≢◌, ap, ◌∙◌, ℕ, ◌+◌, min, List, [], Option, None, Some}
 use Rattle.std.specs.Prelude.{IfSome, IsSome}
 use Rattle.feed_settings.specs.Limits.{Limits}
 use Rattle.feed_note.specs.Publishing.{Published}
@@ -19,6 +19,7 @@ use Rattle.feed_audit.specs.declared.verdict.AuditFault.{AuditFault}
 use Rattle.feed_audit.specs.declared.verdict.AuditFault.TheVariants as told
 use Rattle.feed_audit.proofs.Agreeing.{state_of}
 use Rattle.feed_audit.proofs.Walking.{all_none, all_behind}
+use Rattle.feed_audit.proofs.Tokens.{some_is}
 
 -- the primary's record can't be read on
 pub unread_primary : (why : Unread) (lines : ℕ) → IsUnreadPrimary (primary_fault (stopped.Unread why) lines)
@@ -80,10 +81,6 @@ pub explain_stops : (limits : Limits) (primary : List ℕ) (notes : List Line) (
 explain_stops limits primary notes wanted lacks stop lines f = locate_stops limits primary wanted stop lines (lacking limits primary notes wanted _ lacks stop f)
 
 -- ---- what is looked for is a state of the screen's
-
-some_is : (o : Option Published) → IsSome o → (shown : Published) × (o ≡ Some shown)
-some_is None h = absurd (true≢false (sym h))
-some_is (Some shown) h = (shown, refl)
 
 pub locate_fails : (start : Start) (primary screen behind : List ℕ) (notes : List Line) (count : ℕ) (new : MirrorState) (wanted : NodeState) (why : AuditFault)
     → Walked start screen behind notes count new → IsSome new.node.published → wanted ≡ new.node → FailsToLocate start.limits primary wanted why

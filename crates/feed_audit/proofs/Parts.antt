@@ -1,13 +1,11 @@
 -- The connections of a record so far.
-use Rattle.std.proofs.Common.{◌≡◌, refl, sym, ap, ap₂, ◌∙◌, subst, ℕ, ◌+◌, ◌-◌, min, take, drop, cond, Bool, true, false, true≢false, List, [], ◌∷◌, ◌++◌, append_assoc, append-nil, length, length-append, length-drop, arith, Option, None, Some}
-use Rattle.std.specs.Prelude.{IfSome, IfNone}
-use Rattle.std.specs.Prelude.{◌==◌, codes, slice_index_or}
+use Rattle.std.proofs.Common.{◌≡◌, refl, sym, ap, ap₂, ◌∙◌, subst, ℕ, ◌+◌, ◌-◌, min, take, drop, cond, Bool, true, false, true≢false, List, [], ◌∷◌, ◌++◌, append_assoc, length, length-append, length-drop, arith, Option, None, Some}
+use Rattle.std.specs.Prelude.{IfSome, IfNone, ◌==◌, codes, slice_index_or}
 use Rattle.std.proofs.lemmas.List.{take_at, take_all}
 use Rattle.std.specs.List.{AllByRecursion, starts_with}
 use Rattle.feed_settings.specs.Limits.{Limits}
 use Rattle.feed_note.specs.Lines.{HasNoLineFeed, lines, ended}
 use Rattle.feed_note.proofs.LinesCut.{lines_are_the_only_cut}
-use Rattle.feed_note.proofs.LinesInRow.{ended-append}
 use Rattle.feed_audit.specs.Connections.{Cut, Recorded, part, OpensFeed, OpensNone, IsFilled, is_blank, AreConnectionsOf, is_marked, is_status_line, is_since, is_success, since_in, status_in, announced_by, last, opened, headless, marked, named, answered}
 use Rattle.feed_audit.specs.Parting.{Passed, PassedFields, PassedTo, IsRecordedBody, IsBodyBy, IsHeadRest, IsHeadCutOff, EndsWith, GoesOnWith, Reached, IsPartVerdict, FailsInBody, faults_behind, since_of, most}
 use Rattle.std.specs.Borrow.{Bor}
@@ -24,6 +22,7 @@ use Rattle.feed_audit.specs.declared.verdict.Stray.{Stray}
 use Rattle.feed_audit.specs.declared.verdict.Verdict.TheVariants as verdict
 use Rattle.feed_audit.proofs.Cutting.{each_cuts, whole_both}
 use Rattle.feed_audit.proofs.Verdicts.{shown_after}
+use Rattle.feed_audit.proofs.Walking.{ended_with}
 
 -- ---- a status line
 
@@ -86,9 +85,6 @@ front_is text left front e =
     let k = ap length e in
     let n : length text - length left ≡ length front = omega arith in
     ap₂ take n e ∙ take_at front left (length front) refl
-
-ended_with : (seen : List (List ℕ)) (line : List ℕ) → ended (seen ++ line ∷ []) ≡ ended seen ++ (line ++ 10 ∷ [])
-ended_with seen line = ended-append seen (line ∷ []) ∙ ap (λ t. ended seen ++ t) (append-nil (line ++ 10 ∷ []))
 
 -- one more line stands before what is left
 pub line_more : (text left behind line : List ℕ) (seen : List (List ℕ)) → text ≡ ended seen ++ left → left ≡ line ++ 10 ∷ behind → text ≡ ended (seen ++ line ∷ []) ++ behind

@@ -31,7 +31,7 @@ no_token only limits primary left count new_count old new state l g shown is =
     (subst (λ ls. AllGood limits first_opening ls notes) (sym all.0) (good_of (afresh limits) primary g.behind notes new_count new g.passes.walked))
     (all_end (afresh limits) (λ (s : Published). s.token ≢ state.token) l.0 g.passes.more l.2 g.passes.quiet) shown is
 
-some_is : (o : Option Published) → IsSome o → (shown : Published) × (o ≡ Some shown)
+pub some_is : (o : Option Published) → IsSome o → (shown : Published) × (o ≡ Some shown)
 some_is None h = absurd (true≢false (sym h))
 some_is (Some shown) h = (shown, refl)
 

@@ -1,7 +1,7 @@
 -- Lemmas on the lines of a device.
 use Rattle.std.proofs.Common.{◌≡◌, refl, sym, ap, ◌∙◌, subst, ℕ, ◌+◌, ◌-◌, ◌<◌, ◌≤◌, List, [], ◌∷◌, ◌++◌, length, take, drop, append_assoc, append-nil, length-append, length-take, take-append-drop, zero, suc, arith, Option, Some, None}
 use Rattle.std.proofs.Math.Seq.{take-append-add}
-use Rattle.std.proofs.lemmas.List.{drop-drop}
+use Rattle.std.proofs.lemmas.List.{drop-drop, append_cancel_left as cancel}
 use Rattle.std.specs.Io.KnownBytes.{IsAtEnd, prepend_known}
 use Rattle.feed_text.specs.Limits.{line_bytes}
 use Rattle.feed_note.specs.Lines.{HasNoLineFeed}
@@ -13,10 +13,6 @@ use Rattle.feed_audit.specs.Fronts.{IsLineAtFront, IsRestAtFront, IsLongAtFront,
 take_seam : (xs ys : List ℕ) → take (length xs) (xs ++ ys) ≡ xs
 take_seam [] ys = refl
 take_seam (x ∷ xs) ys = ap (λ t. x ∷ t) (take_seam xs ys)
-
-drop_seam : (xs ys : List ℕ) → drop (length xs) (xs ++ ys) ≡ ys
-drop_seam [] ys = refl
-drop_seam (x ∷ xs) ys = drop_seam xs ys
 
 -- bytes that moved from the device stay left
 pub moved_left : (old new : Option (List ℕ)) (before after text : List ℕ) → Moved old new before after → prepend_known before old ≡ Some text
@@ -180,9 +176,6 @@ pub drop_append : (n : ℕ) (xs ys : List ℕ) → n ≤ length xs → drop n (x
 drop_append zero xs ys h = refl
 drop_append (suc n) [] ys h = absurd (omega arith)
 drop_append (suc n) (x ∷ xs) ys h = drop_append n xs ys (omega arith)
-
-cancel : (xs ys zs : List ℕ) → xs ++ ys ≡ xs ++ zs → ys ≡ zs
-cancel xs ys zs e = sym (drop_seam xs ys) ∙ ap (drop (length xs)) e ∙ drop_seam xs zs
 
 -- the line at the front is passed
 pub line_passed : (start looked : ℕ) (bytes behind : List ℕ) (remaining : Option (List ℕ)) → IsLineBefore behind (take looked (drop start bytes)) (prepend_known (drop start bytes) remaining)

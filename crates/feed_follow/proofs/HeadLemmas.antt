@@ -52,7 +52,7 @@ no_head_beyond bytes more (inl full) none = λ head rest b.
 no_head_beyond bytes more (inr empty) none = subst HasNoWholeResponse (sym (append-nil bytes)
     ∙ ap (λ t. bytes ++ t) (sym empty)) none
 
-line_count-append : (a b : List ℕ) → line_count (a ++ b) ≡ line_count a + line_count b
+pub line_count-append : (a b : List ℕ) → line_count (a ++ b) ≡ line_count a + line_count b
 line_count-append a b = sum_by-append (λ x. cond (x == line_feed) 1 0) a b
 
 pub past_more : (bytes more : List ℕ) → IsPastLimits bytes → IsPastLimits (bytes ++ more)

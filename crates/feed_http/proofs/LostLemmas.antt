@@ -18,6 +18,7 @@ use Rattle.feed_http.specs.Sending.{Sent, sent_none, sent_one}
 use Rattle.feed_http.specs.Live.{Intake, Accepts, accepts_none, accepts_one, TakesTurn, IsLongTurn}
 use Rattle.feed_http.proofs.ServingLemmas.{tokens-length}
 use Rattle.feed_http.proofs.RestLemmas.{new_is_published, at_place}
+use Rattle.feed_node.proofs.Numbering.{tokens_from-length as length_tokens}
 
 -- the session stands at the last token of the start, and more commits than are kept came since
 pub record IsPast (start : Intake) (now : PrimaryState) (session : List ℕ) : Type 0 where
@@ -62,10 +63,6 @@ get_tokens low zero k within = absurd (omega arith)
 get_tokens low (suc many) zero within = ap token_after (omega arith)
 get_tokens low (suc many) (suc k) within =
     get_tokens (low + 1) many k (omega arith) ∙ ap token_after (omega arith)
-
-length_tokens : (low many : ℕ) → length (tokens_from low many) ≡ many
-length_tokens low zero = refl
-length_tokens low (suc many) = ap suc (length_tokens (low + 1) many)
 
 -- there is a token for each number up to the last
 tokens_differ : (m n : ℕ) → m ≤ last_count → n ≤ last_count → token_after m ≡ token_after n → m ≡ n

@@ -31,23 +31,11 @@ use Rattle.feed_hub.specs.Connections.{FollowsServed, NodesAreFollowed, MeetsLog
 use Rattle.feed_hub.specs.Follows.{HasAskedSo, FollowsInLog, ArrivesInLog}
 use Rattle.feed_hub.specs.Laws.{StandsInLog, AreInLog, ScreensAreConnections}
 use Rattle.feed_hub.specs.Told.{Told, told_none, told_commit, told_line_feed, told_text, IsGoing}
-use Rattle.feed_hub.proofs.FollowLemmas.{begun_in_log, is_refusal, refusal_follows, frame_length, ended_follows, ended_arrives}
+use Rattle.feed_hub.proofs.FollowLemmas.{begun_in_log, is_refusal, refusal_follows, ended_follows, ended_arrives}
+use Rattle.feed_world.proofs.Responses.{frame_length}
+use Rattle.feed_http.proofs.RestLemmas.{commit_is_other as commit_is}
 
 -- ---- what is next
-
-commit_is : (node : NodeState) (token : List ℕ) (commit : Commit)
-    → next node token ≡ Commit_after commit → commit_after node token ≡ Some commit
-commit_is node token commit e = by (is_published (published_token node) token) e
-  where
-    some : (o : Option Commit) → or_lost o ≡ Commit_after commit → o ≡ Some commit
-    some None f = let no : Lost ≡ Commit_after commit = f in absurd (cc)
-    some (Some c) f = let same : Commit_after c ≡ Commit_after commit = f in cc
-
-    by : (b : Bool)
-        → (if b then Nothing_new else or_lost (commit_after node token)) ≡ Commit_after commit
-        → commit_after node token ≡ Some commit
-    by true f = let no : Nothing_new ≡ Commit_after commit = f in absurd (cc)
-    by false f = some (commit_after node token) f
 
 -- where nothing is new, the token is the published one
 new_is : (node : NodeState) (token published : List ℕ) → next node token ≡ Nothing_new

@@ -1,8 +1,6 @@
 -- What a mirror makes of all that a screen was handed.
 use Rattle.std.proofs.Common.{◌≡◌, ◌≢◌, refl, sym, ap, ◌∙◌, subst, ℕ, zero, suc, ◌+◌, ◌-◌, ◌<◌, ◌≤◌, ◌^◌, length-append, max, min, Bool, true, false, true≢false, List, [], ◌∷◌, ◌++◌, ◌⊎◌, inl, inr, length, take, drop, Option, Some, None, append_assoc, append-nil, arith, nat_lt}
 use Rattle.std.specs.Prelude.{Contains, if◌then◌else◌, is_none, is_some, ◌&&◌, ◌==◌, Result, Ok, Err}
-use Rattle.std.specs.Fmt.{digits}
-use Rattle.httparse.specs.Ascii.{crlf_bytes}
 use Rattle.std.proofs.Math.Seq.{take-length}
 use Rattle.std.proofs.lemmas.Bool.Decides.{nat_tests}
 use Rattle.std.proofs.lemmas.List.{take_min, take-append-le, take-append-drop}
@@ -43,6 +41,7 @@ use Rattle.feed_hub.specs.Laws.{IsInLog, StandsInLog, AreInLog, StandInOrder, Sc
 use Rattle.feed_hub.specs.Follows.{MayAskWith, HasAskedSo, MayStop, FollowsInLog, ScreensFollow, ArrivesInLog, ScreensArrive}
 use Rattle.feed_hub.proofs.LawLemmas.{connection, its_text, is_opened}
 use Rattle.feed_hub.proofs.OpeningLemmas.{due_is_response}
+use Rattle.feed_world.proofs.Responses.{frame_length}
 
 -- a prefix of bytes is one of them and more
 prefix_of : (bytes rest : List ℕ) (n : ℕ) → take n bytes ≡ take (min n (length bytes)) (bytes ++ rest)
@@ -282,21 +281,6 @@ started limits log head contest begun p answer opened a o some = asked_with a.si
         at_place token is a.place refl a.is_place (subst (λ n. Contains n.held token) (ap (λ r. r.before) a.asked.opening) held)
 
 -- ---- what was framed in memory fits into that
-
-chunk_length : (text : List ℕ)
-    → length (digits 16 false (length text) ++ crlf_bytes ++ text ++ crlf_bytes) ≡ length (digits 16 false (length text)) + 2 + length text + 2
-chunk_length text =
-    let a = length-append (digits 16 false (length text) ++ crlf_bytes ++ text) crlf_bytes in
-    let b = length-append (digits 16 false (length text) ++ crlf_bytes) text in
-    let d = length-append (digits 16 false (length text)) crlf_bytes in
-    omega (arith, a, b, d)
-
-pub frame_length : (framing : Framing) (text : List ℕ) → length text ≤ length (frame framing text)
-frame_length Close text = omega arith
-frame_length Chunked [] = omega arith
-frame_length Chunked (b ∷ bytes) =
-    let a : length (frame Chunked (b ∷ bytes)) ≡ length (digits 16 false (length (b ∷ bytes))) + 2 + length (b ∷ bytes) + 2 = chunk_length (b ∷ bytes) in
-    omega (arith, a)
 
 opened_fits : (framing : Framing) (opened text : List ℕ) → text ≡ opening_text framing opened
     → length text < 2 ^ 64 → length opened < 2 ^ 64

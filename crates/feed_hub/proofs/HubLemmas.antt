@@ -28,7 +28,7 @@ use Rattle.feed_hub.specs.Screen.{IsOnLog, IsSentFrom, IsNotBehind, IsServed}
 use Rattle.feed_hub.specs.Seats.{seat_at, AreOnLog, HasWhatIsDue, ChangesSeat, KeepsThose, IsSeatNotBehind, IsLeastPlace, Watched, EndsSeat, CutsSeat}
 use Rattle.feed_hub.specs.Steps.{opened, Gets, way_after, with_next, refilled, refilled_at, idled, idled_at, taken, way_from, TakesFromLog, ended}
 use Rattle.feed_hub.proofs.LoopLemmas.{left_off}
-use Rattle.feed_hub.proofs.SeatLemmas.{seat_found, removed_at}
+use Rattle.feed_hub.proofs.SeatLemmas.{seat_found, removed_at, same_seat}
 use Rattle.feed_hub.proofs.ServedLemmas.{served_opens, served_refused, ended_served}
 
 -- ---- keys
@@ -42,9 +42,6 @@ key_tells a b = by (eqb_tells a.index b.index) (eqb_tells a.generation b.generat
     by (inr (_, differ)) _ = inr (λ e. differ (ap (λ k. k.index) e))
     by (inl _) (inr (_, differ)) = inr (λ e. differ (ap (λ k. k.generation) e))
     by (inl (_, i)) (inl (_, g)) = inl (ap (λ x. record { index = x; generation = a.generation }) i ∙ ap (λ x. record { index = b.index; generation = x }) g)
-
-pub same_seat : (a b : Seat) → Some a ≡ Some b → a ≡ b
-same_seat a b e = cc
 
 pub same_asking : (a b : Asking) → Some (Asks a) ≡ Some (Asks b) → a ≡ b
 same_asking a b e = cc
@@ -384,7 +381,8 @@ pub heard_at : (b : Broadcast) (contest : List ℕ) (node : NodeState) (now : �
     → HearsOf b contest node now asking (asking.head.items ++ take heard.taken piece) heard.status seat
     → HearsAt b contest node now piece heard old new
 heard_at b contest node now piece heard asking old new seat was is takes hears =
-    subst (λ o. HearsAt b contest node now piece heard o new) (sym was) (takes, (seat, is, hears))
+    subst (λ o. HearsAt b contest node now piece heard o new) (sym was)
+    (record { takes = takes; seat = seat; seat_is = is; hears = hears })
 
 -- a request that is held
 pub held_at : (until : ℕ) (piece : List ℕ) (count : ℕ) (asking held : Asking) (old new : Option Seat)

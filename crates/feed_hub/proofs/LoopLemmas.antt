@@ -15,11 +15,8 @@ use Rattle.feed_hub.specs.declared.seats.Seated.{Seated}
 use Rattle.feed_hub.specs.Backlog.{Backlog, Has}
 use Rattle.feed_hub.specs.Screen.{IsNotBehind}
 use Rattle.feed_hub.specs.Seats.{of_generation, seat_at, KeepsThose, IsSeatNotBehind, IsLeastPlace, HasWhatIsDue, EndsSeat, IsCut, CutsSeat, IsSomeCut}
-use Rattle.feed_hub.proofs.SeatLemmas.{found_at, seat_found, key_at, empty_at, updated_elsewhere, removed_at}
+use Rattle.feed_hub.proofs.SeatLemmas.{found_at, seat_found, key_at, empty_at, updated_elsewhere, removed_at, same_seat as same_some}
 use Rattle.feed_hub.proofs.StepLemmas.{ended_is_off}
-
-same_some : (a b : Seat) → Some a ≡ Some b → a ≡ b
-same_some a b e = cc
 
 -- nobody sits past the last slot
 pub nobody_past : (seats : Slab Seated) (key : Key) (capacity : ℕ) → length seats.slots ≤ capacity → capacity ≤ key.index → seat_at seats key ≡ None

@@ -1,15 +1,14 @@
 -- What a mirror makes of a file that it is fed after another.
 use Rattle.std.proofs.Common.{◌≡◌, ◌≢◌, ◌⊎◌, inl, inr, refl, sym, ap, ◌∙◌, subst, ℕ, zero, suc, ◌+◌, ◌-◌, ◌<◌, ◌≤◌, max, Bool, true, false, true≢false, not, ◌&&◌, ◌||◌, arith, List, [], ◌∷◌, ◌++◌, length, take, Option, Some, None, append_assoc, append-nil, nat_lt, nat_le, ltb-true, ltb-false}
-use Rattle.std.specs.Prelude.{if◌then◌else◌, slice_get, unwrap_or, is_none}
+use Rattle.std.specs.Prelude.{if◌then◌else◌, slice_get, is_none}
 use Rattle.std.specs.List.{AllByRecursion}
 use Rattle.std.specs.Option.{option_and_then}
 use Rattle.std.proofs.lemmas.List.Sums.{fold-append}
 use Rattle.feed_settings.specs.Limits.{Limits, History}
 use Rattle.feed_settings.specs.declared.framing.Framing.TheVariants.{Close}
-use Rattle.std.proofs.lemmas.Bool.{le-ltb}
 use Rattle.feed_tables.specs.Changes.{IsChange}
 use Rattle.feed_tables.specs.Listings.{ListingHasSize, ListingHasBytes, ListingIsWithin}
-use Rattle.feed_tables.specs.Tables.{Contents, listing, size}
+use Rattle.feed_tables.specs.Tables.{listing, size}
 use Rattle.feed_tables.specs.declared.change.Change.{Change}
 use Rattle.feed_note.specs.declared.line.Line.{Line}
 use Rattle.feed_note.specs.declared.line.Line.TheVariants.{Note}
@@ -18,7 +17,7 @@ use Rattle.feed_note.specs.Publishing.{Published}
 use Rattle.feed_note.specs.Texts.{snapshot_text}
 use Rattle.feed_node.specs.declared.commit.Commit.{Commit as Batch}
 use Rattle.feed_node.specs.declared.fault.FeedFault.TheVariants.{StageFull}
-use Rattle.feed_node.specs.Bounds.{passes, is_full, is_large}
+use Rattle.feed_node.specs.Bounds.{is_full, is_large}
 use Rattle.feed_node.specs.Mirroring.{MirrorState, StandsAt, cut_off, present_opening, first_opening}
 use Rattle.feed_node.specs.Reading.{Opening, Reads, reads, shows, unskipped, batches, has_none, keep_latest, awaits_reset, is_again, AllGoodAfter, has_too_many, publishes_after}
 use Rattle.feed_node.specs.Sent.{TakesText, TextsGoOn, PublishesAtEnd, BatchesPublishAtEnd, IsSendable}
@@ -31,9 +30,9 @@ use Rattle.feed_world.specs.Connection.{Connection, Part, Snapshot, Commit, Line
 use Rattle.feed_world.specs.Following.{PlacesStay, AllIsReached}
 use Rattle.feed_world.specs.Laws.{NodesSendTheNext, PartsGoOn}
 use Rattle.feed_world.specs.States.{HasReached}
-use Rattle.feed_world.specs.Log.{Log, IsLog, tokens_of, state_after, all_changes, changes_of_commit}
+use Rattle.feed_world.specs.Log.{Log, IsLog, tokens_of, state_after, all_changes}
 use Rattle.feed_world.specs.Position.{Position, IsPosition, IsPlace, node_at, node_where, renewed}
-use Rattle.feed_world.proofs.Commits.{renewed_again, renewed_itself}
+use Rattle.feed_world.proofs.Commits.{renewed_again, renewed_itself, one_more}
 use Rattle.feed_world.specs.Reading.{opening_at, IsOpened, IsRead, PrefixesAreRead, TokensTellStates}
 use Rattle.feed_hub.specs.declared.record.Record.{Record}
 use Rattle.feed_hub.specs.Told.{Told}
@@ -42,6 +41,7 @@ use Rattle.feed_hub.specs.Laws.{AreInLog, StandInOrder, ShowsState, ScreensShowS
 use Rattle.feed_hub.specs.Files.{ReachesOn, FollowsFile, FilesFollow, FilesFollowOn}
 use Rattle.feed_hub.proofs.LawLemmas.{screens_connect, connection, its_text, is_opened}
 use Rattle.feed_hub.proofs.FileLemmas.{begun, files_restore, reads_on_in_log}
+use Rattle.feed_node.proofs.Bounds.{large_listing}
 
 -- ---- lines that are good are taken
 
@@ -129,30 +129,6 @@ held_is_in stand log own token order holds =
     let to : r.0 < own.low + suc (own.at - own.low) = r.2 in
     (r.0, r.1, omega (arith, to, order), r.3)
 
-not_under : (m n : ℕ) → n ≤ m → nat_lt m n ≡ false
-not_under m n le = le-ltb m n le
-
-neither : (a b : Bool) → a ≡ false → b ≡ false → (a || b) ≡ false
-neither true b p q = p
-neither false b p q = q
-
-in_first : (a b : Bool) → (a || b) ≡ false → a ≡ false
-in_first true b e = e
-in_first false b e = refl
-
-in_second : (a b : Bool) → (a || b) ≡ false → b ≡ false
-in_second true b e = absurd (true≢false e)
-in_second false b e = e
-
-large_listing : ListingHasSize → ListingHasBytes → (limits : Limits) (tables : Contents)
-    → 1 ≤ limits.staged → is_large limits tables ≡ false → is_full limits (listing tables) ≡ false
-unfolding is_full is_large
-large_listing sized weighs limits tables one e =
-    let first : nat_lt limits.staged (size tables) ≡ false = in_first _ _ e in
-    let small : size tables ≤ limits.staged = omega (arith, ltb-false limits.staged (size tables) first) in
-    neither _ _ (not_under limits.staged (length (listing tables)) (omega (arith, small, sized tables)))
-    (ap (passes limits.memory) (weighs tables) ∙ in_second _ _ e)
-
 -- such a batch is dropped, and nothing is published
 module _ (batches : BatchesPublishAtEnd) (sized : ListingHasSize) (weighs : ListingHasBytes) (limits : Limits) (s : Standing) (p : Published)
     (few : 1 ≤ limits.staged) (small : is_large limits p.tables ≡ false) (fits : is_large limits (published_tables s.node.shown) ≡ false)
@@ -233,14 +209,6 @@ module _ (read : PrefixesAreRead) (limits : Limits) (log : Log) (own : Position)
 all_of : {X : Type 0} (P : X → Type 0) (xs ys : List X) → AllByRecursion P xs → AllByRecursion P ys → AllByRecursion P (xs ++ ys)
 all_of P [] ys h k = k
 all_of P (x ∷ xs) ys h k = (h.0, all_of P xs ys h.1 k)
-
-one_later : (commits : List (List Change)) (k : ℕ) → k < length commits → all_changes (take (suc k) commits) ≡ all_changes (take k commits) ++ unwrap_or (slice_get commits k) []
-one_later [] k h = absurd (omega arith)
-one_later (x ∷ xs) zero h = append-nil x
-one_later (x ∷ xs) (suc k) h = ap (λ ys. x ++ ys) (one_later xs k (omega (arith, h))) ∙ sym (append_assoc x _ _)
-
-one_more : (log : Log) (k : ℕ) → k < length log.commits → log.first ++ all_changes (take (suc k) log.commits) ≡ (log.first ++ all_changes (take k log.commits)) ++ changes_of_commit log (suc k)
-one_more log k h = ap (λ ys. log.first ++ ys) (one_later log.commits k h) ∙ sym (append_assoc log.first _ _)
 
 module _ (limits : Limits) (log : Log) (is_log : IsLog limits log) where
   all_within : (k : ℕ) → k ≤ length log.commits → AllByRecursion IsChange (log.first ++ all_changes (take k log.commits))

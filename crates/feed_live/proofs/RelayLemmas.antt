@@ -29,7 +29,7 @@ use Rattle.feed_live.specs.declared.screens.Screens.{Screens}
 use Rattle.feed_live.specs.declared.source.Reach.{Reach}
 use Rattle.feed_live.specs.declared.source.Reach.TheVariants.{Away, Connects, Asks, Reads}
 use Rattle.feed_live.specs.declared.source.Source.{Source}
-use Rattle.feed_live.specs.Relaying.{servers_of, IsShownSo, FollowsResponse, MayFollow, MayShow, FollowsServers, IsToShow, AnswersFromLog, SameSource, SameButUnread, WasLeft, KeepsShown, PushesOnly, IsNowShown, ShowsAlone, followed, followed_by}
+use Rattle.feed_live.specs.Relaying.{pursuit, pursuit_of, servers_of, IsShownSo, FollowsResponse, MayFollow, MayShow, FollowsServers, IsToShow, AnswersFromLog, SameSource, SameButUnread, WasLeft, KeepsShown, PushesOnly, IsNowShown, ShowsAlone, followed, followed_by}
 use Rattle.feed_live.specs.Serving.{ServesScreens}
 use Rattle.feed_live.specs.States.{states_of}
 use Rattle.feed_live.specs.Upstream.{AsksInLog, Servers, IsRequestOf, IsOfLog, wants_memory, StaysInLog, EndsInLog, IsHonestAs, IsHonest, AreHonest, AreKnownHonest}
@@ -68,7 +68,7 @@ done_goes_on is refused = let e = sym is ∙ refused in cc
 -- bytes were followed, and more may be
 pub record IsTaken (bounds : Limits) (lines : Log) (asked : Servers) (is_shown : Bool) (request next : List ℕ) (exchanges : Exchanges) (follower : Option FollowerState) (mirror : MirrorState) : Type 0 where
   pub at : AreKnownHonest bounds lines asked exchanges → is_shown ≡ true → IsInLog bounds lines mirror.node
-  pub follows : MayFollow bounds lines asked is_shown Reads request next exchanges follower mirror
+  pub follows : MayFollow bounds lines asked exchanges (pursuit is_shown Reads request next follower mirror)
 
 module _ (limits : Limits) (log : Log) where
   -- ---- what is shown
@@ -139,21 +139,21 @@ module _ (limits : Limits) (log : Log) (servers : Servers) where
   -- all that is followed may be written in another way
   pub follows_as : (exchanges : Exchanges) {is_shown is_shown_new : Bool} {reach reach_new : Reach} {request request_new unread unread_new : List ℕ} {follower follower_new : Option FollowerState} {mirror mirror_new : MirrorState}
       → is_shown_new ≡ is_shown → request_new ≡ request → unread_new ≡ unread → reach_new ≡ reach → follower_new ≡ follower → mirror_new ≡ mirror
-      → MayFollow limits log servers is_shown reach request unread exchanges follower mirror
-      → MayFollow limits log servers is_shown_new reach_new request_new unread_new exchanges follower_new mirror_new
+      → MayFollow limits log servers exchanges (pursuit is_shown reach request unread follower mirror)
+      → MayFollow limits log servers exchanges (pursuit is_shown_new reach_new request_new unread_new follower_new mirror_new)
   follows_as exchanges {is_shown} {is_shown_new} {reach} {reach_new} {request} {request_new} {unread} {unread_new} {follower} {follower_new} {mirror} {mirror_new} shown_is request_is unread_is reach_is follower_is mirror_is follows =
-      subst (λ s. MayFollow limits log servers s reach_new request_new unread_new exchanges follower_new mirror_new) (sym shown_is)
-      (subst (λ m. MayFollow limits log servers is_shown reach_new request_new unread_new exchanges follower_new m) (sym mirror_is)
-      (subst (λ f. MayFollow limits log servers is_shown reach_new request_new unread_new exchanges f mirror) (sym follower_is)
-      (subst (λ u. MayFollow limits log servers is_shown reach_new request_new u exchanges follower mirror) (sym unread_is)
-      (subst (λ r. MayFollow limits log servers is_shown reach_new r unread exchanges follower mirror) (sym request_is)
-      (subst (λ r. MayFollow limits log servers is_shown r request unread exchanges follower mirror) (sym reach_is) follows)))))
+      subst (λ s. MayFollow limits log servers exchanges (pursuit s reach_new request_new unread_new follower_new mirror_new)) (sym shown_is)
+      (subst (λ m. MayFollow limits log servers exchanges (pursuit is_shown reach_new request_new unread_new follower_new m)) (sym mirror_is)
+      (subst (λ f. MayFollow limits log servers exchanges (pursuit is_shown reach_new request_new unread_new f mirror)) (sym follower_is)
+      (subst (λ u. MayFollow limits log servers exchanges (pursuit is_shown reach_new request_new u follower mirror)) (sym unread_is)
+      (subst (λ r. MayFollow limits log servers exchanges (pursuit is_shown reach_new r unread follower mirror)) (sym request_is)
+      (subst (λ r. MayFollow limits log servers exchanges (pursuit is_shown r request unread follower mirror)) (sym reach_is) follows)))))
 
   -- it is followed as before
   pub same_follows : {old new : Source} → SameSource old new
       → (exchanges : Exchanges) (unread left : List ℕ) → left ≡ unread
-      → MayFollow limits log servers (is_none old.coming) old.reach old.request.items unread exchanges old.upstream.follower (followed_by old)
-      → MayFollow limits log servers (is_none new.coming) new.reach new.request.items left exchanges new.upstream.follower (followed_by new)
+      → MayFollow limits log servers exchanges (pursuit_of old unread)
+      → MayFollow limits log servers exchanges (pursuit_of new left)
   same_follows {old} {new} same exchanges unread left rest follows =
       follows_as exchanges (ap is_none same.coming) same.request rest same.reach same.follower (same_followed same.coming same.shown) follows
 
@@ -172,9 +172,9 @@ module _ (limits : Limits) (log : Log) (servers : Servers) where
 
   pub left_follows : {old new : Source} {before after : Exchanges} → WasLeft old new before after
       → (request unread : List ℕ) (mirror : MirrorState)
-      → MayFollow limits log servers (is_none new.coming) new.reach request unread after new.upstream.follower mirror
+      → MayFollow limits log servers after (pursuit (is_none new.coming) new.reach request unread new.upstream.follower mirror)
   left_follows {old} {new} {before} {after} left request unread mirror =
-      subst (λ f. MayFollow limits log servers (is_none new.coming) new.reach request unread after f mirror) (sym left.follower) left.reach
+      subst (λ f. MayFollow limits log servers after (pursuit (is_none new.coming) new.reach request unread f mirror)) (sym left.follower) left.reach
 
   -- ---- what is shown is noted
 
@@ -229,7 +229,7 @@ module _ (limits : Limits) (log : Log) (servers : Servers) where
       → (AreKnownHonest limits log servers before → (mirror.limits ≡ limits) × IsInLog limits log mirror.node)
       → IfSome mirror.since (λ token. published_token mirror.node ≡ Some token)
       → IsRequestOf servers server mirror request → IsFollowing mirror [] in_head follower mirror
-      → MayFollow limits log servers (is_none coming) (Connects since) request [] after follower mirror
+      → MayFollow limits log servers after (pursuit (is_none coming) (Connects since) request [] follower mirror)
   begun_follows coming server request before begun after since None mirror is noted known at asks is_request following = absurd following
   begun_follows coming server request None begun after since (Some follower) mirror is noted known at asks is_request following =
       let wrong : false ≡ true = subst (λ e. IsSome e) is (known_begun coming begun after noted known) in absurd (cc)
@@ -292,8 +292,8 @@ module _ (limits : Limits) (log : Log) (servers : Servers) where
 
   pub asks_follows : (is_shown : Bool) (request unread rest : List ℕ) (before after : Exchanges) (count more : ℕ) (follower : Option FollowerState) (mirror : MirrorState)
       → after ≡ option_map (asked_more (take more rest)) before → rest ≡ drop count request
-      → MayFollow limits log servers is_shown (Asks count) request unread before follower mirror
-      → MayFollow limits log servers is_shown (Asks (count + more)) request unread after follower mirror
+      → MayFollow limits log servers before (pursuit is_shown (Asks count) request unread follower mirror)
+      → MayFollow limits log servers after (pursuit is_shown (Asks (count + more)) request unread follower mirror)
   asks_follows is_shown request unread rest before after count more None mirror is here follows = absurd (no_away follows)
     where
       no_away : Asks count ≡ Away → ⊥
@@ -320,8 +320,8 @@ module _ (limits : Limits) (log : Log) (servers : Servers) where
   -- all was asked
   pub asked_follows : (is_shown : Bool) (request unread rest : List ℕ) (exchanges : Exchanges) (count : ℕ) (follower : Option FollowerState) (mirror : MirrorState)
       → rest ≡ [] → rest ≡ drop count request
-      → MayFollow limits log servers is_shown (Asks count) request unread exchanges follower mirror
-      → MayFollow limits log servers is_shown Reads request unread exchanges follower mirror
+      → MayFollow limits log servers exchanges (pursuit is_shown (Asks count) request unread follower mirror)
+      → MayFollow limits log servers exchanges (pursuit is_shown Reads request unread follower mirror)
   asked_follows is_shown request unread rest exchanges count None mirror none here follows = absurd (no_away follows)
     where
       no_away : Asks count ≡ Away → ⊥
@@ -344,8 +344,8 @@ module _ (limits : Limits) (log : Log) (servers : Servers) where
 
   -- the connection is open, and nothing is asked yet
   pub opens_follows : (is_shown : Bool) (request unread : List ℕ) (exchanges : Exchanges) (since : ℕ) (follower : Option FollowerState) (mirror : MirrorState)
-      → MayFollow limits log servers is_shown (Connects since) request unread exchanges follower mirror
-      → MayFollow limits log servers is_shown (Asks 0) request unread exchanges follower mirror
+      → MayFollow limits log servers exchanges (pursuit is_shown (Connects since) request unread follower mirror)
+      → MayFollow limits log servers exchanges (pursuit is_shown (Asks 0) request unread follower mirror)
   opens_follows is_shown request unread exchanges since None mirror follows = absurd (no_away follows)
     where
       no_away : Connects since ≡ Away → ⊥
@@ -399,8 +399,8 @@ module _ (limits : Limits) (log : Log) (servers : Servers) where
 
   pub reads_follows : (is_shown : Bool) (reach : Reach) (request bytes : List ℕ) (before after : Exchanges) (follower : Option FollowerState) (mirror : MirrorState)
       → after ≡ option_map (received_more bytes) before
-      → MayFollow limits log servers is_shown reach request [] before follower mirror
-      → MayFollow limits log servers is_shown reach request bytes after follower mirror
+      → MayFollow limits log servers before (pursuit is_shown reach request [] follower mirror)
+      → MayFollow limits log servers after (pursuit is_shown reach request bytes follower mirror)
   reads_follows is_shown reach request bytes before after None mirror is follows = follows
   reads_follows is_shown reach request bytes before after (Some follower) mirror is follows =
       record {
@@ -442,7 +442,7 @@ module _ (limits : Limits) (log : Log) (servers : Servers) where
 
   -- what is followed and shown stays in the log, since the exchange is honest
   stays_in_log : {is_shown : Bool} (request unread : List ℕ) (exchanges : Exchanges) (follower : FollowerState) (mirror : MirrorState) → is_shown ≡ true
-      → AreKnownHonest limits log servers exchanges → (follows : FollowsResponse limits log servers is_shown Reads request unread exchanges follower mirror)
+      → AreKnownHonest limits log servers exchanges → (follows : FollowsResponse limits log servers exchanges (pursuit is_shown Reads request unread (Some follower) mirror) follower)
       → StaysFrom follows.start (length follows.bytes) (follows.bytes ++ unread)
   stays_in_log request unread exchanges follower mirror is honest follows =
       let all : AreKnownHonest limits log servers (Some (follows.latest ∷ follows.before)) = subst (λ e. AreKnownHonest limits log servers e) follows.exchanges_are honest in
@@ -466,7 +466,7 @@ module _ (limits : Limits) (log : Log) (servers : Servers) where
   pub taken : {is_shown : Bool} (request line next : List ℕ) (exchanges : Exchanges) (old new : Option FollowerState) (before after : MirrorState) (progress : Progress)
       → (progress ≡ reached.TokenRefused → ⊥)
       → ((start : MirrorState) (bytes : List ℕ) (standing : Standing) → IsFollowing start bytes standing old before → IsPushed start (bytes ++ line) new after progress)
-      → MayFollow limits log servers is_shown Reads request (line ++ next) exchanges old before
+      → MayFollow limits log servers exchanges (pursuit is_shown Reads request (line ++ next) old before)
       → IsTaken limits log servers is_shown request next exchanges new after
   taken request line next exchanges None new before after progress on push follows = absurd (no_away follows)
     where
@@ -502,7 +502,7 @@ module _ (limits : Limits) (log : Log) (servers : Servers) where
   pub refused_at : {is_shown : Bool} (request line next : List ℕ) (exchanges : Exchanges) (old new : Option FollowerState) (before after : MirrorState) (progress : Progress)
       → progress ≡ reached.TokenRefused
       → ((start : MirrorState) (bytes : List ℕ) (standing : Standing) → IsFollowing start bytes standing old before → IsPushed start (bytes ++ line) new after progress)
-      → AreKnownHonest limits log servers exchanges → MayFollow limits log servers is_shown Reads request (line ++ next) exchanges old before
+      → AreKnownHonest limits log servers exchanges → MayFollow limits log servers exchanges (pursuit is_shown Reads request (line ++ next) old before)
       → is_shown ≡ true → IsInLog limits log after.node
   refused_at request line next exchanges None new before after progress is push honest follows shown = absurd (no_away follows)
     where
@@ -521,7 +521,7 @@ module _ (limits : Limits) (log : Log) (servers : Servers) where
   pub failed_at : {is_shown : Bool} (request line next : List ℕ) (exchanges : Exchanges) (old : Option FollowerState) (before after : MirrorState) (fault : FollowFault)
       → ((start : MirrorState) (bytes : List ℕ) (standing : Standing) → IsFollowing start bytes standing old before
       → (had_token : Bool) × (had_token ≡ is_some start.since) × Fails start had_token bytes line after fault)
-      → AreKnownHonest limits log servers exchanges → MayFollow limits log servers is_shown Reads request (line ++ next) exchanges old before
+      → AreKnownHonest limits log servers exchanges → MayFollow limits log servers exchanges (pursuit is_shown Reads request (line ++ next) old before)
       → is_shown ≡ true → IsInLog limits log after.node
   failed_at request line next exchanges None before after fault fail honest follows shown = absurd (no_away follows)
     where
@@ -546,9 +546,9 @@ module _ (limits : Limits) (log : Log) (servers : Servers) where
   pub with_same : {contest : List ℕ} {old new : Source} → SameSource old new
       → (exchanges : Exchanges) {hub : Hub} {conns : Slab Conn} {sockets : AllSockets} (unread left : List ℕ) → left ≡ unread
       → (AreKnownHonest limits log servers exchanges → AnswersFromLog limits log contest old.answers.shown.mirror old.answers.blank.mirror hub conns sockets)
-      × (IsSome exchanges → MayFollow limits log servers (is_none old.coming) old.reach old.request.items unread exchanges old.upstream.follower (followed_by old))
+      × (IsSome exchanges → MayFollow limits log servers exchanges (pursuit_of old unread))
       → (AreKnownHonest limits log servers exchanges → AnswersFromLog limits log contest new.answers.shown.mirror new.answers.blank.mirror hub conns sockets)
-      × (IsSome exchanges → MayFollow limits log servers (is_none new.coming) new.reach new.request.items left exchanges new.upstream.follower (followed_by new))
+      × (IsSome exchanges → MayFollow limits log servers exchanges (pursuit_of new left))
   with_same same exchanges unread left rest follows = (λ honest. same_shows limits log same (follows.0 honest), λ known. same_follows same exchanges unread left rest (follows.1 known))
 
   -- the server is left
@@ -556,24 +556,24 @@ module _ (limits : Limits) (log : Log) (servers : Servers) where
       → {hub : Hub} {conns : Slab Conn} {sockets : AllSockets} (unread : List ℕ)
       → (AreKnownHonest limits log servers before → AnswersFromLog limits log contest old.answers.shown.mirror old.answers.blank.mirror hub conns sockets)
       → (AreKnownHonest limits log servers after → AnswersFromLog limits log contest new.answers.shown.mirror new.answers.blank.mirror hub conns sockets)
-      × (IsSome after → MayFollow limits log servers (is_none new.coming) new.reach new.request.items unread after new.upstream.follower (followed_by new))
+      × (IsSome after → MayFollow limits log servers after (pursuit_of new unread))
   with_left {old} {new} left unread shows =
       (λ honest. left_shows left (shows (left_honest left honest)), λ known. left_follows left new.request.items unread (followed_by new))
 
   -- what is unread is this
   pub with_unread : {X : Type 0} (is_shown : Bool) (exchanges : Exchanges) (reach : Reach) (request : List ℕ) (follower : Option FollowerState) (mirror : MirrorState) {unread other : List ℕ} → other ≡ unread
-      → X × (IsSome exchanges → MayFollow limits log servers is_shown reach request unread exchanges follower mirror)
-      → X × (IsSome exchanges → MayFollow limits log servers is_shown reach request other exchanges follower mirror)
+      → X × (IsSome exchanges → MayFollow limits log servers exchanges (pursuit is_shown reach request unread follower mirror))
+      → X × (IsSome exchanges → MayFollow limits log servers exchanges (pursuit is_shown reach request other follower mirror))
   with_unread is_shown exchanges reach request follower mirror is follows =
-      (follows.0, λ known. subst (λ u. MayFollow limits log servers is_shown reach request u exchanges follower mirror) (sym is) (follows.1 known))
+      (follows.0, λ known. subst (λ u. MayFollow limits log servers exchanges (pursuit is_shown reach request u follower mirror)) (sym is) (follows.1 known))
 
   -- what is kept changed alone
   pub with_kept : {contest : List ℕ} {hub : Hub} {conns : Slab Conn} {sockets : AllSockets} {old new : Source} → SameButUnread old new
       → (exchanges : Exchanges) (unread left : List ℕ) → left ≡ unread
       → (AreKnownHonest limits log servers exchanges → AnswersFromLog limits log contest old.answers.shown.mirror old.answers.blank.mirror hub conns sockets)
-      × (IsSome exchanges → MayFollow limits log servers (is_none old.coming) old.reach old.request.items unread exchanges old.upstream.follower (followed_by old))
+      × (IsSome exchanges → MayFollow limits log servers exchanges (pursuit_of old unread))
       → (AreKnownHonest limits log servers exchanges → AnswersFromLog limits log contest new.answers.shown.mirror new.answers.blank.mirror hub conns sockets)
-      × (IsSome exchanges → MayFollow limits log servers (is_none new.coming) new.reach new.request.items left exchanges new.upstream.follower (followed_by new))
+      × (IsSome exchanges → MayFollow limits log servers exchanges (pursuit_of new left))
   with_kept {contest} {hub} {conns} {sockets} {old} {new} same exchanges unread left rest follows = (
     λ honest. subst (λ a. AnswersFromLog limits log contest a.shown.mirror a.blank.mirror hub conns sockets) (sym same.answers) (follows.0 honest),
     λ known. follows_as exchanges (ap is_none same.coming) (ap (λ r. r.items) same.request) rest same.reach (ap (λ u. u.follower) same.upstream) (same_followed same.coming (ap (λ a. a.shown.mirror) same.answers)) (follows.1 known),
@@ -602,9 +602,9 @@ module _ (limits : Limits) (log : Log) (servers : Servers) where
       → old.reach ≡ Reads → PushesOnly old new → (progress ≡ reached.TokenRefused → ⊥)
       → ((start : MirrorState) (bytes : List ℕ) (standing : Standing) → IsFollowing start bytes standing old.upstream.follower (followed_by old) → IsPushed start (bytes ++ line) new.upstream.follower (followed_by new) progress)
       → (AreKnownHonest limits log servers exchanges → AnswersFromLog limits log contest old.answers.shown.mirror old.answers.blank.mirror hub conns sockets)
-      × (IsSome exchanges → MayFollow limits log servers (is_none old.coming) old.reach old.request.items (line ++ next) exchanges old.upstream.follower (followed_by old))
+      × (IsSome exchanges → MayFollow limits log servers exchanges (pursuit_of old (line ++ next)))
       → (AreKnownHonest limits log servers exchanges → AnswersFromLog limits log contest new.answers.shown.mirror new.answers.blank.mirror hub conns sockets)
-      × (IsSome exchanges → MayFollow limits log servers (is_none new.coming) new.reach new.request.items next exchanges new.upstream.follower (followed_by new))
+      × (IsSome exchanges → MayFollow limits log servers exchanges (pursuit_of new next))
   with_taken exchanges {old = old} {new = new} line next progress reads only on push follows = (
     with_shown exchanges only (λ honest. (is_taken (known_of exchanges honest)).at honest) follows.0,
     λ known. follows_as exchanges only.coming only.request refl (only.reach ∙ reads) refl refl (is_taken known).follows,
@@ -613,18 +613,18 @@ module _ (limits : Limits) (log : Log) (servers : Servers) where
       is_taken : IsSome exchanges → IsTaken limits log servers (is_none old.coming) old.request.items next exchanges new.upstream.follower (followed_by new)
       is_taken known =
           taken old.request.items line next exchanges old.upstream.follower new.upstream.follower (followed_by old) (followed_by new) progress on push
-          (subst (λ r. MayFollow limits log servers (is_none old.coming) r old.request.items (line ++ next) exchanges old.upstream.follower (followed_by old)) reads (follows.1 known))
+          (subst (λ r. MayFollow limits log servers exchanges (pursuit (is_none old.coming) r old.request.items (line ++ next) old.upstream.follower (followed_by old))) reads (follows.1 known))
 
   -- or the token was refused
   pub with_refused : (exchanges : Exchanges) {contest : List ℕ} {hub : Hub} {conns : Slab Conn} {sockets : AllSockets} {old new : Source} (line next : List ℕ) (progress : Progress)
       → old.reach ≡ Reads → PushesOnly old new → progress ≡ reached.TokenRefused
       → ((start : MirrorState) (bytes : List ℕ) (standing : Standing) → IsFollowing start bytes standing old.upstream.follower (followed_by old) → IsPushed start (bytes ++ line) new.upstream.follower (followed_by new) progress)
       → (AreKnownHonest limits log servers exchanges → AnswersFromLog limits log contest old.answers.shown.mirror old.answers.blank.mirror hub conns sockets)
-      × (IsSome exchanges → MayFollow limits log servers (is_none old.coming) old.reach old.request.items (line ++ next) exchanges old.upstream.follower (followed_by old))
+      × (IsSome exchanges → MayFollow limits log servers exchanges (pursuit_of old (line ++ next)))
       → AreKnownHonest limits log servers exchanges → AnswersFromLog limits log contest new.answers.shown.mirror new.answers.blank.mirror hub conns sockets
   with_refused exchanges {old = old} {new = new} line next progress reads only is push follows =
       with_shown exchanges only (λ honest. refused_at old.request.items line next exchanges old.upstream.follower new.upstream.follower (followed_by old) (followed_by new) progress is push honest
-      (subst (λ r. MayFollow limits log servers (is_none old.coming) r old.request.items (line ++ next) exchanges old.upstream.follower (followed_by old)) reads (follows.1 (known_of exchanges honest)))) follows.0
+      (subst (λ r. MayFollow limits log servers exchanges (pursuit (is_none old.coming) r old.request.items (line ++ next) old.upstream.follower (followed_by old))) reads (follows.1 (known_of exchanges honest)))) follows.0
 
   -- or it failed
   pub with_failed : (exchanges : Exchanges) {contest : List ℕ} {hub : Hub} {conns : Slab Conn} {sockets : AllSockets} {old new : Source} (line next : List ℕ) (fault : FollowFault)
@@ -632,11 +632,11 @@ module _ (limits : Limits) (log : Log) (servers : Servers) where
       → ((start : MirrorState) (bytes : List ℕ) (standing : Standing) → IsFollowing start bytes standing old.upstream.follower (followed_by old)
       → (had_token : Bool) × (had_token ≡ is_some start.since) × Fails start had_token bytes line (followed_by new) fault)
       → (AreKnownHonest limits log servers exchanges → AnswersFromLog limits log contest old.answers.shown.mirror old.answers.blank.mirror hub conns sockets)
-      × (IsSome exchanges → MayFollow limits log servers (is_none old.coming) old.reach old.request.items (line ++ next) exchanges old.upstream.follower (followed_by old))
+      × (IsSome exchanges → MayFollow limits log servers exchanges (pursuit_of old (line ++ next)))
       → AreKnownHonest limits log servers exchanges → AnswersFromLog limits log contest new.answers.shown.mirror new.answers.blank.mirror hub conns sockets
   with_failed exchanges {old = old} {new = new} line next fault reads only fail follows =
       with_shown exchanges only (λ honest. failed_at old.request.items line next exchanges old.upstream.follower (followed_by old) (followed_by new) fault fail honest
-      (subst (λ r. MayFollow limits log servers (is_none old.coming) r old.request.items (line ++ next) exchanges old.upstream.follower (followed_by old)) reads (follows.1 (known_of exchanges honest)))) follows.0
+      (subst (λ r. MayFollow limits log servers exchanges (pursuit (is_none old.coming) r old.request.items (line ++ next) old.upstream.follower (followed_by old))) reads (follows.1 (known_of exchanges honest)))) follows.0
 
   -- ---- what came afresh is shown
 
@@ -685,7 +685,7 @@ module _ (limits : Limits) (log : Log) (servers : Servers) where
 
   -- what follows may be shown
   pub follows_may_show : (is_shown : Bool) (reach : Reach) (request unread : List ℕ) (exchanges : Exchanges) (follower : Option FollowerState) (mirror : MirrorState) → reach ≡ Reads
-      → (IsSome exchanges → MayFollow limits log servers is_shown reach request unread exchanges follower mirror)
+      → (IsSome exchanges → MayFollow limits log servers exchanges (pursuit is_shown reach request unread follower mirror))
       → MayShow limits log servers (length unread) exchanges mirror
   follows_may_show is_shown reach request unread exchanges None mirror reads follows =
       record {
@@ -715,16 +715,16 @@ module _ (limits : Limits) (log : Log) (servers : Servers) where
             );
       }
     where
-      read : FollowsResponse limits log servers is_shown reach request unread exchanges follower mirror → FollowsResponse limits log servers is_shown Reads request unread exchanges follower mirror
-      read here = subst (λ r. FollowsResponse limits log servers is_shown r request unread exchanges follower mirror) reads here
+      read : FollowsResponse limits log servers exchanges (pursuit is_shown reach request unread (Some follower) mirror) follower → FollowsResponse limits log servers exchanges (pursuit is_shown Reads request unread (Some follower) mirror) follower
+      read here = subst (λ r. FollowsResponse limits log servers exchanges (pursuit is_shown r request unread (Some follower) mirror) follower) reads here
 
-      bounds : (here : FollowsResponse limits log servers is_shown Reads request unread exchanges follower mirror) → AsksInLog limits log here.start → mirror.limits ≡ limits
+      bounds : (here : FollowsResponse limits log servers exchanges (pursuit is_shown Reads request unread (Some follower) mirror) follower) → AsksInLog limits log here.start → mirror.limits ≡ limits
       bounds here asks = limits_stay here.bytes here.standing here.follows ∙ asks.asks.limits_are
 
-      shows : (here : FollowsResponse limits log servers is_shown Reads request unread exchanges follower mirror) (least : ℕ) → least ≤ length here.bytes → StaysInLog limits log here.start least here.latest.received → IsInLog limits log mirror.node
+      shows : (here : FollowsResponse limits log servers exchanges (pursuit is_shown Reads request unread (Some follower) mirror) follower) (least : ℕ) → least ≤ length here.bytes → StaysInLog limits log here.start least here.latest.received → IsInLog limits log mirror.node
       shows here least within stays = stays.shows here.bytes unread here.standing follower mirror (sym here.received) within here.follows
 
-      ends : (here : FollowsResponse limits log servers is_shown Reads request unread exchanges follower mirror) → EndsInLog log here.start (length here.bytes) here.latest.received → IsOfLog log mirror.node.published
+      ends : (here : FollowsResponse limits log servers exchanges (pursuit is_shown Reads request unread (Some follower) mirror) follower) → EndsInLog log here.start (length here.bytes) here.latest.received → IsOfLog log mirror.node.published
       ends here end = end.shows here.bytes unread here.standing follower mirror (sym here.received) refl here.follows
 
   -- so may what failed: what the good lines before that published
@@ -732,7 +732,7 @@ module _ (limits : Limits) (log : Log) (servers : Servers) where
       → after.limits ≡ before.limits
       → ((start : MirrorState) (bytes : List ℕ) (standing : Standing) → IsFollowing start bytes standing old before
       → (had_token : Bool) × (had_token ≡ is_some start.since) × Fails start had_token bytes line after fault)
-      → (IsSome exchanges → MayFollow limits log servers is_shown reach request (line ++ next) exchanges old before)
+      → (IsSome exchanges → MayFollow limits log servers exchanges (pursuit is_shown reach request (line ++ next) old before))
       → MayShow limits log servers (length next) exchanges after
   failed_may_show is_shown reach request line next exchanges None before after fault bytes_fail reads same fail follows =
       record {
@@ -762,22 +762,22 @@ module _ (limits : Limits) (log : Log) (servers : Servers) where
             );
       }
     where
-      read : FollowsResponse limits log servers is_shown reach request (line ++ next) exchanges follower before → FollowsResponse limits log servers is_shown Reads request (line ++ next) exchanges follower before
-      read here = subst (λ r. FollowsResponse limits log servers is_shown r request (line ++ next) exchanges follower before) reads here
+      read : FollowsResponse limits log servers exchanges (pursuit is_shown reach request (line ++ next) (Some follower) before) follower → FollowsResponse limits log servers exchanges (pursuit is_shown Reads request (line ++ next) (Some follower) before) follower
+      read here = subst (λ r. FollowsResponse limits log servers exchanges (pursuit is_shown r request (line ++ next) (Some follower) before) follower) reads here
 
-      bounds : (here : FollowsResponse limits log servers is_shown Reads request (line ++ next) exchanges follower before) → AsksInLog limits log here.start → after.limits ≡ limits
+      bounds : (here : FollowsResponse limits log servers exchanges (pursuit is_shown Reads request (line ++ next) (Some follower) before) follower) → AsksInLog limits log here.start → after.limits ≡ limits
       bounds here asks = same ∙ limits_stay here.bytes here.standing here.follows ∙ asks.asks.limits_are
 
-      came : (here : FollowsResponse limits log servers is_shown Reads request (line ++ next) exchanges follower before) → here.latest.received ≡ (here.bytes ++ line) ++ next
+      came : (here : FollowsResponse limits log servers exchanges (pursuit is_shown Reads request (line ++ next) (Some follower) before) follower) → here.latest.received ≡ (here.bytes ++ line) ++ next
       came here = here.received ∙ sym (append_assoc here.bytes line next)
 
-      failed : (here : FollowsResponse limits log servers is_shown Reads request (line ++ next) exchanges follower before) → Fails here.start (is_some here.start.since) here.bytes line after fault
+      failed : (here : FollowsResponse limits log servers exchanges (pursuit is_shown Reads request (line ++ next) (Some follower) before) follower) → Fails here.start (is_some here.start.since) here.bytes line after fault
       failed here = let f = fail here.start here.bytes here.standing here.follows in subst (λ had. Fails here.start had here.bytes line after fault) f.1 f.2
 
-      shows : (here : FollowsResponse limits log servers is_shown Reads request (line ++ next) exchanges follower before) (least : ℕ) → least ≤ length (here.bytes ++ line) → StaysInLog limits log here.start least here.latest.received → IsInLog limits log after.node
+      shows : (here : FollowsResponse limits log servers exchanges (pursuit is_shown Reads request (line ++ next) (Some follower) before) follower) (least : ℕ) → least ≤ length (here.bytes ++ line) → StaysInLog limits log here.start least here.latest.received → IsInLog limits log after.node
       shows here least within stays = stays.fails here.bytes line next after fault (sym (came here)) (has_read_all least here.bytes line fault bytes_fail within) (failed here)
 
-      ends : (here : FollowsResponse limits log servers is_shown Reads request (line ++ next) exchanges follower before) → EndsInLog log here.start (length (here.bytes ++ line)) here.latest.received → IsOfLog log after.node.published
+      ends : (here : FollowsResponse limits log servers exchanges (pursuit is_shown Reads request (line ++ next) (Some follower) before) follower) → EndsInLog log here.start (length (here.bytes ++ line)) here.latest.received → IsOfLog log after.node.published
       ends here end = end.fails here.bytes line next after fault (sym (came here)) refl bytes_fail (failed here)
 
   now_shown : (is_shown : Bool) (shown : Shown) (bytes unread received : List ℕ) → received ≡ bytes ++ unread → IsShownSo is_shown shown (length bytes)
@@ -793,8 +793,8 @@ module _ (limits : Limits) (log : Log) (servers : Servers) where
   -- what follows is shown from here on
   now_follows : (is_shown : Bool) (request unread : List ℕ) (before after : Exchanges) (follower : Option FollowerState) (mirror : MirrorState)
       → after ≡ option_map (shown_so all_from (length unread)) before
-      → MayFollow limits log servers is_shown Reads request unread before follower mirror
-      → MayFollow limits log servers true Reads request unread after follower mirror
+      → MayFollow limits log servers before (pursuit is_shown Reads request unread follower mirror)
+      → MayFollow limits log servers after (pursuit true Reads request unread follower mirror)
   now_follows is_shown request unread before after None mirror is follows = follows
   now_follows is_shown request unread before after (Some follower) mirror is follows =
       record {
@@ -835,15 +835,15 @@ module _ (limits : Limits) (log : Log) (servers : Servers) where
   pub with_now_shown : {contest : List ℕ} {hub : Hub} {conns : Slab Conn} {sockets : AllSockets} {old new : Source} (unread : List ℕ) (before after : Exchanges)
       → after ≡ option_map (shown_so all_from (length unread)) before → old.reach ≡ Reads → IsNowShown old new
       → (AreKnownHonest limits log servers before → AnswersFromLog limits log contest old.answers.shown.mirror old.answers.blank.mirror hub conns sockets)
-      × (IsSome before → MayFollow limits log servers (is_none old.coming) old.reach old.request.items unread before old.upstream.follower (followed_by old))
+      × (IsSome before → MayFollow limits log servers before (pursuit_of old unread))
       → (AreKnownHonest limits log servers after → AnswersFromLog limits log contest new.answers.shown.mirror new.answers.blank.mirror hub conns sockets)
-      × (IsSome after → MayFollow limits log servers (is_none new.coming) new.reach new.request.items unread after new.upstream.follower (followed_by new))
+      × (IsSome after → MayFollow limits log servers after (pursuit_of new unread))
   with_now_shown {old = old} {new = new} unread before after is reads now follows = (
     shows_now (length unread) before after is now follows.0
         (follows_may_show (is_none old.coming) old.reach old.request.items unread before old.upstream.follower (followed_by old) reads follows.1),
     λ known. follows_as after (ap is_none now.coming) now.request refl (now.reach ∙ reads) now.follower (ap (λ c. followed c new.answers.shown.mirror) now.coming ∙ now.shown)
         (now_follows (is_none old.coming) old.request.items unread before after old.upstream.follower (followed_by old) is
-        (subst (λ r. MayFollow limits log servers (is_none old.coming) r old.request.items unread before old.upstream.follower (followed_by old)) reads
+        (subst (λ r. MayFollow limits log servers before (pursuit (is_none old.coming) r old.request.items unread old.upstream.follower (followed_by old))) reads
         (follows.1 (known_before (shown_so all_from (length unread)) before after is known)))),
   )
 

@@ -624,13 +624,13 @@ module _ {nodes : List NodeState} (contest : List ℕ) (old new : Hub) (key : Ke
 
   -- what sits there was heard, as far as it is heard
   pub heard_sits : (socket : Option Socket) → Sits nodes contest old key socket → Sits nodes contest new key (on_current (came_to (take heard.taken piece)) socket)
-  heard_sits socket (asks asking sits is) = let h = hears_from (Some (Asks asking)) sits in heard_at asking h.1.0 socket sits h.1.1 h.1.2 is
+  heard_sits socket (asks asking sits is) = let h = hears_from (Some (Asks asking)) sits in heard_at asking h.seat socket sits h.seat_is h.hears is
   heard_sits socket (watches came answer handed given seated is) =
       let h = hears_from (Some (Watches seated.0)) seated.1 in
-      further_sits (take heard.taken piece) socket (λ asked. subst IsAskingSeat (h.0) asked)
-      (still_sits contest (same_stays nodes old new key (h.0 ∙ sym seated.1) broadcast) socket (watches came answer handed given seated is))
+      further_sits (take heard.taken piece) socket (λ asked. subst IsAskingSeat h.stays asked)
+      (still_sits contest (same_stays nodes old new key (h.stays ∙ sym seated.1) broadcast) socket (watches came answer handed given seated is))
   heard_sits socket (cut none sent) =
-      let h = hears_from None none in cut h.0 (sent_further socket (take heard.taken piece) sent)
+      let h = hears_from None none in cut h.stays (sent_further socket (take heard.taken piece) sent)
 
   -- where it is answered no request comes there any more
   pub is_answered : heard.status ≢ None → IsAskingSeat (seat_at new.seats.slab key) → ⊥
@@ -641,9 +641,9 @@ module _ {nodes : List NodeState} (contest : List ℕ) (old new : Hub) (key : Ke
       asks_on asking (Watches s) so is_asking = is_asking
 
       by : (before : Option Seat) → seat_at old.seats.slab key ≡ before → ⊥
-      by None is = some (hears_from None is).2
-      by (Some (Watches s)) is = some (hears_from (Some (Watches s)) is).2
-      by (Some (Asks asking)) is = let h = hears_from (Some (Asks asking)) is in asks_on asking h.1.0 h.1.2 (subst IsAskingSeat h.1.1 asked)
+      by None is = some (hears_from None is).status
+      by (Some (Watches s)) is = some (hears_from (Some (Watches s)) is).status
+      by (Some (Asks asking)) is = let h = hears_from (Some (Asks asking)) is in asks_on asking h.seat h.hears (subst IsAskingSeat h.seat_is asked)
 
 -- where nothing was taken no request comes there any more, or there was nothing to be taken
 pub is_unasked : (seat : Option Seat) (piece : List ℕ) → (IsAskingSeat seat → piece ≡ []) → (IsAskingSeat seat → ⊥) ⊎ (piece ≡ [])

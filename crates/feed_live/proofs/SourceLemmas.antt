@@ -13,7 +13,7 @@ use Rattle.feed_live.specs.declared.screens.Screens.{Screens}
 use Rattle.feed_live.specs.declared.source.Reach.{Reach}
 use Rattle.feed_live.specs.declared.source.Reach.TheVariants.{Connects, Asks}
 use Rattle.feed_live.specs.declared.source.Source.{Source}
-use Rattle.feed_live.specs.Relaying.{MayFollow, WasLeft, StillFollows}
+use Rattle.feed_live.specs.Relaying.{pursuit, MayFollow, WasLeft, StillFollows}
 use Rattle.feed_live.specs.Upstream.{Servers, AreKnownHonest}
 use Rattle.feed_live.proofs.RelayLemmas.{with_left, opens_follows}
 
@@ -26,15 +26,15 @@ left_still {old} {new} left screens limits log servers contest sockets follows =
 -- the connection is open
 pub with_open : (limits : Limits) (log : Log) (servers : Servers) {X : Type 0} (is_shown : Bool) (reach : Reach) (request unread : List ℕ) (before after : Exchanges) (since : ℕ) (follower : Option FollowerState) (mirror : MirrorState)
     → reach ≡ Connects since → after ≡ before
-    → (AreKnownHonest limits log servers before → X) × (IsSome before → MayFollow limits log servers is_shown reach request unread before follower mirror)
-    → (AreKnownHonest limits log servers after → X) × (IsSome after → MayFollow limits log servers is_shown (Asks 0) request unread after follower mirror)
+    → (AreKnownHonest limits log servers before → X) × (IsSome before → MayFollow limits log servers before (pursuit is_shown reach request unread follower mirror))
+    → (AreKnownHonest limits log servers after → X) × (IsSome after → MayFollow limits log servers after (pursuit is_shown (Asks 0) request unread follower mirror))
 with_open limits log servers is_shown reach request unread before after since follower mirror is same follows = (
   λ honest. follows.0 (subst (λ e. AreKnownHonest limits log servers e) same honest),
   λ known.
       let here = follows.1 (subst (λ e. IsSome e) same known) in
-      subst (λ e. MayFollow limits log servers is_shown (Asks 0) request unread e follower mirror) (sym same)
+      subst (λ e. MayFollow limits log servers e (pursuit is_shown (Asks 0) request unread follower mirror)) (sym same)
       (opens_follows limits log servers is_shown request unread before since follower mirror
-      (subst (λ r. MayFollow limits log servers is_shown r request unread before follower mirror) is here)),
+      (subst (λ r. MayFollow limits log servers before (pursuit is_shown r request unread follower mirror)) is here)),
 )
 
 -- a connection was begun, which did not fail

@@ -18,7 +18,7 @@ use Rattle.feed_live.specs.declared.screens.Screens.{Screens}
 use Rattle.feed_live.specs.declared.source.Reach.TheVariants.{Away}
 use Rattle.feed_live.specs.declared.source.Source.{Source}
 use Rattle.feed_live.specs.declared.turn.Live.{Live}
-use Rattle.feed_live.specs.Relaying.{MayFollow, AnswersFromLog, FollowsServers, IsRelaying, SameSource, OnlyServes, followed_by}
+use Rattle.feed_live.specs.Relaying.{pursuit, pursuit_of, MayFollow, AnswersFromLog, FollowsServers, IsRelaying, SameSource, OnlyServes, followed_by}
 use Rattle.feed_live.specs.Serving.{ServesScreens, StillServing}
 use Rattle.feed_live.specs.States.{states_of}
 use Rattle.feed_live.specs.Taking.{IsTakingInput, ShowsInput, BeginsInput}
@@ -115,7 +115,7 @@ module _ (limits : Limits) (log : Log) (servers : Servers) where
       → source.answers.shown.mirror ≡ mirror → source.answers.blank.mirror ≡ blank → source.upstream.follower ≡ None → source.reach ≡ Away
       → mirror.limits ≡ limits → IsInLog limits log mirror.node → IsInLog limits log blank.node → ServesScreens (states_of limits log) contest hub conns sockets
       → (AreKnownHonest limits log servers exchanges → AnswersFromLog limits log contest source.answers.shown.mirror source.answers.blank.mirror hub conns sockets)
-      × (IsSome exchanges → MayFollow limits log servers (is_none source.coming) source.reach source.request.items source.rest.items exchanges source.upstream.follower (followed_by source))
+      × (IsSome exchanges → MayFollow limits log servers exchanges (pursuit_of source source.rest.items))
   with_begun exchanges source mirror blank shown blank_is follower away bounds at blank_at serving = (
     λ honest. record {
       limits_are = ap (λ m. m.limits) shown ∙ bounds;
@@ -123,7 +123,7 @@ module _ (limits : Limits) (log : Log) (servers : Servers) where
       blank_is = subst (λ m. IsInLog limits log m.node) (sym blank_is) blank_at;
       serving = serving;
     },
-    λ known. subst (λ f. MayFollow limits log servers (is_none source.coming) source.reach source.request.items source.rest.items exchanges f (followed_by source)) (sym follower) away,
+    λ known. subst (λ f. MayFollow limits log servers exchanges (pursuit (is_none source.coming) source.reach source.request.items source.rest.items f (followed_by source))) (sym follower) away,
   )
 
   -- a whole turn

@@ -38,33 +38,56 @@ IsShownSo true (all_from least) count = least ≤ count
 IsShownSo true (once_at at) count = ⊥
 IsShownSo true nothing_shown count = ⊥
 
+-- What comes from a server: how far its connection is, and what is asked there; what was read of it
+-- and is still to be followed; and the follower, if there is one, with its mirror, which is shown or
+-- not.
+pub record Pursuit : Type 0 where
+  pub is_shown : Bool
+  pub reach : Reach
+  pub request : List ℕ
+  pub unread : List ℕ
+  pub follower : Option FollowerState
+  pub mirror : MirrorState
+
+abbrev pub pursuit : Bool → Reach → List ℕ → List ℕ → Option FollowerState → MirrorState → Pursuit
+pursuit shown far asked rest follows into = record {
+  is_shown = shown;
+  reach = far;
+  request = asked;
+  unread = rest;
+  follower = follows;
+  mirror = into;
+}
+
 -- A response is followed: that to the request of a mirror, which was written on the latest
 -- connection, as it is asked of that server. What was read there, whatever it is, came to the
 -- mirror in its order, but for what is still unread. The mirror is the one that is shown, or
 -- nothing of it is shown. Where the servers before were honest, the mirror that asked was at a
 -- place of the log.
-pub record FollowsResponse (limits : Limits) (log : Log) (servers : Servers) (is_shown : Bool)
-    (reach : Reach) (request unread : List ℕ) (exchanges : Exchanges) (follower : FollowerState)
-    (mirror : MirrorState) : Type 0 where
+pub record FollowsResponse (limits : Limits) (log : Log) (servers : Servers) (exchanges : Exchanges)
+    (p : Pursuit) (follower : FollowerState) : Type 0 where
   pub start : MirrorState
   pub latest : Exchange
-  pub is_request : IsRequestOf servers latest.server start request
+  pub is_request : IsRequestOf servers latest.server start p.request
   pub before : List Exchange
   pub exchanges_are : exchanges ≡ Some (latest ∷ before)
   pub asks : AreHonest limits log servers before → AsksInLog limits log start
-  pub asked : WasWritten reach request latest.asked
+  pub asked : WasWritten p.reach p.request latest.asked
   pub bytes : List ℕ
-  pub received : latest.received ≡ bytes ++ unread
+  pub received : latest.received ≡ bytes ++ p.unread
   pub standing : Standing
-  pub follows : FollowsAt start bytes standing follower mirror
-  pub shown : IsShownSo is_shown latest.shown (length bytes)
+  pub follows : FollowsAt start bytes standing follower p.mirror
+  pub shown : IsShownSo p.is_shown latest.shown (length bytes)
 
 -- so it is where one is followed; else there is no connection
-abbrev pub MayFollow : Limits → Log → Servers → Bool → Reach → List ℕ → List ℕ → Exchanges
-    → Option FollowerState → MirrorState → Type 0
-MayFollow limits log servers is_shown reach request unread exchanges None mirror = reach ≡ Away
-MayFollow limits log servers is_shown reach request unread exchanges (Some follower) mirror =
-    FollowsResponse limits log servers is_shown reach request unread exchanges follower mirror
+abbrev pub FollowsIfAny : Limits → Log → Servers → Exchanges → Pursuit → Option FollowerState
+    → Type 0
+FollowsIfAny limits log servers exchanges p None = p.reach ≡ Away
+FollowsIfAny limits log servers exchanges p (Some follower) =
+    FollowsResponse limits log servers exchanges p follower
+
+abbrev pub MayFollow : Limits → Log → Servers → Exchanges → Pursuit → Type 0
+MayFollow limits log servers exchanges p = FollowsIfAny limits log servers exchanges p p.follower
 
 -- What requests are answered with is at places of the log. So each socket was handed a prefix of
 -- what is due to an answer that a state of the log gave.
@@ -88,6 +111,12 @@ followed (Some coming) shown = coming
 abbrev pub followed_by : Source → MirrorState
 followed_by source = followed source.coming source.answers.shown.mirror
 
+-- what it follows so, where this is unread
+abbrev pub pursuit_of : Source → List ℕ → Pursuit
+pursuit_of source unread =
+    pursuit (is_none source.coming) source.reach source.request.items unread
+    source.upstream.follower (followed_by source)
+
 -- A relay of this contest asks these servers. It shows the log where all of them were honest so
 -- far. Whether they were or not, it follows one as it should, of whose response this is unread.
 abbrev pub FollowsServers : Limits → Log → Servers → List ℕ → Exchanges → Source → List ℕ → Screens
@@ -98,9 +127,7 @@ FollowsServers limits log servers contest exchanges source unread screens socket
     → AnswersFromLog limits log contest source.answers.shown.mirror source.answers.blank.mirror
     screens.hub
     screens.conns sockets)
-    × (IsSome exchanges
-    → MayFollow limits log servers (is_none source.coming) source.reach source.request.items unread
-    exchanges source.upstream.follower (followed_by source)))
+    × (IsSome exchanges → MayFollow limits log servers exchanges (pursuit_of source unread)))
 
 -- THE PROMISE: so it is with a relay whose feed is not its input
 abbrev pub IsRelaying : Limits → Log → Servers → Exchanges → Live → AllSockets → Type 0

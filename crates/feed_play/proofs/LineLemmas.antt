@@ -2,7 +2,8 @@
 use Rattle.std.proofs.Common.{◌≡◌, refl, ap, ◌∙◌, ℕ, ◌<◌, Bool, true, false, not, List, [], ◌∷◌, ◌++◌, arith, nat_le, leb-true}
 use Rattle.feed_note.specs.Lines.{is_line_feed, lines, HasNoLineFeed}
 use Rattle.feed_play.specs.Lines.{LinesLeft}
-use Rattle.feed_play.proofs.WordLemmas.{first_true, second_true, negated}
+use Rattle.std.proofs.lemmas.Bool.{not-true as negated}
+use Rattle.feed_note.proofs.LinesCut.{second_true, first_true}
 
 -- a text without a line feed has no line
 pub no_line : (t : List ℕ) → HasNoLineFeed t → lines t ≡ []

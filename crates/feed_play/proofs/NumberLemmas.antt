@@ -10,7 +10,8 @@ use Rattle.std.proofs.lemmas.Str.{digit_value_digit}
 use Rattle.std.proofs.lemmas.Int.Digits.{digits_value_more}
 use Rattle.feed_note.specs.Lines.{onto_first}
 use Rattle.feed_play.specs.Script.{is_space, is_number, number_in, numbers_in, one_of, nodes_in, words}
-use Rattle.feed_play.proofs.WordLemmas.{stays, both, first_true, second_true, one_word}
+use Rattle.feed_play.proofs.WordLemmas.{stays, one_word}
+use Rattle.feed_note.proofs.LinesCut.{both, second_true, first_true}
 
 and_false : (a : Bool) → (a && false) ≡ false
 and_false true = refl

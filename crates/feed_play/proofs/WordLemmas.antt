@@ -1,27 +1,13 @@
 -- Lemmas on the words of a line.
-use Rattle.std.proofs.Common.{◌≡◌, refl, sym, ap, ◌∙◌, subst, ℕ, ◌+◌, ◌<◌, Bool, true, false, not, ◌&&◌, true≢false, List, [], ◌∷◌, ◌++◌, length, take, drop, cond, Some, None, arith, eqb-true, get_or, nat_lt, take_all, ltb-false, ltb-true}
+use Rattle.std.proofs.Common.{◌≡◌, refl, ap, ◌∙◌, subst, ℕ, ◌+◌, ◌<◌, Bool, true, false, not, true≢false, List, [], ◌∷◌, ◌++◌, length, take, drop, cond, Some, None, arith, eqb-true, get_or, nat_lt, take_all, ltb-false, ltb-true}
 use Rattle.std.specs.List.{list_all, prefix_len, position, position_or_len}
 use Rattle.std.proofs.lemmas.List.Sums.{prefix_len_stops, split_at_first}
 use Rattle.feed_play.specs.Script.{is_space, words}
+use Rattle.feed_note.proofs.LinesCut.{first_true, second_true, both}
+use Rattle.std.proofs.lemmas.Bool.{not-true as negated}
 
 abbrev pub stays : ℕ → Bool
 stays b = not (is_space b)
-
-pub both : (a b : Bool) → a ≡ true → b ≡ true → (a && b) ≡ true
-both true b p q = q
-both false b p q = p
-
-pub first_true : (a b : Bool) → (a && b) ≡ true → a ≡ true
-first_true true b e = refl
-first_true false b e = e
-
-pub second_true : (a b : Bool) → (a && b) ≡ true → b ≡ true
-second_true true b e = e
-second_true false b e = absurd (true≢false (sym e))
-
-pub negated : (a : Bool) → not a ≡ true → a ≡ false
-negated true e = absurd (true≢false (sym e))
-negated false e = refl
 
 -- a text without a space is one word
 pub one_word : (w : List ℕ) → list_all stays w ≡ true → words w ≡ w ∷ []

@@ -35,6 +35,7 @@ use Rattle.feed_world.proofs.Prefixes.{not_zero}
 use Rattle.feed_world.proofs.Growth.{goes_up, fewer_blocks, deliveries_compose, news_compose}
 use Rattle.feed_world.proofs.Linked.{parts_have_text, none_at_first}
 use Rattle.feed_world.proofs.Responses.{joined_parts, are_texts, come_none, come_within, come_few}
+use Rattle.std.proofs.Math.Bool.{and-true as and_true}
 
 -- ---- places
 
@@ -139,10 +140,6 @@ record IsBroughtTo (limits : Limits) (log : Log) (m : Mirror) (place : Option Po
   since : mirror.since ≡ asks_with log (brought_to limits.history log m c n None)
   afresh : (brought_to limits.history log m c n None).afresh ≡ true → (c.fresh ≡ true) × (blocks_come log c n ≡ [])
   moves : (brought_to limits.history log m c n None).place ≡ moved_by limits.history log place (blocks_come log c n)
-
-and_true : (b : Bool) → (b && true) ≡ b
-and_true true = refl
-and_true false = refl
 
 -- a response with the feed stands in its head or in its body
 abbrev pub IsPlain : Standing → Type 0

@@ -23,6 +23,7 @@ use Rattle.feed_world.specs.World.{Mirror}
 use Rattle.feed_world.proofs.Growth.{goes_up, sending_keeps_order}
 use Rattle.feed_world.proofs.Listings.{listing_is_some}
 use Rattle.feed_world.proofs.Responses.{one_frame_more, come_stays, come_within}
+use Rattle.feed_note.proofs.LinesCut.{second_true as both_true}
 
 -- ---- a batch has text
 
@@ -168,10 +169,6 @@ module _ (limits : Limits) (log : Log) (m : Mirror) (c : Connection) (reader : R
 chosen : {X : Type 0} (P : X → Type 0) (b : Bool) (x y : X) → (b ≡ true → P x) → P y → P (if b then x else y)
 chosen P true x y h k = h refl
 chosen P false x y h k = k
-
-both_true : (a b : Bool) → (a && b) ≡ true → b ≡ true
-both_true true b e = e
-both_true false b e = absurd (cc)
 
 served_any : (limits : Limits) (log : Log) (c : Connection) (place : Option Position) (P : Connection → Type 0) → IsPlace limits log place
     → P c → P (ended c) → (c.last < length log.commits → P (with_more c)) → P (serves c place).1

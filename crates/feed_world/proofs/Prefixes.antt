@@ -20,17 +20,14 @@ use Rattle.feed_world.specs.Position.{Position, commits_after, node_where, renew
 use Rattle.feed_world.specs.Reading.{opening_at, PrefixesAreRead}
 use Rattle.feed_world.proofs.Commits.{light_here, state_one_more, next_not_held, next_position, renewed_is_position, latest_at, state_at, state_is_small, state_is_sendable}
 use Rattle.feed_world.proofs.Growth.{goes_up}
-use Rattle.feed_world.proofs.Listings.{full_none}
-use Rattle.feed_world.proofs.Lists.{cuts_of_one}
+use Rattle.feed_node.proofs.Bounds.{full_none}
+use Rattle.feed_node.proofs.TextLines.{cuts_of_one}
 use Rattle.feed_world.proofs.Served.{holds}
+use Rattle.std.proofs.Math.Bool.{and-true as and_true}
 
 -- a mirror at a place, with nothing staged
 abbrev standing : History → Log → Option Position → Bool → Standing
 standing history log place afresh = record { node = record { shown = node_where log place; history = history }; afresh = afresh; changes = [] }
-
-and_true : (b : Bool) → (b && true) ≡ b
-and_true true = refl
-and_true false = refl
 
 pub not_zero : (n : ℕ) → (suc n == 0) ≡ false
 not_zero n = by (suc n == 0) refl

@@ -1,5 +1,5 @@
 -- A refusal that is followed whole: the token is refused, or there is a status; or memory runs out.
-use Rattle.std.proofs.Common.{◌≡◌, refl, sym, ap, ◌∙◌, subst, ℕ, ◌+◌, ◌<◌, Bool, true, false, ◌&&◌, arith, List, [], ◌∷◌, ◌++◌, length, take, length-append, inl, inr, is_some, nat_lt, ltb-true, ltb-false}
+use Rattle.std.proofs.Common.{◌≡◌, refl, sym, ap, ◌∙◌, subst, ℕ, ◌+◌, ◌<◌, Bool, true, false, ◌&&◌, arith, List, [], ◌++◌, length, take, length-append, inl, inr, is_some, nat_lt, ltb-true, ltb-false}
 use Rattle.std.specs.Prelude.{if◌then◌else◌, ◌==◌}
 use Rattle.std.proofs.lemmas.List.{take_all}
 use Rattle.feed_node.specs.declared.fault.FeedFault.{FeedFault}
@@ -17,6 +17,7 @@ use Rattle.feed_answer.specs.Carried.{refusal_standing, refusal_at}
 use Rattle.feed_answer.specs.FollowLaws.{RefusalsAreFollowed}
 use Rattle.feed_world.specs.declared.event.Reply.TheVariants.{Refused, NotYet}
 use Rattle.feed_world.specs.States.{FollowsRefusal, refusal_reply}
+use Rattle.feed_world.proofs.Brought.{prefix_is}
 
 -- a refusal has no body that is followed, and no other fault than its status
 abbrev pub IsOfRefusal : Standing → Type 0
@@ -40,13 +41,6 @@ at_of refusal had n = by (nat_lt n (length (refusal_head refusal)))
     by : (b : Bool) → IsOfRefusal (if b then in_head else refusal_standing had refusal)
     by true = tt
     by false = standing_of refusal had
-
-prefix_is : (prefix behind text : List ℕ) → prefix ++ behind ≡ text → take (length prefix) text ≡ prefix
-prefix_is prefix behind text e = ap (take (length prefix)) (sym e) ∙ take_prefix prefix behind
-  where
-    take_prefix : (xs ys : List ℕ) → take (length xs) (xs ++ ys) ≡ xs
-    take_prefix [] ys = refl
-    take_prefix (x ∷ xs) ys = ap (λ zs. x ∷ zs) (take_prefix xs ys)
 
 module _ (refusals : RefusalsAreFollowed) (refusal : Refusal) (old : MirrorState) (reader : ReaderState) (bytes : List ℕ) (is : bytes ≡ refusal_text refusal) where
   -- the whole of it stands in one way

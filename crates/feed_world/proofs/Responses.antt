@@ -11,6 +11,7 @@ use Rattle.feed_answer.specs.FrameLaws.{AreTexts, joined}
 use Rattle.feed_answer.specs.Carried.{bytes_before, carried_in, response_text, carried_by}
 use Rattle.feed_world.specs.Connection.{Part, Connection, part_text, part_texts, parts_text, sent_bytes, bytes_sent, come_by}
 use Rattle.feed_world.specs.Log.{Log}
+use Rattle.feed_answer.proofs.PrefixLemmas.{nothing_carried as carried_none, all_carried}
 
 -- ---- frames
 
@@ -19,7 +20,7 @@ pub joined_parts : (log : Log) (parts : List Part) → joined (part_texts log pa
 joined_parts log [] = refl
 joined_parts log (part ∷ parts) = ap (λ t. part_text log part ++ t) (joined_parts log parts)
 
-chunk_length : (text : List ℕ) → length (digits 16 false (length text) ++ crlf_bytes ++ text ++ crlf_bytes) ≡ length (digits 16 false (length text)) + 2 + length text + 2
+pub chunk_length : (text : List ℕ) → length (digits 16 false (length text) ++ crlf_bytes ++ text ++ crlf_bytes) ≡ length (digits 16 false (length text)) + 2 + length text + 2
 chunk_length text =
     let a = length-append (digits 16 false (length text) ++ crlf_bytes ++ text) crlf_bytes in
     let c = length-append (digits 16 false (length text) ++ crlf_bytes) text in
@@ -64,14 +65,6 @@ one_frame_more log framing parts part =
     ∙ sym (append_assoc (feed_head framing) (flat_map (frame framing) (part_texts log parts)) (frame framing (part_text log part)))
 
 -- ---- how much has come
-
-carried_none : (framing : Framing) (texts : List (List ℕ)) → carried_in framing texts 0 ≡ 0
-carried_none framing [] = refl
-carried_none framing (text ∷ texts) =
-    let later = carried_none framing texts in
-    let none : 0 - length (frame framing text) ≡ 0 = omega arith in
-    let same = ap (carried_in framing texts) none in
-    omega (arith, later, same)
 
 -- nothing of the text has come within the head
 pub come_none : (log : Log) (c : Connection) (n : ℕ) → n < length (feed_head c.framing) → come_by log c n ≡ 0
@@ -120,23 +113,6 @@ come_stays log framing parts part n h =
     carried_stays log framing parts part (n - length (feed_head framing)) (omega (arith, h, a))
 
 -- ---- all of it
-
-frame_holds : (framing : Framing) (text : List ℕ) (n : ℕ) → length (frame framing text) ≤ n → min (n - bytes_before framing text) (length text) ≡ length text
-frame_holds Close text n h = omega (arith, h)
-frame_holds Chunked [] n h = omega arith
-frame_holds Chunked (b ∷ bytes) n h =
-    let a : length (frame Chunked (b ∷ bytes)) ≡ length (digits 16 false (length (b ∷ bytes))) + 2 + length (b ∷ bytes) + 2 = chunk_length (b ∷ bytes) in
-    let p : bytes_before Chunked (b ∷ bytes) ≡ length (digits 16 false (length (b ∷ bytes))) + 2 = refl in
-    omega (arith, a, p, h)
-
-all_carried : (framing : Framing) (texts : List (List ℕ)) (n : ℕ) → length (flat_map (frame framing) texts) ≤ n → carried_in framing texts n ≡ length (joined texts)
-all_carried framing [] n h = refl
-all_carried framing (text ∷ texts) n h =
-    let a = length-append (frame framing text) (flat_map (frame framing) texts) in
-    let b = length-append text (joined texts) in
-    let here = frame_holds framing text n (omega (arith, a, h)) in
-    let later = all_carried framing texts (n - length (frame framing text)) (omega (arith, a, h)) in
-    omega (arith, b, here, later)
 
 -- with all bytes of the response all of the text has come
 pub come_all : (log : Log) (c : Connection) (n : ℕ) → bytes_sent log c ≤ n → come_by log c n ≡ length (parts_text log c.parts)

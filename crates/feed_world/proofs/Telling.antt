@@ -16,6 +16,7 @@ use Rattle.feed_world.specs.Reading.{opening_at}
 use Rattle.feed_world.specs.Telling.{Tells, TellsShow}
 use Rattle.feed_world.proofs.Commits.{light_here, next_not_held, next_position, renewed_is_position, latest_at}
 use Rattle.feed_world.proofs.Served.{holds}
+use Rattle.std.proofs.Math.Bool.{and-true as and_true}
 
 -- a mirror that shows this, for which these changes wait
 abbrev waits : History → NodeState → Bool → List Change → Standing
@@ -23,10 +24,6 @@ waits history shown fresh changes = record { node = record { shown = shown; hist
 
 both : {a b : Bool} → a ≡ true → b ≡ true → (a && b) ≡ true
 both e f = λ i. e i && f i
-
-and_true : (b : Bool) → (b && true) ≡ b
-and_true true = refl
-and_true false = refl
 
 module _ (limits : Limits) (log : Log) (named : IsNamed log) where
   -- a commit that the mirror holds is skipped

@@ -4,7 +4,7 @@ use Rattle.feed_node.specs.States.{published_token}
 use Rattle.feed_follow.specs.Standing.{in_head}
 use Rattle.feed_hub.specs.Upstream.{IsFollowing}
 use Rattle.feed_live.specs.declared.source.Reach.TheVariants.{Connects}
-use Rattle.feed_live.specs.Relaying.{WasLeft, MayFollow, followed, servers_of}
+use Rattle.feed_live.specs.Relaying.{pursuit, WasLeft, MayFollow, followed, servers_of}
 use Rattle.feed_live.specs.Upstream.{IsRequestOf}
 use Rattle.feed_live.proofs.RelayLemmas.{begun_follows, begun_honest, begins_in_log, one_more_honest}
 use Rattle.feed_live.proofs.SourceLemmas.{begins_so, fails_so, left_still}
@@ -32,7 +32,7 @@ returns-clause-follows g c =
             (subst (λ k. IsRequestOf (servers_of c.args.self.now) c.args.self.now.upstream.place k c.in-Ok-Some.request.items) asking
             (subst (λ made. IfSome made (λ text. IsRequestOf (servers_of c.args.self.now) c.args.self.now.upstream.place c.followed_of.result.now text.items)) c.in-Ok-Some.field-0-is c.in-Ok-Some.ensures.asks))) in
             let begun = subst (λ k. IsFollowing k [] in_head c.opened.new.self.follower k) following c.opened.ensures.follows in
-            subst (λ u. MayFollow limits log servers (is_none c.in-Ok.coming) (Connects c.args.desk.now.time) c.in-Ok-Some.request.items u (g.L.Link.exchanges c.begin_shown.new.link) c.opened.new.self.follower (followed c.in-Ok.coming shown)) (sym c.clear.ensures.items)
+            subst (λ u. MayFollow limits log servers (g.L.Link.exchanges c.begin_shown.new.link) (pursuit (is_none c.in-Ok.coming) (Connects c.args.desk.now.time) c.in-Ok-Some.request.items u c.opened.new.self.follower (followed c.in-Ok.coming shown))) (sym c.clear.ensures.items)
             (begun_follows limits log servers c.in-Ok.coming c.place.result c.in-Ok-Some.request.items _ _ _ c.args.desk.now.time c.opened.new.self.follower (followed c.in-Ok.coming shown)
             begins c.begin_shown.ensures.shown known
             (λ honest. let here = follows.1.0 honest in begins_in_log limits log servers c.in-Ok.coming shown c.in-Ok.ensures here.limits_are here.shown_is)
