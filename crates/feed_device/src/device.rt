@@ -169,19 +169,24 @@ pub trait Store {
     // What they have, where that is known.
     ghost files: { Self → StateFiles } = { λ _. unknown_files };
 
+    // How often something was to be appended to them, where that is counted.
+    ghost appended: { Self → Option ℕ } = { λ _. None };
+
     /// What the file had when the relay began, once: so far as it is a state.
     fn read(&mut self) -> Result<Vec<u8>, Stop>
         ensures left { (texts : List (List ℕ)) → (files self.old).had ≡ Some texts
             → IfOk result (λ text. IsLeftOf texts text.items) }
         ensures file { (text : List ℕ) → (files self.old).written ≡ Some text
             → IfOk result (λ found. found.items ≡ text) }
-        ensures same { files self.new ≡ files self.old };
+        ensures same { files self.new ≡ files self.old }
+        ensures calls { appended self.new ≡ appended self.old };
 
     /// What the file before had then, once, where the file goes on from it.
     fn read_former(&mut self) -> Result<Vec<u8>, Stop>
         ensures left { (texts : List (List ℕ)) → (files self.old).had ≡ Some texts
             → IfOk result (λ text. IsLeftOf texts text.items) }
-        ensures same { files self.new ≡ files self.old };
+        ensures same { files self.new ≡ files self.old }
+        ensures calls { appended self.new ≡ appended self.old };
 
     /// Goes on with the file, of which only so many bytes count.
     fn resume(&mut self, length: u64) -> Result<(), Stop>
@@ -189,7 +194,8 @@ pub trait Store {
             → OnOk result ((files self.new).written ≡ Some (take length text)) }
         ensures next { (files self.new).next ≡ (files self.old).next }
         ensures former { (files self.new).former ≡ None }
-        ensures had { (files self.new).had ≡ (files self.old).had };
+        ensures had { (files self.new).had ≡ (files self.old).had }
+        ensures calls { appended self.new ≡ appended self.old };
 
     /// Appends some of the bytes to a file, from the first on, and answers how many.
     fn append(&mut self, slot: FileSlot, bytes: &[u8]) -> Result<usize, Stop>
@@ -199,7 +205,8 @@ pub trait Store {
         ensures rest { OtherFilesStay slot (files self.old) (files self.new) }
         ensures had { (text : List ℕ) → file_text slot (files self.old) ≡ Some text
             → HasAppended (files self.old).had (files self.new).had text bytes.now
-            result };
+            result }
+        ensures calls { CalledOnce (appended self.old) (appended self.new) };
 
     /// Begins the file that is to take its place.
     fn begin(&mut self) -> Result<(), Stop>
@@ -207,7 +214,8 @@ pub trait Store {
             → OnOk result ((files self.new).next ≡ Some []) }
         ensures known { IsKnown (files self.old).next → IsKnown (files self.new).next }
         ensures rest { OtherFilesStay Next (files self.old) (files self.new) }
-        ensures had { (files self.new).had ≡ (files self.old).had };
+        ensures had { (files self.new).had ≡ (files self.old).had }
+        ensures calls { appended self.new ≡ appended self.old };
 
     /// It takes the place of the file. What becomes of the one before is said, too.
     fn replace(&mut self, before: Before) -> Result<(), Stop>
@@ -216,7 +224,8 @@ pub trait Store {
         ensures former { OnOk result
             ((files self.new).former ≡ gone_on_from before (files self.old).written) }
         ensures known { IsKnown (files self.old).next → IsKnown (files self.new).next }
-        ensures had { (files self.new).had ≡ (files self.old).had };
+        ensures had { (files self.new).had ≡ (files self.old).had }
+        ensures calls { appended self.new ≡ appended self.old };
 }
 
 /// All that a turn reads from and writes to.

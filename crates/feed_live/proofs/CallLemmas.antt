@@ -1,7 +1,7 @@
 -- How often devices were called.
 use Rattle.std.proofs.Common.{◌≡◌, ap, ◌∙◌, subst, ℕ, suc, ◌+◌, ◌⊎◌, inl, inr, arith, Option, Some, None}
 use Rattle.std.specs.Prelude.{option_map}
-use Rattle.feed_device.specs.Calls.{CalledOnce, CalledAtLeastOnce}
+use Rattle.feed_device.specs.Calls.{CalledOnce, CalledSince, CalledAtLeastOnce}
 
 pub called_once : (old new : Option ℕ) → CalledOnce old new → CalledAtLeastOnce old new
 called_once None new is = (0, is)
@@ -22,3 +22,31 @@ called_on old before new (inr some) once = called_more old before new some once
 pub called_or : {V W : Type 0} (first old before new : Option ℕ) → old ≡ first → (W × (before ≡ old)) ⊎ CalledAtLeastOnce old before → CalledOnce before new ⊎ V → CalledAtLeastOnce first new ⊎ V
 called_or first old before new same so (inl once) = inl (subst (λ a. CalledAtLeastOnce a new) same (called_on old before new so once))
 called_or first old before new same so (inr paused) = inr paused
+
+-- ---- as often, or more often
+
+pub since_same : (old new : Option ℕ) → new ≡ old → CalledSince old new
+since_same None new is = (0, is)
+since_same (Some n) new is = let one : n ≡ 0 + n = omega arith in (0, is ∙ ap (λ x. Some x) one)
+
+pub since_once : (old new : Option ℕ) → CalledOnce old new → CalledSince old new
+since_once None new is = (1, is)
+since_once (Some n) new is = let one : suc n ≡ 1 + n = omega arith in (1, is ∙ ap (λ x. Some x) one)
+
+pub since_then : (old new later : Option ℕ) → CalledSince old new → CalledSince new later → CalledSince old later
+since_then None new later one two = (0, two.1 ∙ ap (option_map (λ x. two.0 + x)) one.1)
+since_then (Some n) new later one two =
+    let sum : two.0 + (one.0 + n) ≡ (two.0 + one.0) + n = omega arith in
+    (two.0 + one.0, two.1 ∙ ap (option_map (λ x. two.0 + x)) one.1 ∙ ap (λ x. Some x) sum)
+
+pub least_then : (old new later : Option ℕ) → CalledAtLeastOnce old new → CalledSince new later → CalledAtLeastOnce old later
+least_then None new later one two = (0, two.1 ∙ ap (option_map (λ x. two.0 + x)) one.1)
+least_then (Some n) new later one two =
+    let sum : two.0 + (suc one.0 + n) ≡ suc (two.0 + one.0) + n = omega arith in
+    (two.0 + one.0, two.1 ∙ ap (option_map (λ x. two.0 + x)) one.1 ∙ ap (λ x. Some x) sum)
+
+pub then_least : (old new later : Option ℕ) → CalledSince old new → CalledAtLeastOnce new later → CalledAtLeastOnce old later
+then_least None new later one two = (0, two.1 ∙ ap (option_map (λ x. suc two.0 + x)) one.1)
+then_least (Some n) new later one two =
+    let sum : suc two.0 + (one.0 + n) ≡ suc (two.0 + one.0) + n = omega arith in
+    (two.0 + one.0, two.1 ∙ ap (option_map (λ x. suc two.0 + x)) one.1 ∙ ap (λ x. Some x) sum)

@@ -1,3 +1,4 @@
+pub mod RoomLemmas
 pub mod CallLemmas
 pub mod EndingLemmas
 pub mod OwedLemmas

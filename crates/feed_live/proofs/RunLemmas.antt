@@ -18,7 +18,7 @@ use Rattle.feed_live.specs.declared.turn.Live.{Live}
 use Rattle.feed_live.specs.declared.turn.Turn.{Turn}
 use Rattle.feed_live.specs.Laws.{ShowsTheLog}
 use Rattle.feed_live.specs.Relaying.{IsRelaying, StillRelaying}
-use Rattle.feed_live.specs.Running.{Came, nothing_came, has_ended_by, came_on, came_more, HostCalls, waited_for, reported_once, Surroundings, surroundings, Moment, moment_of, mirror_at, shown_at, KeepsFilesAt, at_once, RunsFrom, IsOver, IsTurn, IsSameRelay, IsRun, waited_at, calls_in, HasRun, servers_of_setup, AreUnused, BeginsInLog, AreAllFilesOfLog, Begins, IsKnownHonestInput, TakesAllAt, HasEndedAt, StopsAt, EndsOrStops, TakesItsInput, KeepsToTheLog}
+use Rattle.feed_live.specs.Running.{Came, nothing_came, has_ended_by, came_on, came_more, HostCalls, waited_for, reported_once, Surroundings, surroundings, Moment, moment_of, mirror_at, shown_at, KeepsFilesAt, at_once, RunsFrom, IsOver, IsTurn, IsSameRelay, IsRun, waited_at, calls_in, HasRun, servers_of_setup, AreUnused, BeginsInLog, AreAllFilesOfLog, Begins, IsKnownHonestInput, EndsWithItsInput, TakesAllAt, HasEndedAt, StopsAt, EndsOrStops, TakesItsInput, KeepsToTheLog}
 use Rattle.feed_live.specs.Saved.{ArePartsOfRecords, KeepsFiles}
 use Rattle.feed_live.specs.Taking.{IsTakingInput, StillTaking, StopsInput, bytes_in}
 use Rattle.feed_live.specs.Upstream.{Servers, AreKnownHonest}
@@ -71,6 +71,11 @@ cleared {old} {live} {after} {next} {time} {around} turn relaying taking same =
           subst (KeepsFiles nodes around.files) (sym same.saved)
           (turn.anew (λ is. newer (ap (λ s. s.epoch) same.source ∙ is)) nodes (subst (λ s. Contains nodes s.answers.shown.mirror.node) same.source has) known);
       wakes = λ more. turn.wakes (subst (λ s. s.has_more ≡ true) same.screens more);
+      says = subst (λ screens. IfSome screens.saying.waits (λ at. turn.now ≤ at → next.due ≤ at)) (sym same.screens) turn.says;
+      ends = record {
+        limits = same.limits ∙ turn.ends.limits;
+        stays = λ goes_on. same.ends_at ∙ turn.ends.stays goes_on;
+      };
       awake = subst (λ reported. next.due ≤ min (reported + 60000) (2 ^ 64 - 1)) (sym same.reported) turn.awake;
       over = λ is. still_over same (turn.over is);
     }
@@ -270,6 +275,51 @@ module _ (limits : Limits) (log : Log) where
         let so_far = takes_input feeds before earlier run.1 in
         (takes_next before last earlier run.0 (taking_to before earlier run.1) so_far.0, so_far)
 
+-- ---- its end
+
+ended_now : (came : Option Came) → IfSome (came_more End came) (λ c. c.has_ended ≡ true)
+ended_now None = tt
+ended_now (Some came) = refl
+
+ended_yet : (given : Input) (came : Option Came) → IfSome came (λ c. c.has_ended ≡ true) → IfSome (came_more given came) (λ c. c.has_ended ≡ true)
+ended_yet given None ended = tt
+ended_yet Nothing (Some came) ended = ended
+ended_yet (Bytes piece) (Some came) ended = ended
+ended_yet End (Some came) ended = refl
+
+abbrev HasEnd : Setup → Moment → Type 0
+HasEnd setup moment = (setup.limits.ends_with_input ≡ true) × IfSome moment.around.input (λ came. came.has_ended ≡ true)
+
+-- a turn that sets no end
+ends_yet : (setup : Setup) (before last : Moment) (turn : IsTurn before last) → EndsWithItsInput setup before
+    → (turn.given ≢ End) ⊎ (before.live.limits.ends_with_input ≡ false) → last.live.ends_at ≢ None → HasEnd setup last
+ends_yet setup before last turn was goes_on some =
+    let had = was.ends (λ none. some (turn.ends.stays goes_on ∙ none)) in
+    (had.0, subst (λ i. IfSome i (λ c. c.has_ended ≡ true)) (sym turn.came) (ended_yet turn.given before.around.input had.1))
+
+ends_on : (setup : Setup) (before last : Moment) → IsTurn before last → EndsWithItsInput setup before → EndsWithItsInput setup last
+ends_on setup before last turn was =
+    record { limits = turn.ends.limits ∙ was.limits; ends = λ some. by turn.given refl before.live.limits.ends_with_input refl some }
+  where
+    by : (what : Input) → turn.given ≡ what → (with_input : Bool) → before.live.limits.ends_with_input ≡ with_input → last.live.ends_at ≢ None → HasEnd setup last
+    by Nothing is with_input ends some = ends_yet setup before last turn was (inl (λ end. let no : Nothing ≡ End = sym is ∙ end in cc)) some
+    by (Bytes piece) is with_input ends some = ends_yet setup before last turn was (inl (λ end. let no : Bytes piece ≡ End = sym is ∙ end in cc)) some
+    by End is false ends some = ends_yet setup before last turn was (inr ends) some
+    by End is true ends some = (
+      ap (λ l. l.ends_with_input) (sym was.limits) ∙ ends,
+      subst (λ i. IfSome i (λ c. c.has_ended ≡ true)) (sym (turn.came ∙ ap (λ (g : Input). came_more g before.around.input) is)) (ended_now before.around.input),
+    )
+
+ends_at_first : (setup : Setup) (first : Moment) → first.live.limits ≡ setup.limits → first.live.ends_at ≡ None → EndsWithItsInput setup first
+ends_at_first setup first limits none = record { limits = limits; ends = λ some. absurd (some none) }
+
+all_end : (setup : Setup) (first : Moment) → EndsWithItsInput setup first → (last : Moment) (earlier : List Moment) → IsRun first earlier last
+    → AllByRecursion (EndsWithItsInput setup) (last ∷ earlier)
+all_end setup first begins last [] run = (subst (EndsWithItsInput setup) (sym run) begins, tt)
+all_end setup first begins last (before ∷ earlier) run =
+    let so_far = all_end setup first begins before earlier run.1 in
+    (ends_on setup before last run.0 so_far.0, so_far)
+
 -- a run from such a start keeps to the log
 pub keeps_to_the_log : (setup : Setup) (found : Surroundings) (first last : Moment) (earlier : List Moment) → Begins setup found.files first.around.files first.live
     → first.around.sockets ≡ found.sockets → first.around.input ≡ found.input → IsRun first earlier last → KeepsToTheLog setup found (last ∷ earlier)
@@ -287,6 +337,7 @@ keeps_to_the_log setup found first last earlier begins sockets input run =
       files = λ log nodes of shows.
           all_files setup.kept log nodes found.files of first last earlier run shows (begins.kept log nodes of)
           (subst (ArePartsOfRecords nodes) (sym begins.had) of.of_log.parts);
+      ends = all_end setup first (ends_at_first setup first begins.limits begins.goes_on) last earlier run;
     }
 
 -- so it is with turns that led from there to the end, whatever they came to

@@ -1,5 +1,5 @@
 -- How a turn stays at places of the log.
-use Rattle.std.proofs.Common.{◌≡◌, ◌≢◌, refl, eqb-true, inl, inr, sym, ap, ◌∙◌, subst, ℕ, List, [], length, nat_eq, Bool, None}
+use Rattle.std.proofs.Common.{◌≡◌, ◌≢◌, refl, eqb-true, inl, inr, sym, ap, ◌∙◌, subst, ℕ, List, [], length, nat_eq, Bool, None, Option, ◌<◌}
 use Rattle.std.proofs.lemmas.Bool.Decides.{eqb_tells}
 use Rattle.std.specs.Prelude.{◌==◌, ◌⊎◌, true, not, Contains, false, is_none, IsSome, string_bytes}
 use Rattle.std.proofs.lemmas.List.{nil_from_length}
@@ -10,6 +10,7 @@ use Rattle.feed_node.specs.States.{NodeState}
 use Rattle.feed_world.specs.Log.{Log}
 use Rattle.feed_hub.specs.declared.hub.Hub.{Hub}
 use Rattle.feed_hub.specs.Laws.{IsInLog}
+use Rattle.feed_device.specs.Calls.{CalledAtLeastOnce}
 use Rattle.feed_device.specs.Links.{Exchanges}
 use Rattle.feed_device.specs.Sockets.{AllSockets}
 use Rattle.feed_live.specs.declared.conn.Conn.{Conn}
@@ -17,12 +18,15 @@ use Rattle.feed_live.specs.declared.desk.Desk.{Desk}
 use Rattle.feed_live.specs.declared.screens.Screens.{Screens}
 use Rattle.feed_live.specs.declared.source.Reach.TheVariants.{Away}
 use Rattle.feed_live.specs.declared.source.Source.{Source}
+use Rattle.feed_live.specs.declared.turn.Input.{Input}
+use Rattle.feed_live.specs.declared.turn.Input.TheVariants.{End}
 use Rattle.feed_live.specs.declared.turn.Live.{Live}
 use Rattle.feed_live.specs.Relaying.{pursuit, pursuit_of, MayFollow, AnswersFromLog, FollowsServers, IsRelaying, SameSource, OnlyServes, followed_by}
 use Rattle.feed_live.specs.Serving.{ServesScreens, StillServing}
 use Rattle.feed_live.specs.States.{states_of}
 use Rattle.feed_live.specs.Taking.{IsTakingInput, ShowsInput, BeginsInput}
 use Rattle.feed_live.specs.Upstream.{Servers, AreKnownHonest}
+use Rattle.feed_live.specs.Waiting.{TakesNobody}
 use Rattle.feed_live.proofs.InputLemmas.{takes_so}
 use Rattle.feed_live.proofs.RelayLemmas.{either, among_shown, among_blank, shows_still, same_shows, with_same, with_screens}
 
@@ -52,14 +56,23 @@ differ_so a b differ = by (eqb_tells a b)
     by (inl (_, same)) = absurd (differ same)
     by (inr (is, _)) = ap not is
 
+-- and that don't
+pub same_so : (a b : ℕ) → a ≡ b → not (a == b) ≡ false
+same_so a b same = by (eqb_tells a b)
+  where
+    by : (((a == b) ≡ true) × (a ≡ b)) ⊎ (((a == b) ≡ false) × (a ≢ b)) → not (a == b) ≡ false
+    by (inl (is, _)) = ap not is
+    by (inr (_, differ)) = absurd (differ same)
+
 pub serves_none : (live : Live) (sockets : AllSockets) → OnlyServes live live sockets sockets
 serves_none live sockets =
-    record { contest = refl; feeds = refl; source = same_none live.source; epoch = refl; serves = λ nodes shown blank serving. serving }
+    record { contest = refl; ends = (refl, refl); feeds = refl; source = same_none live.source; epoch = refl; serves = λ nodes shown blank serving. serving }
 
 pub serves_then : {a b c : Live} {before between after : AllSockets} → OnlyServes b c between after → OnlyServes a b before between → OnlyServes a c before after
 serves_then {a} {b} {c} {before} {between} {after} two one =
     record {
       contest = two.contest ∙ one.contest;
+      ends = (two.ends.0 ∙ one.ends.0, two.ends.1 ∙ one.ends.1);
       feeds = two.feeds ∙ one.feeds;
       source = same_then two.source one.source;
       epoch = two.epoch ∙ one.epoch;
@@ -74,7 +87,7 @@ pub screens_only : (live : Live) (screens : Screens) (desk : Desk) {before after
     → ((nodes : List NodeState) → Contains nodes live.source.answers.shown.mirror.node → Contains nodes live.source.answers.blank.mirror.node
     → StillServing nodes (string_bytes live.contest) live.screens screens before after)
     → OnlyServes live (record live { screens = screens; desk = desk }) before after
-screens_only live screens desk serves = record { contest = refl; feeds = refl; source = same_none live.source; epoch = refl; serves = serves }
+screens_only live screens desk serves = record { contest = refl; ends = (refl, refl); feeds = refl; source = same_none live.source; epoch = refl; serves = serves }
 
 module _ (limits : Limits) (log : Log) where
   -- its feed is its input
@@ -142,3 +155,22 @@ module _ (limits : Limits) (log : Log) (servers : Servers) where
 -- a list that is not empty is not found to be
 pub not_empty : {A : Type 0} (found : Bool) (xs : List A) → found ≡ nat_eq (length xs) 0 → xs ≢ [] → found ≡ false
 not_empty found xs is some = either found (λ yes'. absurd (some (nil_from_length xs (eqb-true (length xs) 0 (sym is ∙ yes'))))) (λ no. no)
+
+-- ---- who waits is asked for
+
+pub asked_then : (first before new : Option ℕ) (old later : Screens) (now : ℕ) → before ≡ first → later.accept_at ≡ old.accept_at
+    → CalledAtLeastOnce before new ⊎ TakesNobody old now → CalledAtLeastOnce first new ⊎ TakesNobody later now
+asked_then first before new old later now same at (inl asked) = inl (subst (λ a. CalledAtLeastOnce a new) same asked)
+asked_then first before new old later now same at (inr (inl paused)) = inr (inl (subst (λ a. now < a) (sym at) paused))
+asked_then first before new old later now same at (inr (inr last)) = inr (inr last)
+
+-- ---- it ends only with its input
+
+pub goes_with : {V : Type 0} (old new : Live) → new.limits ≡ old.limits → V ⊎ (old.limits.ends_with_input ≡ false)
+    → V ⊎ (new.limits.ends_with_input ≡ false)
+goes_with old new same (inl goes_on) = inl goes_on
+goes_with old new same (inr never) = inr (ap (λ l. l.ends_with_input) same ∙ never)
+
+pub ends_now : {input : Input} {V W : Type 0} → input ≡ End → (W → V) → (input ≢ End) ⊎ W → V
+ends_now is then_so (inl differs) = absurd (differs is)
+ends_now is then_so (inr never) = then_so never

@@ -1,6 +1,6 @@
 -- THE PROMISE of a relay that follows servers: what it shows, and what each socket was handed, is
 -- of the primary's log, as long as the servers are honest.
-use Rattle.std.specs.Prelude.{◌≡◌, ◌⊎◌, ℕ, ◌≤◌, Bool, false, true, List, [], ◌∷◌, ◌++◌, length, take, Option, Some, None, option_map, is_none, IsSome, Contains, string_bytes}
+use Rattle.std.specs.Prelude.{◌≡◌, ◌⊎◌, ℕ, ◌<◌, ◌≤◌, Bool, false, true, List, [], ◌∷◌, ◌++◌, length, take, Option, Some, None, option_map, is_none, IsSome, Contains, string_bytes}
 use Rattle.slab.specs.Slab.{Slab}
 use Rattle.feed_settings.specs.Limits.{Limits}
 use Rattle.feed_node.specs.Mirroring.{MirrorState}
@@ -212,6 +212,13 @@ pub record WasLeft (old new : Source) (before after : Exchanges) : Type 0 where
   pub node : new.answers.shown.mirror.node ≡ old.answers.shown.mirror.node
   pub blank : new.answers.blank.mirror ≡ old.answers.blank.mirror
 
+-- there is no connection, and one to the place that is asked next is due
+pub record IsToConnect (source : Source) (now : ℕ) : Type 0 where
+  pub away : source.reach ≡ Away
+  pub none : source.upstream.follower ≡ None
+  pub due : source.upstream.since ≤ now
+  pub place : source.upstream.place < length source.places.items
+
 -- the next place is asked, at once or after a pause
 abbrev pub GoesOnTo : Source → Source → ℕ → Type 0
 GoesOnTo old new now =
@@ -255,10 +262,15 @@ pub record ShowsAlone (old new : Source) : Type 0 where
       ≡ restored_from (followed_by old).limits (followed_by old).node.published)
   pub blank : new.answers.blank.mirror ≡ old.answers.blank.mirror
 
+-- it is set to the same, and ends when it did, or not at all
+abbrev pub SameEnd : Live → Live → Type 0
+SameEnd old new = (new.limits ≡ old.limits) × (new.ends_at ≡ old.ends_at)
+
 -- Only screens were served, from what the relay shows or from what shows nothing. All else is as it
 -- was.
 pub record OnlyServes (old new : Live) (before after : AllSockets) : Type 0 where
   pub contest : new.contest ≡ old.contest
+  pub ends : SameEnd old new
   pub feeds : new.feeds ≡ old.feeds
   pub source : SameSource old.source new.source
   pub epoch : new.source.epoch ≡ old.source.epoch

@@ -19,6 +19,7 @@ use Rattle.feed_live.specs.declared.turn.Input.{Input}
 use Rattle.feed_live.specs.declared.turn.Input.TheVariants.{Nothing, Bytes, End}
 use Rattle.feed_live.specs.declared.turn.Live.{Live}
 use Rattle.feed_live.specs.declared.turn.Turn.{Turn}
+use Rattle.feed_live.specs.Ending.{EndsWithInput}
 use Rattle.feed_live.specs.Laws.{ShowsTheLog}
 use Rattle.feed_live.specs.Relaying.{IsRelaying, StillRelaying}
 use Rattle.feed_live.specs.Saved.{ArePartsOfRecords, KeepsFiles}
@@ -142,7 +143,9 @@ pub record IsTurn (old new : Moment) : Type 0 where
   pub anew : new.live.source.epoch ≢ old.live.epoch → (nodes : List NodeState)
       → Contains nodes (shown_at new) → IsKnown old.around.files.next → KeepsFilesAt nodes new
   pub wakes : new.live.screens.has_more ≡ true → new.next.due ≤ now
+  pub says : IfSome new.live.screens.saying.waits (λ at. now ≤ at → new.next.due ≤ at)
   pub awake : new.next.due ≤ min (new.live.reported + 60000) (2 ^ 64 - 1)
+  pub ends : EndsWithInput old.live new.live given
   pub over : new.next.is_over ≡ true → IsOver new.live now
 
 -- all but what is told of a relay stays
@@ -152,6 +155,7 @@ pub record IsSameRelay (old new : Live) : Type 0 where
   pub saved : new.saved ≡ old.saved
   pub epoch : new.epoch ≡ old.epoch
   pub feeds : new.feeds ≡ old.feeds
+  pub limits : new.limits ≡ old.limits
   pub ends_at : new.ends_at ≡ old.ends_at
   pub reported : new.reported ≡ old.reported
 
@@ -228,6 +232,8 @@ pub record Begins (setup : Setup) (old new : StateFiles) (live : Live) : Type 0 
   pub taking : (log : Log) (sockets : AllSockets) → setup.places.items ≡ [] → AreUnused sockets
       → IsTakingInput setup.kept log (new_mirror setup.kept) [] live sockets
   pub feeds : setup.places.items ≡ [] → live.feeds ≡ true
+  pub limits : live.limits ≡ setup.limits
+  pub goes_on : live.ends_at ≡ None
   pub kept : (log : Log) (nodes : List NodeState) → AreAllFilesOfLog setup.kept log nodes old
       → KeepsFiles nodes new live.saved
   pub had : new.had ≡ old.had
@@ -271,11 +277,19 @@ TakesItsInput begun [] = Unit {0}
 TakesItsInput begun (latest ∷ earlier) =
     (TakesAllAt begun latest ⊎ EndsOrStops begun (latest ∷ earlier)) × TakesItsInput begun earlier
 
+-- It is set to what was asked for. It has an end only where it is to end with its input, and that
+-- has ended, as far as it is known what the input gave.
+pub record EndsWithItsInput (setup : Setup) (moment : Moment) : Type 0 where
+  pub limits : moment.live.limits ≡ setup.limits
+  pub ends : moment.live.ends_at ≢ None → (setup.limits.ends_with_input ≡ true)
+      × IfSome moment.around.input (λ came. came.has_ended ≡ true)
+
 -- THE PROMISE of a whole run, from the files that it finds to its end, at each of its moments. It
 -- shows only states of the log, and all that was ever written to a connection of a screen is
 -- faithful: where it follows servers, and these were honest; or where its feed is its input, and
 -- that was honest. Whether it was or not, it is taken byte by byte. And where all that the state
--- files ever had was written by records of nodes of the log, that stays so.
+-- files ever had was written by records of nodes of the log, that stays so. It ends with its input,
+-- or not at all.
 pub record KeepsToTheLog (setup : Setup) (found : Surroundings) (moments : List Moment)
     : Type 0 where
   pub servers : (log : Log) → setup.places.items ≢ [] → BeginsInLog setup log found.files
@@ -297,6 +311,7 @@ pub record KeepsToTheLog (setup : Setup) (found : Surroundings) (moments : List 
       → AllByRecursion (λ moment. ShowsTheLog setup.kept log moment.live moment.around.sockets)
       moments
       → AllByRecursion (λ moment. ArePartsOfRecords nodes moment.around.files.had) moments
+  pub ends : AllByRecursion (EndsWithItsInput setup) moments
 
 -- Turn after turn led from the start to what was left. The relay is of its contest, its first turn
 -- is due at once, and it keeps to the log from the first moment to the last.

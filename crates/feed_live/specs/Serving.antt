@@ -1,6 +1,6 @@
 -- THE PROMISE, up to each socket: what is written to it is what the hub was told at the key of its
 -- connection, and so a prefix of what is due to the answer that one of the nodes gave.
-use Rattle.std.specs.Prelude.{◌≡◌, ℕ, zero, suc, ◌<◌, ◌≤◌, ◌+◌, ◌-◌, ◌^◌, min, List, [], ◌++◌, take, drop, Option, Some, None, false, Result, MatchResult, Contains, IfSome, IsSome, ◌⊎◌}
+use Rattle.std.specs.Prelude.{◌≡◌, ℕ, zero, suc, ◌<◌, ◌≤◌, ◌+◌, ◌-◌, ◌^◌, min, List, [], ◌++◌, take, drop, Option, Some, None, false, Result, MatchResult, Contains, IfSome, ◌⊎◌}
 use Rattle.std.specs.List.{AllByRecursion}
 use Rattle.slab.specs.Slab.{Slab, get}
 use Rattle.feed_settings.specs.declared.framing.Framing.{Framing}
@@ -250,10 +250,15 @@ IsWritable (Some conn) key =
 
 -- ---- what was said
 
--- what was said to all is as far as what the node publishes, or the rest waits for a time
-abbrev pub SaysAll : Screens → NodeState → Type 0
-SaysAll screens node =
-    (screens.hub.broadcast.told ≡ published_token node) ⊎ IsSome screens.saying.waits
+-- what was said to all is as far as what the node publishes, or the rest is said within a second
+abbrev pub SaysAll : Screens → NodeState → ℕ → Type 0
+SaysAll screens node now =
+    (screens.hub.broadcast.told ≡ published_token node)
+    ⊎ ((at : ℕ) × (screens.saying.waits ≡ Some at) × (at ≤ now + 1000))
+
+-- so long at most, where it waits
+abbrev pub WaitsBriefly : Option ℕ → ℕ → Type 0
+WaitsBriefly waits now = IfSome waits (λ at. at ≤ now + 1000)
 
 -- when a line feed is due after silence
 abbrev pub idles_at : Screens → ℕ

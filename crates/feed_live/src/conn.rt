@@ -1,7 +1,9 @@
 //! One screen's connection, as the turn keeps it beside its socket.
 
-ghost use Rattle.std.specs.Prelude.{◌≡◌, None, IsTrue};
+ghost use Rattle.std.specs.Prelude.{◌≡◌, ◌⊎◌, None, Some, IsTrue, IfSome};
 ghost use Rattle.feed_live.specs.Held.{HasLingered};
+ghost use Rattle.feed_live.specs.Seating.{IsEnded, Lingers};
+ghost use Rattle.feed_live.specs.Waiting.{HasWaited, TakesSlowly};
 
 use crate::times::{LINGER, PATIENCE, ROOM_TIME, SHARE_TIME};
 use feed_hub::Key;
@@ -99,7 +101,9 @@ impl Conn {
 
     /// Whether it takes the text that it has yet to take so slowly that it would need more than
     /// `SHARE_TIME` for all of it.
-    pub(crate) fn is_slow(&self, now: u64) -> bool {
+    pub(crate) fn is_slow(&self, now: u64) -> bool
+        ensures { IsTrue result → TakesSlowly self.now now }
+    {
         let time = now.saturating_sub(self.owed_since);
         let share = (self.owes as u64).saturating_mul(time);
         time >= PATIENCE && self.took.saturating_mul(SHARE_TIME) < share
@@ -160,7 +164,9 @@ impl Conn {
     }
 
     /// Whether its request has waited for room for long enough.
-    pub(crate) fn is_overdue(&self, now: u64) -> bool {
+    pub(crate) fn is_overdue(&self, now: u64) -> bool
+        ensures { IsTrue result → HasWaited self.now.wait now }
+    {
         match self.wait {
             Some(wait) => {
                 wait.wanted == Wanted::Answer && wait.since.saturating_add(ROOM_TIME) <= now
@@ -188,7 +194,8 @@ impl Conn {
 
     /// The peer sends no more.
     pub(crate) fn end_input(&mut self, now: u64)
-        ensures { self.new.key ≡ self.old.key }
+        ensures key { self.new.key ≡ self.old.key }
+        ensures stage { self.new.stage ≡ self.old.stage }
     {
         if self.stage == Stage::Watches || self.wait.is_some() {
             self.ended = Some(now);
@@ -242,7 +249,10 @@ impl Conn {
         &self,
         other: Option<(u64, usize)>,
         at: usize,
-    ) -> Option<(u64, usize)> {
+    ) -> Option<(u64, usize)>
+        ensures { (result ≡ other)
+            ⊎ IfSome result (λ found. (found.1 ≡ at) × Lingers self.now.stage) }
+    {
         let Stage::Lingers { until, .. } = self.stage else {
             return other;
         };
@@ -253,7 +263,10 @@ impl Conn {
     }
 
     /// The one of two screens that sent its end first, and when: another one, and this one.
-    pub(crate) fn ended_before(&self, other: Option<(u64, Key)>) -> Option<(u64, Key)> {
+    pub(crate) fn ended_before(&self, other: Option<(u64, Key)>) -> Option<(u64, Key)>
+        ensures { (result ≡ other)
+            ⊎ IfSome result (λ found. IsEnded (Some self.now) found.1) }
+    {
         let (Some(ended), Some(key)) = (self.ended, self.key) else {
             return other;
         };

@@ -1,5 +1,9 @@
 //! What a relay counts, for those who watch it.
 
+ghost use Rattle.std.specs.Prelude.{◌≡◌};
+ghost use Rattle.slab.specs.Slab.{slab_len};
+ghost use Rattle.feed_live.specs.Answering.{is_answering};
+
 mod reasons;
 
 use crate::conn::{Conn, Stage};
@@ -144,7 +148,9 @@ impl FeedFigures {
     }
 
     /// Reports that changes of a server wait for a token for long, once for each connection.
-    pub(crate) fn warn(&mut self, desk: &mut Desk, server: usize) {
+    pub(crate) fn warn(&mut self, desk: &mut Desk, server: usize)
+        ensures { desk.new.time ≡ desk.old.time }
+    {
         let Some(at) = self.warns_at() else {
             return;
         };
@@ -403,7 +409,9 @@ impl Live {
     }
 
     /// How many screens there are.
-    pub fn screens_open(&self) -> usize {
+    pub fn screens_open(&self) -> usize
+        ensures { result ≡ slab_len self.now.screens.conns }
+    {
         self.screens.conns.len()
     }
 
@@ -414,7 +422,9 @@ impl Live {
     }
 
     /// Whether a request that came long enough ago for everything is answered with it.
-    pub fn is_answering(&self) -> bool {
+    pub fn is_answering(&self) -> bool
+        ensures { result ≡ is_answering self.now.source }
+    {
         self.source.is_heard() && self.source.node().token().is_some()
     }
 

@@ -39,6 +39,7 @@ pub(crate) fn hand<S: Sockets>(
     ensures others { OtherSockets (S.socket sockets.old) (S.socket sockets.new) at }
     ensures rest { IfOk result (λ _. ChangesOnly hub.old hub.new key) }
     ensures err { OnErr result (hub.new ≡ hub.old) }
+    ensures asks { S.asked sockets.new ≡ S.asked sockets.old }
 {
     let count = sockets.write(at, hub.prefix(key))?;
     hub.sent(key, count, now);

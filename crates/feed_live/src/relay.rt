@@ -1,10 +1,11 @@
 //! What the node has more is said to all screens.
 
-ghost use Rattle.std.specs.Prelude.{◌≡◌, ◌<◌, ◌≤◌, IsTrue, true};
+ghost use Rattle.std.specs.Prelude.{◌≡◌, ◌≢◌, ◌<◌, ◌≤◌, None, IfSome, IsTrue, true};
+ghost use Rattle.slab.specs.Slab.{slab_len};
 ghost use Rattle.feed_node.specs.States.{published_token};
 ghost use Rattle.feed_hub.specs.Seats.{KeepsThose, IsOnTime};
 ghost use Rattle.feed_live.specs.Serving.{StillServesFrom, StillServes, StillStand, SameSeating};
-ghost use Rattle.feed_live.specs.Serving.{AllEnd, SaysAll, idles_at};
+ghost use Rattle.feed_live.specs.Serving.{AllEnd, SaysAll, WaitsBriefly, idles_at};
 
 use crate::desk::Desk;
 use crate::screens::{Counts, Screens};
@@ -56,7 +57,9 @@ impl Screens {
 
     /// Whether what had to wait can be said now: the time has come, or all took what was said. After
     /// memory ran out only the time counts, or the same would be tried again and again.
-    pub(crate) fn says_now(&self, now: u64) -> bool {
+    pub(crate) fn says_now(&self, now: u64) -> bool
+        ensures { IfSome self.now.saying.waits (λ at. at ≤ now → result ≡ true) }
+    {
         match self.saying.waits {
             Some(at) => at <= now || (!self.saying.is_short && !self.is_any_blocked()),
             None => false,
@@ -74,12 +77,13 @@ impl Screens {
 
     /// When there is something to do of which no event will tell.
     pub(crate) fn due(&self, now: u64) -> u64
-        ensures { self.now.has_more ≡ true → result ≡ now }
+        ensures more { self.now.has_more ≡ true → result ≡ now }
+        ensures says { IfSome self.now.saying.waits (λ at. now ≤ at → result ≤ at) }
     {
         if self.has_more || self.says_now(now) {
             return now;
         }
-        let says = self.saying.waits.unwrap_or(u64::MAX);
+        let says = self.says_by();
         if self.is_waited_for {
             says.min(self.accept_at)
         } else {
@@ -87,9 +91,20 @@ impl Screens {
         }
     }
 
+    /// When there is more to say, or never.
+    fn says_by(&self) -> u64
+        ensures { IfSome self.now.saying.waits (λ at. result ≡ at) }
+    {
+        match self.saying.waits {
+            Some(at) => at,
+            None => u64::MAX,
+        }
+    }
+
     /// How many screens there are, where some came or went since that was reported.
     pub(crate) fn report(&mut self) -> Option<Report>
-        ensures { SameSeating self.old self.new }
+        ensures same { SameSeating self.old self.new }
+        ensures pauses { self.new.accept_at ≡ self.old.accept_at }
     {
         self.is_full = false;
         self.is_stuck = false;
@@ -130,6 +145,8 @@ impl Screens {
         ensures serving { StillStand self.old self.new }
         ensures ended { AllEnd self.old.hub → AllEnd self.new.hub }
         ensures once { self.old.saying.is_trimmed ≡ true → self.new ≡ self.old }
+        ensures most { self.new.hub.most ≡ self.old.hub.most }
+        ensures waits { self.new.saying.waits ≡ self.old.saying.waits }
     {
         if !self.saying.is_trimmed {
             self.hub.trim();
@@ -141,10 +158,11 @@ impl Screens {
     pub(crate) fn relay(&mut self, desk: &Desk, node: &Node) -> bool
         ensures serving { StillServes node.now.shown self.old self.new }
         ensures ended { AllEnd self.old.hub → AllEnd self.new.hub }
-        ensures says { SaysAll self.new node.now.shown }
+        ensures says { SaysAll self.new node.now.shown desk.now.time }
+        ensures most { self.new.hub.most ≡ self.old.hub.most }
     {
+        self.saying.waits = None;
         if self.is_at(node) {
-            self.saying.waits = None;
             return false;
         }
         self.trim();
@@ -159,6 +177,10 @@ impl Screens {
     fn skip_unheard(&mut self, desk: &Desk)
         ensures serving { StillStand self.old self.new }
         ensures ended { AllEnd self.old.hub → AllEnd self.new.hub }
+        ensures most { self.new.hub.most ≡ self.old.hub.most }
+        ensures waits { self.new.saying.waits ≡ self.old.saying.waits }
+        // where somebody is there nothing is done
+        ensures stays { slab_len self.old.conns ≢ 0 → self.new ≡ self.old }
     {
         if !self.conns.is_empty() {
             return;
@@ -170,6 +192,9 @@ impl Screens {
     fn say_all(&mut self, desk: &Desk, node: &Node)
         ensures serving { StillServes node.now.shown self.old self.new }
         ensures ended { AllEnd self.old.hub → AllEnd self.new.hub }
+        ensures most { self.new.hub.most ≡ self.old.hub.most }
+        ensures soon { self.old.saying.waits ≡ None
+            → WaitsBriefly self.new.saying.waits desk.now.time }
     {
         for _ in 0..node.kept().saturating_add(2) {
             if !self.say_one(desk, node) {
@@ -181,7 +206,9 @@ impl Screens {
     /// What isn't said yet is said in the next turn, unless it waits for longer.
     fn wait_for_rest(&mut self, node: &Node, now: u64)
         ensures same { SameSeating self.old self.new }
-        ensures says { SaysAll self.new node.now.shown }
+        ensures says { WaitsBriefly self.old.saying.waits now
+            → SaysAll self.new node.now.shown now }
+        ensures most { self.new.hub.most ≡ self.old.hub.most }
     {
         if self.saying.waits.is_none() && !self.is_at(node) {
             self.saying.waits = Some(now);
@@ -192,8 +219,11 @@ impl Screens {
     fn say_one(&mut self, desk: &Desk, node: &Node) -> bool
         ensures serving { StillServes node.now.shown self.old self.new }
         ensures ended { AllEnd self.old.hub → AllEnd self.new.hub }
+        ensures most { self.new.hub.most ≡ self.old.hub.most }
+        ensures soon { self.old.saying.waits ≡ None
+            → WaitsBriefly self.new.saying.waits desk.now.time }
+        ensures goes_on { result ≡ true → self.new.saying.waits ≡ self.old.saying.waits }
     {
-        self.saying.waits = None;
         self.saying.is_short = false;
         match self.hub.say_next(desk.alloc, node) {
             Ok(Said::Looked(Pulled::More)) => {
@@ -220,6 +250,7 @@ impl Screens {
     fn spoke(&mut self, now: u64)
         ensures same { SameSeating self.old self.new }
         ensures spoke { self.new.saying.spoke ≡ now }
+        ensures waits { self.new.saying.waits ≡ self.old.saying.waits }
     {
         self.saying.is_due = true;
         self.saying.spoke = now;
@@ -229,6 +260,8 @@ impl Screens {
     pub(crate) fn end_feeds(&mut self, desk: &Desk)
         ensures serving { StillStand self.old self.new }
         ensures ended { AllEnd self.new.hub }
+        ensures most { self.new.hub.most ≡ self.old.hub.most }
+        ensures waits { self.new.saying.waits ≡ self.old.saying.waits }
     {
         let (was_said, bodies) = (self.has_said(), self.following());
         // Who there was no memory for is cut.
@@ -241,6 +274,7 @@ impl Screens {
     pub(crate) fn drain_due<S: Sockets>(&mut self, desk: &mut Desk, sockets: &mut S, node: &Node)
         ensures serving { StillServesFrom node.now.shown self.old self.new
             (S.socket sockets.old) (S.socket sockets.new) }
+        ensures asks { S.asked sockets.new ≡ S.asked sockets.old }
     {
         if !self.saying.is_due {
             return;
@@ -290,6 +324,7 @@ impl Screens {
     /// is gone altogether refuses it, and so leaves as soon as it has.
     pub(crate) fn probe_at(&mut self, desk: &Desk, at: usize)
         ensures serving { StillStand self.old self.new }
+        ensures conns { self.new.conns ≡ self.old.conns }
     {
         let Some(conn) = self.conns.get(at) else {
             return;

@@ -268,6 +268,7 @@ impl Screens {
         // whoever has not stays
         ensures stays { (at : ℕ) → ¬ (IsPast (get self.old.conns at) desk.old.time)
             → get self.new.conns at ≡ get self.old.conns at }
+        ensures asks { S.asked sockets.new ≡ S.asked sockets.old }
     {
         for at in 0..self.conns.capacity() {
             if self.is_past(at, desk.time) {

@@ -1,6 +1,6 @@
 //! The server that is followed, and the mirror of what it sends.
 
-ghost use Rattle.std.specs.Prelude.{◌≡◌, ◌<◌, [], None, Some, false};
+ghost use Rattle.std.specs.Prelude.{◌≡◌, ◌≢◌, ◌<◌, [], None, Some, false, true};
 
 mod connecting;
 mod input;
@@ -209,7 +209,8 @@ impl Source {
 
     /// Whether there is a server to be asked.
     pub(crate) fn has_servers(&self) -> bool
-        ensures { self.now.places.items ≡ [] → result ≡ false }
+        ensures none { self.now.places.items ≡ [] → result ≡ false }
+        ensures some { self.now.places.items ≢ [] → result ≡ true }
     {
         !self.places.is_empty()
     }

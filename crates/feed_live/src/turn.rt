@@ -1,10 +1,11 @@
 //! The turn.
 
-ghost use Rattle.std.specs.Prelude.{◌≡◌, ◌≢◌, ◌≤◌, ◌+◌, ◌-◌, ◌^◌, [], List, ℕ, min, Some, Contains, IfSome, false, true};
+ghost use Rattle.std.specs.Prelude.{◌≡◌, ◌≢◌, ◌≤◌, ◌+◌, ◌-◌, ◌^◌, ◌⊎◌, [], List, ℕ, min, None, Some, Contains, IfSome, false, true};
 ghost use Rattle.feed_settings.specs.Limits.{Limits};
 ghost use Rattle.feed_node.specs.States.{NodeState};
 ghost use Rattle.feed_world.specs.Log.{Log};
 ghost use Rattle.feed_hub.specs.Laws.{IsInLog};
+ghost use Rattle.feed_device.specs.Calls.{CalledAtLeastOnce};
 ghost use Rattle.feed_device.specs.Links.{Exchanges};
 ghost use Rattle.feed_device.specs.Sockets.{AllSockets, IsUnused};
 ghost use Rattle.feed_live.specs.Upstream.{Servers};
@@ -71,6 +72,8 @@ impl Live {
     ghost use Rattle.feed_live.specs.Saved.{SameSaved};
     ghost use Rattle.feed_live.specs.Owed.{OwesWhatIsKept};
     ghost use Rattle.feed_live.specs.Running.{IsOver, IsSameRelay};
+    ghost use Rattle.feed_live.specs.Waiting.{TakesNobody};
+    ghost use Rattle.feed_live.specs.Ending.{EndsWithInput};
 
     /// A relay that starts from what the state files had.
     pub fn new<D: Store>(
@@ -105,6 +108,11 @@ impl Live {
         ensures had { (D.files store.new).had ≡ (D.files store.old).had }
         ensures contest { result.contest ≡ contest }
         ensures feeds { start.places.items ≡ [] → result.feeds ≡ true }
+        // it shows what was restored, has room for as many screens as it may have, and no end
+        ensures shown { result.source.answers.shown.mirror.node ≡ start.restored.mirror.node }
+        ensures most { result.screens.hub.most ≡ limits.screens }
+        ensures limits { result.limits ≡ limits }
+        ensures goes_on { result.ends_at ≡ None }
     {
         let Start {
             places,
@@ -211,11 +219,22 @@ impl Live {
         // where some screen has more to read or to write, the next turn is due at once
         ensures wakes { self.new.screens.has_more ≡ true → result.due ≤ now }
 
+        // where something waits to be said, it is due at that time
+        ensures says { IfSome self.new.screens.saying.waits (λ at. now ≤ at → result.due ≤ at) }
+
         // a minute after the number of screens was reported last, at the latest
         ensures awake { result.due ≤ min (self.new.reported + 60000) (2 ^ 64 - 1) }
 
         // what counts as owed is what connections have yet to take, and nothing where there is none
         ensures owed { OwesWhatIsKept self.new.screens }
+
+        // where somebody waits to be taken, one is asked for at least, unless none is taken for now
+        ensures asks { Contains events.now Ready.Listener
+            → CalledAtLeastOnce (S.asked devices.old.sockets) (S.asked devices.new.sockets)
+            ⊎ TakesNobody self.new.screens now }
+
+        // nothing but the end of its input sets an end to it
+        ensures ends { EndsWithInput self.old self.new input.entry }
 
         // it is the last one only where the relay ends with its input, and that is over
         ensures over { result.is_over ≡ true → IsOver self.new now }
@@ -233,7 +252,7 @@ impl Live {
         self.screens
             .drain_due(&mut self.desk, &mut devices.sockets, node);
         self.serve(&mut devices.sockets, events, had_more);
-        self.screens.accept(&mut self.desk, &mut devices.sockets);
+        self.accept(&mut devices.sockets, events, now);
         self.next(now)
     }
 
@@ -262,7 +281,8 @@ impl Live {
         ensures saved { SameSaved self.old self.new }
     {
         match event {
-            Ready::Listener => self.screens.is_waited_for = true,
+            // Who waits is taken at the end of the turn.
+            Ready::Listener => {}
             Ready::Link => self.source.wake(),
             Ready::Screen {
                 at,
@@ -275,10 +295,12 @@ impl Live {
     /// What comes next.
     fn next(&mut self, now: u64) -> Turn
         ensures wakes { self.new.screens.has_more ≡ true → result.due ≤ now }
+        ensures says { IfSome self.new.screens.saying.waits (λ at. now ≤ at → result.due ≤ at) }
         ensures awake { result.due ≤ min (self.new.reported + 60000) (2 ^ 64 - 1) }
         ensures serves { (sockets : AllSockets) → OnlyServes self.old self.new sockets sockets }
         ensures saved { SameSaved self.old self.new }
         ensures over { result.is_over ≡ true → IsOver self.new now }
+        ensures pauses { self.new.screens.accept_at ≡ self.old.screens.accept_at }
     {
         self.report();
         Turn {
@@ -314,6 +336,7 @@ impl Live {
     /// When the next turn is due at the latest.
     fn due(&self, now: u64) -> u64
         ensures wakes { self.now.screens.has_more ≡ true → result ≤ now }
+        ensures says { IfSome self.now.screens.saying.waits (λ at. now ≤ at → result ≤ at) }
         ensures awake { result ≤ min (self.now.reported + 60000) (2 ^ 64 - 1) }
     {
         let mut due = self.reported.saturating_add(SCREENS_REPORT);

@@ -1,13 +1,14 @@
 //! What they ask: requests are read, heard and answered.
 
-ghost use Rattle.std.specs.Prelude.{◌≡◌, ◌≤◌, ◌-◌, ℕ, List, None, Some, Contains, length, false, IfOk, IfSome};
+ghost use Rattle.std.specs.Prelude.{◌≡◌, ◌≤◌, ◌-◌, ℕ, List, None, Some, Ok, Contains, length, false, IfOk, IfSome};
 ghost use Rattle.slab.specs.Slab.{get};
 ghost use Rattle.feed_node.specs.States.{NodeState};
 ghost use Rattle.feed_hub.specs.Seats.{seat_at, IsAskingSeat};
 ghost use Rattle.feed_device.specs.Sockets.{AllSockets};
 ghost use Rattle.feed_live.specs.Serving.{ServesScreens, StillServing, StillServesAll, StillAnswers};
 ghost use Rattle.feed_live.specs.Serving.{ServesBut, HasKey, HearsSome, HearsAll, SameSeating, SameKeys, key_at};
-ghost use Rattle.feed_live.specs.Held.{answerer, SameMirrors, Waits};
+ghost use Rattle.feed_live.specs.declared.conn.Stage.TheVariants.{Watches};
+ghost use Rattle.feed_live.specs.Held.{answerer, IsAt, SameMirrors, Waits};
 
 use crate::conn::Stage;
 use crate::desk::Desk;
@@ -41,6 +42,7 @@ impl Screens {
         ensures waits { Waits (get self.old.conns at) shown.now.is_held shown.now.hold desk.old.time
             → sockets.new ≡ sockets.old }
         ensures mirrors { SameMirrors answers.old answers.new }
+        ensures asks { S.asked sockets.new ≡ S.asked sockets.old }
     {
         self.read(desk, sockets, answers, shown, at);
         self.drain(desk, sockets, answers.shown.node(), at);
@@ -88,6 +90,7 @@ impl Screens {
         ensures waits { Waits (get self.old.conns at) shown.now.is_held shown.now.hold desk.old.time
             → (self.new ≡ self.old) × (sockets.new ≡ sockets.old) × (answers.new ≡ answers.old) }
         ensures mirrors { SameMirrors answers.old answers.new }
+        ensures asks { S.asked sockets.new ≡ S.asked sockets.old }
     {
         if !self.may_read(shown, at, desk.time) {
             return;
@@ -117,6 +120,10 @@ impl Screens {
     fn end_of_input<S: Sockets>(&mut self, desk: &mut Desk, sockets: &mut S, at: usize)
         ensures serving { StillServesAll self.old self.new
             (S.socket sockets.old) (S.socket sockets.new) }
+        ensures asks { S.asked sockets.new ≡ S.asked sockets.old }
+        // who is sent something is sent all of it
+        ensures stays { IsAt (get self.old.conns at) Watches
+            → key_at self.new.conns at ≡ key_at self.old.conns at }
     {
         self.has_ended(at, desk.time);
         if self.wants_answer(at) {
@@ -131,7 +138,9 @@ impl Screens {
 
     /// The peer of the connection at a place sends no more.
     fn has_ended(&mut self, at: usize, now: u64)
-        ensures { SameSeating self.old self.new }
+        ensures same { SameSeating self.old self.new }
+        ensures stage { (stage : Stage) → IsAt (get self.old.conns at) stage
+            → IsAt (get self.new.conns at) stage }
     {
         if let Some(conn) = self.conns.get_mut(at) {
             conn.has_input = false;
@@ -139,7 +148,9 @@ impl Screens {
         }
     }
 
-    fn stage(&self, at: usize) -> Option<Stage> {
+    fn stage(&self, at: usize) -> Option<Stage>
+        ensures { (stage : Stage) → IsAt (get self.now.conns at) stage → result ≡ Some stage }
+    {
         match self.conns.get(at) {
             Some(conn) => Some(conn.stage),
             None => None,
@@ -182,6 +193,10 @@ impl Screens {
         ensures serving { (nodes : List NodeState) (contest : List ℕ)
             → HearsAll nodes contest self.old (S.socket sockets.old) at heard
             → ServesScreens nodes contest self.new.hub self.new.conns (S.socket sockets.new) }
+        // of who goes on nothing is ended
+        ensures goes { heard ≡ Ok Hearing.Goes
+            → (self.new ≡ self.old) × (sockets.new ≡ sockets.old) }
+        ensures asks { S.asked sockets.new ≡ S.asked sockets.old }
     {
         match heard {
             Ok(Hearing::Goes) => {}
@@ -326,6 +341,7 @@ impl Screens {
         ensures serving { StillAnswers answers.old shown.now.contest.now self.old self.new
             (S.socket sockets.old) (S.socket sockets.new) }
         ensures mirrors { SameMirrors answers.old answers.new }
+        ensures asks { S.asked sockets.new ≡ S.asked sockets.old }
     {
         self.serve_waiting(desk, sockets, answers, shown);
         for at in 0..self.conns.capacity() {

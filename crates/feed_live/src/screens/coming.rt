@@ -1,11 +1,15 @@
 //! Who comes: each gets a seat, or is refused.
 
-ghost use Rattle.std.specs.Prelude.{◌≡◌, ◌≢◌, ◌≤◌, ◌+◌, ◌-◌, ◌^◌, ◌⊎◌, [], ℕ, List, None, Some, Err, min, false, true, IsTrue};
+ghost use Rattle.std.specs.Prelude.{◌≡◌, ◌≢◌, ◌<◌, ◌≤◌, ◌+◌, ◌-◌, ◌^◌, ◌⊎◌, [], ℕ, List, None, Some, Err, min, false, true, IsTrue, IfSome, IsSome, IsOk};
+ghost use Rattle.slab.specs.Slab.{get};
 ghost use Rattle.feed_node.specs.States.{NodeState};
+ghost use Rattle.feed_hub.specs.Seats.{seat_at};
 ghost use Rattle.feed_device.specs.Calls.{CalledOnce, CalledAtLeastOnce};
 ghost use Rattle.feed_device.specs.Sockets.{opened, former_of, IsSocket, OtherSockets};
 ghost use Rattle.feed_live.specs.Serving.{StillServesAll, StillServingWith, StillStand, SameSeating, IsSent};
-ghost use Rattle.feed_live.specs.Serving.{IsGreeted, key_at};
+ghost use Rattle.feed_live.specs.Serving.{IsGreeted, HasNoSeat, key_at};
+ghost use Rattle.feed_live.specs.Waiting.{IsSlow, RefusesAt};
+ghost use Rattle.feed_live.specs.Seating.{HasFreeSeat, HasNewKey, HasSentEnd, IsLingering};
 
 use crate::conn::{Conn, Stage};
 use crate::desk::Desk;
@@ -24,34 +28,35 @@ const FURTHER: usize = 8;
 
 impl Screens {
     /// Takes who waits.
-    pub(crate) fn accept<S: Sockets>(&mut self, desk: &mut Desk, sockets: &mut S)
+    pub(crate) fn accept<S: Sockets>(&mut self, desk: &mut Desk, sockets: &mut S, now: u64)
         ensures serving { StillServesAll self.old self.new
             (S.socket sockets.old) (S.socket sockets.new) }
         // where somebody waits and the time has come, one is asked for at least; or memory ran out,
         // and it pauses
-        ensures asks { self.old.is_waited_for ≡ true → self.old.accept_at ≤ desk.old.time
+        ensures asks { self.old.is_waited_for ≡ true → self.old.accept_at ≤ now
             → CalledAtLeastOnce (S.asked sockets.old) (S.asked sockets.new)
-            ⊎ (self.new.accept_at ≡ min (desk.old.time + 1000) (2 ^ 64 - 1)) }
+            ⊎ (self.new.accept_at ≡ min (now + 1000) (2 ^ 64 - 1)) }
+        // before that time nothing is done
+        ensures pauses { now < self.old.accept_at → self.new ≡ self.old }
     {
-        if !self.is_waited_for || desk.time < self.accept_at {
+        if !self.is_waited_for || now < self.accept_at {
             return;
         }
         self.sweep(desk, sockets);
         for _ in 0..ACCEPTS {
-            if !self.accept_next(desk, sockets) {
+            if !self.accept_next(desk, sockets, now) {
                 return;
             }
         }
     }
 
     /// Takes one. Whether there may be more.
-    fn accept_next<S: Sockets>(&mut self, desk: &mut Desk, sockets: &mut S) -> bool
+    fn accept_next<S: Sockets>(&mut self, desk: &mut Desk, sockets: &mut S, now: u64) -> bool
         ensures serving { StillServesAll self.old self.new
             (S.socket sockets.old) (S.socket sockets.new) }
         ensures asks { result ≡ true → CalledOnce (S.asked sockets.old) (S.asked sockets.new) }
         ensures stops { result ≡ false → CalledOnce (S.asked sockets.old) (S.asked sockets.new)
-            ⊎ (self.new.accept_at ≡ min (desk.old.time + 1000) (2 ^ 64 - 1)) }
-        ensures time { desk.new.time ≡ desk.old.time }
+            ⊎ (self.new.accept_at ≡ min (now + 1000) (2 ^ 64 - 1)) }
     {
         self.make_place(desk, sockets);
         match self.accept_one(desk, sockets) {
@@ -62,7 +67,7 @@ impl Screens {
                 false
             }
             Err(Stop::Failed) => {
-                self.stick(desk);
+                self.stick(desk, now);
                 false
             }
         }
@@ -79,6 +84,10 @@ impl Screens {
         ensures serving { StillServesAll self.old self.new
             (S.socket sockets.old) (S.socket sockets.new) }
         ensures asks { S.asked sockets.new ≡ S.asked sockets.old }
+        // whoever has a seat, and does not linger, stays
+        ensures stays { (at : ℕ) → ¬ (HasNoSeat self.old.hub (get self.old.conns at))
+            → ¬ (IsLingering (get self.old.conns at))
+            → get self.new.conns at ≡ get self.old.conns at }
         ensures time { desk.new.time ≡ desk.old.time }
     {
         if !self.has_no_place() {
@@ -91,7 +100,9 @@ impl Screens {
     }
 
     /// The place of the connection that has lingered for longest.
-    fn longest_lingering(&self) -> Option<usize> {
+    fn longest_lingering(&self) -> Option<usize>
+        ensures { IfSome result (λ at. IsLingering (get self.now.conns at)) }
+    {
         let mut longest: Option<(u64, usize)> = None;
         for at in 0..self.conns.capacity() {
             if let Some(conn) = self.conns.get(at) {
@@ -102,12 +113,11 @@ impl Screens {
     }
 
     /// No connection is taken for a while.
-    fn stick(&mut self, desk: &mut Desk)
+    fn stick(&mut self, desk: &mut Desk, now: u64)
         ensures same { SameSeating self.old self.new }
-        ensures pause { self.new.accept_at ≡ min (desk.old.time + 1000) (2 ^ 64 - 1) }
-        ensures time { desk.new.time ≡ desk.old.time }
+        ensures pause { self.new.accept_at ≡ min (now + 1000) (2 ^ 64 - 1) }
     {
-        self.accept_at = desk.time.saturating_add(ACCEPT_PAUSE);
+        self.accept_at = now.saturating_add(ACCEPT_PAUSE);
         if !self.is_stuck {
             desk.reports.add(Report::NoAccept);
         }
@@ -120,6 +130,9 @@ impl Screens {
         // one is asked for, unless memory for it ran out
         ensures asks { result ≢ Err Stop.Failed
             → CalledOnce (S.asked sockets.old) (S.asked sockets.new) }
+        // where a seat is free, who came has it
+        ensures seated { IsOk result → HasFreeSeat self.old.hub
+            → HasNewKey self.old.conns self.new.conns }
         ensures time { desk.new.time ≡ desk.old.time }
     {
         if self.conns.reserve(1).is_err() {
@@ -139,6 +152,10 @@ impl Screens {
     /// seat to who comes: mostly it went away. Its socket is closed by the next `sweep`.
     fn make_seat(&mut self)
         ensures serving { StillStand self.old self.new }
+        ensures stays { HasFreeSeat self.old.hub → self.new.hub ≡ self.old.hub }
+        // whoever has not sent its end keeps its seat
+        ensures seats { (key : Key) → ¬ (HasSentEnd self.old.conns key)
+            → seat_at self.new.hub.seats.slab key ≡ seat_at self.old.hub.seats.slab key }
         ensures conns { self.new.conns ≡ self.old.conns }
     {
         if !self.hub.is_full() {
@@ -150,7 +167,9 @@ impl Screens {
     }
 
     /// The key of the screen that sent its end first, of those that have a seat.
-    fn first_ended(&self) -> Option<Key> {
+    fn first_ended(&self) -> Option<Key>
+        ensures { IfSome result (HasSentEnd self.now.conns) }
+    {
         let mut first: Option<(u64, Key)> = None;
         for at in 0..self.conns.capacity() {
             if let Some(conn) = self.conns.get(at) {
@@ -178,6 +197,7 @@ impl Screens {
             (S.socket sockets.new at) }
         ensures former { former_of (S.socket sockets.new at) ≡ former_of (S.socket sockets.old at) }
         ensures conns { self.new.conns ≡ self.old.conns }
+        ensures seated { HasFreeSeat self.old.hub → IsSome result.key }
         ensures others { OtherSockets (S.socket sockets.old) (S.socket sockets.new) at }
         ensures time { desk.new.time ≡ desk.old.time }
     {
@@ -225,6 +245,7 @@ impl Screens {
         ensures serving { (nodes : List NodeState) (contest unheard : List ℕ)
             → StillServingWith nodes contest at unheard self.old self.new
             (S.socket sockets.old) (S.socket sockets.new) }
+        ensures asks { S.asked sockets.new ≡ S.asked sockets.old }
     {
         self.refuse_at(desk, sockets, at);
         self.cut_slow(desk, sockets);
@@ -235,6 +256,10 @@ impl Screens {
         ensures serving { (nodes : List NodeState) (contest unheard : List ℕ)
             → StillServingWith nodes contest at unheard self.old self.new
             (S.socket sockets.old) (S.socket sockets.new) }
+        // nobody else is
+        ensures refuses { RefusesAt self.old self.new at }
+        ensures time { desk.new.time ≡ desk.old.time }
+        ensures asks { S.asked sockets.new ≡ S.asked sockets.old }
     {
         let Some(key) = self.asking(at) else {
             return;
@@ -248,6 +273,11 @@ impl Screens {
     pub(crate) fn cut_slow<S: Sockets>(&mut self, desk: &mut Desk, sockets: &mut S)
         ensures serving { StillServesAll self.old self.new
             (S.socket sockets.old) (S.socket sockets.new) }
+        // whoever doesn't stays
+        ensures stays { (at : ℕ) → ¬ (IsSlow (get self.old.conns at) desk.old.time)
+            → get self.new.conns at ≡ get self.old.conns at }
+        ensures time { desk.new.time ≡ desk.old.time }
+        ensures asks { S.asked sockets.new ≡ S.asked sockets.old }
     {
         for at in 0..self.conns.capacity() {
             if self.is_slow(at, desk.time) {
@@ -262,6 +292,9 @@ impl Screens {
         ensures serving { StillServesAll self.old self.new
             (S.socket sockets.old) (S.socket sockets.new) }
         ensures asks { S.asked sockets.new ≡ S.asked sockets.old }
+        // who has a key stays
+        ensures stays { (key : Key) → key_at self.old.conns at ≡ Some (Some key)
+            → self.new ≡ self.old }
         ensures time { desk.new.time ≡ desk.old.time }
     {
         if !self.lingers(at) {

@@ -63,6 +63,7 @@ impl Screens {
         ensures offers { (key : Key) → IsWritable (get self.old.conns at) key
             → prefix_at self.old.hub key ≢ []
             → CalledOnce (S.offered sockets.old at) (S.offered sockets.new at) }
+        ensures asked { S.asked sockets.new ≡ S.asked sockets.old }
     {
         let Some(key) = self.writable(at) else {
             return;
@@ -81,6 +82,7 @@ impl Screens {
             (S.socket sockets.old) (S.socket sockets.new) }
         ensures offers { CalledOnce (S.offered sockets.old keyed.at)
             (S.offered sockets.new keyed.at) }
+        ensures asks { S.asked sockets.new ≡ S.asked sockets.old }
     {
         match self.write_once(sockets, keyed, desk.time) {
             Ok(true) => {
@@ -122,6 +124,7 @@ impl Screens {
             → key_at self.new.conns keyed.at ≡ key_at self.old.conns keyed.at }
         ensures has { prefix_at self.old.hub keyed.key ≢ [] → IsTrue result }
         ensures offers { NotCalled (S.offered sockets.old) (S.offered sockets.new) }
+        ensures asks { S.asked sockets.new ≡ S.asked sockets.old }
     {
         if !self.hub.prefix(keyed.key).is_empty() {
             return true;
@@ -199,6 +202,7 @@ impl Screens {
             → StillServing nodes contest self.old self.new
             (S.socket sockets.old) (S.socket sockets.new) }
         ensures offers { NotCalled (S.offered sockets.old) (S.offered sockets.new) }
+        ensures asks { S.asked sockets.new ≡ S.asked sockets.old }
     {
         self.hub.leave(keyed.key);
         sockets.shut(keyed.at);
@@ -210,6 +214,8 @@ impl Screens {
         ensures key { key_at self.new.conns at ≡ keyless (key_at self.old.conns at) }
         ensures others { (other : ℕ) → other ≢ at
             → key_at self.new.conns other ≡ key_at self.old.conns other }
+        ensures places { (other : ℕ) → other ≢ at
+            → get self.new.conns other ≡ get self.old.conns other }
         ensures hub { self.new.hub ≡ self.old.hub }
     {
         if let Some(conn) = self.conns.get_mut(at) {
@@ -231,6 +237,7 @@ impl Screens {
         ensures keys { key_at self.new.conns keyed.at ≡ key_at self.old.conns keyed.at }
         ensures offers { CalledOnce (S.offered sockets.old keyed.at)
             (S.offered sockets.new keyed.at) }
+        ensures asks { S.asked sockets.new ≡ S.asked sockets.old }
     {
         let length = self.hub.prefix(keyed.key).len();
         let count = match hand(&mut self.hub, sockets, keyed.at, keyed.key, now) {
@@ -258,6 +265,7 @@ impl Screens {
     pub(crate) fn drain_all<S: Sockets>(&mut self, desk: &mut Desk, sockets: &mut S, node: &Node)
         ensures serving { StillServesFrom node.now.shown self.old self.new
             (S.socket sockets.old) (S.socket sockets.new) }
+        ensures asks { S.asked sockets.new ≡ S.asked sockets.old }
     {
         for at in 0..self.conns.capacity() {
             self.drain(desk, sockets, node, at);

@@ -2,12 +2,14 @@
 
 ghost use Rattle.std.specs.Prelude.{◌≡◌, ◌≢◌, ◌<◌, ◌≤◌, ◌↔◌, ◌^◌, ◌-◌, [], ℕ, List, None, Some, min, IsTrue, OnOk};
 ghost use Rattle.feed_node.specs.States.{NodeState};
+ghost use Rattle.feed_hub.specs.Seats.{seat_at};
 ghost use Rattle.feed_device.specs.Sockets.{AllSockets};
 ghost use Rattle.slab.specs.Slab.{get};
 ghost use Rattle.feed_live.specs.Pending.{total, Pays, text_at};
 ghost use Rattle.feed_live.specs.Serving.{StillServesAll, StillAnswers, StillStand, SameSeating};
 ghost use Rattle.feed_live.specs.Serving.{ServesBut, HasKey, HearsAll};
 ghost use Rattle.feed_live.specs.Held.{SameMirrors};
+ghost use Rattle.feed_live.specs.Waiting.{HasNotWaited, IsOverdue, IsSlow, RefusesOne};
 
 use crate::conn::Wanted;
 use crate::desk::Desk;
@@ -81,8 +83,13 @@ impl Screens {
 
     /// Whether the connection at a place has yet to take a text that counts as pending, and takes it
     /// too slowly.
-    pub(crate) fn is_slow(&self, at: usize, now: u64) -> bool {
-        self.pending.has(at) && self.conns.get(at).is_some_and(|conn| conn.is_slow(now))
+    pub(crate) fn is_slow(&self, at: usize, now: u64) -> bool
+        ensures { IsTrue result → IsSlow (get self.now.conns at) now }
+    {
+        match self.conns.get(at) {
+            Some(conn) => self.pending.has(at) && conn.is_slow(now),
+            None => false,
+        }
     }
 
     /// The connection at a place waits for room no more.
@@ -213,6 +220,7 @@ impl Screens {
         ensures serving { StillAnswers answers.old shown.now.contest.now self.old self.new
             (S.socket sockets.old) (S.socket sockets.new) }
         ensures mirrors { SameMirrors answers.old answers.new }
+        ensures asks { S.asked sockets.new ≡ S.asked sockets.old }
     {
         self.serve_first(desk, sockets, answers, shown);
         if answers.shown.has_text() {
@@ -231,6 +239,7 @@ impl Screens {
         ensures serving { StillAnswers answers.old shown.now.contest.now self.old self.new
             (S.socket sockets.old) (S.socket sockets.new) }
         ensures mirrors { SameMirrors answers.old answers.new }
+        ensures asks { S.asked sockets.new ≡ S.asked sockets.old }
     {
         for _ in 0..ANSWERS {
             let Some(at) = self.longest_waiting() else {
@@ -255,6 +264,7 @@ impl Screens {
         ensures serving { StillAnswers answers.old shown.now.contest.now self.old self.new
             (S.socket sockets.old) (S.socket sockets.new) }
         ensures mirrors { SameMirrors answers.old answers.new }
+        ensures asks { S.asked sockets.new ≡ S.asked sockets.old }
     {
         for at in 0..self.conns.capacity() {
             if self.wants_answer(at) {
@@ -286,6 +296,7 @@ impl Screens {
         ensures serving { StillAnswers answers.old shown.now.contest.now self.old self.new
             (S.socket sockets.old) (S.socket sockets.new) }
         ensures mirrors { SameMirrors answers.old answers.new }
+        ensures asks { S.asked sockets.new ≡ S.asked sockets.old }
     {
         self.answer_at(desk, sockets, answers, shown, at);
         self.drain(desk, sockets, answers.shown.node(), at);
@@ -303,6 +314,7 @@ impl Screens {
         ensures serving { StillAnswers answers.old shown.now.contest.now self.old self.new
             (S.socket sockets.old) (S.socket sockets.new) }
         ensures mirrors { SameMirrors answers.old answers.new }
+        ensures asks { S.asked sockets.new ≡ S.asked sockets.old }
     {
         let Some(key) = self.asking(at) else {
             return;
@@ -311,33 +323,55 @@ impl Screens {
         self.heed(desk, sockets, at, heard);
     }
 
-    /// Tells those that there are too many whose requests have waited for long enough, and cuts those
-    /// who take their texts too slowly while somebody waits still.
+    /// Tells those that there are too many whose requests have waited for long enough.
     pub(crate) fn refuse_overdue<S: Sockets>(&mut self, desk: &mut Desk, sockets: &mut S)
         ensures serving { StillServesAll self.old self.new
             (S.socket sockets.old) (S.socket sockets.new) }
+        // whoever has not waited for so long stays, with its seat
+        ensures stays { (at : ℕ) → ¬ (IsOverdue (get self.old.conns at) desk.old.time)
+            → get self.new.conns at ≡ get self.old.conns at }
+        ensures seats { (key : Key) → HasNotWaited self.old.conns key desk.old.time
+            → seat_at self.new.hub.seats.slab key ≡ seat_at self.old.hub.seats.slab key }
+        ensures time { desk.new.time ≡ desk.old.time }
+        ensures asks { S.asked sockets.new ≡ S.asked sockets.old }
     {
         if !self.is_waited {
             return;
         }
         for at in 0..self.conns.capacity() {
-            if self.is_overdue(at, desk.time) {
-                self.refuse_waiting(desk, sockets, at);
-            }
+            self.refuse_waiting(desk, sockets, at);
         }
         self.is_waited = self.somebody_waits();
+    }
+
+    /// Tells the connection at a place that there are too many, where its request has waited for long
+    /// enough.
+    fn refuse_waiting<S: Sockets>(&mut self, desk: &mut Desk, sockets: &mut S, at: usize)
+        ensures serving { StillServesAll self.old self.new
+            (S.socket sockets.old) (S.socket sockets.new) }
+        ensures refuses { RefusesOne self.old self.new at desk.old.time }
+        ensures time { desk.new.time ≡ desk.old.time }
+        ensures asks { S.asked sockets.new ≡ S.asked sockets.old }
+    {
+        if self.is_overdue(at, desk.time) {
+            self.refuse_at(desk, sockets, at);
+        }
+    }
+
+    /// Cuts those who take their texts too slowly while somebody waits for room.
+    pub(crate) fn cut_for_room<S: Sockets>(&mut self, desk: &mut Desk, sockets: &mut S)
+        ensures serving { StillServesAll self.old self.new
+            (S.socket sockets.old) (S.socket sockets.new) }
+        // whoever isn't slow stays
+        ensures stays { (at : ℕ) → ¬ (IsSlow (get self.old.conns at) desk.old.time)
+            → get self.new.conns at ≡ get self.old.conns at }
+        ensures time { desk.new.time ≡ desk.old.time }
+        ensures asks { S.asked sockets.new ≡ S.asked sockets.old }
+    {
         if self.is_waited {
             self.has_more = true;
             self.cut_slow(desk, sockets);
         }
-    }
-
-    /// Tells the connection at a place, whose request waits, that there are too many.
-    fn refuse_waiting<S: Sockets>(&mut self, desk: &mut Desk, sockets: &mut S, at: usize)
-        ensures serving { StillServesAll self.old self.new
-            (S.socket sockets.old) (S.socket sockets.new) }
-    {
-        self.refuse_at(desk, sockets, at);
     }
 
     /// Whether somebody waits for room.
@@ -350,7 +384,12 @@ impl Screens {
         false
     }
 
-    fn is_overdue(&self, at: usize, now: u64) -> bool {
-        self.conns.get(at).is_some_and(|conn| conn.is_overdue(now))
+    fn is_overdue(&self, at: usize, now: u64) -> bool
+        ensures { IsTrue result → IsOverdue (get self.now.conns at) now }
+    {
+        match self.conns.get(at) {
+            Some(conn) => conn.is_overdue(now),
+            None => false,
+        }
     }
 }

@@ -17,7 +17,7 @@ use feed_node::Mirror;
 use std::alloc::{AllocError, Global};
 
 impl Source {
-    ghost use Rattle.feed_live.specs.Relaying.{StillFollows, SameSource, WasLeft, GoesOnTo, servers_of};
+    ghost use Rattle.feed_live.specs.Relaying.{StillFollows, SameSource, WasLeft, GoesOnTo, IsToConnect, servers_of};
     ghost use Rattle.feed_live.specs.Upstream.{IsRequestOf, IsRequestWith, asked_with};
     ghost use Rattle.feed_live.specs.declared.source.Reach.TheVariants.{Away, Asks as Asked};
     ghost use Rattle.feed_live.specs.declared.screens.Screens.{Screens};
@@ -58,6 +58,11 @@ impl Source {
         ensures follows { (screens : Screens) → StillFollows self.old self.new
             (L.exchanges link.old) (L.exchanges link.new) self.old.rest.items
             self.new.rest.items screens screens }
+        // where there is no connection, and one is due, it is begun, once; or memory ran out, and the
+        // next place is asked after that
+        ensures begins { IsToConnect self.old desk.old.time
+            → CalledOnce (L.begun link.old) (L.begun link.new)
+            ⊎ ((L.begun link.new ≡ L.begun link.old) × GoesOnTo self.old self.new desk.old.time) }
     {
         self.leave_due(desk, link, idle);
         self.hear_quiet(desk);
@@ -71,7 +76,13 @@ impl Source {
         ensures follows { (screens : Screens) → StillFollows self.old self.new
             (L.exchanges link.old) (L.exchanges link.new) self.old.rest.items
             self.new.rest.items screens screens }
+        // none is left where there is none
+        ensures away { self.old.reach ≡ Away → (self.new ≡ self.old)
+            × (L.begun link.new ≡ L.begun link.old) × (desk.new.time ≡ desk.old.time) }
     {
+        if self.reach == Reach::Away {
+            return;
+        }
         match self.leaves(idle, desk.time) {
             Some(why) => self.lost(desk, link, why),
             None => {
@@ -99,7 +110,9 @@ impl Source {
     /// A server that answers counts as heard after a while, though it publishes nothing. Where what
     /// it sends has no tokens, that is reported.
     fn hear_quiet(&mut self, desk: &mut Desk)
-        ensures { SameSource self.old self.new }
+        ensures same { SameSource self.old self.new }
+        ensures upstream { self.new.upstream ≡ self.old.upstream }
+        ensures time { desk.new.time ≡ desk.old.time }
     {
         self.figures.warn(desk, self.upstream.place());
         if let Some(at) = self.heard_at() {

@@ -21,6 +21,7 @@ impl Source {
     pub(crate) fn begin_input(&mut self, feeds: bool, now: u64)
         ensures same { feeds ≡ false → SameSource self.old self.new }
         ensures begins { feeds ≡ true → BeginsInput self.old self.new }
+        ensures node { self.new.answers.shown.mirror.node ≡ self.old.answers.shown.mirror.node }
     {
         if !feeds {
             return;
@@ -149,7 +150,8 @@ impl Source {
             screens.old screens.new result }
         ensures stops { (next : List ℕ) → TakesOrStops self.old self.new (line.now ++ next) next
             result }
-        ensures says { OnOk result (SaysAll screens.new self.new.answers.shown.mirror.node) }
+        ensures says { OnOk result
+            (SaysAll screens.new self.new.answers.shown.mirror.node desk.now.time) }
         ensures servers { servers_of self.new ≡ servers_of self.old }
         ensures rest { self.new.rest.items ≡ self.old.rest.items }
     {

@@ -312,8 +312,9 @@ impl Source {
             → IsSome self.old.answers.shown.mirror.since
             → self.new.epoch ≡ min (self.old.epoch + 1) (2 ^ 64 - 1) }
         ensures ended { self.new.epoch ≢ self.old.epoch → AllEnd screens.new.hub }
+        ensures stays { self.old.is_fresh ≡ false → self.new.epoch ≡ self.old.epoch }
         ensures says { self.old.coming ≡ None
-            → SaysAll screens.new self.new.answers.shown.mirror.node }
+            → SaysAll screens.new self.new.answers.shown.mirror.node desk.new.time }
     {
         self.report_twice(desk);
         if self.coming.is_some() {
@@ -337,6 +338,9 @@ impl Source {
         ensures afresh { self.old.is_fresh ≡ true → IsSome self.old.answers.shown.mirror.since
             → self.new.epoch ≡ min (self.old.epoch + 1) (2 ^ 64 - 1) }
         ensures ended { self.new.epoch ≢ self.old.epoch → AllEnd screens.new.hub }
+        // else nothing ends
+        ensures stays { self.old.is_fresh ≡ false
+            → (self.new ≡ self.old) × (screens.new ≡ screens.old) }
     {
         if self.is_fresh && self.answers.shown.mirror().since().is_some() {
             self.is_fresh = false;
@@ -375,7 +379,7 @@ impl Source {
         ensures same { SameSource self.old self.new }
         ensures epoch { self.new.epoch ≡ self.old.epoch }
         ensures serves { StillServes self.old.answers.shown.mirror.node screens.old screens.new }
-        ensures says { SaysAll screens.new self.new.answers.shown.mirror.node }
+        ensures says { SaysAll screens.new self.new.answers.shown.mirror.node desk.now.time }
     {
         screens.relay(desk, self.answers.shown.node());
     }

@@ -1,7 +1,8 @@
 //! The part of a turn that follows: the input, or a server; and writes the state file.
 
-ghost use Rattle.std.specs.Prelude.{◌≡◌, ◌≢◌, [], List, Contains};
+ghost use Rattle.std.specs.Prelude.{◌≡◌, ◌≢◌, ◌⊎◌, [], List, ℕ, ◌≤◌, Some, Contains, IfSome, false};
 ghost use Rattle.feed_node.specs.States.{NodeState};
+ghost use Rattle.feed_device.specs.Calls.{CalledAtLeastOnce};
 ghost use Rattle.feed_device.specs.Files.{IsKnown};
 ghost use Rattle.feed_device.specs.Links.{Exchanges};
 ghost use Rattle.feed_device.specs.Sockets.{AllSockets};
@@ -11,12 +12,20 @@ use crate::turn::{Input, Live};
 use feed_device::{Link, Report, Store};
 
 impl Live {
-    ghost use Rattle.feed_live.specs.Relaying.{StillRelaying, OnlyServes};
+    ghost use Rattle.feed_live.specs.Relaying.{StillRelaying, OnlyServes, SameEnd};
+    ghost use Rattle.feed_live.specs.Ending.{EndsWithInput};
+    ghost use Rattle.feed_live.specs.Serving.{SaysAll};
     ghost use Rattle.feed_live.specs.Taking.{StillTaking, StopsTaking, bytes_in};
     ghost use Rattle.feed_live.specs.Saved.{ArePartsOfRecords, KeepsFiles, SameSaved};
+    ghost use Rattle.feed_live.specs.Writing.{HasFailed, IsToWrite};
+    ghost use Rattle.feed_live.specs.declared.saved.Saved.{Saved};
 
     /// Says what had to wait.
     pub(super) fn say_more(&mut self)
+        // once it has waited for so long
+        ensures says { (at : ℕ) → self.old.screens.saying.waits ≡ Some at
+            → at ≤ self.old.desk.time → SaysAll self.new.screens
+            self.new.source.answers.shown.mirror.node self.old.desk.time }
         ensures serves { (sockets : AllSockets) → OnlyServes self.old self.new sockets sockets }
         ensures saved { SameSaved self.old self.new }
     {
@@ -34,6 +43,7 @@ impl Live {
         ensures stops { input.entry ≢ Input.End → (sockets : AllSockets)
             → StopsTaking self.old self.new (bytes_in input.entry) sockets }
         ensures saved { SameSaved self.old self.new }
+        ensures ends { EndsWithInput self.old self.new input.entry }
     {
         match input {
             Input::Nothing => self.feed(&[]),
@@ -50,6 +60,7 @@ impl Live {
             sockets sockets }
         ensures stops { (sockets : AllSockets) → StopsTaking self.old self.new piece.now sockets }
         ensures saved { SameSaved self.old self.new }
+        ensures ends { SameEnd self.old self.new }
     {
         if self.feeds {
             self.feeds = self
@@ -65,6 +76,9 @@ impl Live {
         ensures taking { (sockets : AllSockets) → StillTaking self.old self.new []
             sockets sockets }
         ensures saved { SameSaved self.old self.new }
+        ensures limits { self.new.limits ≡ self.old.limits }
+        ensures ends { self.old.limits.ends_with_input ≡ false
+            → self.new.ends_at ≡ self.old.ends_at }
     {
         if self.feeds {
             self.desk.reports.add(Report::EndOfInput);
@@ -84,6 +98,7 @@ impl Live {
         // where there is no server
         ensures nothing { self.old.source.places.items ≡ [] → self.new ≡ self.old }
         ensures saved { SameSaved self.old self.new }
+        ensures ends { SameEnd self.old self.new }
     {
         if self.ends_at.is_some() || !self.source.has_servers() {
             return;
@@ -102,6 +117,7 @@ impl Live {
         ensures relaying { (sockets : AllSockets) → StillRelaying self.old self.new
             (L.exchanges link.old) (L.exchanges link.new) sockets sockets }
         ensures saved { SameSaved self.old self.new }
+        ensures ends { SameEnd self.old self.new }
     {
         if self.source.has_more() && self.screens.says_at().is_none() {
             self.source.go_on(&mut self.desk, link, &mut self.screens);
@@ -113,6 +129,7 @@ impl Live {
         ensures relaying { (sockets : AllSockets) → StillRelaying self.old self.new
             (L.exchanges link.old) (L.exchanges link.new) sockets sockets }
         ensures saved { SameSaved self.old self.new }
+        ensures ends { SameEnd self.old self.new }
     {
         self.source
             .settle_due(&mut self.desk, link, &mut self.screens);
@@ -135,6 +152,13 @@ impl Live {
             → Contains nodes self.old.source.answers.shown.mirror.node
             → IsKnown (D.files store.old).next
             → KeepsFiles nodes (D.files store.new) self.new.saved }
+        // where a file lacks something and the time has come, something is to be appended; or that
+        // failed, and is tried again later
+        ensures asks { (saved : Saved) → self.old.saved ≡ Some saved
+            → self.old.source.epoch ≡ self.old.epoch
+            → IsToWrite self.old.source.answers.shown.mirror.node self.old.desk.time saved
+            → CalledAtLeastOnce (D.appended store.old) (D.appended store.new)
+            ⊎ IfSome self.new.saved (HasFailed self.old.desk.time) }
     {
         let Some(saved) = &mut self.saved else {
             return;

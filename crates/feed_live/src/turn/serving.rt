@@ -1,7 +1,8 @@
 //! The part of a turn that serves the screens.
 
-ghost use Rattle.std.specs.Prelude.{◌≡◌, false, true};
+ghost use Rattle.std.specs.Prelude.{◌≡◌, ◌⊎◌, Contains, false, true};
 ghost use Rattle.slab.specs.Slab.{get};
+ghost use Rattle.feed_device.specs.Calls.{CalledAtLeastOnce};
 ghost use Rattle.feed_device.specs.Sockets.{AllSockets};
 
 use crate::screens::Shown;
@@ -13,12 +14,14 @@ impl Live {
     ghost use Rattle.feed_live.specs.Relaying.{OnlyServes};
     ghost use Rattle.feed_live.specs.Saved.{SameSaved};
     ghost use Rattle.feed_live.specs.Held.{Waits, has_heard};
+    ghost use Rattle.feed_live.specs.Waiting.{TakesNobody};
 
     /// Once a second, looks for who is late; and says a line feed after silence.
     pub(super) fn tick<S: Sockets>(&mut self, sockets: &mut S)
         ensures serves { OnlyServes self.old self.new (S.socket sockets.old)
             (S.socket sockets.new) }
         ensures saved { SameSaved self.old self.new }
+        ensures asks { S.asked sockets.new ≡ S.asked sockets.old }
     {
         if self.screens.conns.is_empty() {
             self.tidy();
@@ -49,9 +52,11 @@ impl Live {
         ensures serves { OnlyServes self.old self.new (S.socket sockets.old)
             (S.socket sockets.new) }
         ensures saved { SameSaved self.old self.new }
+        ensures asks { S.asked sockets.new ≡ S.asked sockets.old }
     {
         self.ticked = self.desk.time;
         self.screens.refuse_overdue(&mut self.desk, sockets);
+        self.screens.cut_for_room(&mut self.desk, sockets);
         self.screens.cut_late(self.desk.time);
         self.screens.sweep(&mut self.desk, sockets);
         self.screens.close_past(&mut self.desk, sockets);
@@ -83,6 +88,7 @@ impl Live {
         ensures serves { OnlyServes self.old self.new (S.socket sockets.old)
             (S.socket sockets.new) }
         ensures saved { SameSaved self.old self.new }
+        ensures asks { S.asked sockets.new ≡ S.asked sockets.old }
     {
         self.serve_more(sockets, had_more);
         for event in events {
@@ -97,6 +103,7 @@ impl Live {
         ensures serves { OnlyServes self.old self.new (S.socket sockets.old)
             (S.socket sockets.new) }
         ensures saved { SameSaved self.old self.new }
+        ensures asks { S.asked sockets.new ≡ S.asked sockets.old }
     {
         if !had_more {
             return;
@@ -120,6 +127,7 @@ impl Live {
         ensures serves { OnlyServes self.old self.new (S.socket sockets.old)
             (S.socket sockets.new) }
         ensures saved { SameSaved self.old self.new }
+        ensures asks { S.asked sockets.new ≡ S.asked sockets.old }
     {
         let shown = Shown {
             is_held: !self.source.is_heard(),
@@ -131,8 +139,25 @@ impl Live {
             .serve(&mut self.desk, sockets, answers, &shown, at);
     }
 
+    /// Takes who waits: an event says so, or there were more than one turn takes.
+    pub(super) fn accept<S: Sockets>(&mut self, sockets: &mut S, events: &[Ready], now: u64)
+        ensures serves { OnlyServes self.old self.new (S.socket sockets.old)
+            (S.socket sockets.new) }
+        ensures saved { SameSaved self.old self.new }
+        // where an event says so, one is asked for at least, unless none is taken for now
+        ensures asks { Contains events.now Ready.Listener
+            → CalledAtLeastOnce (S.asked sockets.old) (S.asked sockets.new)
+            ⊎ TakesNobody self.new.screens now }
+    {
+        if somebody_waits(events) {
+            self.screens.is_waited_for = true;
+        }
+        self.screens.accept(&mut self.desk, sockets, now);
+    }
+
     /// Reports how many screens there are, where that has changed.
     pub(super) fn report(&mut self)
+        ensures pauses { self.new.screens.accept_at ≡ self.old.screens.accept_at }
         ensures serves { (sockets : AllSockets) → OnlyServes self.old self.new sockets sockets }
         ensures saved { SameSaved self.old self.new }
     {
@@ -144,4 +169,16 @@ impl Live {
             self.desk.reports.add(report);
         }
     }
+}
+
+/// Whether one of the events says that somebody waits to be taken.
+fn somebody_waits(events: &[Ready]) -> bool
+    ensures { Contains events.now Ready.Listener → result ≡ true }
+{
+    for event in events {
+        if matches!(event, Ready::Listener) {
+            return true;
+        }
+    }
+    false
 }

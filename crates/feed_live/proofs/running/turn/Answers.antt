@@ -15,6 +15,8 @@ returns g c =
       parts = c.turn.ensures.parts;
       anew = c.turn.ensures.anew;
       wakes = c.turn.ensures.wakes;
+      says = c.turn.ensures.says;
       awake = c.turn.ensures.awake;
+      ends = c.turn.ensures.ends;
       over = c.turn.ensures.over;
     }

@@ -22,6 +22,8 @@ returns-clause-begins g c =
           (c.new-live.ensures.taking kept log sockets none c.in_ok-restored.ensures.limits
           (subst (λ m. IsInLog kept log m.node) (sym fresh) (None, tt, refl)) (blank log) unused);
       feeds = c.new-live.ensures.feeds;
+      limits = c.new-live.ensures.limits;
+      goes_on = c.new-live.ensures.goes_on;
       kept = λ log nodes of.
           c.new-live.ensures.kept nodes of.written.0 (ap (λ (f : StateFiles). f.written) same ∙ of.written.1)
           (subst (λ (f : StateFiles). IsKnown f.next) (sym same) of.next)

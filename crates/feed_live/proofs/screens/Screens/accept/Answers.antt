@@ -1,5 +1,4 @@
-use Rattle.std.proofs.Common.{◌≡◌, ◌∙◌, ◌⊎◌, ◌+◌, ◌-◌, ◌^◌, inr, min, subst}
-use Rattle.feed_device.specs.Calls.{CalledOnce}
+use Rattle.std.proofs.Common.{inr}
 use Rattle.feed_live.proofs.CallLemmas.{called_on, called_or}
 use Rattle.feed_live.proofs.screens.Screens.accept.Goals as goal
 
@@ -8,7 +7,6 @@ loop-preserved g c =
     let asked = g.S.Sockets.asked in
     record {
       serving = λ nodes contest serving. c.accept_next.ensures.serving nodes contest (c.loop.invariant.serving nodes contest serving);
-      time = c.accept_next.ensures.time ∙ c.loop.invariant.time;
       asked = inr (called_on (asked c.sweep.new.sockets) (asked c.loop.sockets) (asked c.accept_next.new.sockets) c.loop.invariant.asked (c.accept_next.ensures.asks c.if-not-accept_next.false));
     }
 
@@ -16,7 +14,5 @@ pub returns-then-not-accept_next-clause-asks : goal.returns-then-not-accept_next
 returns-then-not-accept_next-clause-asks g c =
     λ waits due.
     let asked = g.S.Sockets.asked in
-    let stops = subst
-    (λ time. CalledOnce (asked c.loop.sockets) (asked c.accept_next.new.sockets) ⊎ (c.accept_next.new.self.accept_at ≡ min (time + 1000) (2 ^ 64 - 1)))
-    (c.loop.invariant.time ∙ c.sweep.ensures.time) (c.accept_next.ensures.stops c.if-not-accept_next.true) in
-    called_or (asked c.args.sockets.now) (asked c.sweep.new.sockets) (asked c.loop.sockets) (asked c.accept_next.new.sockets) c.sweep.ensures.asks c.loop.invariant.asked stops
+    called_or (asked c.args.sockets.now) (asked c.sweep.new.sockets) (asked c.loop.sockets) (asked c.accept_next.new.sockets) c.sweep.ensures.asks c.loop.invariant.asked
+    (c.accept_next.ensures.stops c.if-not-accept_next.true)

@@ -9,7 +9,6 @@ invariant-loop g l =
     record {
       serving : (nodes : List NodeState) (contest : List ℕ)
           → StillServing nodes contest l.initial.self l.self (g.S.Sockets.socket l.initial.sockets) (g.S.Sockets.socket l.sockets);
-      time : l.desk.time ≡ l.initial.desk.time;
       asked : ((l.counter ≡ 0) × (g.S.Sockets.asked l.sockets ≡ g.S.Sockets.asked l.initial.sockets))
           ⊎ CalledAtLeastOnce (g.S.Sockets.asked l.initial.sockets) (g.S.Sockets.asked l.sockets);
     }

@@ -11,5 +11,6 @@ invariant-loop-at g l =
       serving : (nodes : List NodeState) (contest : List ℕ)
           → StillServing nodes contest l.initial.self l.self (g.S.Sockets.socket l.initial.sockets) (g.S.Sockets.socket l.sockets);
       time : l.desk.time ≡ l.initial.desk.time;
+      asks : g.S.Sockets.asked l.sockets ≡ g.S.Sockets.asked l.initial.sockets;
       stays : (at : ℕ) → (get l.self.conns at ≡ get l.initial.self.conns at) ⊎ IsPast (get l.initial.self.conns at) l.initial.desk.time;
     }

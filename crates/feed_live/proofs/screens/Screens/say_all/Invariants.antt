@@ -1,4 +1,4 @@
-use Rattle.std.proofs.Common.{ℕ, List}
+use Rattle.std.proofs.Common.{◌≡◌, ℕ, List, None}
 use Rattle.std.specs.Prelude.{Contains}
 use Rattle.feed_node.specs.States.{NodeState}
 use Rattle.feed_device.specs.Sockets.{AllSockets}
@@ -11,4 +11,6 @@ invariant-loop l =
       serving : (nodes : List NodeState) (contest : List ℕ) (sockets : AllSockets) → Contains nodes l.node.shown
           → StillServing nodes contest l.initial.self l.self sockets sockets;
       ended : AllEnd l.initial.self.hub → AllEnd l.self.hub;
+      waits : l.initial.self.saying.waits ≡ None → l.self.saying.waits ≡ None;
+      most : l.self.hub.most ≡ l.initial.self.hub.most;
     }

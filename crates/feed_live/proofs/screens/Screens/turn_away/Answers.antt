@@ -1,4 +1,5 @@
 use Rattle.feed_live.proofs.screens.Screens.turn_away.Goals as goal
 
-pub returns : goal.returns
-returns g c = record { serving = λ nodes contest unheard serves. c.cut_slow.ensures.serving nodes contest (c.refuse_at.ensures.serving nodes contest unheard serves) }
+pub returns-clause-serving : goal.returns-clause-serving
+returns-clause-serving g c =
+    λ nodes contest unheard serves. c.cut_slow.ensures.serving nodes contest (c.refuse_at.ensures.serving nodes contest unheard serves)

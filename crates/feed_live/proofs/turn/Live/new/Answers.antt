@@ -39,4 +39,8 @@ returns g c =
       had = c.saved_of-saved.ensures.had;
       contest = refl;
       feeds = λ none. c.are_none-feeds.ensures.none (c.deref.ensures.value ∙ none);
+      shown = c.begin_input.ensures.node ∙ ap (λ m. m.node) c.new-source.ensures.shown;
+      most = c.relay.ensures.most ∙ c.new-screens.ensures.most;
+      limits = refl;
+      goes_on = refl;
     }

@@ -1,15 +1,13 @@
 use Rattle.std.proofs.Common.{refl}
 use Rattle.feed_live.proofs.turn.Live.say_more.Goals as goal
 
-pub returns-then-says_now : goal.returns-then-says_now
-returns-then-says_now c =
-    record {
-      serves = λ sockets. record {
-        contest = refl;
-        feeds = refl;
-        source = c.say_more.ensures.same;
-        epoch = c.say_more.ensures.epoch;
-        serves = λ nodes shown blank. c.say_more.ensures.serves nodes _ sockets shown;
-      };
-      saved = (refl, refl);
+pub returns-then-says_now-clause-serves : goal.returns-then-says_now-clause-serves
+returns-then-says_now-clause-serves c =
+    λ sockets. record {
+      contest = refl;
+      ends = (refl, refl);
+      feeds = refl;
+      source = c.say_more.ensures.same;
+      epoch = c.say_more.ensures.epoch;
+      serves = λ nodes shown blank. c.say_more.ensures.serves nodes _ sockets shown;
     }

@@ -2,15 +2,13 @@ use Rattle.std.proofs.Common.{subst, refl}
 use Rattle.feed_live.specs.Serving.{StillServing}
 use Rattle.feed_live.proofs.turn.Live.serve_more.Goals as goal
 
-pub returns : goal.returns
-returns g c =
+pub returns-clause-serves : goal.returns-clause-serves
+returns-clause-serves g c =
     record {
-      serves = record {
-        contest = refl;
-        feeds = refl;
-        source = record { servers = refl; shown = c.serve_more.ensures.mirrors.shown; blank = c.serve_more.ensures.mirrors.blank; coming = refl; follower = refl; reach = refl; request = refl; rest = refl };
-        epoch = refl;
-        serves = λ nodes shown blank. subst (λ t. StillServing nodes t c.args.self.now.screens c.serve_more.new.self (g.S.Sockets.socket c.args.sockets.now) (g.S.Sockets.socket c.serve_more.new.sockets)) c.as_str.ensures.value (c.serve_more.ensures.serving nodes shown blank);
-      };
-      saved = (refl, refl);
+      contest = refl;
+      ends = (refl, refl);
+      feeds = refl;
+      source = record { servers = refl; shown = c.serve_more.ensures.mirrors.shown; blank = c.serve_more.ensures.mirrors.blank; coming = refl; follower = refl; reach = refl; request = refl; rest = refl };
+      epoch = refl;
+      serves = λ nodes shown blank. subst (λ t. StillServing nodes t c.args.self.now.screens c.serve_more.new.self (g.S.Sockets.socket c.args.sockets.now) (g.S.Sockets.socket c.serve_more.new.sockets)) c.as_str.ensures.value (c.serve_more.ensures.serving nodes shown blank);
     }

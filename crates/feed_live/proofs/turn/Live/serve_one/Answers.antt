@@ -6,6 +6,7 @@ pub returns-clause-serves : goal.returns-clause-serves
 returns-clause-serves g c =
     record {
       contest = refl;
+      ends = (refl, refl);
       feeds = refl;
       source = record { servers = refl; shown = c.serve.ensures.mirrors.shown; blank = c.serve.ensures.mirrors.blank; coming = refl; follower = refl; reach = refl; request = refl; rest = refl };
       epoch = refl;

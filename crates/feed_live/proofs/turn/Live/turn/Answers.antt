@@ -3,7 +3,7 @@ use Rattle.std.specs.Prelude.{Contains}
 use Rattle.feed_live.specs.Saved.{KeepsFiles, SameSaved}
 use Rattle.feed_live.specs.Taking.{StopsInput, bytes_in}
 use Rattle.feed_live.proofs.ServingLemmas.{serving_noted}
-use Rattle.feed_live.proofs.TurnLemmas.{serves_then, screens_only, relays_on, takes_only, takes_still}
+use Rattle.feed_live.proofs.TurnLemmas.{serves_then, screens_only, relays_on, takes_only, takes_still, asked_then, goes_with}
 use Rattle.feed_live.proofs.OwedLemmas.{owes_what_is_kept}
 use Rattle.feed_live.proofs.turn.Live.turn.Goals as goal
 
@@ -13,15 +13,14 @@ returns g c =
     let said = serves_then (c.say_more.ensures.serves _) (serves_then (c.note.ensures.serves _) begun) in
     let drained = screens_only c.tick.new.self c.drain_due.new.self c.drain_due.new.desk
     (λ nodes shown blank serving. c.drain_due.ensures.serving nodes _ (subst (λ n. Contains nodes n) (sym c.node-node.ensures) shown) serving) in
-    let accepted = screens_only c.serve.new.self c.accept.new.self c.accept.new.desk (λ nodes shown blank serving. c.accept.ensures.serving nodes _ serving) in
-    let served = serves_then (c.next.ensures.serves _) (serves_then accepted (serves_then c.serve.ensures.serves (serves_then drained (serves_then c.tick.ensures.serves (c.save.ensures.serves _))))) in
+    let served = serves_then (c.next.ensures.serves _) (serves_then c.accept.ensures.serves (serves_then c.serve.ensures.serves (serves_then drained (serves_then c.tick.ensures.serves (c.save.ensures.serves _))))) in
     let before : SameSaved c.args.self.now c.follow.new.self = (
       c.follow.ensures.saved.0 ∙ c.take_input.ensures.saved.0 ∙ c.say_more.ensures.saved.0 ∙ c.note.ensures.saved.0,
       c.follow.ensures.saved.1 ∙ c.take_input.ensures.saved.1 ∙ c.say_more.ensures.saved.1 ∙ c.note.ensures.saved.1,
     ) in
     let after : SameSaved c.save.new.self c.next.new.self = (
-      c.next.ensures.saved.0 ∙ c.serve.ensures.saved.0 ∙ c.tick.ensures.saved.0,
-      c.next.ensures.saved.1 ∙ c.serve.ensures.saved.1 ∙ c.tick.ensures.saved.1,
+      c.next.ensures.saved.0 ∙ c.accept.ensures.saved.0 ∙ c.serve.ensures.saved.0 ∙ c.tick.ensures.saved.0,
+      c.next.ensures.saved.1 ∙ c.accept.ensures.saved.1 ∙ c.serve.ensures.saved.1 ∙ c.tick.ensures.saved.1,
     ) in
     let files_of = g.D.Store.files in
     record {
@@ -48,7 +47,15 @@ returns g c =
           subst (KeepsFiles nodes (files_of c.save.new.store)) (sym after.0)
           (c.save.ensures.anew (λ same. newer (served.epoch ∙ same ∙ before.1)) nodes (subst (λ m. Contains nodes m.node) served.source.shown shown) known);
       wakes = c.next.ensures.wakes;
+      says = c.next.ensures.says;
       awake = c.next.ensures.awake;
       owed = owes_what_is_kept c.next.new.self.screens;
+      asks = λ waits.
+          asked_then (g.S.Sockets.asked c.args.devices.now.sockets) _ _ c.accept.new.self.screens c.next.new.self.screens c.args.now
+          (c.serve.ensures.asks ∙ c.drain_due.ensures.asks ∙ c.tick.ensures.asks) c.next.ensures.pauses (c.accept.ensures.asks waits);
+      ends = record {
+        limits = served.ends.0 ∙ c.follow.ensures.ends.0 ∙ c.take_input.ensures.ends.limits ∙ said.ends.0;
+        stays = λ goes_on. served.ends.1 ∙ c.follow.ensures.ends.1 ∙ c.take_input.ensures.ends.stays (goes_with c.args.self.now c.say_more.new.self said.ends.0 goes_on) ∙ said.ends.1;
+      };
       over = c.next.ensures.over;
     }
