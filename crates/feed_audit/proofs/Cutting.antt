@@ -4,28 +4,28 @@ use Rattle.std.specs.List.{AllByRecursion}
 use Rattle.feed_note.specs.Lines.{HasNoLineFeed, lines, rest, ended}
 use Rattle.feed_note.proofs.LinesCut.{lines_cut, lines_are_the_only_cut}
 use Rattle.feed_note.proofs.LinesInRow.{ended-append}
-use Rattle.feed_audit.specs.Connections.{Cut, Recorded, part, OpensFeed, OpensNone, IsFilled, is_blank, is_marked, is_success, since_in, status_in, announced_by, last, opened, headless, marked, named, answered}
+use Rattle.feed_audit.specs.Connections.{Cut, Recorded, part, OpensFeed, OpensNone, IsFilled, is_blank, is_marked, is_success, token_on, status_on, announced_by, last, opened, headless, marked, named, answered}
 
 -- how a connection begins on a line
 pub data Begins (line : List ℕ) : Type 0 where
   by_mark : is_marked line ≡ true → Begins line
-  by_name : (token : List ℕ) → is_marked line ≡ false → since_in line ≡ Some token → Begins line
-  by_head : (status : List ℕ) → is_marked line ≡ false → since_in line ≡ None → status_in line ≡ Some status → Begins line
+  by_name : (token : List ℕ) → is_marked line ≡ false → token_on line ≡ Some token → Begins line
+  by_head : (status : List ℕ) → is_marked line ≡ false → token_on line ≡ None → status_on line ≡ Some status → Begins line
 
 begins_or_not : (line : List ℕ) → OpensNone line ⊎ Begins line
 begins_or_not line = by (is_marked line) refl
   where
-    by_status : is_marked line ≡ false → since_in line ≡ None → (o : Option (List ℕ)) → status_in line ≡ o → OpensNone line ⊎ Begins line
+    by_status : is_marked line ≡ false → token_on line ≡ None → (o : Option (List ℕ)) → status_on line ≡ o → OpensNone line ⊎ Begins line
     by_status e n None f = inl (record { unmarked = e; unnamed = n; headless = f })
     by_status e n (Some status) f = inr (by_head status e n f)
 
-    by_token : is_marked line ≡ false → (o : Option (List ℕ)) → since_in line ≡ o → OpensNone line ⊎ Begins line
-    by_token e None n = by_status e n (status_in line) refl
+    by_token : is_marked line ≡ false → (o : Option (List ℕ)) → token_on line ≡ o → OpensNone line ⊎ Begins line
+    by_token e None n = by_status e n (status_on line) refl
     by_token e (Some token) n = inr (by_name token e n)
 
     by : (b : Bool) → is_marked line ≡ b → OpensNone line ⊎ Begins line
     by true e = inr (by_mark e)
-    by false e = by_token e (since_in line) refl
+    by false e = by_token e (token_on line) refl
 
 -- the first line on which one does
 record FirstOf (ls : List (List ℕ)) : Type 0 where
@@ -128,7 +128,7 @@ cut_behind n before is_feed next since token text body head later e none opens s
     )
 
 all_filled : (before : ℕ) (is_feed : Bool) (since : Option (List ℕ)) (text line status : List ℕ) (body fields : List (List ℕ)) → lines text ≡ body ++ line ∷ fields
-    → AllByRecursion OpensNone body → is_marked line ≡ false → since_in line ≡ None → status_in line ≡ Some status → AllByRecursion IsFilled fields → Cuts before is_feed since text
+    → AllByRecursion OpensNone body → is_marked line ≡ false → token_on line ≡ None → status_on line ≡ Some status → AllByRecursion IsFilled fields → Cuts before is_feed since text
 all_filled before is_feed since text line status body fields e none unmarked unnamed has filled =
     let whole = subst (AllByRecursion HasNoLineFeed) e (lines_cut text).whole in
     let is : text ≡ ended body ++ (ended (line ∷ fields) ++ rest text) =
@@ -144,7 +144,7 @@ cuts_by : (n before : ℕ) (is_feed : Bool) (since : Option (List ℕ)) (text : 
 cuts_by n before is_feed since text size cuts (inl none) = (part before is_feed since text ∷ [], last none)
 cuts_by n before is_feed since text size cuts (inr f) = by f.begins
   where
-    by_blank : (status : List ℕ) → is_marked f.line ≡ false → since_in f.line ≡ None → status_in f.line ≡ Some status → AllByRecursion IsFilled f.later ⊎ BlankIn f.later
+    by_blank : (status : List ℕ) → is_marked f.line ≡ false → token_on f.line ≡ None → status_on f.line ≡ Some status → AllByRecursion IsFilled f.later ⊎ BlankIn f.later
         → Cuts before is_feed since text
     by_blank status unmarked unnamed has (inl filled) = all_filled before is_feed since text f.line status f.seen f.later f.is f.none unmarked unnamed has filled
     by_blank status unmarked unnamed has (inr b) =

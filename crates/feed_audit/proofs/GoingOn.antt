@@ -8,8 +8,9 @@ use Rattle.feed_node.specs.Reading.{Opening}
 use Rattle.feed_audit.specs.Answers.{AgreementFrom, StrayingFrom, PrimaryFaults, ScreenFaults, IsVerdictFrom, IsVerdictOn, FailsFrom, begun_by}
 use Rattle.feed_audit.specs.Connections.{Recorded, is_chunked}
 use Rattle.feed_audit.specs.Parting.{IsFeedVerdict, IsPartVerdict, FailsInBody}
-use Rattle.feed_audit.specs.Records.{MayGoOn, opening_of}
+use Rattle.feed_audit.specs.Records.{FailsToAuditRecord, MayGoOn, opening_of}
 use Rattle.feed_audit.specs.States.{Start}
+use Rattle.feed_audit.specs.Stops.{IsUnreadScreen}
 use Rattle.feed_audit.specs.declared.verdict.AuditFault.{AuditFault}
 use Rattle.feed_audit.specs.declared.verdict.AuditFault.TheVariants as fault
 use Rattle.feed_audit.specs.declared.verdict.Verdict.{Verdict}
@@ -63,6 +64,25 @@ feed_part limits primary false old new at v e h = absurd (true≢false (sym e))
 
 pub in_chunks : (limits : Limits) (primary : List ℕ) (old : MirrorState) (at : Recorded) → is_chunked at.body ≡ true → FailsInBody limits primary old at (fault.Chunked 1)
 in_chunks limits primary old at e = record { chunked = e; first = refl }
+
+-- a screen's record that can't be read on
+pub unread_part : (limits : Limits) (primary : List ℕ) (old : MirrorState) (at : Recorded) (why : AuditFault) → IsUnreadScreen why → FailsInBody limits primary old at why
+unread_part limits primary old at (fault.Primary line why) h = absurd h
+unread_part limits primary old at (fault.Screen line why) h = absurd h
+unread_part limits primary old at (fault.Chunked line) h = absurd h
+unread_part limits primary old at (fault.OtherToken line) h = absurd h
+unread_part limits primary old at (fault.PrimaryUnread why) h = absurd h
+unread_part limits primary old at (fault.ScreenUnread why) h = h
+unread_part limits primary old at fault.Memory h = tt
+
+pub unread_record : (limits : Limits) (primary screen : List ℕ) (why : AuditFault) → IsUnreadScreen why → FailsToAuditRecord limits primary screen why
+unread_record limits primary screen (fault.Primary line why) h = absurd h
+unread_record limits primary screen (fault.Screen line why) h = absurd h
+unread_record limits primary screen (fault.Chunked line) h = absurd h
+unread_record limits primary screen (fault.OtherToken line) h = absurd h
+unread_record limits primary screen (fault.PrimaryUnread why) h = absurd h
+unread_record limits primary screen (fault.ScreenUnread why) h = h
+unread_record limits primary screen fault.Memory h = tt
 
 -- what the chosen mirror shows
 pub shown_on : (limits : Limits) (P : Published → Type 0) (old new : MirrorState) → (new ≡ old) ⊎ (new ≡ new_mirror limits) → IfSome old.node.published P → IfSome new.node.published P

@@ -1,17 +1,20 @@
 pub mod Agreeing
 pub mod Appending
+pub mod Bodies
 pub mod Bringing
 pub mod Cutting
 pub mod GoingOn
 pub mod Meeting
+pub mod Looking
 mod Missing
 pub mod Ordered
 pub mod Parts
-mod Passing
+pub mod Passing
 pub mod Prefixes
 pub mod Stepping
 pub mod Tallying
 pub mod Tokens
+pub mod Skipping
 pub mod Unreading
 mod Verdicts
 pub mod Walking

@@ -1,7 +1,13 @@
 -- A line that is passed.
-use Rattle.std.proofs.Common.{◌≡◌, sym, ap, ◌∙◌, ℕ, List, [], ◌∷◌, ◌++◌, take, drop, append_assoc, take-append-drop, Some}
+use Rattle.std.proofs.Common.{◌≡◌, refl, sym, ap, ◌∙◌, ℕ, List, [], ◌∷◌, ◌++◌, length, take, drop, append_assoc, take-append-drop, Some}
 use Rattle.feed_audit.specs.Fronts.{IsLineBefore}
-use Rattle.std.proofs.lemmas.List.{append_cancel_left as cancel}
+
+drop_seam : (xs ys : List ℕ) → drop (length xs) (xs ++ ys) ≡ ys
+drop_seam [] ys = refl
+drop_seam (x ∷ xs) ys = drop_seam xs ys
+
+pub cancel : (xs ys zs : List ℕ) → xs ++ ys ≡ xs ++ zs → ys ≡ zs
+cancel xs ys zs e = sym (drop_seam xs ys) ∙ ap (drop (length xs)) e ∙ drop_seam xs zs
 
 -- what is behind the front of a text in memory
 pub passed_front : (looked : ℕ) (rest behind : List ℕ) → IsLineBefore behind (take looked rest) (Some rest) → drop looked rest ≡ behind

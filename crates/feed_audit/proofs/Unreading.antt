@@ -1,7 +1,7 @@
 -- Which record can't be read on.
 use Rattle.std.proofs.Common.{◌≡◌, refl, ℕ}
 use Rattle.feed_node.specs.declared.fault.FeedFault.TheVariants as feed
-use Rattle.feed_audit.specs.Stops.{IsUnread, primary_fault, screen_fault}
+use Rattle.feed_audit.specs.Stops.{IsUnread, IsUnreadScreen, primary_fault, screen_fault}
 use Rattle.feed_audit.specs.declared.reading.Stop.{Stop}
 use Rattle.feed_audit.specs.declared.reading.Stop.TheVariants as stopped
 use Rattle.feed_audit.specs.declared.reading.Unread.{Unread}
@@ -39,6 +39,21 @@ module _ (P Q : Unread → Type 0) where
   unread_of_primary (told.Chunked line) h = tt
   unread_of_primary (told.OtherToken line) h = tt
   unread_of_primary told.Memory h = tt
+
+  -- and one the screen's
+  pub unread_of_screen : (why : AuditFault) → IsUnread (λ _. ⊥) Q why → IsUnread P Q why
+  unread_of_screen (told.PrimaryUnread w) h = absurd h
+  unread_of_screen (told.ScreenUnread w) h = h
+  unread_of_screen (told.Primary line w) h = tt
+  unread_of_screen (told.Screen line w) h = tt
+  unread_of_screen (told.Chunked line) h = tt
+  unread_of_screen (told.OtherToken line) h = tt
+  unread_of_screen told.Memory h = tt
+
+pub unread_screen : (why : Unread) (lines : ℕ) → IsUnreadScreen (screen_fault (stopped.Unread why) lines)
+unread_screen unread.Failed lines = λ e. absurd (cc)
+unread_screen unread.TooLong lines = λ e. absurd (cc)
+unread_screen unread.Memory lines = tt
 
 -- what is so of a text that can't be read on
 abbrev pub IsStopOf : (Unread → Type 0) → Stop → Type 0

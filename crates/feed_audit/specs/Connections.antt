@@ -1,8 +1,9 @@
 -- A record of several connections, one after the other, as `curl -i` writes them to one file: the
 -- head of each (RFC 9112, section 2.1), and then what it carried.
-use Rattle.std.specs.Prelude.{◌≡◌, ℕ, ◌+◌, ◌&&◌, ◌||◌, ◌==◌, Bool, true, false, not, List, [], ◌∷◌, ◌++◌, length, drop, slice_index_or, codes, Option, None, Some, if◌then◌else◌}
+use Rattle.std.specs.Prelude.{◌≡◌, ℕ, ◌+◌, ◌&&◌, ◌||◌, ◌==◌, Bool, true, false, not, List, [], ◌∷◌, ◌++◌, length, drop, nat_le, slice_index_or, codes, Option, None, Some, if◌then◌else◌}
 use Rattle.std.specs.Char.{is_ascii_hexdigit}
 use Rattle.std.specs.List.{AllByRecursion, list_any, starts_with, ends_with}
+use Rattle.feed_text.specs.Limits.{line_bytes}
 use Rattle.feed_note.specs.Lines.{HasNoLineFeed, lines, ended}
 
 -- ---- where a connection begins
@@ -27,9 +28,13 @@ is_success [] = false
 is_success (b ∷ bs) =
     if b == 32 then starts_with (λ x y. x == y) bs (codes "200") else is_success bs
 
+-- whether the line is no longer than one of a feed may be; a connection begins on no other line
+abbrev pub is_short : List ℕ → Bool
+is_short line = nat_le (length line) line_bytes
+
 -- whether the line ends in `# connection`
 abbrev pub is_marked : List ℕ → Bool
-is_marked line = ends_with (λ x y. x == y) line (codes "# connection")
+is_marked line = is_short line && ends_with (λ x y. x == y) line (codes "# connection")
 
 -- whether `# connection since ` begins these bytes, and behind it stands no quotation mark
 abbrev pub is_since : List ℕ → Bool
@@ -43,11 +48,18 @@ unfoldable pub since_in : List ℕ → Option (List ℕ)
 since_in [] = None
 since_in (b ∷ bs) = if is_since (b ∷ bs) then Some (drop 19 (b ∷ bs)) else since_in bs
 
+-- the token of the line, and its version and status, where a connection may begin on it
+abbrev pub token_on : List ℕ → Option (List ℕ)
+token_on line = if is_short line then since_in line else None
+
+abbrev pub status_on : List ℕ → Option (List ℕ)
+status_on line = if is_short line then status_in line else None
+
 -- no connection begins on the line
 pub record OpensNone (line : List ℕ) : Type 0 where
   pub unmarked : is_marked line ≡ false
-  pub unnamed : since_in line ≡ None
-  pub headless : status_in line ≡ None
+  pub unnamed : token_on line ≡ None
+  pub headless : status_on line ≡ None
 
 abbrev pub carriage_return : ℕ
 carriage_return = 13
@@ -66,11 +78,11 @@ IsFilled line = is_blank line ≡ false
 pub data OpensFeed (announced : Option (List ℕ)) : List (List ℕ) → Bool → Option (List ℕ)
     → Type 0 where
   marked : (line : List ℕ) → is_marked line ≡ true → OpensFeed announced (line ∷ []) true None
-  named : (line token : List ℕ) → is_marked line ≡ false → since_in line ≡ Some token
+  named : (line token : List ℕ) → is_marked line ≡ false → token_on line ≡ Some token
       → OpensFeed announced (line ∷ []) true (Some token)
   answered : (line : List ℕ) (fields : List (List ℕ)) (blank status : List ℕ)
       → is_marked line ≡ false
-      → since_in line ≡ None → status_in line ≡ Some status → AllByRecursion IsFilled fields
+      → token_on line ≡ None → status_on line ≡ Some status → AllByRecursion IsFilled fields
       → is_blank blank ≡ true
       → OpensFeed announced (line ∷ (fields ++ blank ∷ [])) (is_success status) announced
 
@@ -113,7 +125,7 @@ pub data Cut : ℕ → Bool → Option (List ℕ) → List ℕ → List Recorded
       → text ≡ ended body ++ (ended (line ∷ fields) ++ rest)
       → AllByRecursion HasNoLineFeed (body ++ line ∷ fields)
       → HasNoLineFeed rest → AllByRecursion OpensNone body → is_marked line ≡ false
-      → since_in line ≡ None → status_in line ≡ Some status → AllByRecursion IsFilled fields
+      → token_on line ≡ None → status_on line ≡ Some status → AllByRecursion IsFilled fields
       → Cut before is_feed since text (part before is_feed since (ended body) ∷ [])
 
 -- the connections of a record

@@ -6,6 +6,7 @@ pub mod InMemory
 pub mod Parting
 pub mod Places
 pub mod Records
+pub mod ScreenLines
 pub mod States
 pub mod Stops
 pub mod Told

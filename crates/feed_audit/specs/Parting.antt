@@ -1,20 +1,19 @@
 -- Where a record is cut, step by step.
-use Rattle.std.specs.Prelude.{◌≡◌, ℕ, ◌+◌, min, Bool, true, false, List, [], ◌∷◌, ◌++◌, length, Option, None, Some, IfSome}
+use Rattle.std.specs.Prelude.{◌≡◌, ℕ, ◌+◌, min, ◌||◌, Bool, true, false, List, [], ◌∷◌, ◌++◌, length, Option, None, Some, option_map, is_some, IfSome, Vec, if◌then◌else◌}
 use Rattle.std.specs.List.{AllByRecursion}
-use Rattle.std.specs.Option.{option_copied}
+use Rattle.std.specs.declared.alloc.Global.{Global}
 use Rattle.feed_settings.specs.Limits.{Limits}
 use Rattle.feed_text.specs.Ascii.{line_feed}
-use Rattle.feed_note.specs.Lines.{HasNoLineFeed, lines, ended}
+use Rattle.feed_note.specs.Lines.{HasNoLineFeed, lines, rest, ended}
 use Rattle.feed_node.specs.Mirroring.{MirrorState, new_mirror}
 use Rattle.feed_audit.specs.Answers.{StrayingFrom}
-use Rattle.feed_audit.specs.Connections.{Cut, Recorded, part, OpensNone, IsFilled, is_blank, is_marked, is_success, since_in, status_in, AreConnectionsOf}
+use Rattle.feed_audit.specs.Connections.{Cut, Recorded, part, OpensFeed, OpensNone, IsFilled, announced_by, is_blank, is_marked, is_success, token_on, status_on, AreConnectionsOf}
+use Rattle.feed_audit.specs.Fronts.{IsLeft, IsLineAtFront}
 use Rattle.feed_audit.specs.Records.{AllAgree, FeedAgrees, FaultsInFeed, FaultsBesideFeed, BeginsInChunks, HasOtherToken, MayGoOn, start_of}
 use Rattle.feed_audit.specs.States.{IsStateOf}
 use Rattle.feed_audit.specs.Stops.{IsOfRecord}
-use Rattle.feed_audit.specs.declared.connections.Body.{Body}
-use Rattle.feed_audit.specs.declared.connections.Next.{Next}
+use Rattle.feed_audit.specs.declared.connections.Opened.{Opened}
 use Rattle.feed_audit.specs.declared.connections.Opening.{Opening}
-use Rattle.feed_audit.specs.declared.record.Carried.{Carried}
 use Rattle.feed_audit.specs.declared.connections.Opening.TheVariants.{Marked, Named, Head}
 use Rattle.feed_audit.specs.declared.verdict.AuditFault.{AuditFault}
 use Rattle.feed_audit.specs.declared.verdict.AuditFault.TheVariants as fault
@@ -27,91 +26,150 @@ most = 18446744073709551615
 -- a connection begins on the line like this
 abbrev pub IsOpening : List ℕ → Opening → Type 0
 IsOpening line Marked = is_marked line ≡ true
-IsOpening line (Named token) = (is_marked line ≡ false) × (since_in line ≡ Some token.now)
+IsOpening line (Named token) = (is_marked line ≡ false) × (token_on line ≡ Some token.now)
 IsOpening line (Head is_feed) =
-    (is_marked line ≡ false) × (since_in line ≡ None)
-    × ((status : List ℕ) × (status_in line ≡ Some status) × (is_feed ≡ is_success status))
+    (is_marked line ≡ false) × (token_on line ≡ None)
+    × ((status : List ℕ) × (status_on line ≡ Some status) × (is_feed ≡ is_success status))
 
--- lines were passed on which no connection begins
-pub record Passed (text behind : List ℕ) (count : ℕ) : Type 0 where
-  pub seen : List (List ℕ)
-  pub whole : AllByRecursion HasNoLineFeed seen
-  pub text_is : text ≡ ended seen ++ behind
-  pub none : AllByRecursion OpensNone seen
-  pub counted : count ≡ min (length seen) most
+-- whether one does
+abbrev pub opens : List ℕ → Bool
+opens line = is_marked line || (is_some (token_on line) || is_some (status_on line))
 
--- and these bytes stand before the line on which one does
-pub record PassedTo (text bytes : List ℕ) (count : ℕ) (opening : Opening)
-    (behind : List ℕ) : Type 0 where
-  pub seen : List (List ℕ)
-  pub line : List ℕ
-  pub whole : AllByRecursion HasNoLineFeed seen
-  pub unbroken : HasNoLineFeed line
-  pub text_is : text ≡ ended seen ++ (line ++ line_feed ∷ behind)
-  pub bytes_are : bytes ≡ ended seen
-  pub none : AllByRecursion OpensNone seen
-  pub counted : count ≡ min (length seen) most
-  pub opens : IsOpening line opening
+-- ---- what a connection carries
 
-abbrev pub IsBodyBy : List ℕ → List ℕ → ℕ → Option Opening → List ℕ → Type 0
-IsBodyBy text bytes count None behind = (bytes ≡ text) × AllByRecursion OpensNone (lines text)
-IsBodyBy text bytes count (Some opening) behind = PassedTo text bytes count opening behind
+-- of lines, and of what follows the last: the first, up to the one on which a connection begins
+unfoldable pub body_by : List (List ℕ) → List ℕ → List ℕ
+body_by [] end = end
+body_by (line ∷ later) end = if opens line then [] else line ++ line_feed ∷ body_by later end
 
-abbrev pub IsRecordedBody : List ℕ → Body → Type 0
-IsRecordedBody text body = IsBodyBy text body.bytes.now body.lines body.opening body.behind.now
+-- how many lines these are
+unfoldable pub count_by : List (List ℕ) → ℕ
+count_by [] = 0
+count_by (line ∷ later) = if opens line then 0 else count_by later + 1
 
--- lines of a head were passed
-pub record PassedFields (text behind : List ℕ) (count : ℕ) : Type 0 where
+-- that one, and what follows it
+unfoldable pub next_by : List (List ℕ) → List ℕ → List ℕ
+next_by [] end = []
+next_by (line ∷ later) end = if opens line then ended (line ∷ later) ++ end else next_by later end
+
+-- what the connection carries that begins at the beginning of a text, how many lines that has, and
+-- what stands behind it
+abbrev pub body_of : List ℕ → List ℕ
+body_of text = body_by (lines text) (rest text)
+
+abbrev pub count_of : List ℕ → ℕ
+count_of text = count_by (lines text)
+
+abbrev pub next_of : List ℕ → List ℕ
+next_of text = next_by (lines text) (rest text)
+
+-- whether a connection begins on the first line of a text, and whether that is empty
+abbrev pub first_opens : List (List ℕ) → Bool
+first_opens [] = false
+first_opens (line ∷ later) = opens line
+
+abbrev pub is_at_next : List ℕ → Bool
+is_at_next text = first_opens (lines text)
+
+abbrev pub first_is_blank : List (List ℕ) → Bool
+first_is_blank [] = false
+first_is_blank (line ∷ later) = is_blank line
+
+abbrev pub is_at_blank : List ℕ → Bool
+is_at_blank text = first_is_blank (lines text)
+
+-- ---- what is passed
+
+-- a line was passed; or there was none
+abbrev pub PassesLine : Bool → List ℕ → Option (List ℕ) → Type 0
+PassesLine true text left =
+    IsLeft left (λ behind.
+    (line : List ℕ) × HasNoLineFeed line × (text ≡ line ++ line_feed ∷ behind))
+PassesLine false text left = HasNoLineFeed text
+
+-- What is left of a connection was passed, and another one begins on the line at the front; or none
+-- does. So many lines it has, and this stands behind it.
+abbrev pub PassesBody : Bool → ℕ × List ℕ → Option (List ℕ) → List ℕ → ℕ → Type 0
+PassesBody true end left front count =
+    (left ≡ Some end.1) × IsLineAtFront front end.1 × (is_at_next end.1 ≡ true)
+    × (min count most ≡ end.0)
+PassesBody false end left front count = end.1 ≡ []
+
+-- lines of a head behind its first were passed, and counted with those before
+pub record PassedFields (text behind : List ℕ) (old new : ℕ) : Type 0 where
   pub fields : List (List ℕ)
   pub whole : AllByRecursion HasNoLineFeed fields
   pub text_is : text ≡ ended fields ++ behind
   pub filled : AllByRecursion IsFilled fields
-  pub counted : count ≡ min (length fields) most
+  pub counted : min new most ≡ min (old + length fields) most
 
 -- and its last
-pub record IsHeadRest (text : List ℕ) (count : ℕ) (behind : List ℕ) : Type 0 where
+pub record IsHeadRest (text behind : List ℕ) (old new : ℕ) : Type 0 where
   pub fields : List (List ℕ)
   pub blank : List ℕ
-  pub whole : AllByRecursion HasNoLineFeed fields
-  pub unbroken : HasNoLineFeed blank
-  pub text_is : text ≡ ended fields ++ (blank ++ line_feed ∷ behind)
+  pub whole : AllByRecursion HasNoLineFeed (fields ++ blank ∷ [])
+  pub text_is : text ≡ ended (fields ++ blank ∷ []) ++ behind
   pub filled : AllByRecursion IsFilled fields
   pub ends : is_blank blank ≡ true
-  pub counted : count ≡ min (length fields + 1) most
+  pub counted : min new most ≡ min (old + length (fields ++ blank ∷ [])) most
 
 -- it has no last
 pub record IsHeadCutOff (text : List ℕ) : Type 0 where
   pub fields : List (List ℕ)
-  pub rest : List ℕ
+  pub end : List ℕ
   pub whole : AllByRecursion HasNoLineFeed fields
-  pub part : HasNoLineFeed rest
-  pub text_is : text ≡ ended fields ++ rest
+  pub part : HasNoLineFeed end
+  pub text_is : text ≡ ended fields ++ end
   pub filled : AllByRecursion IsFilled fields
 
--- the text is one connection
-abbrev pub EndsWith : List ℕ → List ℕ → Type 0
-EndsWith text body =
-    (before : ℕ) → (is_feed : Bool) → (since : Option (List ℕ))
-    → Cut before is_feed since text (part before is_feed since body ∷ [])
+abbrev pub PassesHead : Bool → List ℕ → Option (List ℕ) → ℕ → ℕ → Type 0
+PassesHead true text left old new = IsLeft left (λ behind. IsHeadRest text behind old new)
+PassesHead false text left old new = IsHeadCutOff text
 
--- the token that the next connection was asked for with
-abbrev pub since_of : Next → Option (List ℕ)
-since_of next = option_copied next.since
+-- ---- how a connection was opened
 
--- the text is one connection, asked for with this token, and the others that stand behind it
-pub record GoesOnWith (since : Option (List ℕ)) (text body : List ℕ) (next : Next) : Type 0 where
-  pub count : ℕ
-  pub counted : next.lines ≡ min count most
-  pub on : (before : ℕ) → (is_feed : Bool) → (parts : List Recorded)
-      → Cut (before + count) next.is_feed (since_of next) next.text.now parts
-      → Cut before is_feed since text (part before is_feed since body ∷ parts)
+abbrev pub token_of : Option (Vec ℕ Global) → Option (List ℕ)
+token_of since = option_map (λ token. token.items) since
+
+abbrev pub since_of : Opened → Option (List ℕ)
+since_of opened = token_of opened.since
+
+-- the token that a head was asked for with
+abbrev pub announced : Bool → Opened → Option (List ℕ)
+announced true old = since_of old
+announced false old = None
+
+-- a line says so alone, or is the first of a head
+abbrev pub SaysOpening : Bool → List ℕ → Bool → Opened → Opened → Type 0
+SaysOpening true line is_direct old new =
+    (is_marked line ≡ false) × (token_on line ≡ None)
+    × ((status : List ℕ) × (status_on line ≡ Some status)
+    × (new.is_feed ≡ is_success status)) × (since_of new ≡ announced is_direct old)
+SaysOpening false line is_direct old new =
+    (before : Option (List ℕ)) → OpensFeed before (line ∷ []) new.is_feed (since_of new)
+
+-- Behind a connection of so many lines this is left of a record, and another one begins behind these
+-- lines, and was opened like this. The lines are counted with those before.
+pub record GoesOn (end : ℕ × List ℕ) (old new : Opened) (count : ℕ) (behind : List ℕ) : Type 0 where
+  pub head : List (List ℕ)
+  pub whole : AllByRecursion HasNoLineFeed head
+  pub text_is : end.1 ≡ ended head ++ behind
+  pub opens : (body : List (List ℕ)) → end.0 ≡ min (length body) most
+      → OpensFeed (announced_by (since_of old) body) head new.is_feed (since_of new)
+  pub counted : min count most ≡ min (end.0 + length head) most
+
+-- none does, or one was cut off within its head
+pub data EndsIn : List ℕ → Type 0 where
+  nothing : EndsIn []
+  in_head : (line status behind : List ℕ) → HasNoLineFeed line → is_marked line ≡ false
+      → token_on line ≡ None → status_on line ≡ Some status → IsHeadCutOff behind
+      → EndsIn (line ++ line_feed ∷ behind)
 
 -- ---- the audit of one connection, and those so far
 
--- a connection, behind so many lines
-abbrev pub part_of : ℕ → Carried → Recorded
-part_of before carried =
-    part before carried.is_feed (option_copied carried.since) carried.body.now
+-- a connection that carries this, behind so many lines
+abbrev pub part_of : ℕ → Opened → List ℕ → Recorded
+part_of before opened body = part before opened.is_feed (since_of opened) body
 
 -- what is answered of a feed, and what is left of the mirror
 abbrev pub IsFeedVerdict : Limits → List ℕ → MirrorState → Recorded → Verdict → MirrorState → Type 0

@@ -32,6 +32,12 @@ IsUnreadPrimary (fault.PrimaryUnread why) = IsOfRecord why
 IsUnreadPrimary fault.Memory = Unit {0}
 IsUnreadPrimary why = ⊥
 
+-- the same of the screen's
+abbrev pub IsUnreadScreen : AuditFault → Type 0
+IsUnreadScreen (fault.ScreenUnread why) = IsOfRecord why
+IsUnreadScreen fault.Memory = Unit {0}
+IsUnreadScreen why = ⊥
+
 -- a record can't be read on, and this is so of it; of another fault nothing is said
 abbrev pub IsUnread : (Unread → Type 0) → (Unread → Type 0) → AuditFault → Type 0
 IsUnread primary screen (fault.PrimaryUnread why) = primary why

@@ -1,6 +1,6 @@
 //! Whether each state of a screen's record is a state of the primary's.
 
-ghost use Rattle.std.specs.Prelude.{◌≡◌, ℕ, List, IfOk, IfErr, IfSome, Some, true, false};
+ghost use Rattle.std.specs.Prelude.{◌≡◌, ◌≤◌, ℕ, List, IfOk, IfErr, IfSome, OnOk, Some, true, false};
 ghost use Rattle.feed_node.specs.States.{published_token};
 ghost use Rattle.feed_audit.specs.Answers.{IsVerdict, IsVerdictOn, begun_by, FailsFrom, FailsToAudit, FailsToLocate, HasReadLines, IsStrange};
 ghost use Rattle.feed_audit.specs.Fronts.{IsLeft};
@@ -106,17 +106,24 @@ pub(crate) fn audit_on<P: Replayed, L: Lines>(
     screen: &mut L,
     theirs: &mut Mirror,
 ) -> Result<Verdict, AuditFault>
-    requires limits { theirs.old.limits ≡ limits }
-    requires shown { (text : List ℕ) → P.whole primary.old ≡ Some text
-        → IfSome theirs.old.node.published (IsStateOf limits text) }
+    requires { theirs.old.limits ≡ limits }
     ensures ok { (text body : List ℕ) → P.whole primary.old ≡ Some text
-        → L.left screen.old ≡ Some body → IfOk result (λ verdict.
+        → L.left screen.old ≡ Some body
+        → IfSome theirs.old.node.published (IsStateOf limits text)
+        → IfOk result (λ verdict.
         IsVerdictOn (begun_by limits theirs.old) text body verdict theirs.new) }
     ensures err { (text body : List ℕ) → P.whole primary.old ≡ Some text
-        → L.left screen.old ≡ Some body → IfErr result (λ fault.
-        FailsFrom (begun_by limits theirs.old) text body fault) }
+        → L.left screen.old ≡ Some body
+        → IfSome theirs.old.node.published (IsStateOf limits text)
+        → IfErr result (λ fault. FailsFrom (begun_by limits theirs.old) text body fault) }
     ensures limits { theirs.new.limits ≡ limits }
     ensures whole { P.whole primary.new ≡ P.whole primary.old }
+    ensures beyond { (text body : List ℕ) → P.whole primary.old ≡ Some text
+        → L.left screen.old ≡ Some body
+        → IfSome theirs.old.node.published (IsStateOf limits text)
+        → (end : ℕ × List ℕ) → L.beyond screen.old ≡ Some end
+        → OnOk result (L.beyond screen.new ≡ Some end) }
+    ensures room { OnOk result (L.room screen.new ≤ L.room screen.old) }
     ensures unread { IfErr result (IsUnread (P.unread primary.new) (L.unread screen.new)) }
 {
     // What `ok` rests on.

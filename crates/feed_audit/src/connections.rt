@@ -1,13 +1,12 @@
-//! The connections of a record, one after the other.
+//! Where the connections of a record begin.
 
-ghost use Rattle.std.specs.Prelude.{◌≡◌, ◌≢◌, ◌<◌, ◌≤◌, ◌||◌, ◌==◌, ℕ, List, length, None, Some, IfSome, IfNone};
+ghost use Rattle.std.specs.Prelude.{◌≡◌, ◌<◌, ◌≤◌, ◌||◌, ◌==◌, true, None, Some, IfOk, IfSome, IfNone};
 ghost use Rattle.std.specs.List.{list_any};
-ghost use Rattle.std.specs.Option.{option_copied};
-ghost use Rattle.feed_note.specs.Lines.{ended};
-ghost use Rattle.feed_audit.specs.Connections.{is_since, is_status_line, is_success, is_blank, is_chunked, since_in, status_in, announced_by, OpensNone};
-ghost use Rattle.feed_audit.specs.Parting.{IsOpening, IsRecordedBody, IsHeadRest, IsHeadCutOff, GoesOnWith, EndsWith};
+ghost use Rattle.feed_audit.specs.Connections.{is_since, is_status_line, is_success, is_blank, is_chunked, since_in, status_in, OpensNone};
+ghost use Rattle.feed_audit.specs.Parting.{IsOpening, SaysOpening, opens, since_of, token_of};
 
-use feed_note::split_line;
+use feed_note::LINE_BYTES;
+use std::alloc::{AllocError, Global};
 
 /// What begins a connection on a line.
 #[derive(Clone, Copy)]
@@ -20,31 +19,26 @@ pub(crate) enum Opening<'a> {
     Head(bool),
 }
 
-/// What one connection carried, and the line behind it that begins another one.
+/// How a connection was opened.
 #[derive(Drop)]
-pub(crate) struct Body<'a> {
-    pub bytes: &'a [u8],
-    pub lines: usize,
-    pub opening: Option<Opening<'a>>,
-    pub behind: &'a [u8],
-}
-
-/// Where the connection behind another one begins.
-#[derive(Drop)]
-pub(crate) struct Next<'a> {
-    /// How many lines stand before it, of the one before and of its own head.
-    pub lines: usize,
+pub(crate) struct Opened {
+    /// Whether what it carries is a feed.
     pub is_feed: bool,
     /// The token that it was asked for with, if one is said.
-    pub since: Option<&'a [u8]>,
-    pub text: &'a [u8],
+    pub since: Option<Vec<u8>>,
 }
 
-/// One connection, and the next.
-#[derive(Drop)]
-pub(crate) struct Connection<'a> {
-    pub body: &'a [u8],
-    pub next: Option<Next<'a>>,
+impl Opened {
+    /// One that carries a feed.
+    pub(crate) fn feed(since: Option<Vec<u8>>) -> Opened
+        ensures feed { result.is_feed ≡ true }
+        ensures since { since_of result ≡ token_of since }
+    {
+        Opened {
+            is_feed: true,
+            since,
+        }
+    }
 }
 
 /// Whether neither a quotation mark nor a slash is among the bytes.
@@ -112,11 +106,14 @@ fn succeeds(status: &[u8]) -> bool
     false
 }
 
-/// What begins on the line.
+/// What begins on the line. On one that is longer than one of a feed may be nothing does.
 fn opening_of<'a>(line: &'a [u8]) -> Option<Opening<'a>>
     ensures some { IfSome result (λ opening. IsOpening line.now opening) }
     ensures none { IfNone result (OpensNone line.now) }
 {
+    if line.len() > LINE_BYTES {
+        return None;
+    }
     if line.ends_with(b"# connection") {
         return Some(Opening::Marked);
     }
@@ -127,117 +124,49 @@ fn opening_of<'a>(line: &'a [u8]) -> Option<Opening<'a>>
     Some(Opening::Head(succeeds(status)))
 }
 
+/// Whether a connection begins on the line.
+pub(crate) fn opens(line: &[u8]) -> bool
+    ensures { result ≡ opens line.now }
+{
+    opening_of(line).is_some()
+}
+
+/// Makes it how the connection on the line was opened that begins there, and answers whether that is
+/// a head. A head directly behind the beginning of a connection was asked for with its token.
+pub(crate) fn read_opening(
+    alloc: Global,
+    line: &[u8],
+    is_direct: bool,
+    opened: &mut Opened,
+) -> Result<bool, AllocError>
+    ensures { opens line.now ≡ true → IfOk result (λ is_head.
+        SaysOpening is_head line.now is_direct opened.old opened.new) }
+{
+    match opening_of(line) {
+        None => Ok(false),
+        Some(Opening::Marked) => {
+            *opened = Opened::feed(None);
+            Ok(false)
+        }
+        Some(Opening::Named(token)) => {
+            *opened = Opened::feed(Some(token.to_vec(alloc)?));
+            Ok(false)
+        }
+        Some(Opening::Head(is_feed)) => {
+            opened.is_feed = is_feed;
+            if !is_direct {
+                opened.since = None;
+            }
+            Ok(true)
+        }
+    }
+}
+
 /// Whether the line is empty, as the last of a head is.
-fn is_empty_line(line: &[u8]) -> bool
+pub(crate) fn is_empty_line(line: &[u8]) -> bool
     ensures { result ≡ is_blank line.now }
 {
     line.len() == 0 || (line.len() == 1 && line[0] == b'\r')
-}
-
-/// What a text has before the first line on which a connection begins.
-fn cut_body<'a>(text: &'a [u8]) -> Body<'a>
-    ensures body { IsRecordedBody text.now result }
-    ensures shorter { result.opening ≢ None → length result.behind.now < length text.now }
-{
-    let mut rest = text;
-    let mut count: usize = 0;
-    'lines: while let Some((line, behind)) = split_line(rest) {
-        if let Some(opening) = opening_of(line) {
-            return Body {
-                bytes: &text[..text.len() - rest.len()],
-                lines: count,
-                opening: Some(opening),
-                behind,
-            };
-        }
-        count = count.saturating_add(1);
-        rest = behind;
-    }
-    Body {
-        bytes: text,
-        lines: count,
-        opening: None,
-        behind: rest,
-    }
-}
-
-/// What follows the first empty line, and how many lines stand before that, it included; none where
-/// there is none.
-fn skip_head<'a>(text: &'a [u8]) -> Option<(usize, &'a [u8])>
-    ensures some { IfSome result (λ found. IsHeadRest text.now found.0 found.1.now) }
-    ensures none { IfNone result (IsHeadCutOff text.now) }
-    ensures shorter { IfSome result (λ found. length found.1.now ≤ length text.now) }
-{
-    let mut rest = text;
-    let mut count: usize = 0;
-    'lines: while let Some((line, behind)) = split_line(rest) {
-        count = count.saturating_add(1);
-        if is_empty_line(line) {
-            return Some((count, behind));
-        }
-        rest = behind;
-    }
-    None
-}
-
-/// The token that a head behind what a connection carried is announced with: that of the connection,
-/// where it carried nothing.
-fn announced<'a>(body: &[u8], since: Option<&'a [u8]>) -> Option<&'a [u8]>
-    ensures { (lines : List (List ℕ)) → body.now ≡ ended lines
-        → option_copied result ≡ announced_by (option_copied since.entry) lines }
-{
-    if body.is_empty() { since } else { None }
-}
-
-/// Where the connection behind this one begins, which was asked for with a token, if one is said;
-/// none where no other one does, or where it was cut off within its head.
-fn next_of<'a>(body: &Body<'a>, since: Option<&'a [u8]>) -> Option<Next<'a>>
-    ensures next { (text : List ℕ) → IsRecordedBody text body.now
-        → IfSome result (λ next.
-        GoesOnWith (option_copied since.entry) text body.now.bytes.now next) }
-    ensures last { (text : List ℕ) → IsRecordedBody text body.now
-        → IfNone result (EndsWith text body.now.bytes.now) }
-    ensures within { IfSome result (λ next. length next.text.now ≤ length body.now.behind.now) }
-    ensures some { IfSome result (λ next. body.now.opening ≢ None) }
-{
-    match body.opening {
-        None => None,
-        Some(Opening::Marked) => Some(Next {
-            lines: body.lines.saturating_add(1),
-            is_feed: true,
-            since: None,
-            text: body.behind,
-        }),
-        Some(Opening::Named(token)) => Some(Next {
-            lines: body.lines.saturating_add(1),
-            is_feed: true,
-            since: Some(token),
-            text: body.behind,
-        }),
-        Some(Opening::Head(is_feed)) => match skip_head(body.behind) {
-            Some((count, text)) => Some(Next {
-                lines: body.lines.saturating_add(1).saturating_add(count),
-                is_feed,
-                since: announced(body.bytes, since),
-                text,
-            }),
-            None => None,
-        },
-    }
-}
-
-/// The first connection of a text, which was asked for with a token, if one is said, and the next.
-pub(crate) fn next_connection<'a>(text: &'a [u8], since: Option<&'a [u8]>) -> Connection<'a>
-    ensures next { IfSome result.next (λ next.
-        GoesOnWith (option_copied since.entry) text.now result.body.now next) }
-    ensures last { IfNone result.next (EndsWith text.now result.body.now) }
-    ensures shorter { IfSome result.next (λ next. length next.text.now < length text.now) }
-{
-    let body = cut_body(text);
-    Connection {
-        body: body.bytes,
-        next: next_of(&body, since),
-    }
 }
 
 /// Whether what a connection carried begins with the digits of a chunk's size.

@@ -1,6 +1,6 @@
 //! A text, line by line.
 
-ghost use Rattle.std.specs.Prelude.{◌≡◌, ◌≤◌, ◌<◌, ◌+◌, ℕ, List, length, Option, None, Some, IfOk, IfErr, OnOk};
+ghost use Rattle.std.specs.Prelude.{◌≡◌, ◌≢◌, ◌≤◌, ◌<◌, ◌+◌, ◌++◌, ℕ, List, length, Option, None, Some, IfOk, IfErr, OnOk};
 ghost use Rattle.feed_audit.specs.Fronts.{IsFront, IsLineBefore};
 
 use feed_node::FeedFault;
@@ -82,6 +82,9 @@ pub trait Lines {
     // All of it, where that is known.
     ghost whole: { Self → Option (List ℕ) } = { λ _. None };
 
+    // How many lines it has in all, and what stands behind it, where that is known.
+    ghost beyond: { Self → Option (ℕ × List ℕ) } = { λ _. None };
+
     // The first of the bytes that are left, as far as they were looked at.
     ghost front: { Self → List ℕ };
 
@@ -97,9 +100,11 @@ pub trait Lines {
             → OnOk result (left self.new ≡ Some text) }
         ensures front { (text : List ℕ) → left self.old ≡ Some text
             → IfOk result (λ found. IsFront found (front self.new) text) }
-        ensures line { IfOk result (λ found. found ≡ Front.Line → 0 < length (front self.new)) }
+        ensures some { IfOk result (λ found. found ≢ Front.Rest → 0 < length (front self.new)) }
         ensures room { OnOk result (room self.new ≤ room self.old) }
         ensures whole { whole self.new ≡ whole self.old }
+        ensures beyond { (end : ℕ × List ℕ) → beyond self.old ≡ Some end
+            → OnOk result (beyond self.new ≡ Some end) }
         ensures unread { IfErr result (λ why. unread self.new why) };
 
     /// The bytes at the front that were looked at.
@@ -111,7 +116,21 @@ pub trait Lines {
         ensures left { (behind : List ℕ) → IsLineBefore behind (front self.old) (left self.old)
             → left self.new ≡ Some behind }
         ensures room { room self.new + length (front self.old) ≡ room self.old }
-        ensures whole { whole self.new ≡ whole self.old };
+        ensures whole { whole self.new ≡ whole self.old }
+        ensures beyond { (behind : List ℕ) (end : ℕ × List ℕ)
+            → IsLineBefore behind (front self.old) (left self.old)
+            → beyond self.old ≡ Some end → beyond self.new ≡ Some end };
+}
+
+/// A text whose lines can be passed in parts, however long they are.
+pub trait Skipped: Lines {
+    /// Passes the bytes at the front that were looked at.
+    fn skip(&mut self)
+        ensures left { (behind : List ℕ)
+            → Self.left self.old ≡ Some (Self.front self.old ++ behind)
+            → Self.left self.new ≡ Some behind }
+        ensures room { Self.room self.new + length (Self.front self.old)
+            ≡ Self.room self.old };
 }
 
 /// A text that can be read again from its beginning.

@@ -1,29 +1,21 @@
 //! An audit of a record of several connections.
 
-ghost use Rattle.std.specs.Prelude.{◌≡◌, ◌≢◌, ◌⊎◌, ◌+◌, ℕ, List, true, false, min, IfOk, IfErr, OnOk, IsTrue, IfSome, Some};
-ghost use Rattle.std.specs.Option.{option_copied};
+ghost use Rattle.std.specs.Prelude.{◌≡◌, ◌≢◌, ◌⊎◌, ◌+◌, ◌≤◌, ℕ, List, true, false, min, IfOk, IfErr, OnOk, IsTrue, IfSome, Some};
 ghost use Rattle.feed_node.specs.Mirroring.{new_mirror, present_opening};
-ghost use Rattle.feed_audit.specs.Parting.{IsPartVerdict, FailsInBody, faults_behind, most, part_of};
+ghost use Rattle.feed_audit.specs.Connections.{is_chunked};
+ghost use Rattle.feed_audit.specs.Parting.{IsPartVerdict, FailsInBody, faults_behind, most, part_of, since_of};
 ghost use Rattle.feed_audit.specs.States.{IsStateOf};
 ghost use Rattle.feed_audit.specs.Records.{IsRecordVerdict, FailsToAuditRecord, MayGoOn, opening_of};
-ghost use Rattle.feed_audit.specs.Stops.{IsUnread};
+ghost use Rattle.feed_audit.specs.ScreenLines.{source_of};
+ghost use Rattle.feed_audit.specs.Stops.{IsUnread, IsUnreadScreen};
 
 use crate::auditing::audit_on;
-use crate::connections::{begins_in_chunks, next_connection};
-use crate::reading::Replayed;
-use crate::text_lines::TextLines;
-use crate::verdict::{AuditFault, Stray, Verdict};
+use crate::connections::{Opened, begins_in_chunks};
+use crate::reading::{Lines, Replayed, Skipped, Stop};
+use crate::screen_lines::ScreenLines;
+use crate::verdict::{AuditFault, Stray, Verdict, of_screen};
 use feed_node::{Limits, Mirror};
 use std::alloc::Global;
-
-/// What a connection carried, whether it is a feed, and the token that it was asked for with, if one
-/// is said.
-#[derive(Clone, Copy)]
-struct Carried<'a> {
-    is_feed: bool,
-    since: Option<&'a [u8]>,
-    body: &'a [u8],
-}
 
 /// Whether a mirror would ask with this token.
 fn asks_with(mirror: &Mirror, token: &[u8]) -> bool
@@ -40,26 +32,26 @@ fn asks_with(mirror: &Mirror, token: &[u8]) -> bool
 fn choose(
     alloc: Global,
     limits: Limits,
-    since: Option<&[u8]>,
+    opened: &Opened,
     mirror: &mut Mirror,
 ) -> Result<(), AuditFault>
     requires { mirror.old.limits ≡ limits }
     ensures chosen { OnOk result
         ((mirror.new ≡ mirror.old) ⊎ (mirror.new ≡ new_mirror limits)) }
-    ensures may { OnOk result (MayGoOn mirror.old (option_copied since.entry)) }
+    ensures may { OnOk result (MayGoOn mirror.old (since_of opened.now)) }
     ensures opening { OnOk result
-        (present_opening mirror.new ≡ opening_of mirror.old (option_copied since.entry)) }
+        (present_opening mirror.new ≡ opening_of mirror.old (since_of opened.now)) }
     ensures limits { OnOk result (mirror.new.limits ≡ limits) }
     ensures err { IfErr result (λ fault. fault ≢ AuditFault.Memory
-        → (fault ≡ AuditFault.OtherToken 1) × ¬ (MayGoOn mirror.old (option_copied since.entry))) }
+        → (fault ≡ AuditFault.OtherToken 1) × ¬ (MayGoOn mirror.old (since_of opened.now))) }
 {
-    match since {
+    match &opened.since {
         None => {
             *mirror = Mirror::new(alloc, limits)?;
             Ok(())
         }
         Some(token) => {
-            if asks_with(mirror, token) {
+            if asks_with(mirror, token.as_slice()) {
                 Ok(())
             } else {
                 Err(AuditFault::OtherToken(1))
@@ -68,37 +60,64 @@ fn choose(
     }
 }
 
-/// Whether each state that a connection carried is one of the primary's; what is no feed has none.
-fn audit_connection<P: Replayed>(
+/// Looks whether what is left of the screen's text begins with the digits of a chunk's size.
+fn look_for_chunks<L: Lines>(screen: &mut L) -> Result<bool, AuditFault>
+    ensures left { (bytes : List ℕ) → L.left screen.old ≡ Some bytes
+        → OnOk result (L.left screen.new ≡ Some bytes) }
+    ensures chunked { (bytes : List ℕ) → L.left screen.old ≡ Some bytes
+        → IfOk result (λ chunked. chunked ≡ is_chunked bytes) }
+    ensures beyond { (end : ℕ × List ℕ) → L.beyond screen.old ≡ Some end
+        → OnOk result (L.beyond screen.new ≡ Some end) }
+    ensures room { OnOk result (L.room screen.new ≤ L.room screen.old) }
+    ensures err { IfErr result IsUnreadScreen }
+    ensures unread { IfErr result (IsUnread (λ _. ⊥) (L.unread screen.new)) }
+{
+    match screen.look() {
+        Ok(_) => Ok(begins_in_chunks(screen.front())),
+        Err(why) => Err(of_screen(Stop::Unread(why), 0)),
+    }
+}
+
+/// Whether each state that a connection carried is one of the primary's; what is no feed has none,
+/// and is not read.
+fn audit_connection<P: Replayed, L: Lines>(
     alloc: Global,
     limits: Limits,
     primary: &mut P,
-    carried: Carried<'_>,
+    screen: &mut L,
+    opened: &Opened,
     mirror: &mut Mirror,
 ) -> Result<Verdict, AuditFault>
-    requires limits { mirror.old.limits ≡ limits }
-    requires shown { (text : List ℕ) → P.whole primary.old ≡ Some text
-        → IfSome mirror.old.node.published (IsStateOf limits text) }
-    ensures ok { (text : List ℕ) → P.whole primary.old ≡ Some text → (before : ℕ)
-        → IfOk result (λ verdict. IsPartVerdict limits text carried.entry.is_feed mirror.old
-        (part_of before carried.entry) verdict mirror.new) }
-    ensures err { (text : List ℕ) → P.whole primary.old ≡ Some text → (before : ℕ)
+    requires { mirror.old.limits ≡ limits }
+    ensures ok { (text body : List ℕ) → P.whole primary.old ≡ Some text
+        → L.left screen.old ≡ Some body
+        → IfSome mirror.old.node.published (IsStateOf limits text) → (before : ℕ)
+        → IfOk result (λ verdict. IsPartVerdict limits text opened.now.is_feed mirror.old
+        (part_of before opened.now body) verdict mirror.new) }
+    ensures err { (text body : List ℕ) → P.whole primary.old ≡ Some text
+        → L.left screen.old ≡ Some body
+        → IfSome mirror.old.node.published (IsStateOf limits text) → (before : ℕ)
         → IfErr result (λ fault.
-        FailsInBody limits text mirror.old (part_of before carried.entry) fault) }
-    ensures feed { IfErr result (λ _. carried.entry.is_feed ≡ true) }
+        FailsInBody limits text mirror.old (part_of before opened.now body) fault) }
+    ensures feed { IfErr result (λ _. opened.now.is_feed ≡ true) }
     ensures limits { OnOk result (mirror.new.limits ≡ limits) }
     ensures whole { P.whole primary.new ≡ P.whole primary.old }
-    ensures unread { IfErr result (IsUnread (P.unread primary.new) (λ _. ⊥)) }
+    ensures beyond { (text body : List ℕ) → P.whole primary.old ≡ Some text
+        → L.left screen.old ≡ Some body
+        → IfSome mirror.old.node.published (IsStateOf limits text)
+        → (end : ℕ × List ℕ) → L.beyond screen.old ≡ Some end
+        → OnOk result (L.beyond screen.new ≡ Some end) }
+    ensures room { OnOk result (L.room screen.new ≤ L.room screen.old) }
+    ensures unread { IfErr result (IsUnread (P.unread primary.new) (L.unread screen.new)) }
 {
-    if !carried.is_feed {
+    if !opened.is_feed {
         return Ok(Verdict::Agrees(0));
     }
-    if begins_in_chunks(carried.body) {
+    if look_for_chunks(screen)? {
         return Err(AuditFault::Chunked(1));
     }
-    choose(alloc, limits, carried.since, mirror)?;
-    let mut body = TextLines::new(carried.body);
-    audit_on(alloc, limits, primary, &mut body, mirror)
+    choose(alloc, limits, opened, mirror)?;
+    audit_on(alloc, limits, primary, screen, mirror)
 }
 
 /// A fault of a connection, by its line in the record.
@@ -141,46 +160,40 @@ fn stray_behind(stray: Stray, before: usize, states: usize) -> Stray
 /// the same token. The screen's may have several connections, one after the other, with heads or
 /// lines `# connection` before them. Each is read as a fresh one, and so is the primary's record; but
 /// behind a line `# connection since TOKEN` it goes on where those before it ended, whose last
-/// state's token that has to be.
-pub fn audit_record<P: Replayed>(
+/// state's token that has to be. What is left of the screen's record is read once.
+pub fn audit_record<P: Replayed, L: Skipped>(
     alloc: Global,
     limits: Limits,
     primary: &mut P,
-    screen: &[u8],
+    screen: &mut ScreenLines<L>,
 ) -> Result<Verdict, AuditFault>
-    ensures ok { (text : List ℕ) → P.whole primary.old ≡ Some text
-        → IfOk result (IsRecordVerdict limits text screen.now) }
-    ensures err { (text : List ℕ) → P.whole primary.old ≡ Some text
-        → IfErr result (FailsToAuditRecord limits text screen.now) }
+    ensures ok { (text record_ : List ℕ) → P.whole primary.old ≡ Some text
+        → L.left (source_of screen.old) ≡ Some record_
+        → IfOk result (IsRecordVerdict limits text record_) }
+    ensures err { (text record_ : List ℕ) → P.whole primary.old ≡ Some text
+        → L.left (source_of screen.old) ≡ Some record_
+        → IfErr result (FailsToAuditRecord limits text record_) }
     ensures whole { P.whole primary.new ≡ P.whole primary.old }
-    ensures unread { IfErr result (IsUnread (P.unread primary.new) (λ _. ⊥)) }
+    ensures unread { IfErr result
+        (IsUnread (P.unread primary.new) (L.unread (source_of screen.new))) }
 {
     let mut mirror = Mirror::new(alloc, limits)?;
-    let mut text = screen;
+    let mut opened = Opened::feed(None);
     let mut before: usize = 0;
-    let mut is_feed = true;
-    let mut since: Option<&[u8]> = None;
     let mut states: usize = 0;
     'connections: loop {
-        let connection = next_connection(text, since);
-        let carried = Carried {
-            is_feed,
-            since,
-            body: connection.body,
-        };
-        match audit_connection(alloc, limits, primary, carried, &mut mirror) {
+        screen.begin();
+        match audit_connection(alloc, limits, primary, screen, &opened, &mut mirror) {
             Err(fault) => return Err(fault_behind(fault, before)),
             Ok(Verdict::Strays(stray)) => {
                 return Ok(Verdict::Strays(stray_behind(stray, before, states)));
             }
             Ok(Verdict::Agrees(more)) => states = states.saturating_add(more),
         }
-        let Some(next) = connection.next else {
-            return Ok(Verdict::Agrees(states));
-        };
-        text = next.text;
-        before = before.saturating_add(next.lines);
-        is_feed = next.is_feed;
-        since = next.since;
+        match screen.go_on(alloc, &mut opened) {
+            Err(why) => return Err(of_screen(Stop::Unread(why), 0)),
+            Ok(false) => return Ok(Verdict::Agrees(states)),
+            Ok(true) => before = before.saturating_add(screen.lines()),
+        }
     }
 }

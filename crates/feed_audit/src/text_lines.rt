@@ -2,7 +2,7 @@
 
 ghost use Rattle.std.specs.Prelude.{◌≡◌, ◌≤◌, length};
 
-use crate::reading::{Front, Lines, Replayed, Unread};
+use crate::reading::{Front, Lines, Replayed, Skipped, Unread};
 use feed_note::{LINE_BYTES, split_line};
 
 /// A text in memory, of which a part was read.
@@ -69,6 +69,13 @@ impl<'a> Lines for TextLines<'a> {
     }
 
     fn pass(&mut self) {
+        self.rest = &self.rest[self.looked..];
+        self.looked = 0;
+    }
+}
+
+impl<'a> Skipped for TextLines<'a> {
+    fn skip(&mut self) {
         self.rest = &self.rest[self.looked..];
         self.looked = 0;
     }

@@ -1,14 +1,33 @@
 -- Lemmas on what the command `audit` prints.
-use Rattle.std.proofs.Common.{◌≡◌, sym, subst, inr, List, ℕ, Option}
+use Rattle.std.proofs.Common.{◌≡◌, refl, sym, subst, inl, inr, List, ℕ, Option, Some, None, Result, Ok, Err, IfErr, OnOk, OnErr}
+use Rattle.std.specs.Io.KnownBytes.{Appends, Keeps}
 use Rattle.feed_audit.specs.Records.{IsRecordVerdict}
+use Rattle.feed_audit.specs.declared.verdict.AuditFault.{AuditFault}
+use Rattle.feed_audit.specs.declared.verdict.AuditFault.TheVariants as audit
 use Rattle.feed_audit.specs.declared.verdict.Stray.{Stray}
 use Rattle.feed_audit.specs.declared.verdict.Verdict.{Verdict}
 use Rattle.feed_audit.specs.declared.verdict.Verdict.TheVariants as verdict
 use Rattle.feed_http.specs.Device.{AppendsPrefix}
 use Rattle.feed_arguments.specs.declared.request.AuditOptions.{AuditOptions}
-use Rattle.feed_commands.specs.Audit.{stray_told, AuditFails}
+use Rattle.feed_commands.specs.Audit.{stray_told, AuditFails, FailsToCompare, PrintsAgreement, TellsAgreement}
+use Rattle.feed_commands.specs.Fault.{fault_of_audit}
 use Rattle.feed_commands.specs.declared.fault.Fault.{Fault}
 use Rattle.feed_commands.specs.declared.fault.Fault.TheVariants as fault
+
+keeps_itself : (bytes : Option (List ℕ)) → Keeps bytes bytes
+keeps_itself None = tt
+keeps_itself (Some bytes) = refl
+
+-- a record can't be read, and nothing was printed
+pub compare_fails : (options : AuditOptions) (primary screen : List ℕ) (out : Option (List ℕ)) (why : AuditFault)
+    → FailsToCompare options primary screen why → AuditFails options primary screen (fault_of_audit why) out out
+compare_fails options primary screen out audit.Memory fails = keeps_itself out
+compare_fails options primary screen out (audit.Primary line fault) fails = (fails, keeps_itself out)
+compare_fails options primary screen out (audit.Screen line fault) fails = (fails, keeps_itself out)
+compare_fails options primary screen out (audit.Chunked line) fails = (fails, keeps_itself out)
+compare_fails options primary screen out (audit.OtherToken line) fails = (fails, keeps_itself out)
+compare_fails options primary screen out (audit.PrimaryUnread why) fails = (fails, keeps_itself out)
+compare_fails options primary screen out (audit.ScreenUnread why) fails = (fails, keeps_itself out)
 
 module _ (options : AuditOptions) (primary screen : List ℕ) (old new : Option (List ℕ)) where
   -- a stray state was told, and a prefix of that was printed
@@ -19,3 +38,17 @@ module _ (options : AuditOptions) (primary screen : List ℕ) (old new : Option 
   stray_prefix why found stray text failed is found_is told printed =
       subst (λ w. AuditFails options primary screen w old new) (sym failed)
       (text, inr (record { stray = stray; strays = subst (IsRecordVerdict options.limits primary screen) is found_is; told = told }), printed)
+
+  -- an agreement was told, and printed
+  pub agreement_printed : {A E : Type 0} (result : Result A E) (text : List ℕ) → TellsAgreement options primary screen text
+      → OnOk result (Appends old new text) → OnOk result (PrintsAgreement options primary screen old new)
+  agreement_printed (Ok done) text tells printed = (text, tells, printed)
+  agreement_printed (Err why) text tells printed = tt
+
+  -- it was told, and a prefix of that was printed
+  pub agreement_prefix : {A : Type 0} (result : Result A Fault) (text : List ℕ) → TellsAgreement options primary screen text
+      → IfErr result (λ why. why ≡ fault.Write) → OnErr result (AppendsPrefix old new text)
+      → IfErr result (λ why. AuditFails options primary screen why old new)
+  agreement_prefix (Ok done) text tells failed printed = tt
+  agreement_prefix (Err why) text tells failed printed =
+      subst (λ w. AuditFails options primary screen w old new) (sym failed) (text, inl tells, printed)

@@ -189,3 +189,14 @@ line_passed start looked bytes behind (Some r) f =
     sym (append_assoc (take looked (drop start bytes)) (drop looked (drop start bytes)) r) ∙ ap (λ t. t ++ r) (take-append-drop looked (drop start bytes)) ∙ is
     ∙ sym (append_assoc f.line (10 ∷ []) behind) ∙ ap (λ t. t ++ behind) (sym front) in
     ap Some (ap (λ t. t ++ r) (sym (drop-drop looked start bytes)) ∙ cancel _ _ _ parts)
+
+-- and so are bytes that are no line
+pub bytes_passed : (start looked : ℕ) (bytes behind : List ℕ) (remaining : Option (List ℕ)) → prepend_known (drop start bytes) remaining ≡ Some (take looked (drop start bytes) ++ behind)
+    → prepend_known (drop (start + looked) bytes) remaining ≡ Some behind
+bytes_passed start looked bytes behind None e = absurd (cc)
+bytes_passed start looked bytes behind (Some r) e =
+    let both : Some (drop start bytes ++ r) ≡ Some (take looked (drop start bytes) ++ behind) = e in
+    let is : drop start bytes ++ r ≡ take looked (drop start bytes) ++ behind = cc in
+    let parts : take looked (drop start bytes) ++ (drop looked (drop start bytes) ++ r) ≡ take looked (drop start bytes) ++ behind =
+    sym (append_assoc (take looked (drop start bytes)) (drop looked (drop start bytes)) r) ∙ ap (λ t. t ++ r) (take-append-drop looked (drop start bytes)) ∙ is in
+    ap Some (ap (λ t. t ++ r) (sym (drop-drop looked start bytes)) ∙ cancel _ _ _ parts)

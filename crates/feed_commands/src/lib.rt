@@ -25,7 +25,7 @@ pub use feed_arguments::{
     PullOptions, RelayOptions, Request, ServeOptions, TablesOptions, UpstreamOptions, VERSION,
     Verbosity, addresses, parse_words,
 };
-pub use feed_audit::{AuditFault, Replayed, TextLines, Unread};
+pub use feed_audit::{AuditFault, Replayed, ScreenLines, Skipped, TextLines, Unread};
 pub use feed_http::{device, memory, stream};
 pub use feed_play::{PlayCause, PlayFault, play};
 pub use feed_relay::{Accept, Dial, NetworkFault, Server};

@@ -6,8 +6,8 @@ use crate::ahead::{file_ahead, file_part_ahead, input_ahead};
 use crate::ending::Failure;
 use feed_commands::stream::Stream;
 use feed_commands::{
-    AuditFault, AuditOptions, Fault, Record, RecordLines, Replayed, TextLines, Unread,
-    print_verdict, read_record,
+    AuditFault, AuditOptions, DeviceLines, Fault, Record, RecordLines, Replayed, ScreenLines,
+    Skipped, TextLines, Unread, print_verdict, read_record,
 };
 use std::fs::File;
 use std::io::{BufReader, ErrorKind, Take};
@@ -41,12 +41,12 @@ const PRIMARY_INPUT: Texts = Texts {
 
 const SCREEN_FILE: Texts = Texts {
     unread: "the screen's record can't be read",
-    long: "the screen's record has over 512 MiB",
+    long: "the screen's record has over 1 TiB",
 };
 
 const SCREEN_INPUT: Texts = Texts {
     unread: "the screen's record, on standard input, can't be read",
-    long: "the screen's record, on standard input, has over 512 MiB",
+    long: "the screen's record, on standard input, has over 1 TiB",
 };
 
 impl Texts {
@@ -117,60 +117,96 @@ fn record_file<'a>(rt: &'a HostRuntime, name: &'a str) -> Option<RecordFile<'a>>
 }
 
 /// What the file of this name has.
-fn read_file(rt: &HostRuntime, name: &str, texts: Texts) -> Result<Vec<u8>, Failure> {
+fn read_file(rt: &HostRuntime, name: &str) -> Result<Vec<u8>, Failure> {
     match file_ahead(rt, name) {
-        Ok(file) => {
-            read_record(rt.alloc(), &mut Stream::new(file)).map_err(|fault| texts.failure(fault))
-        }
-        Err(error) => Err(texts.failure(fault_of(unread_by(&error)))),
+        Ok(file) => read_record(rt.alloc(), &mut Stream::new(file)).map_err(
+            |fault| PRIMARY_FILE.failure(fault),
+        ),
+        Err(error) => Err(PRIMARY_FILE.failure(fault_of(unread_by(&error)))),
     }
 }
 
 /// What standard input has.
-fn read_input(rt: &HostRuntime, texts: Texts) -> Result<Vec<u8>, Failure> {
+fn read_input(rt: &HostRuntime) -> Result<Vec<u8>, Failure> {
     let Ok(input) = input_ahead(rt) else {
         return Err(Failure::from(Fault::Memory));
     };
-    read_record(rt.alloc(), &mut Stream::new(input)).map_err(|fault| texts.failure(fault))
+    read_record(rt.alloc(), &mut Stream::new(input)).map_err(|fault| PRIMARY_INPUT.failure(fault))
 }
 
 /// The primary's record, which can be read once alone.
 fn read_primary(rt: &HostRuntime, name: &str) -> Result<Vec<u8>, Failure> {
     if name == INPUT {
-        read_input(rt, PRIMARY_INPUT)
+        read_input(rt)
     } else {
-        read_file(rt, name, PRIMARY_FILE)
+        read_file(rt, name)
     }
 }
 
-/// The screen's, on standard input where no file is named.
-fn read_screen(rt: &HostRuntime, name: Option<&str>) -> Result<Vec<u8>, Failure> {
-    match name {
-        Some(name) if name != INPUT => read_file(rt, name, SCREEN_FILE),
-        _ => read_input(rt, SCREEN_INPUT),
+/// Prints whether each state of this record of the screen's is one of the primary's.
+fn audit_lines<P: Replayed, L: Skipped + Drop>(
+    rt: &HostRuntime,
+    options: &AuditOptions<'_>,
+    primary: &mut P,
+    screen: L,
+    texts: Texts,
+) -> Result<(), Failure> {
+    let mut screen = ScreenLines::new(screen);
+    let mut out = Stream::new(rt.stdout());
+    match print_verdict(rt.alloc(), options, primary, &mut screen, &mut out) {
+        Ok(()) => Ok(()),
+        Err(Fault::Audit(AuditFault::PrimaryUnread(why))) => {
+            Err(PRIMARY_LINES.failure(fault_of(why)))
+        }
+        Err(Fault::Audit(AuditFault::ScreenUnread(why))) => Err(texts.failure(fault_of(why))),
+        Err(fault) => Err(Failure::from(fault)),
     }
 }
 
-/// Prints whether each state of the screen's record is one of the primary's.
+/// The same of the file of this name.
+fn audit_file<P: Replayed>(
+    rt: &HostRuntime,
+    options: &AuditOptions<'_>,
+    primary: &mut P,
+    name: &str,
+) -> Result<(), Failure> {
+    match file_ahead(rt, name) {
+        Ok(file) => {
+            let screen = DeviceLines::new(rt.alloc(), Stream::new(file));
+            audit_lines(rt, options, primary, screen, SCREEN_FILE)
+        }
+        Err(error) => Err(SCREEN_FILE.failure(fault_of(unread_by(&error)))),
+    }
+}
+
+/// The same of standard input.
+fn audit_input<P: Replayed>(
+    rt: &HostRuntime,
+    options: &AuditOptions<'_>,
+    primary: &mut P,
+) -> Result<(), Failure> {
+    let Ok(input) = input_ahead(rt) else {
+        return Err(Failure::from(Fault::Memory));
+    };
+    let screen = DeviceLines::new(rt.alloc(), Stream::new(input));
+    audit_lines(rt, options, primary, screen, SCREEN_INPUT)
+}
+
+/// The same of the record that is asked for: standard input, where no file is named.
 fn audit_with<P: Replayed>(
     rt: &HostRuntime,
     options: &AuditOptions<'_>,
     primary: &mut P,
 ) -> Result<(), Failure> {
-    let screen = read_screen(rt, options.screen)?;
-    let mut out = Stream::new(rt.stdout());
-    match print_verdict(rt.alloc(), options, primary, screen.as_slice(), &mut out) {
-        Ok(()) => Ok(()),
-        Err(Fault::Audit(AuditFault::PrimaryUnread(why))) => {
-            Err(PRIMARY_LINES.failure(fault_of(why)))
-        }
-        Err(fault) => Err(Failure::from(fault)),
+    match options.screen {
+        Some(name) if name != INPUT => audit_file(rt, options, primary, name),
+        _ => audit_input(rt, options, primary),
     }
 }
 
 /// Prints whether each state of the screen's record is one of the primary's. One of both records at
-/// most is on standard input. That of the primary is read line by line where it is a file that can
-/// be read again, and else whole.
+/// most is on standard input. The screen's is read line by line, once. That of the primary is read
+/// line by line, too, where it is a file that can be read again, and else whole.
 pub fn audit_records(rt: &HostRuntime, options: &AuditOptions<'_>) -> Result<(), Failure> {
     let Some(file) = record_file(rt, options.primary) else {
         let primary = read_primary(rt, options.primary)?;

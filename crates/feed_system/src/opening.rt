@@ -1,6 +1,6 @@
 //! Ports are listened at, before a relay's first turn.
 
-ghost use Rattle.std.specs.Prelude.{IfOk, option_map};
+ghost use Rattle.std.specs.Prelude.{◌≡◌, IfOk, option_map};
 ghost use Rattle.feed_system.specs.Guard.{AreListed};
 
 use crate::guard::Guard;
@@ -169,7 +169,13 @@ struct Ends {
 }
 
 /// Listens at the ports that are asked for.
-fn open_ends(rt: &HostRuntime, options: &LiveOptions<'_>) -> Result<Ends, OpenFault> {
+fn open_ends(rt: &HostRuntime, options: &LiveOptions<'_>) -> Result<Ends, OpenFault>
+    ensures screens { IfOk result (λ ends.
+        AreListed (option_map (λ list. list.now) options.now.allow) ends.port.guard.networks) }
+    ensures watchers { IfOk result (λ ends.
+        AreListed (option_map (λ list. list.now) options.now.allow)
+        ends.watchers.guard.networks) }
+{
     let poll = Poll::new(rt)?;
     let watchers = watchers(rt, &poll, options)?;
     let port = port(rt, &poll, options)?;
@@ -196,7 +202,15 @@ pub fn open<'r>(
     kept: Option<Kept<File>>,
     hosts: Vec<Host>,
     start: Instant,
-) -> Result<Opened<'r>, OpenFault> {
+) -> Result<Opened<'r>, OpenFault>
+    // whoever comes to a port has to be in one of the networks that are listed, if some are
+    ensures screens { IfOk result (λ opened.
+        AreListed (option_map (λ list. list.now) options.now.allow)
+        opened.devices.sockets.guard.networks) }
+    ensures watchers { IfOk result (λ opened.
+        AreListed (option_map (λ list. list.now) options.now.allow)
+        opened.system.watchers.guard.networks) }
+{
     let store = match kept {
         Some(kept) => StateStore::new(rt, kept),
         None => StateStore::none(rt),
@@ -226,7 +240,9 @@ fn joined<'r>(
     watchers: Watchers,
     buffers: Buffers,
     start: Instant,
-) -> System<'r> {
+) -> System<'r>
+    ensures { result.watchers ≡ watchers }
+{
     let Buffers {
         events,
         ready,

@@ -2,6 +2,7 @@
 ghost use Rattle.std.specs.Prelude.{◌≡◌, ℕ, List, IfOk, IfErr, OnOk, OnErr, IsErrOf, Some};
 ghost use Rattle.std.specs.Io.KnownBytes.{Appends};
 ghost use Rattle.feed_commands.specs.Audit.{record_bytes, agreement_told, stray_told, PrintsAgreement, AuditFails, IsUnreadRecord};
+ghost use Rattle.feed_audit.specs.ScreenLines.{source_of};
 ghost use Rattle.feed_commands.specs.Check.{IsWholeWithin, FailsWithin};
 ghost use Rattle.feed_http.specs.Device.{AppendsPrefix, HasFailed};
 
@@ -9,8 +10,8 @@ use crate::fault::Fault;
 use crate::input::read_within;
 use feed_arguments::AuditOptions;
 use feed_audit::{
-    Replayed, Stray, Verdict, audit_record, count_states, print_agreement, print_agreement_json,
-    print_stray, print_stray_json,
+    Replayed, ScreenLines, Skipped, Stray, Verdict, audit_record, count_states, print_agreement,
+    print_agreement_json, print_stray, print_stray_json,
 };
 use feed_http::device::{FeedRead, FeedWrite, write_all};
 use std::alloc::{AllocError, Global};
@@ -78,24 +79,27 @@ fn print_text<W: FeedWrite>(text: &[u8], out: &mut W) -> Result<(), Fault>
 }
 
 /// Prints whether each state that the screen's record publishes is one that the primary's publishes
-/// under the same token. The screen's may have several connections, each read as a fresh one. Where
-/// a state is not the primary's, the fault is `Differs`, behind what is printed of the first such
-/// state. Where the screen's publishes nothing, and where a line of a record can't be read, nothing
-/// is printed.
-pub fn print_verdict<P: Replayed, W: FeedWrite>(
+/// under the same token. The screen's may have several connections, each read as a fresh one, and
+/// what is left of it is read once. Where a state is not the primary's, the fault is `Differs`,
+/// behind what is printed of the first such state. Where the screen's publishes nothing, and where a
+/// line of a record can't be read, nothing is printed.
+pub fn print_verdict<P: Replayed, L: Skipped, W: FeedWrite>(
     alloc: Global,
     options: &AuditOptions<'_>,
     primary: &mut P,
-    screen: &[u8],
+    screen: &mut ScreenLines<L>,
     out: &mut W,
 ) -> Result<(), Fault>
-    ensures ok { (text : List ℕ) → P.whole primary.old ≡ Some text
-        → OnOk result (PrintsAgreement options.now text screen.now
+    ensures ok { (text record_ : List ℕ) → P.whole primary.old ≡ Some text
+        → L.left (source_of screen.old) ≡ Some record_
+        → OnOk result (PrintsAgreement options.now text record_
         (W.contents out.old) (W.contents out.new)) }
-    ensures err { (text : List ℕ) → P.whole primary.old ≡ Some text
-        → IfErr result (λ why. AuditFails options.now text screen.now why
+    ensures err { (text record_ : List ℕ) → P.whole primary.old ≡ Some text
+        → L.left (source_of screen.old) ≡ Some record_
+        → IfErr result (λ why. AuditFails options.now text record_ why
         (W.contents out.old) (W.contents out.new)) }
-    ensures unread { IfErr result (IsUnreadRecord (P.unread primary.new) (λ _. ⊥)) }
+    ensures unread { IfErr result
+        (IsUnreadRecord (P.unread primary.new) (L.unread (source_of screen.new))) }
     ensures write { IsErrOf result Fault.Write
         → HasFailed (W.failures out.old) (W.failures out.new) }
     ensures quiet { ¬ (IsErrOf result Fault.Write)

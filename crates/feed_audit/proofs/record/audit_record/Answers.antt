@@ -1,49 +1,75 @@
-use Rattle.std.proofs.Common.{rules, refl, sym, subst, ◌∙◌}
-use Rattle.std.specs.Option.{option_copied}
+use Rattle.std.proofs.Common.{rules, ◌≡◌, ℕ, List, Some, refl, sym, ap, subst, ◌∙◌, true}
+use Rattle.std.specs.Prelude.{IfSome, option_map}
 use Rattle.feed_audit.specs.Connections.{part}
-use Rattle.feed_audit.specs.Parting.{IsPartVerdict}
+use Rattle.feed_audit.specs.Parting.{IsPartVerdict, Reached, body_of, since_of}
 use Rattle.feed_audit.specs.Records.{FailsToAuditRecord}
-use Rattle.feed_audit.proofs.Parts.{reached_none, reached_more, record_agrees, strays_at, fails_at}
+use Rattle.feed_audit.specs.States.{IsStateOf}
+use Rattle.feed_audit.proofs.Looking.{end_of}
+use Rattle.feed_audit.proofs.Parts.{goes_on, ends_with, reached_none, reached_more, record_agrees, strays_at, fails_at}
 use Rattle.feed_audit.proofs.record.audit_record.Goals as goal
 
 pub connections-init : goal.connections-init
-connections-init g c = record { reached = λ text is. reached_none c.args.limits text c.args.screen.now _ c.in_ok-mirror.ensures; limits = search rules; whole = refl }
-
-pub audit_connection-requires-clause-limits : goal.audit_connection-requires-clause-limits
-audit_connection-requires-clause-limits g c = c.connections.invariant.limits
-
-pub audit_connection-requires-clause-shown : goal.audit_connection-requires-clause-shown
-audit_connection-requires-clause-shown g c text is = (c.connections.invariant.reached text (sym c.connections.invariant.whole ∙ is)).shown
+connections-init g c = record {
+  reached = λ text all is at. (
+    all,
+    at,
+    subst (λ f. Reached c.args.limits text all all 0 0 f (since_of c.feed-opened.result) c.in_ok-mirror.mirror) (sym c.feed-opened.ensures.feed)
+        (subst (λ s. Reached c.args.limits text all all 0 0 true s c.in_ok-mirror.mirror) (sym c.feed-opened.ensures.since)
+        (reached_none c.args.limits text all _ c.in_ok-mirror.ensures)),
+  );
+  limits = search rules;
+  whole = refl;
+}
 
 pub returns-in-Err-clause-err : goal.returns-in-Err-clause-err
-returns-in-Err-clause-err g c text is =
-    let r = c.connections.invariant.reached text is in
-    let next = c.next_connection-connection in
-    subst (FailsToAuditRecord c.args.limits text c.args.screen.now) (sym c.fault_behind.ensures)
-    (fails_at c.args.limits text c.args.screen.now _ _ _ _ _ _ _ next.result.next c.in-Err.fault r next.ensures.last next.ensures.next c.in-Err.ensures.feed (c.in-Err.ensures.err text (c.connections.invariant.whole ∙ is)))
+returns-in-Err-clause-err g c text all is at =
+    let r = c.connections.invariant.reached text all is at in
+    let left = ap g.L.Lines.left c.begin.ensures.source ∙ r.1 in
+    subst (FailsToAuditRecord c.args.limits text all) (sym c.fault_behind.ensures)
+    (fails_at c.args.limits text all r.0 (body_of r.0) _ _ _ _ _ c.in-Err.fault r.2 refl c.in-Err.ensures.feed
+    (c.in-Err.ensures.err text (body_of r.0) (c.connections.invariant.whole ∙ is) (ap (option_map body_of) left) r.2.shown))
 
 pub returns-in-Ok-Strays-clause-ok : goal.returns-in-Ok-Strays-clause-ok
-returns-in-Ok-Strays-clause-ok g c text is =
-    let r = c.connections.invariant.reached text is in
-    let next = c.next_connection-connection in
-    strays_at c.args.limits text c.args.screen.now _ _ _ _ _ _ _ _ next.result.next c.in-Ok-Strays.stray c.stray_behind.result r next.ensures.last next.ensures.next
-    (λ at. subst (λ v. IsPartVerdict c.args.limits text c.connections.is_feed c.connections.mirror
-    (part at c.connections.is_feed (option_copied c.connections.since) c.next_connection-connection.result.body.now) v c.audit_connection.new.mirror) c.in-Ok-Strays.field-0-is (c.in-Ok-Strays.ensures.ok text (c.connections.invariant.whole ∙ is) at))
+returns-in-Ok-Strays-clause-ok g c text all is at =
+    let r = c.connections.invariant.reached text all is at in
+    let left = ap g.L.Lines.left c.begin.ensures.source ∙ r.1 in
+    strays_at c.args.limits text all r.0 (body_of r.0) _ _ _ _ _ _ c.in-Ok-Strays.stray c.stray_behind.result r.2 refl
+    (λ before. subst (λ v. IsPartVerdict c.args.limits text c.connections.opened.is_feed c.connections.mirror
+    (part before c.connections.opened.is_feed (since_of c.connections.opened) (body_of r.0)) v c.audit_connection.new.mirror) c.in-Ok-Strays.field-0-is
+    (c.in-Ok-Strays.ensures.ok text (body_of r.0) (c.connections.invariant.whole ∙ is) (ap (option_map body_of) left) r.2.shown before))
     c.stray_behind.ensures.token c.stray_behind.ensures.difference c.stray_behind.ensures.before c.stray_behind.ensures.line
 
-pub returns-in_default-clause-ok : goal.returns-in_default-clause-ok
-returns-in_default-clause-ok g c text is =
-    record_agrees c.args.limits text c.args.screen.now _ c.next_connection-connection.result.body.now _ _ c.in-Ok-Agrees.more _ _ _ _ _ (c.connections.invariant.reached text is)
-    (λ at. subst (λ v. IsPartVerdict c.args.limits text c.connections.is_feed c.connections.mirror
-    (part at c.connections.is_feed (option_copied c.connections.since) c.next_connection-connection.result.body.now) v c.audit_connection.new.mirror) c.in-Ok-Agrees.field-0-is (c.in-Ok-Agrees.ensures.ok text (c.connections.invariant.whole ∙ is) at)) (search rules)
-    c.saturating_add-states.ensures
+pub returns-in-Ok-false-clause-ok : goal.returns-in-Ok-false-clause-ok
+returns-in-Ok-false-clause-ok g c text all is at =
+    let r = c.connections.invariant.reached text all is at in
+    let left = ap g.L.Lines.left c.begin.ensures.source ∙ r.1 in
+    let known = c.connections.invariant.whole ∙ is in
+    let end = end_of c.begin.new.self.lines r.0 in
+    let beyond = c.in-Ok-Agrees.ensures.beyond text (body_of r.0) known (ap (option_map body_of) left) r.2.shown end (ap (option_map (end_of c.begin.new.self.lines)) left) in
+    record_agrees c.args.limits text all r.0 (body_of r.0) _ _ c.in-Ok-Agrees.more _ _ _ _ _ r.2 refl
+    (λ before. subst (λ v. IsPartVerdict c.args.limits text c.connections.opened.is_feed c.connections.mirror
+    (part before c.connections.opened.is_feed (since_of c.connections.opened) (body_of r.0)) v c.audit_connection.new.mirror) c.in-Ok-Agrees.field-0-is
+    (c.in-Ok-Agrees.ensures.ok text (body_of r.0) known (ap (option_map body_of) left) r.2.shown before))
+    (ends_with r.0 end refl (c.in-Ok-false.ensures.last end beyond c.in-Ok-false.field-0-test)) c.saturating_add-states.ensures
 
 pub connections-preserved : goal.connections-preserved
 connections-preserved g c = record {
-  reached = λ text is. reached_more c.args.limits text c.args.screen.now _ c.next_connection-connection.result.body.now _ _ c.in-Ok-Agrees.more _ _ _ _ _ _ c.in-Some.next (c.connections.invariant.reached text is)
-      (λ at. subst (λ v. IsPartVerdict c.args.limits text c.connections.is_feed c.connections.mirror
-      (part at c.connections.is_feed (option_copied c.connections.since) c.next_connection-connection.result.body.now) v c.audit_connection.new.mirror) c.in-Ok-Agrees.field-0-is (c.in-Ok-Agrees.ensures.ok text (c.connections.invariant.whole ∙ is) at)) (search rules)
-      c.saturating_add-states.ensures c.saturating_add-before.ensures;
+  reached = λ text all is at.
+      let r = c.connections.invariant.reached text all is at in
+      let left = ap g.L.Lines.left c.begin.ensures.source ∙ r.1 in
+      let known = c.connections.invariant.whole ∙ is in
+      let end = end_of c.begin.new.self.lines r.0 in
+      let beyond = c.in-Ok-Agrees.ensures.beyond text (body_of r.0) known (ap (option_map body_of) left) r.2.shown end (ap (option_map (end_of c.begin.new.self.lines)) left) in
+      let next = c.in-Ok-true.ensures.next end beyond c.in-Ok-true.field-0-test in (
+        next.0,
+        next.1,
+        reached_more c.args.limits text all r.0 (body_of r.0) _ _ c.in-Ok-Agrees.more _ _ c.go_on.new.self.lines _ _ _ _ next.0 _ _ r.2 refl
+            (λ before. subst (λ v. IsPartVerdict c.args.limits text c.connections.opened.is_feed c.connections.mirror
+            (part before c.connections.opened.is_feed (since_of c.connections.opened) (body_of r.0)) v c.audit_connection.new.mirror) c.in-Ok-Agrees.field-0-is
+            (c.in-Ok-Agrees.ensures.ok text (body_of r.0) known (ap (option_map body_of) left) r.2.shown before))
+            (goes_on r.0 next.0 end c.connections.opened c.go_on.new.opened c.go_on.new.self.lines (ap (λ n. end_of n r.0) (sym c.begin.ensures.lines)) next.2)
+            c.saturating_add-states.ensures (search rules),
+      );
   limits = c.in-Ok-Agrees.ensures.limits;
   whole = c.audit_connection.ensures.whole ∙ c.connections.invariant.whole;
 }

@@ -1,18 +1,19 @@
 -- The connections so far agree.
-use Rattle.std.proofs.Common.{◌≡◌, ℕ, List, Some, length}
-use Rattle.std.specs.Option.{option_copied}
-use Rattle.feed_audit.specs.Parting.{Reached}
+use Rattle.std.proofs.Common.{◌≡◌, ℕ, List, Some}
+use Rattle.feed_audit.specs.Fronts.{IsLeft}
+use Rattle.feed_audit.specs.Parting.{Reached, since_of}
 use Rattle.feed_audit.proofs.record.audit_record.Given as goal
 
 abbrev pub invariant-connections : goal.invariant-connections
 invariant-connections g l =
     let primary = g.P.Lines in
+    let screen = g.L.Lines in
     record {
-      reached : (text : List ℕ) → primary.whole l.fn.primary ≡ Some text
-          → Reached l.fn.limits text l.fn.screen l.text l.before l.states l.is_feed (option_copied l.since) l.mirror;
+      reached : (text all : List ℕ) → primary.whole l.fn.primary ≡ Some text → screen.left l.fn.screen.source ≡ Some all
+          → IsLeft (screen.left l.screen.source) (λ left. Reached l.fn.limits text all left l.before l.states l.opened.is_feed (since_of l.opened) l.mirror);
       limits : l.mirror.limits ≡ l.fn.limits;
       whole : primary.whole l.primary ≡ primary.whole l.fn.primary;
     }
 
 abbrev pub decreases-connections : goal.decreases-connections
-decreases-connections g l = length l.text
+decreases-connections g l = g.L.Lines.room l.screen.source
