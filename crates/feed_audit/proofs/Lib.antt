@@ -11,6 +11,7 @@ pub mod Ordered
 pub mod Parts
 pub mod Passing
 pub mod Prefixes
+pub mod Quoted
 pub mod Stepping
 pub mod Tallying
 pub mod Tokens

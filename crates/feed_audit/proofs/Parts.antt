@@ -1,5 +1,5 @@
 -- The connections of a record so far.
-use Rattle.std.proofs.Common.{◌≡◌, refl, sym, ap, ap₂, ◌∙◌, subst, ℕ, ◌+◌, ◌-◌, min, take, drop, cond, Bool, true, false, true≢false, List, [], ◌∷◌, ◌++◌, append_assoc, append-nil, length, length-append, length-drop, arith, Option, None, Some}
+use Rattle.std.proofs.Common.{◌≡◌, refl, sym, ap, ◌∙◌, subst, ℕ, ◌+◌, ◌-◌, min, take, drop, cond, Bool, true, false, true≢false, List, [], ◌∷◌, ◌++◌, append_assoc, append-nil, length, length-append, length-drop, arith, Option, None, Some}
 use Rattle.std.specs.Prelude.{IfSome, ◌==◌, codes, slice_index_or}
 use Rattle.std.proofs.lemmas.List.{take_all}
 use Rattle.std.specs.List.{AllByRecursion, starts_with}

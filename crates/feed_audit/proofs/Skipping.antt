@@ -1,17 +1,14 @@
 -- Lines that are passed in parts, and what connections carry between them.
-use Rattle.std.proofs.Common.{◌≡◌, refl, sym, ap, ap₂, ◌∙◌, subst, ℕ, ◌+◌, ◌<◌, min, Bool, true, false, true≢false, not, ◌&&◌, List, [], ◌∷◌, ◌++◌, append_assoc, append-nil, length, length-append, arith, Option, None, Some}
-use Rattle.std.specs.List.{AllByRecursion}
-use Rattle.feed_note.specs.Lines.{HasNoLineFeed, is_line_feed, lines, ended}
-use Rattle.feed_note.proofs.LinesCut.{both, first_true, second_true, one_line}
-use Rattle.feed_note.proofs.LinesInRow.{ended-append}
-use Rattle.feed_node.proofs.Latest.{all-append}
+use Rattle.std.proofs.Common.{◌≡◌, refl, sym, ap, ap₂, ◌∙◌, subst, ℕ, ◌+◌, ◌<◌, min, Bool, true, false, not, List, [], ◌∷◌, ◌++◌, append_assoc, length, length-append, arith, Option, Some}
+use Rattle.feed_note.specs.Lines.{HasNoLineFeed, is_line_feed, lines}
+use Rattle.feed_note.proofs.LinesCut.{both, first_true, second_true}
 use Rattle.std.specs.Prelude.{◌==◌, option_map}
 use Rattle.feed_audit.specs.Connections.{IsFilled, OpensFeed, announced_by, answered, is_blank, is_success}
 use Rattle.feed_audit.specs.Fronts.{IsFront, IsLeft, IsLineAtFront, IsLineBefore, IsRestAtFront, IsLongAtFront}
-use Rattle.feed_audit.specs.Parting.{PassesLine, PassesBody, PassesHead, PassedFields, IsHeadRest, IsHeadCutOff, GoesOn, EndsIn, nothing, in_head, SaysOpening, announced, since_of, opens, body_of, count_of, next_of, is_at_next, is_at_blank, most}
+use Rattle.feed_audit.specs.Parting.{PassesLine, PassesBody, PassesHead, PassedFields, GoesOn, EndsIn, nothing, in_head, SaysOpening, announced, since_of, opens, count_of, next_of, is_at_next, is_at_blank, most}
 use Rattle.feed_audit.specs.declared.connections.Opened.{Opened}
 use Rattle.feed_audit.specs.declared.reading.Front.{Front}
-use Rattle.feed_audit.proofs.Bodies.{at_line, at_rest, count_behind, next_behind, next_rest, count_next, next_next, regroup}
+use Rattle.feed_audit.proofs.Bodies.{at_line, count_behind, next_behind, next_rest, count_next, next_next, regroup}
 use Rattle.feed_audit.proofs.Looking.{known, end_of, next_is_line, line_at, blank_line, not_so_many}
 use Rattle.feed_audit.proofs.Parts.{all_more, line_more}
 

@@ -7,7 +7,7 @@ use Rattle.feed_text.specs.Ascii.{line_feed}
 use Rattle.feed_note.specs.Lines.{HasNoLineFeed, lines, rest, ended}
 use Rattle.feed_node.specs.Mirroring.{MirrorState, new_mirror}
 use Rattle.feed_audit.specs.Answers.{StrayingFrom}
-use Rattle.feed_audit.specs.Connections.{Cut, Recorded, part, OpensFeed, OpensNone, IsFilled, announced_by, is_blank, is_marked, is_success, token_on, status_on, AreConnectionsOf}
+use Rattle.feed_audit.specs.Connections.{Cut, Recorded, part, OpensFeed, IsFilled, announced_by, is_blank, is_marked, is_success, token_on, status_on, AreConnectionsOf}
 use Rattle.feed_audit.specs.Fronts.{IsLeft, IsLineAtFront}
 use Rattle.feed_audit.specs.Records.{AllAgree, FeedAgrees, FaultsInFeed, FaultsBesideFeed, BeginsInChunks, HasOtherToken, MayGoOn, start_of}
 use Rattle.feed_audit.specs.States.{IsStateOf}

@@ -45,7 +45,7 @@ impl Opened {
 fn has_mark(bytes: &[u8]) -> bool
     ensures { result ≡ (list_any (λ b. b == 34) bytes.now || list_any (λ b. b == 47) bytes.now) }
 {
-    bytes.contains(&b'"') || bytes.contains(&b'/')
+    bytes.contains(&b'/') || bytes.contains(&b'"')
 }
 
 /// Whether the bytes end like a status line.
@@ -60,6 +60,22 @@ fn says_token(bytes: &[u8]) -> bool
     ensures { result ≡ is_since bytes.now }
 {
     bytes.starts_with(b"# connection since ") && !bytes[19..].contains(&b'"')
+}
+
+/// The bytes behind the last quotation mark of the line. What begins a connection stands there: so
+/// of a line of a feed no more than its last bytes are looked at.
+fn behind_strings(line: &[u8]) -> &[u8]
+    ensures token { since_in result.now ≡ since_in line.now }
+    ensures status { status_in result.now ≡ status_in line.now }
+{
+    let mut from = line.len();
+    'bytes: while from > 0 {
+        if line[from - 1] == b'"' {
+            return &line[from..];
+        }
+        from -= 1;
+    }
+    line
 }
 
 /// The token of a line that says that of a connection.
@@ -117,10 +133,11 @@ fn opening_of<'a>(line: &'a [u8]) -> Option<Opening<'a>>
     if line.ends_with(b"# connection") {
         return Some(Opening::Marked);
     }
-    if let Some(token) = find_token(line) {
+    let end = behind_strings(line);
+    if let Some(token) = find_token(end) {
         return Some(Opening::Named(token));
     }
-    let status = find_status(line)?;
+    let status = find_status(end)?;
     Some(Opening::Head(succeeds(status)))
 }
 

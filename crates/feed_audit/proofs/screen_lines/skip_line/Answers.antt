@@ -1,4 +1,4 @@
-use Rattle.std.proofs.Common.{subst, ◌∙◌, arith}
+use Rattle.std.proofs.Common.{subst, arith}
 use Rattle.feed_audit.specs.Fronts.{IsFront}
 use Rattle.feed_audit.proofs.Skipping.{skips_more, skips_line, skips_rest}
 use Rattle.feed_audit.proofs.Stepping.{left_on}

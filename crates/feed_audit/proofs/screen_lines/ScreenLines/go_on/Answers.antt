@@ -1,8 +1,7 @@
-use Rattle.std.proofs.Common.{◌≡◌, refl, ap, ◌∙◌, subst, ℕ, List, Some, true}
+use Rattle.std.proofs.Common.{refl, ap, ◌∙◌, subst, true}
 use Rattle.std.specs.Prelude.{◌==◌}
 use Rattle.std.proofs.lemmas.Result.{IfOk-weaker}
 use Rattle.feed_audit.specs.Parting.{PassesBody, PassesHead, SaysOpening, opens}
-use Rattle.feed_audit.specs.ScreenLines.{beyond_in}
 use Rattle.feed_audit.proofs.Skipping.{opens_here, passed_opening, goes_alone, goes_headed, ends_headed, ends_nowhere}
 use Rattle.feed_audit.proofs.screen_lines.ScreenLines.go_on.Goals as goal
 

@@ -1,6 +1,5 @@
-use Rattle.std.proofs.Common.{◌≡◌, ◌∙◌, subst, arith, ℕ, List, Some}
+use Rattle.std.proofs.Common.{subst, arith}
 use Rattle.feed_audit.specs.Parting.{PassesLine}
-use Rattle.feed_audit.proofs.Looking.{look_beyond}
 use Rattle.feed_audit.proofs.Skipping.{body_found, body_more, body_ends}
 use Rattle.feed_audit.proofs.screen_lines.ScreenLines.pass_body.Goals as goal
 

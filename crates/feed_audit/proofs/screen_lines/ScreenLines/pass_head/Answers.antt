@@ -1,4 +1,4 @@
-use Rattle.std.proofs.Common.{◌≡◌, ◌∙◌, subst, arith, ℕ, List, Some}
+use Rattle.std.proofs.Common.{subst, arith}
 use Rattle.feed_audit.specs.Parting.{PassesLine}
 use Rattle.feed_audit.proofs.Skipping.{fields_none, fields_more, head_rest, head_cut_off}
 use Rattle.feed_audit.proofs.screen_lines.ScreenLines.pass_head.Goals as goal

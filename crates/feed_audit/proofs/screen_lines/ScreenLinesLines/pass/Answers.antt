@@ -1,4 +1,4 @@
-use Rattle.std.proofs.Common.{refl, sym, ap, ◌∙◌, ◌+◌, length, arith}
+use Rattle.std.proofs.Common.{ap, ◌∙◌, ◌+◌, length, arith}
 use Rattle.feed_audit.proofs.Looking.{front_on, front_over, pass_left, pass_beyond, nothing_passed}
 use Rattle.feed_audit.proofs.screen_lines.ScreenLinesLines.pass.Goals as goal
 
