@@ -16,7 +16,7 @@ mod telling;
 pub use commands::audit::{print_verdict, read_record};
 pub use commands::pull::{print_pulled, pull_outcome, servers_of, start_mirror};
 pub use commands::relay::print_relayed;
-pub use commands::serve::{Source, serve_all, start_source};
+pub use commands::serve::{FedPrimary, serve_all, start_primary};
 pub use commands::{perform, run};
 pub use device_lines::{DeviceLines, STREAMED_BYTES};
 pub use fault::{Fault, FeedStop, REFUSED, SurveyStop};

@@ -2,8 +2,12 @@
 //! contract can say of them, and what it reports. Nothing here is a device of a system.
 #![tactic(auto)]
 
+mod desk;
 mod device;
 mod report;
+mod reports;
 
+pub use desk::Desk;
 pub use device::{Before, Devices, FileSlot, Link, Ready, Sockets, Stop, Store};
 pub use report::{Excerpt, How, Report, Why};
+pub use reports::Reports;

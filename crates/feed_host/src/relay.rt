@@ -4,7 +4,7 @@ use crate::ending::Failure;
 use crate::errors::{Errors, Reporter};
 use crate::hosts::Hosts;
 use crate::identity::identity_for;
-use crate::sockets::{Dialer, Port};
+use crate::sockets::{Dialer, Listener};
 use feed_commands::stream::Stream;
 use feed_commands::{PullOptions, RelayOptions, print_relayed, servers_of, start_mirror};
 use std::mem;
@@ -35,7 +35,7 @@ fn relay_named(rt: &HostRuntime, options: &RelayOptions<'_>) -> Result<(), Failu
         Err(fault) => return Err(Failure::of_saved_tables(fault)),
     };
     let reporter = Reporter::new(rt, "relay", options.pull.verbose);
-    let mut port = match Port::bind(rt, reporter, options.listen) {
+    let mut port = match Listener::bind(rt, reporter, options.listen) {
         Ok(port) => port,
         Err(fault) => return Err(Failure::at_port(rt, fault, options.listen)),
     };

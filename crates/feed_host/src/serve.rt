@@ -3,10 +3,10 @@
 use crate::ahead::input_ahead;
 use crate::ending::Failure;
 use crate::errors::{Errors, Reporter};
-use crate::sockets::Port;
+use crate::sockets::Listener;
 use feed_answer::{Framing, answer};
 use feed_commands::stream::Stream;
-use feed_commands::{Fault, ServeOptions, Source, serve_all, start_source};
+use feed_commands::{Fault, FedPrimary, ServeOptions, serve_all, start_primary};
 use feed_node::{Limits, Mirror};
 use std::alloc::Global;
 use std::mem;
@@ -28,8 +28,8 @@ fn serve_at(
     rt: &HostRuntime,
     options: &ServeOptions<'_>,
     reporter: Reporter<'_>,
-    source: &mut Source,
-    port: &mut Port<'_>,
+    source: &mut FedPrimary,
+    port: &mut Listener<'_>,
 ) -> Result<(), Failure> {
     let alloc = rt.alloc();
     if !can_be_named(alloc, options.contest, options.limits)? {
@@ -43,10 +43,10 @@ fn serve_at(
 fn serve_source(
     rt: &HostRuntime,
     options: &ServeOptions<'_>,
-    source: &mut Source,
+    source: &mut FedPrimary,
 ) -> Result<(), Failure> {
     let reporter = Reporter::new(rt, "serve", options.verbose);
-    let mut port = match Port::bind(rt, reporter, options.port) {
+    let mut port = match Listener::bind(rt, reporter, options.port) {
         Ok(port) => port,
         Err(fault) => return Err(Failure::at_port(rt, fault, options.port)),
     };
@@ -58,7 +58,7 @@ pub fn serve_feed(rt: &HostRuntime, options: &ServeOptions<'_>) -> Result<(), Fa
     let Ok(input) = input_ahead(rt) else {
         return Err(Failure::from(Fault::Memory));
     };
-    let mut source = start_source(rt.alloc(), options, &mut Stream::new(input))?;
+    let mut source = start_primary(rt.alloc(), options, &mut Stream::new(input))?;
     let served = serve_source(rt, options, &mut source);
     // The program ends here: freeing each object would take time alone.
     mem::forget(source);

@@ -119,7 +119,7 @@ impl Dial for Dialer<'_, '_> {
 
 /// A port of 127.0.0.1 that followers connect to.
 #[derive(Drop)]
-pub(crate) struct Port<'r> {
+pub(crate) struct Listener<'r> {
     rt: &'r HostRuntime,
     reporter: Reporter<'r>,
     listener: TcpListener,
@@ -128,17 +128,17 @@ pub(crate) struct Port<'r> {
     misses: u64,
 }
 
-impl<'r> Port<'r> {
+impl<'r> Listener<'r> {
     /// Listens at the port of this number.
     pub(crate) fn bind(
         rt: &'r HostRuntime,
         reporter: Reporter<'r>,
         number: u16,
-    ) -> Result<Port<'r>, Fault> {
+    ) -> Result<Listener<'r>, Fault> {
         match TcpListener::bind(rt, (Ipv4Addr::LOCALHOST, number)) {
             Ok(listener) => {
                 reporter.listening(number);
-                Ok(Port {
+                Ok(Listener {
                     rt,
                     reporter,
                     listener,
@@ -170,7 +170,7 @@ impl<'r> Port<'r> {
     }
 }
 
-impl Accept for Port<'_> {
+impl Accept for Listener<'_> {
     type Reader = Incoming;
 
     type Writer = Outgoing;

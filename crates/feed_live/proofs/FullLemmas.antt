@@ -15,7 +15,7 @@ use Rattle.feed_follow.specs.Heads.{line_count, IsHeadSize, IsPastLimits, Begins
 use Rattle.feed_follow.specs.Laws.{StandsOnce}
 use Rattle.feed_follow.specs.Standing.{Standing, in_head, failed, verdict, Stands, StandsBehind}
 use Rattle.feed_answer.specs.FollowLaws.{StandsOnly}
-use Rattle.feed_live.specs.Serving.{full_text}
+use Rattle.feed_screens.specs.Serving.{full_text}
 use Rattle.feed_live.proofs.NoFeedLemmas.{BringsNone, CarriesNone}
 
 -- ---- a text that begins with a whole head

@@ -1,5 +1,5 @@
 -- What is followed in a log is an honest response, or an honest input.
-use Rattle.std.proofs.Common.{◌≡◌, refl, sym, ap, ◌∙◌, subst, ℕ, Bool, List, ◌++◌, take, length, append_assoc, Option}
+use Rattle.std.proofs.Common.{◌≡◌, sym, ap, ◌∙◌, subst, ℕ, Bool, List, ◌++◌, take, length, append_assoc, Option}
 use Rattle.std.proofs.Math.Seq.{take-append_seam}
 use Rattle.feed_settings.specs.Limits.{Limits}
 use Rattle.feed_note.specs.declared.line.Line.{Line}
@@ -15,11 +15,10 @@ use Rattle.feed_world.specs.Position.{Position}
 use Rattle.feed_world.specs.Reading.{opening_at}
 use Rattle.feed_hub.specs.Follows.{FollowsInLog}
 use Rattle.feed_hub.specs.Laws.{IsInLog, ShowsState, ScreensShowStates}
-use Rattle.feed_hub.specs.Files.{FilesRestore, FilesFollow}
-use Rattle.feed_live.specs.Laws.{RelaysShowTheLog, FollowedIsHonest, InputShowsTheLog, ShownIsHonest, SentIsHonest, FilesAreHonest, FilesGoOnHonestly}
+use Rattle.feed_live.specs.Laws.{RelaysShowTheLog, FollowedIsHonest, InputShowsTheLog, ShownIsHonest, SentIsHonest}
 use Rattle.feed_live.specs.States.{states_of}
 use Rattle.feed_live.specs.Upstream.{StaysInLog}
-use Rattle.feed_live.proofs.ServingLemmas.{sockets_are_faithful}
+use Rattle.feed_screens.proofs.ServingLemmas.{sockets_are_faithful}
 use Rattle.feed_live.proofs.StateLemmas.{states_in_log, states_within, honest_however}
 
 pub begins : (before behind text : List ℕ) → before ++ behind ≡ text → take (length before) text ≡ before
@@ -125,29 +124,3 @@ sent_is_honest one shows limits log nodes k texts token place fresh begun input 
     shown_is_honest one limits log place fresh begun input opening
     (λ prefix later whole. shows limits log nodes k texts token place fresh prefix (later ++ behind) is_log in_log within told is_place holds
     (sym (append_assoc prefix later behind) ∙ ap (λ b. b ++ behind) whole ∙ is))
-
--- ---- state files
-
-pub files_are_honest : FilesRestore → FilesAreHonest
-files_are_honest files limits log nodes written text behind r is_log in_log recorded whole =
-    record {
-      stands = λ before later notes mirror cut bounds stands.
-          (files limits log nodes written before (later ++ behind) r is_log in_log recorded
-          (sym (append_assoc before later behind) ∙ ap (λ b. b ++ behind) cut ∙ whole)).fed notes mirror bounds stands;
-      stops = λ before piece later old new fault cut bounds faulted.
-          ((files limits log nodes written (before ++ piece) (later ++ behind) r is_log in_log recorded
-          (sym (append_assoc (before ++ piece) later behind) ∙ ap (λ b. b ++ behind) cut ∙ whole)).fails before piece old new fault refl bounds faulted).1;
-    }
-
-pub files_go_on_honestly : FilesFollow → FilesGoOnHonestly
-files_go_on_honestly follow limits log nodes written prefix behind former further text rest later notes mirror is_log in_log recorded whole recorded_later all bounds stands held =
-    record {
-      stands = λ before more said there cut its at.
-          let f = follow limits log nodes written prefix behind former further before (more ++ rest) later notes mirror is_log in_log recorded whole recorded_later
-          (sym (append_assoc before more rest) ∙ ap (λ b. b ++ rest) cut ∙ all) bounds stands held in
-          f.reads_on.fed said there its (subst (λ o. StandsAt o before said there) f.begins at);
-      stops = λ before piece more old new fault cut its faulted.
-          let f = follow limits log nodes written prefix behind former further (before ++ piece) (more ++ rest) later notes mirror is_log in_log recorded whole recorded_later
-          (sym (append_assoc (before ++ piece) more rest) ∙ ap (λ b. b ++ rest) cut ∙ all) bounds stands held in
-          (f.reads_on.fails before piece old new fault refl its (subst (λ o. Faulted o before piece old new fault) f.begins faulted)).1;
-    }

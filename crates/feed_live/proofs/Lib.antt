@@ -1,11 +1,4 @@
-pub mod RoomLemmas
-pub mod CallLemmas
-pub mod EndingLemmas
-pub mod OwedLemmas
-pub mod PendingLemmas
-pub mod Filed
 pub mod SourceLemmas
-pub mod ServingLemmas
 pub mod StateLemmas
 pub mod RelayLemmas
 pub mod TurnLemmas
@@ -19,7 +12,4 @@ pub mod TokenedLemmas
 pub mod ReplayLemmas
 pub mod TokenedExample
 pub mod ReplayExample
-pub mod FileReading
-pub mod AuditedLemmas
-pub mod FilesLeft
 pub mod RunLemmas

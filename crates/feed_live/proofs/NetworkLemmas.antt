@@ -25,15 +25,16 @@ use Rattle.feed_hub.specs.Screen.{pending, token_at}
 use Rattle.feed_hub.specs.Told.{IsDue}
 use Rattle.feed_device.specs.Links.{Exchange}
 use Rattle.feed_device.specs.Sockets.{traffic_of}
-use Rattle.feed_live.specs.Laws.{HandedIsFollowed, RelaysShowTheLog, ShowsTheLog}
+use Rattle.feed_screens.specs.Laws.{HandedIsFollowed}
+use Rattle.feed_live.specs.Laws.{RelaysShowTheLog, ShowsTheLog}
 use Rattle.feed_live.specs.Network.{Relay, Network, IsOfNetwork, inside, outside, OthersStay, IsRelayNetwork, no_relays, one_starts, one_turns, NetworksShowTheLog, RelayedIsHonest, RequestsAreMeant}
 use Rattle.feed_live.specs.Relaying.{IsRelaying}
-use Rattle.feed_live.specs.Serving.{WasServed, IsFaithful, nothing, refused as too_many, served, WasFaithful, full_text}
+use Rattle.feed_screens.specs.Serving.{WasServed, IsFaithful, nothing, refused as too_many, served, WasFaithful, full_text}
 use Rattle.feed_live.specs.States.{states_of}
 use Rattle.feed_live.specs.Upstream.{AsksInLog, IsHonest, AreHonest, StaysInLog}
 use Rattle.feed_live.proofs.FullLemmas.{full_carries_none}
 use Rattle.feed_live.proofs.HonestLemmas.{stays}
-use Rattle.feed_live.proofs.ServingLemmas.{number_tells}
+use Rattle.feed_screens.proofs.ServingLemmas.{number_tells}
 use Rattle.feed_live.proofs.NoFeedLemmas.{no_feed_stays, refusal_carries_none}
 use Rattle.feed_live.proofs.StateLemmas.{honest_however}
 

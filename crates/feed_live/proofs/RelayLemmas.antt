@@ -24,13 +24,13 @@ use Rattle.feed_hub.specs.Laws.{IsInLog}
 use Rattle.feed_hub.specs.Upstream.{IsFollowing, IsPushed}
 use Rattle.feed_device.specs.Links.{Exchange, Exchanges, Shown, nothing_shown, once_at, all_from, shown_first, shown_so, one_more, asked_more, received_more}
 use Rattle.feed_device.specs.Sockets.{AllSockets}
-use Rattle.feed_live.specs.declared.conn.Conn.{Conn}
-use Rattle.feed_live.specs.declared.screens.Screens.{Screens}
+use Rattle.feed_screens.specs.declared.conn.Conn.{Conn}
+use Rattle.feed_screens.specs.declared.screens.Screens.{Screens}
 use Rattle.feed_live.specs.declared.source.Reach.{Reach}
 use Rattle.feed_live.specs.declared.source.Reach.TheVariants.{Away, Connects, Asks, Reads}
 use Rattle.feed_live.specs.declared.source.Source.{Source}
 use Rattle.feed_live.specs.Relaying.{pursuit, pursuit_of, servers_of, IsShownSo, FollowsResponse, MayFollow, MayShow, FollowsServers, IsToShow, AnswersFromLog, SameSource, SameButUnread, WasLeft, KeepsShown, PushesOnly, IsNowShown, ShowsAlone, followed, followed_by}
-use Rattle.feed_live.specs.Serving.{ServesScreens}
+use Rattle.feed_screens.specs.Serving.{ServesScreens}
 use Rattle.feed_live.specs.States.{states_of}
 use Rattle.feed_live.specs.Upstream.{AsksInLog, Servers, IsRequestOf, IsOfLog, wants_memory, StaysInLog, EndsInLog, IsHonestAs, IsHonest, AreHonest, AreKnownHonest}
 use Rattle.feed_live.proofs.StateLemmas.{among_states, of_log, has_read, has_read_all}

@@ -2,7 +2,6 @@
 use Rattle.std.proofs.Common.{◌≡◌, ◌≢◌, ◌⊎◌, inl, inr, refl, sym, ap, ◌∙◌, subst, ℕ, ◌+◌, List, [], ◌∷◌, ◌++◌, append-nil, append_assoc, length, Option, Some, None, arith}
 use Rattle.std.specs.Prelude.{◌≤◌, ◌-◌, ◌^◌, suc, min, Bool, option_map, IfSome, Contains, Result, Ok, Err, OnErr, OnOk, true, false}
 use Rattle.std.specs.List.{AllByRecursion}
-use Rattle.std.specs.Result.{IsErr}
 use Rattle.slab.specs.Slab.{slab_len}
 use Rattle.feed_settings.specs.Limits.{Limits}
 use Rattle.feed_node.specs.Mirroring.{MirrorState, new_mirror}
@@ -18,9 +17,10 @@ use Rattle.feed_live.specs.declared.turn.Live.{Live}
 use Rattle.feed_live.specs.declared.turn.Turn.{Turn}
 use Rattle.feed_live.specs.Laws.{ShowsTheLog}
 use Rattle.feed_live.specs.Relaying.{IsRelaying, StillRelaying}
-use Rattle.feed_live.specs.Running.{Came, nothing_came, has_ended_by, came_on, came_more, HostCalls, waited_for, reported_once, Surroundings, surroundings, Moment, moment_of, mirror_at, shown_at, KeepsFilesAt, at_once, RunsFrom, IsOver, IsTurn, IsSameRelay, IsRun, waited_at, calls_in, HasRun, servers_of_setup, AreUnused, BeginsInLog, AreAllFilesOfLog, Begins, IsKnownHonestInput, EndsWithItsInput, TakesAllAt, HasEndedAt, StopsAt, EndsOrStops, TakesItsInput, KeepsToTheLog}
-use Rattle.feed_live.specs.Saved.{ArePartsOfRecords, KeepsFiles}
-use Rattle.feed_live.specs.Taking.{IsTakingInput, StillTaking, StopsInput, bytes_in}
+use Rattle.feed_live.specs.Running.{Came, nothing_came, has_ended_by, came_on, came_more, HostCalls, waited_for, reported_once, Surroundings, surroundings, Moment, moment_of, shown_at, KeepsFilesAt, at_once, RunsFrom, IsOver, IsTurn, IsSameRelay, IsRun, waited_at, calls_in, HasRun, servers_of_setup, AreUnused, AreAllFilesOfLog, Begins, IsKnownHonestInput, EndsWithItsInput, TakesAllAt, EndsOrStops, TakesItsInput, KeepsToTheLog}
+use Rattle.feed_files.specs.Saved.{ArePartsOfRecords, KeepsFiles}
+use Rattle.feed_live.specs.Taking.{IsTakingInput, StillTaking, bytes_in}
+use Rattle.feed_files.specs.Input.{StopsInput}
 use Rattle.feed_live.specs.Upstream.{Servers, AreKnownHonest}
 use Rattle.feed_live.proofs.HonestLemmas.{relays_show_the_log, input_shows_the_log}
 use Rattle.feed_live.proofs.StateLemmas.{among_states, among_first, among_rest}
@@ -28,10 +28,6 @@ use Rattle.feed_live.proofs.StateLemmas.{among_states, among_first, among_rest}
 pub at_err : {A E : Type 0} (P : Type 0) (r : Result A E) → P → OnErr r P
 at_err P (Ok x) p = tt
 at_err P (Err e) p = p
-
-pub no_ok : {A E : Type 0} (P : Type 0) (r : Result A E) → IsErr r → OnOk r P
-no_ok P (Ok x) err = let no : false ≡ true = err in absurd (cc)
-no_ok P (Err e) err = tt
 
 -- ---- one turn
 
@@ -74,6 +70,7 @@ cleared {old} {live} {after} {next} {time} {around} turn relaying taking same =
       says = subst (λ screens. IfSome screens.saying.waits (λ at. turn.now ≤ at → next.due ≤ at)) (sym same.screens) turn.says;
       ends = record {
         limits = same.limits ∙ turn.ends.limits;
+        sets = λ is some none. turn.ends.sets is some (sym same.ends_at ∙ none);
         stays = λ goes_on. same.ends_at ∙ turn.ends.stays goes_on;
       };
       awake = subst (λ reported. next.due ≤ min (reported + 60000) (2 ^ 64 - 1)) (sym same.reported) turn.awake;

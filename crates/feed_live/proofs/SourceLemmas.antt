@@ -9,7 +9,7 @@ use Rattle.feed_node.specs.States.{NodeState, nothing_published, published_token
 use Rattle.feed_follow.specs.Follower.{FollowerState}
 use Rattle.feed_world.specs.Log.{Log}
 use Rattle.feed_device.specs.Links.{Exchanges, BeginsLink, one_more}
-use Rattle.feed_live.specs.declared.screens.Screens.{Screens}
+use Rattle.feed_screens.specs.declared.screens.Screens.{Screens}
 use Rattle.feed_live.specs.declared.source.Reach.{Reach}
 use Rattle.feed_live.specs.declared.source.Reach.TheVariants.{Connects, Asks}
 use Rattle.feed_live.specs.declared.source.Source.{Source}

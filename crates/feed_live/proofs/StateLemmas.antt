@@ -13,7 +13,7 @@ use Rattle.feed_node.specs.Mirroring.{MirrorState}
 use Rattle.feed_device.specs.Links.{Shown, nothing_shown, once_at, all_from}
 use Rattle.feed_live.specs.States.{unless_heavy, states_at, states_to, states_of}
 use Rattle.feed_live.specs.Upstream.{IsOfLog, wants_memory, surely_read, StaysInLog, IsHonestAs}
-use Rattle.feed_live.proofs.ServingLemmas.{number_tells}
+use Rattle.feed_screens.proofs.ServingLemmas.{number_tells}
 
 -- ---- lists
 

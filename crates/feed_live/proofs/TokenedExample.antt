@@ -8,7 +8,7 @@ use Rattle.feed_tables.specs.Names.{IsName}
 use Rattle.feed_node.specs.Mirroring.{new_mirror}
 use Rattle.feed_live.specs.Examples.{text, one, other, TheirFeedIsHonest}
 use Rattle.feed_live.specs.Telling.{tokened_text, tokened_log, TokenedIsHonest}
-use Rattle.feed_live.specs.Upstream.{IsHonestInput}
+use Rattle.feed_files.specs.Input.{IsHonestInput}
 
 pub text_is : tokened_text (one ∷ other ∷ []) ≡ text
 unfolding written_string

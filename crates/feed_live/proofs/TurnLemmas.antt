@@ -1,33 +1,34 @@
 -- How a turn stays at places of the log.
 use Rattle.std.proofs.Common.{◌≡◌, ◌≢◌, refl, eqb-true, inl, inr, sym, ap, ◌∙◌, subst, ℕ, List, [], length, nat_eq, Bool, None, Option, ◌<◌}
 use Rattle.std.proofs.lemmas.Bool.Decides.{eqb_tells}
-use Rattle.std.specs.Prelude.{◌==◌, ◌⊎◌, true, not, Contains, false, is_none, IsSome, string_bytes}
+use Rattle.std.specs.Prelude.{◌==◌, ◌⊎◌, ◌&&◌, true, not, Contains, false, is_none, is_some, IsSome, string_bytes}
 use Rattle.std.proofs.lemmas.List.{nil_from_length}
 use Rattle.slab.specs.Slab.{Slab}
 use Rattle.feed_settings.specs.Limits.{Limits}
 use Rattle.feed_node.specs.Mirroring.{MirrorState}
-use Rattle.feed_node.specs.States.{NodeState}
+use Rattle.feed_node.specs.States.{NodeState, published_token}
 use Rattle.feed_world.specs.Log.{Log}
 use Rattle.feed_hub.specs.declared.hub.Hub.{Hub}
 use Rattle.feed_hub.specs.Laws.{IsInLog}
 use Rattle.feed_device.specs.Calls.{CalledAtLeastOnce}
 use Rattle.feed_device.specs.Links.{Exchanges}
 use Rattle.feed_device.specs.Sockets.{AllSockets}
-use Rattle.feed_live.specs.declared.conn.Conn.{Conn}
-use Rattle.feed_live.specs.declared.desk.Desk.{Desk}
-use Rattle.feed_live.specs.declared.screens.Screens.{Screens}
+use Rattle.feed_screens.specs.declared.conn.Conn.{Conn}
+use Rattle.feed_device.specs.declared.desk.Desk.{Desk}
+use Rattle.feed_screens.specs.declared.screens.Screens.{Screens}
 use Rattle.feed_live.specs.declared.source.Reach.TheVariants.{Away}
 use Rattle.feed_live.specs.declared.source.Source.{Source}
 use Rattle.feed_live.specs.declared.turn.Input.{Input}
 use Rattle.feed_live.specs.declared.turn.Input.TheVariants.{End}
 use Rattle.feed_live.specs.declared.turn.Live.{Live}
+use Rattle.feed_live.specs.Answering.{has_heard}
 use Rattle.feed_live.specs.Relaying.{pursuit, pursuit_of, MayFollow, AnswersFromLog, FollowsServers, IsRelaying, SameSource, OnlyServes, followed_by}
-use Rattle.feed_live.specs.Serving.{ServesScreens, StillServing}
+use Rattle.feed_screens.specs.Serving.{ServesScreens, StillServing}
 use Rattle.feed_live.specs.States.{states_of}
 use Rattle.feed_live.specs.Taking.{IsTakingInput, ShowsInput, BeginsInput}
 use Rattle.feed_live.specs.Upstream.{Servers, AreKnownHonest}
-use Rattle.feed_live.specs.Waiting.{TakesNobody}
-use Rattle.feed_live.proofs.InputLemmas.{takes_so}
+use Rattle.feed_screens.specs.Waiting.{TakesNobody}
+use Rattle.feed_files.proofs.InputLemmas.{takes_so}
 use Rattle.feed_live.proofs.RelayLemmas.{either, among_shown, among_blank, shows_still, same_shows, with_same, with_screens}
 
 -- ---- only screens are served
@@ -64,9 +65,16 @@ same_so a b same = by (eqb_tells a b)
     by (inl (is, _)) = ap not is
     by (inr (_, differ)) = absurd (differ same)
 
+-- whether a server was heard is the same, too
+pub heard_same : {a b : Source} → SameSource a b → b.is_heard ≡ a.is_heard → has_heard b ≡ has_heard a
+heard_same {a} {b} same is =
+    ap (λ h. h && not (is_some b.coming && is_none (published_token b.answers.shown.mirror.node))) is
+    ∙ ap (λ c. a.is_heard && not (is_some c && is_none (published_token b.answers.shown.mirror.node))) same.coming
+    ∙ ap (λ m. a.is_heard && not (is_some a.coming && is_none (published_token m.node))) same.shown
+
 pub serves_none : (live : Live) (sockets : AllSockets) → OnlyServes live live sockets sockets
 serves_none live sockets =
-    record { contest = refl; ends = (refl, refl); feeds = refl; source = same_none live.source; epoch = refl; serves = λ nodes shown blank serving. serving }
+    record { contest = refl; ends = (refl, refl); feeds = refl; source = same_none live.source; heard = refl; epoch = refl; serves = λ nodes shown blank serving. serving }
 
 pub serves_then : {a b c : Live} {before between after : AllSockets} → OnlyServes b c between after → OnlyServes a b before between → OnlyServes a c before after
 serves_then {a} {b} {c} {before} {between} {after} two one =
@@ -75,19 +83,20 @@ serves_then {a} {b} {c} {before} {between} {after} two one =
       ends = (two.ends.0 ∙ one.ends.0, two.ends.1 ∙ one.ends.1);
       feeds = two.feeds ∙ one.feeds;
       source = same_then two.source one.source;
+      heard = two.heard ∙ one.heard;
       epoch = two.epoch ∙ one.epoch;
       serves = λ nodes shown blank serving.
           let later : StillServing nodes (string_bytes b.contest) b.screens c.screens between after =
-          two.serves nodes (subst (λ m. Contains nodes m.node) (sym one.source.shown) shown) (subst (λ m. Contains nodes m.node) (sym one.source.blank) blank) in
+          two.serves nodes (subst (λ m. Contains nodes m.node) (sym one.source.shown) shown) (λ none. subst (λ m. Contains nodes m.node) (sym one.source.blank) (blank (sym (heard_same one.source one.heard) ∙ none))) in
           subst (λ t. StillServing nodes (string_bytes t) b.screens c.screens between after) one.contest later (one.serves nodes shown blank serving);
     }
 
 -- the screens changed alone, and the desk
 pub screens_only : (live : Live) (screens : Screens) (desk : Desk) {before after : AllSockets}
-    → ((nodes : List NodeState) → Contains nodes live.source.answers.shown.mirror.node → Contains nodes live.source.answers.blank.mirror.node
+    → ((nodes : List NodeState) → Contains nodes live.source.answers.shown.mirror.node → (has_heard live.source ≡ false → Contains nodes live.source.answers.blank.mirror.node)
     → StillServing nodes (string_bytes live.contest) live.screens screens before after)
     → OnlyServes live (record live { screens = screens; desk = desk }) before after
-screens_only live screens desk serves = record { contest = refl; ends = (refl, refl); feeds = refl; source = same_none live.source; epoch = refl; serves = serves }
+screens_only live screens desk serves = record { contest = refl; ends = (refl, refl); feeds = refl; source = same_none live.source; heard = refl; epoch = refl; serves = serves }
 
 module _ (limits : Limits) (log : Log) where
   -- its feed is its input
@@ -113,7 +122,7 @@ module _ (limits : Limits) (log : Log) where
         shows = subst (λ c. ShowsInput limits log (string_bytes c) begun input new.source new.screens after) (sym only.contest)
             (λ honest. let here = is.shows honest in
             same_shows limits log only.source
-            (shows_still limits log (only.serves (states_of limits log) (among_shown limits log here) (among_blank limits log here)) here));
+            (shows_still limits log (only.serves (states_of limits log) (among_shown limits log here) (λ _. among_blank limits log here)) here));
         takes = λ feeds. takes_so only.source.rest only.source.shown (is.takes (sym only.feeds ∙ feeds));
       }
 
@@ -146,7 +155,7 @@ module _ (limits : Limits) (log : Log) (servers : Servers) where
       let follows : FollowsServers limits log servers (string_bytes old.contest) exchanges new.source new.source.rest.items new.screens after = (
         only.source.servers ∙ is.1.0,
         with_same limits log servers only.source exchanges old.source.rest.items new.source.rest.items only.source.rest
-            (with_screens limits log servers exchanges (λ shows serving. only.serves (states_of limits log) (among_shown limits log shows) (among_blank limits log shows) serving) is.1.1),
+            (with_screens limits log servers exchanges (λ shows serving. only.serves (states_of limits log) (among_shown limits log shows) (λ _. among_blank limits log shows) serving) is.1.1),
       ) in (
         only.feeds ∙ is.0,
         subst (λ c. FollowsServers limits log servers (string_bytes c) exchanges new.source new.source.rest.items new.screens after) (sym only.contest) follows,

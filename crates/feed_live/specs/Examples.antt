@@ -11,7 +11,7 @@ use Rattle.feed_node.specs.Mirroring.{new_mirror, first_opening}
 use Rattle.feed_node.specs.Reading.{AllGood}
 use Rattle.feed_world.specs.Log.{Log}
 use Rattle.feed_live.specs.Telling.{tokened_log, Replays}
-use Rattle.feed_live.specs.Upstream.{IsHonestInput}
+use Rattle.feed_files.specs.Input.{IsHonestInput}
 
 abbrev pub text : List ℕ
 text = codes

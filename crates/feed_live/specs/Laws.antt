@@ -1,11 +1,9 @@
 -- What the sockets of screens were written, and what mirrors make of that.
-use Rattle.std.specs.Prelude.{◌≡◌, ℕ, ◌≤◌, Bool, true, false, List, ◌++◌, length, Option, Some, Contains, string_bytes}
+use Rattle.std.specs.Prelude.{◌≡◌, ℕ, ◌≤◌, Bool, false, List, ◌++◌, length, Option, Some, Contains, string_bytes}
 use Rattle.std.specs.List.{AllByRecursion}
-use Rattle.slab.specs.Slab.{Slab}
 use Rattle.feed_settings.specs.Limits.{Limits}
-use Rattle.feed_note.specs.declared.line.Line.{Line}
-use Rattle.feed_node.specs.Mirroring.{MirrorState, StandsAt, new_mirror, first_opening, cut_off, present_opening}
-use Rattle.feed_node.specs.States.{NodeState, holds_token}
+use Rattle.feed_node.specs.Mirroring.{MirrorState, present_opening}
+use Rattle.feed_node.specs.States.{NodeState}
 use Rattle.feed_answer.specs.Answered.{AnswerParts}
 use Rattle.feed_answer.specs.Asked.{Asks, feed}
 use Rattle.feed_answer.specs.FrameLaws.{joined}
@@ -13,39 +11,18 @@ use Rattle.feed_world.specs.Laws.{opened_text}
 use Rattle.feed_world.specs.Log.{Log, IsLog}
 use Rattle.feed_world.specs.Position.{Position, IsPlace}
 use Rattle.feed_world.specs.Reading.{opening_at}
-use Rattle.feed_hub.specs.declared.hub.Hub.{Hub}
 use Rattle.feed_hub.specs.Follows.{HasAskedSo, FollowsInLog}
 use Rattle.feed_hub.specs.Laws.{IsInLog, AreInLog, ShowsState}
-use Rattle.feed_hub.specs.declared.record.Record.{Record}
-use Rattle.feed_hub.specs.Record.{IsRecorded}
 use Rattle.feed_hub.specs.Told.{Told}
 use Rattle.feed_device.specs.Links.{Exchange, Exchanges}
-use Rattle.feed_live.specs.declared.conn.Conn.{Conn}
 use Rattle.feed_live.specs.declared.turn.Live.{Live}
 use Rattle.feed_live.specs.Relaying.{IsRelaying}
-use Rattle.feed_live.specs.Serving.{WasServed, WasFaithful, ServesScreens}
+use Rattle.feed_screens.specs.Serving.{WasFaithful}
 use Rattle.feed_live.specs.States.{states_of}
 use Rattle.feed_live.specs.Taking.{IsTakingInput}
-use Rattle.feed_live.specs.Upstream.{Servers, IsRequestOf, IsHonest, AreKnownHonest, IsHonestInput}
+use Rattle.feed_live.specs.Upstream.{Servers, IsRequestOf, IsHonest, AreKnownHonest}
+use Rattle.feed_files.specs.Input.{IsHonestInput}
 use Rattle.feed_device.specs.Sockets.{Socket, AllSockets, traffic_of}
-
--- what was written to each connection, also to one that is over, is faithful
-abbrev pub SocketsAreFaithful : Type 0
-SocketsAreFaithful =
-    (nodes : List NodeState) (contest : List ℕ) (hub : Hub) (conns : Slab Conn)
-    (sockets : AllSockets) (at : ℕ) (socket : Socket)
-    → ServesScreens nodes contest hub conns sockets → sockets at ≡ Some socket
-    → AllByRecursion (WasFaithful nodes contest) (traffic_of socket)
-
--- Where the nodes are at places of a log, and a mirror at a place of it asked with the head that
--- was answered, any prefix of what a screen was handed leaves the mirror at a place of that log.
-abbrev pub HandedIsFollowed : Type 0
-HandedIsFollowed =
-    (limits : Limits) (log : Log) (nodes : List NodeState) (contest came handed : List ℕ)
-    (begun : MirrorState) (was : WasServed nodes contest came handed)
-    → IsLog limits log → AreInLog log nodes
-    → HasAskedSo limits log was.given.head contest begun
-    → FollowsInLog limits log was.answer begun handed
 
 -- ---- a relay that follows servers
 
@@ -119,24 +96,3 @@ SentIsHonest =
     → IsHonestInput limits log begun input
 
 -- ---- state files
-
--- A prefix of what a record was written to is an honest input to a mirror that has published
--- nothing.
-abbrev pub FilesAreHonest : Type 0
-FilesAreHonest =
-    (limits : Limits) (log : Log) (nodes : List NodeState) (written text behind : List ℕ)
-    (r : Record) → IsLog limits log → AreInLog log nodes → IsRecorded nodes written r
-    → text ++ behind ≡ written → IsHonestInput limits log (new_mirror limits) text
-
--- So it is to a mirror that was fed any prefix of a former file, and holds the token of the later
--- one's snapshot.
-abbrev pub FilesGoOnHonestly : Type 0
-FilesGoOnHonestly =
-    (limits : Limits) (log : Log) (nodes : List NodeState) (written prefix behind : List ℕ)
-    (former : Record) (further text rest : List ℕ) (later : Record) (notes : List Line)
-    (mirror : MirrorState) → IsLog limits log → AreInLog log nodes
-    → IsRecorded nodes written former → prefix ++ behind ≡ written
-    → (recorded : IsRecorded nodes further later) → text ++ rest ≡ further
-    → mirror.limits ≡ limits → StandsAt first_opening prefix notes mirror
-    → holds_token mirror.node recorded.snapshot.token ≡ true
-    → IsHonestInput limits log (cut_off mirror) text

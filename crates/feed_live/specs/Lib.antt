@@ -1,8 +1,4 @@
-pub mod Serving
-pub mod Held
 pub mod Answering
-pub mod Waiting
-pub mod Seating
 pub mod Laws
 pub mod Network
 pub mod States
@@ -12,9 +8,4 @@ pub mod Taking
 pub mod Ending
 pub mod Telling
 pub mod Examples
-pub mod Saved
-pub mod Writing
-pub mod Pending
-pub mod Owed
-pub mod Audited
 pub mod Running

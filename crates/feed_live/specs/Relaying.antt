@@ -14,13 +14,14 @@ use Rattle.feed_hub.specs.Laws.{IsInLog}
 use Rattle.feed_hub.specs.Upstream.{next_place, counted_on, asked_next, later}
 use Rattle.feed_device.specs.Links.{Exchange, Exchanges, Shown, nothing_shown, once_at, all_from, shown_so}
 use Rattle.feed_device.specs.Sockets.{AllSockets}
-use Rattle.feed_live.specs.declared.conn.Conn.{Conn}
-use Rattle.feed_live.specs.declared.screens.Screens.{Screens}
+use Rattle.feed_screens.specs.declared.conn.Conn.{Conn}
+use Rattle.feed_screens.specs.declared.screens.Screens.{Screens}
 use Rattle.feed_live.specs.declared.source.Reach.{Reach}
 use Rattle.feed_live.specs.declared.source.Reach.TheVariants.{Away, Connects, Asks, Reads}
 use Rattle.feed_live.specs.declared.source.Source.{Source}
 use Rattle.feed_live.specs.declared.turn.Live.{Live}
-use Rattle.feed_live.specs.Serving.{ServesScreens, StillServing}
+use Rattle.feed_screens.specs.Serving.{ServesScreens, StillServing}
+use Rattle.feed_live.specs.Answering.{has_heard}
 use Rattle.feed_live.specs.States.{states_of}
 use Rattle.feed_live.specs.Upstream.{AsksInLog, Servers, IsRequestOf, AreHonest, AreKnownHonest, IsOfLog}
 
@@ -99,6 +100,12 @@ pub record AnswersFromLog (limits : Limits) (log : Log) (contest : List ℕ)
   pub blank_is : IsInLog limits log blank.node
   pub serving : ServesScreens (states_of limits log) contest hub conns sockets
 
+-- so it is with what a relay answers with, and its screens
+abbrev pub ShowsFromLog : Limits → Log → List ℕ → Source → Screens → AllSockets → Type 0
+ShowsFromLog limits log contest source screens sockets =
+    AnswersFromLog limits log contest source.answers.shown.mirror source.answers.blank.mirror
+    screens.hub screens.conns sockets
+
 -- the servers that are asked
 abbrev pub servers_of : Source → Servers
 servers_of source = record { places = source.places.items; identity = source.identity }
@@ -124,9 +131,7 @@ abbrev pub FollowsServers : Limits → Log → Servers → List ℕ → Exchange
 FollowsServers limits log servers contest exchanges source unread screens sockets =
     (servers_of source ≡ servers)
     × ((AreKnownHonest limits log servers exchanges
-    → AnswersFromLog limits log contest source.answers.shown.mirror source.answers.blank.mirror
-    screens.hub
-    screens.conns sockets)
+    → ShowsFromLog limits log contest source screens sockets)
     × (IsSome exchanges → MayFollow limits log servers exchanges (pursuit_of source unread)))
 
 -- THE PROMISE: so it is with a relay whose feed is not its input
@@ -161,9 +166,7 @@ abbrev pub IsToShow : Limits → Log → Servers → List ℕ → Exchanges → 
 IsToShow limits log servers contest exchanges source unread screens sockets =
     (servers_of source ≡ servers)
     × (AreKnownHonest limits log servers exchanges
-    → AnswersFromLog limits log contest source.answers.shown.mirror source.answers.blank.mirror
-    screens.hub
-    screens.conns sockets)
+    → ShowsFromLog limits log contest source screens sockets)
     × MayShow limits log servers unread exchanges (followed_by source)
 
 -- What it shows is still of the log, whether what followed is shown now or not.
@@ -173,8 +176,7 @@ StillShows old new before after unread screens later =
     → IsToShow limits log servers contest before old unread screens sockets
     → (servers_of new ≡ servers)
     × (AreKnownHonest limits log servers after
-    → AnswersFromLog limits log contest new.answers.shown.mirror new.answers.blank.mirror later.hub
-    later.conns sockets)
+    → ShowsFromLog limits log contest new later sockets)
 
 abbrev pub StillRelaying : Live → Live → Exchanges → Exchanges → AllSockets → AllSockets → Type 0
 StillRelaying old new before after sockets later =
@@ -266,14 +268,15 @@ pub record ShowsAlone (old new : Source) : Type 0 where
 abbrev pub SameEnd : Live → Live → Type 0
 SameEnd old new = (new.limits ≡ old.limits) × (new.ends_at ≡ old.ends_at)
 
--- Only screens were served, from what the relay shows or from what shows nothing. All else is as it
--- was.
+-- Only screens were served, from what the relay shows; and until a server was heard, from what shows
+-- nothing. All else is as it was.
 pub record OnlyServes (old new : Live) (before after : AllSockets) : Type 0 where
   pub contest : new.contest ≡ old.contest
   pub ends : SameEnd old new
   pub feeds : new.feeds ≡ old.feeds
   pub source : SameSource old.source new.source
+  pub heard : new.source.is_heard ≡ old.source.is_heard
   pub epoch : new.source.epoch ≡ old.source.epoch
   pub serves : (nodes : List NodeState) → Contains nodes old.source.answers.shown.mirror.node
-      → Contains nodes old.source.answers.blank.mirror.node
+      → (has_heard old.source ≡ false → Contains nodes old.source.answers.blank.mirror.node)
       → StillServing nodes (string_bytes old.contest) old.screens new.screens before after

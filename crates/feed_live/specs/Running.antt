@@ -22,10 +22,12 @@ use Rattle.feed_live.specs.declared.turn.Turn.{Turn}
 use Rattle.feed_live.specs.Ending.{EndsWithInput}
 use Rattle.feed_live.specs.Laws.{ShowsTheLog}
 use Rattle.feed_live.specs.Relaying.{IsRelaying, StillRelaying}
-use Rattle.feed_live.specs.Saved.{ArePartsOfRecords, KeepsFiles}
+use Rattle.feed_files.specs.Saved.{ArePartsOfRecords, KeepsFiles}
 use Rattle.feed_live.specs.States.{states_of}
-use Rattle.feed_live.specs.Taking.{IsTakingInput, StillTaking, StopsTaking, TakesInput, StopsInput, bytes_in}
-use Rattle.feed_live.specs.Upstream.{Servers, AreKnownHonest, IsHonestInput}
+use Rattle.feed_live.specs.Taking.{IsTakingInput, StillTaking, StopsTaking, bytes_in}
+use Rattle.feed_files.specs.Input.{TakesInput, StopsInput}
+use Rattle.feed_live.specs.Upstream.{Servers, AreKnownHonest}
+use Rattle.feed_files.specs.Input.{IsHonestInput}
 
 -- ---- what stands around a relay
 

@@ -2,18 +2,17 @@
 -- is of the log, as long as that input is honest.
 use Rattle.std.specs.Prelude.{◌≡◌, ℕ, Bool, true, false, List, [], ◌++◌, Result, MatchResult, OnOk, string_bytes}
 use Rattle.feed_settings.specs.Limits.{Limits}
-use Rattle.feed_note.specs.declared.line.Line.{Line}
 use Rattle.feed_node.specs.declared.fault.FeedFault.{FeedFault}
-use Rattle.feed_node.specs.Mirroring.{MirrorState, StandsAt, Faulted, present_opening}
+use Rattle.feed_node.specs.Mirroring.{MirrorState, StandsAt, present_opening}
 use Rattle.feed_world.specs.Log.{Log}
 use Rattle.feed_device.specs.Sockets.{AllSockets}
-use Rattle.feed_live.specs.declared.screens.Screens.{Screens}
+use Rattle.feed_screens.specs.declared.screens.Screens.{Screens}
 use Rattle.feed_live.specs.declared.source.Source.{Source}
 use Rattle.feed_live.specs.declared.turn.Input.{Input}
 use Rattle.feed_live.specs.declared.turn.Input.TheVariants.{Nothing, Bytes, End}
 use Rattle.feed_live.specs.declared.turn.Live.{Live}
-use Rattle.feed_live.specs.Relaying.{AnswersFromLog, servers_of}
-use Rattle.feed_live.specs.Upstream.{IsHonestInput}
+use Rattle.feed_live.specs.Relaying.{ShowsFromLog, servers_of}
+use Rattle.feed_files.specs.Input.{IsHonestInput, TakesInput, StopsInput}
 
 -- the bytes that came
 abbrev pub bytes_in : Input → List ℕ
@@ -21,34 +20,13 @@ bytes_in Nothing = []
 bytes_in (Bytes piece) = piece.now
 bytes_in End = []
 
--- the mirror, which began so, stands where all of the input left it but what is unread
-pub record TakesInput (begun : MirrorState) (input unread : List ℕ) (mirror : MirrorState)
-    : Type 0 where
-  pub bytes : List ℕ
-  pub taken : bytes ++ unread ≡ input
-  pub notes : List Line
-  pub stands : StandsAt (present_opening begun) bytes notes mirror
-
--- The mirror, which began so, stopped in its input: at its first fault, or memory ran out. It takes
--- nothing more of it. What the good bytes before published stands.
-pub record StopsInput (begun : MirrorState) (input : List ℕ) (fault : FeedFault)
-    (mirror : MirrorState) : Type 0 where
-  pub before : List ℕ
-  pub piece : List ℕ
-  pub behind : List ℕ
-  pub whole : (before ++ piece) ++ behind ≡ input
-  pub old : MirrorState
-  pub stops : Faulted (present_opening begun) before piece old mirror fault
-
 -- A relay of this contest shows the log where its input was honest so far, to the mirror that it
 -- began with.
 abbrev pub ShowsInput : Limits → Log → List ℕ → MirrorState → List ℕ → Source → Screens → AllSockets
     → Type 0
 ShowsInput limits log contest begun input source screens sockets =
     IsHonestInput limits log begun input
-    → AnswersFromLog limits log contest source.answers.shown.mirror source.answers.blank.mirror
-    screens.hub
-    screens.conns sockets
+    → ShowsFromLog limits log contest source screens sockets
 
 -- THE PROMISE: so it is with a relay that follows no server. While its input goes on, nothing of
 -- that is lost or read twice.

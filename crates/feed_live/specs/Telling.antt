@@ -17,7 +17,8 @@ use Rattle.feed_world.specs.Position.{Position, IsPlace}
 use Rattle.feed_world.specs.Reading.{opening_at}
 use Rattle.feed_world.specs.Telling.{Tells}
 use Rattle.feed_device.specs.Links.{Exchange, once_at}
-use Rattle.feed_live.specs.Upstream.{AsksInLog, Servers, IsRequestOf, IsOfLog, IsHonest, IsHonestInput}
+use Rattle.feed_live.specs.Upstream.{AsksInLog, Servers, IsRequestOf, IsOfLog, IsHonest}
+use Rattle.feed_files.specs.Input.{IsHonestInput}
 
 -- the lines mean this, one after another
 abbrev pub AreMeant : List (List ℕ) → List Line → Type 0

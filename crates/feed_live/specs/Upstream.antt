@@ -3,12 +3,10 @@
 use Rattle.std.specs.Prelude.{◌≡◌, ℕ, ◌≤◌, Bool, true, false, if◌then◌else◌, List, [], ◌∷◌, ◌++◌, length, Option, Some, None, is_none, is_some, slice_get}
 use Rattle.feed_settings.specs.Limits.{Limits}
 use Rattle.feed_settings.specs.Place.{Place}
-use Rattle.feed_note.specs.declared.line.Line.{Line}
 use Rattle.feed_note.specs.Publishing.{Published}
 use Rattle.std.specs.Option.{option_and_then}
 use Rattle.feed_node.specs.States.{former_token}
-use Rattle.feed_node.specs.declared.fault.FeedFault.{FeedFault}
-use Rattle.feed_node.specs.Mirroring.{MirrorState, StandsAt, Faulted, present_opening}
+use Rattle.feed_node.specs.Mirroring.{MirrorState}
 use Rattle.feed_node.specs.declared.fault.FeedFault.TheVariants.{Memory as FeedMemory}
 use Rattle.feed_follow.specs.declared.fault.FollowFault.{FollowFault}
 use Rattle.feed_follow.specs.declared.fault.FollowFault.TheVariants.{Feed, Memory}
@@ -135,15 +133,3 @@ AreKnownHonest limits log servers None = ⊥
 AreKnownHonest limits log servers (Some exchanges) = AreHonest limits log servers exchanges
 
 -- ---- the input as the feed
-
--- THE PREMISE of an input: whatever prefix of it comes to the mirror that began so, in any pieces,
--- that shows nothing or a state of the log at its token, also once it stopped. So is what a node of
--- that log sends from the start on, to a mirror that has published nothing.
-pub record IsHonestInput (limits : Limits) (log : Log) (begun : MirrorState) (input : List ℕ)
-    : Type 0 where
-  pub stands : (before behind : List ℕ) (notes : List Line) (mirror : MirrorState)
-      → before ++ behind ≡ input → mirror.limits ≡ limits
-      → StandsAt (present_opening begun) before notes mirror → IsInLog limits log mirror.node
-  pub stops : (before piece behind : List ℕ) (old new : MirrorState) (fault : FeedFault)
-      → (before ++ piece) ++ behind ≡ input → old.limits ≡ limits
-      → Faulted (present_opening begun) before piece old new fault → IsInLog limits log new.node

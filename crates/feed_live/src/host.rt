@@ -5,9 +5,9 @@ ghost use Rattle.std.specs.Prelude.{◌≡◌, ℕ, Option, None, IfSome, OnOk, 
 ghost use Rattle.feed_device.specs.Calls.{CalledOnce};
 ghost use Rattle.feed_live.specs.Running.{Came, came_more, HostCalls, nothing_counted, waited_for, reported_once};
 
-use crate::restoring::Restored;
 use crate::turn::{Input, Live, Turn};
 use feed_device::{Devices, Ready};
+use feed_files::Restored;
 
 /// What a turn is given beside its devices.
 #[derive(Clone, Copy)]

@@ -1,8 +1,7 @@
 //! Laws of the definitions.
 
-ghost use Rattle.feed_live.specs.Laws.{SocketsAreFaithful, HandedIsFollowed, RelaysShowTheLog, FollowedIsHonest};
-ghost use Rattle.feed_live.specs.Laws.{InputShowsTheLog, ShownIsHonest, SentIsHonest, FilesAreHonest, FilesGoOnHonestly};
-ghost use Rattle.feed_live.specs.Owed.{OwesAlwaysWhatIsKept};
+ghost use Rattle.feed_live.specs.Laws.{RelaysShowTheLog, FollowedIsHonest};
+ghost use Rattle.feed_live.specs.Laws.{InputShowsTheLog, ShownIsHonest, SentIsHonest};
 ghost use Rattle.feed_live.specs.Examples.{TheirFeedIsHonest, TheirReplayEnds};
 ghost use Rattle.feed_live.specs.Network.{NetworksShowTheLog, RelayedIsHonest, RequestsAreMeant};
 ghost use Rattle.feed_live.specs.Telling.{MeaningTells, ToldIsHonest, TellingIsHonest, FeedIsHonest, ReplayIsHonest, TokenedIsHonest};
@@ -12,24 +11,18 @@ use feed_follow::{carry_laws, follow_laws};
 use feed_hub::hub_laws;
 use feed_node::reading_laws;
 use feed_note::{line_laws, written_lines_law};
+use feed_screens::screen_laws;
 use feed_world::telling_laws;
 
-/// What was written to a socket is a prefix of what is due to it, and what a screen was handed
-/// leaves a mirror that reads any prefix of it at a place of the log. So it is of a relay whose
-/// servers are honest. What is followed so is an honest response again. The same holds of a relay
-/// whose feed is its input: what nodes of the log send is an honest one. And what counts as owed to
-/// screens is what connections have yet to take.
+/// A relay whose servers are honest shows states of the log, and what it writes to each socket is
+/// faithful to those. What is followed so is an honest response again. The same holds of a relay
+/// whose feed is its input: what nodes of the log send is an honest one.
 pub fn live_laws()
-    ensures sockets { SocketsAreFaithful }
-    ensures handed { HandedIsFollowed }
     ensures relays { RelaysShowTheLog }
     ensures honest { FollowedIsHonest }
     ensures takes { InputShowsTheLog }
     ensures input { ShownIsHonest }
     ensures sent { SentIsHonest }
-    ensures files { FilesAreHonest }
-    ensures files_go_on { FilesGoOnHonestly }
-    ensures owed { OwesAlwaysWhatIsKept }
 {
     reading_laws();
     hub_laws();
@@ -66,6 +59,7 @@ pub fn network_laws()
     ensures meant { RequestsAreMeant }
 {
     live_laws();
+    screen_laws();
     follow_laws();
     answer_laws();
     followed_laws();

@@ -12,34 +12,23 @@
 //! that had it is closed.
 #![tactic(auto)]
 
-mod audited;
-mod conn;
-mod desk;
 mod figures;
-mod hand;
 mod host;
 mod laws;
 mod options;
-mod relay;
-mod report;
-mod restoring;
 mod running;
-mod saved;
-mod screens;
 mod source;
 mod starting;
 mod times;
 mod turn;
 
-pub use audited::audited_laws;
 pub use feed_device::{Before, Devices, How, Link, Ready, Report, Sockets, Stop, Store, Why};
-pub use figures::{
-    Failure, FeedFigures, FileFigures, Following, Reason, ScreenFigures, ScreenRow, ScreenTotals,
-};
+pub use feed_files::{FileFigures, Restored, restore};
+pub use feed_screens::{ScreenFigures, ScreenLimits, ScreenRow, ScreenTotals};
+pub use figures::{Failure, FeedFigures, Following, Reason};
 pub use host::{Given, Host};
 pub use laws::{foreign_laws, live_laws, network_laws};
 pub use options::{LiveLimits, Setup, Start};
-pub use restoring::{Restored, restore};
 pub use running::{RunFault, run};
 pub use starting::restore_from;
 pub use times::LONG_WAIT;

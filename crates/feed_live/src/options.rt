@@ -2,24 +2,16 @@
 
 ghost use Rattle.std.specs.Prelude.{◌≡◌, ◌≢◌, [], true, false};
 
-use crate::restoring::Restored;
-use feed_answer::{Framing, Identity, Place};
+use feed_answer::{Identity, Place};
+use feed_files::Restored;
 use feed_node::{Limits, Mirror};
+use feed_screens::ScreenLimits;
 
-/// How many screens, and how far back and how silent they may be.
+/// What a relay may do, and how long it waits.
 #[derive(Clone, Copy, Debug)]
 pub struct LiveLimits {
-    /// How many screens there may be at once.
-    pub screens: usize,
-    /// How many bytes a screen may be behind.
-    pub window: u64,
-    /// How many bytes of long texts there may be that screens have yet to take, before no further
-    /// one is made: whoever needs one waits. A text for many counts once.
-    pub pending: usize,
-    /// After how many milliseconds of silence a line feed is sent; a server that is silent for
-    /// twice that is left.
-    pub idle: u64,
-    pub framing: Framing,
+    /// Those of its screens. A server that is silent for twice as long as a screen is left.
+    pub screens: ScreenLimits,
     /// A feed that was asked for from the start is shown once no more than 1/64 of it came in so many
     /// milliseconds. Zero: each of its states is shown as it comes.
     pub settle: u64,
@@ -37,8 +29,6 @@ pub struct LiveLimits {
     pub hold: u64,
     /// Whether what was restored is served before a server was heard.
     pub serves_old: bool,
-    /// Whether each screen is reported.
-    pub is_verbose: bool,
     /// Whether there is a file that the state is kept in.
     pub has_store: bool,
     /// Whether the relay ends with the input.

@@ -10,18 +10,17 @@ mod rechecking;
 mod returning;
 mod settling;
 
-use crate::desk::Desk;
 use crate::figures::{FeedFigures, Following};
 use crate::options::LiveLimits;
-use crate::screens::Answers;
 use crate::source::rechecking::Rechecking;
 use crate::source::returning::Returning;
 use crate::source::settling::Settling;
 use crate::times::QUIET;
 use feed_answer::{Identity, Place};
-use feed_device::Excerpt;
+use feed_device::{Desk, Excerpt};
 use feed_hub::{Answering, Upstream};
 use feed_node::{Mirror, Node};
+use feed_screens::Answers;
 use feed_tables::Name;
 
 /// How far the connection has come.
@@ -80,7 +79,7 @@ pub(crate) struct Source {
 impl Source {
     ghost use Rattle.feed_live.specs.Relaying.{SameSource};
     ghost use Rattle.feed_live.specs.declared.source.Reach.TheVariants.{Away};
-    ghost use Rattle.feed_live.specs.Held.{has_heard};
+    ghost use Rattle.feed_live.specs.Answering.{has_heard};
 
     pub(crate) fn new(
         desk: &Desk,
@@ -105,8 +104,8 @@ impl Source {
             places,
             identity,
             answers: Answers {
-                shown: Answering::new(mirror, limits.framing),
-                blank: Answering::new(blank, limits.framing),
+                shown: Answering::new(mirror, limits.screens.framing),
+                blank: Answering::new(blank, limits.screens.framing),
             },
             coming: None,
             settling: Settling::new(limits.settle, limits.is_fresh, limits.are_strange),
@@ -140,6 +139,7 @@ impl Source {
     /// Forgets the text of the snapshot, where no screen has any of it.
     pub(crate) fn tidy(&mut self)
         ensures same { SameSource self.old self.new }
+        ensures heard { self.new.is_heard ≡ self.old.is_heard }
         ensures epoch { self.new.epoch ≡ self.old.epoch }
     {
         self.answers.shown.tidy();
@@ -176,6 +176,7 @@ impl Source {
     /// An event came for the connection.
     pub(crate) fn wake(&mut self)
         ensures same { SameSource self.old self.new }
+        ensures heard { self.new.is_heard ≡ self.old.is_heard }
         ensures epoch { self.new.epoch ≡ self.old.epoch }
     {
         self.has_more = self.reach != Reach::Away;

@@ -6,14 +6,14 @@ ghost use Rattle.feed_node.specs.States.{NodeState};
 ghost use Rattle.feed_world.specs.Log.{Log, IsLog};
 ghost use Rattle.feed_hub.specs.Laws.{IsInLog, AreInLog};
 ghost use Rattle.feed_live.specs.Running.{BeginsInLog, AreFilesOfLog, Begins, FailsBy};
-ghost use Rattle.feed_live.specs.Saved.{ArePartsOfRecords, EndsAsRecorded, OrNothing};
+ghost use Rattle.feed_files.specs.Saved.{ArePartsOfRecords, EndsAsRecorded, OrNothing};
 
 use crate::host::Host;
 use crate::options::{Setup, Start};
-use crate::restoring::{Restored, restore};
 use crate::running::RunFault;
 use crate::turn::Live;
 use feed_device::{Stop, Store};
+use feed_files::{Restored, restore};
 use feed_node::{Limits, Mirror};
 use std::alloc::{AllocError, Global};
 

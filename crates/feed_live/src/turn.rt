@@ -10,21 +10,19 @@ ghost use Rattle.feed_device.specs.Links.{Exchanges};
 ghost use Rattle.feed_device.specs.Sockets.{AllSockets, IsUnused};
 ghost use Rattle.feed_live.specs.Upstream.{Servers};
 ghost use Rattle.feed_device.specs.Files.{IsKnown};
-ghost use Rattle.feed_live.specs.Saved.{EndsAsRecorded, KeepsFiles, ArePartsOfRecords};
+ghost use Rattle.feed_files.specs.Saved.{EndsAsRecorded, KeepsFiles, ArePartsOfRecords};
 
 mod following;
 mod serving;
 
-use crate::desk::Desk;
 use crate::options::{LiveLimits, Start};
-use crate::restoring::{Good, Restored};
-use crate::saved::Saved;
-use crate::screens::Screens;
 use crate::source::Source;
 use crate::times::{SCREENS_REPORT, TICK};
 use feed_answer::Place;
-use feed_device::{Devices, Link, Ready, Report, Sockets, Store};
+use feed_device::{Desk, Devices, Link, Ready, Report, Sockets, Store};
+use feed_files::{Good, Restored, Saved};
 use feed_node::Node;
+use feed_screens::Screens;
 use std::alloc::Global;
 
 /// What the input gave.
@@ -69,10 +67,10 @@ pub struct Live {
 impl Live {
     ghost use Rattle.feed_live.specs.Relaying.{IsRelaying, StillRelaying, OnlyServes};
     ghost use Rattle.feed_live.specs.Taking.{IsTakingInput, StillTaking, StopsTaking, bytes_in};
-    ghost use Rattle.feed_live.specs.Saved.{SameSaved};
-    ghost use Rattle.feed_live.specs.Owed.{OwesWhatIsKept};
+    ghost use Rattle.feed_live.specs.Ending.{SameSaved};
+    ghost use Rattle.feed_screens.specs.Owed.{OwesWhatIsKept};
     ghost use Rattle.feed_live.specs.Running.{IsOver, IsSameRelay};
-    ghost use Rattle.feed_live.specs.Waiting.{TakesNobody};
+    ghost use Rattle.feed_screens.specs.Waiting.{TakesNobody};
     ghost use Rattle.feed_live.specs.Ending.{EndsWithInput};
 
     /// A relay that starts from what the state files had.
@@ -110,7 +108,7 @@ impl Live {
         ensures feeds { start.places.items ≡ [] → result.feeds ≡ true }
         // it shows what was restored, has room for as many screens as it may have, and no end
         ensures shown { result.source.answers.shown.mirror.node ≡ start.restored.mirror.node }
-        ensures most { result.screens.hub.most ≡ limits.screens }
+        ensures most { result.screens.hub.most ≡ limits.screens.most }
         ensures limits { result.limits ≡ limits }
         ensures goes_on { result.ends_at ≡ None }
     {
@@ -127,7 +125,7 @@ impl Live {
         let mut source = Source::new(&desk, places, identity, mirror, blank, limits);
         source.begin_input(feeds, now);
         // What is restored was said before: only what is published from here on is news.
-        let mut screens = Screens::new(alloc, limits);
+        let mut screens = Screens::new(alloc, limits.screens);
         screens.relay(&desk, source.node());
         Live {
             contest,
@@ -318,7 +316,7 @@ impl Live {
         ensures { result ≡ true → IsOver self.now now }
     {
         match self.ends_at {
-            Some(at) => at <= now || self.screens.conns.is_empty() && self.is_saved(),
+            Some(at) => at <= now || self.screens.are_none() && self.is_saved(),
             None => false,
         }
     }
@@ -340,7 +338,7 @@ impl Live {
         ensures awake { result ≤ min (self.now.reported + 60000) (2 ^ 64 - 1) }
     {
         let mut due = self.reported.saturating_add(SCREENS_REPORT);
-        if !self.screens.conns.is_empty() {
+        if !self.screens.are_none() {
             due = due
                 .min(self.ticked.saturating_add(TICK))
                 .min(self.screens.idles_at());
@@ -353,7 +351,7 @@ impl Live {
             return due.min(at);
         }
         if self.source.has_servers() {
-            due = due.min(self.source.due(self.limits.idle));
+            due = due.min(self.source.due(self.limits.screens.idle));
             if self.source.has_more() && self.screens.says_at().is_none() {
                 due = due.min(now);
             }

@@ -1,7 +1,7 @@
 //! Whether a relay is well.
 
 use crate::rows::Time;
-use crate::status::{Status, Upstream, UpstreamState};
+use crate::status::{Status, UpstreamState, UpstreamStatus};
 use crate::warnings::Warnings;
 use serde::Serialize;
 use std::fmt;
@@ -72,7 +72,7 @@ impl Status<'_> {
 
 /// What came and has not settled.
 #[derive(Clone, Copy)]
-pub(crate) struct Coming<'a>(pub(crate) &'a Upstream<'a>);
+pub(crate) struct Coming<'a>(pub(crate) &'a UpstreamStatus<'a>);
 
 impl fmt::Display for Coming<'_> {
     fn fmt<W: fmt::Write>(&self, f: &mut fmt::Formatter<W>) -> fmt::Result {
@@ -87,7 +87,7 @@ impl fmt::Display for Coming<'_> {
 
 /// Why the last attempt failed, where one did since a server answered.
 #[derive(Clone, Copy)]
-struct Because<'a>(&'a Upstream<'a>);
+struct Because<'a>(&'a UpstreamStatus<'a>);
 
 impl fmt::Display for Because<'_> {
     fn fmt<W: fmt::Write>(&self, f: &mut fmt::Formatter<W>) -> fmt::Result {

@@ -20,7 +20,7 @@ pub use health::Level;
 pub use plots::{Latest, Plots, Point};
 pub use screens::Screen;
 pub use status::{
-    BOUNDS, Failed, LastFailure, Latency, Refused, Screens, StateFile, Status, Upstream,
-    UpstreamState,
+    BOUNDS, Failed, LastFailure, Latency, Refused, ScreensStatus, StateFile, Status, UpstreamState,
+    UpstreamStatus,
 };
 pub use watch::{Process, Watch};

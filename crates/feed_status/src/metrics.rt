@@ -1,6 +1,6 @@
 //! The metrics, in the text format of Prometheus (version 0.0.4).
 
-use crate::status::{BOUNDS, Latency, Status, Upstream, UpstreamState};
+use crate::status::{BOUNDS, Latency, Status, UpstreamState, UpstreamStatus};
 use crate::watch::Process;
 use std::fmt;
 use std::fmt::Write;
@@ -239,7 +239,7 @@ impl fmt::Display for OfUpstream<'_> {
 }
 
 #[derive(Clone, Copy)]
-struct OfComing<'a>(&'a Upstream<'a>);
+struct OfComing<'a>(&'a UpstreamStatus<'a>);
 
 impl fmt::Display for OfComing<'_> {
     fn fmt<W: fmt::Write>(&self, f: &mut fmt::Formatter<W>) -> fmt::Result {
@@ -266,7 +266,7 @@ impl fmt::Display for OfComing<'_> {
 }
 
 #[derive(Clone, Copy)]
-struct OfFailures<'a>(&'a Upstream<'a>);
+struct OfFailures<'a>(&'a UpstreamStatus<'a>);
 
 impl fmt::Display for OfFailures<'_> {
     fn fmt<W: fmt::Write>(&self, f: &mut fmt::Formatter<W>) -> fmt::Result {

@@ -1,7 +1,7 @@
 //! The table of the page.
 
 use crate::health::Coming;
-use crate::status::{Screens, StateFile, Status, Upstream, UpstreamState};
+use crate::status::{ScreensStatus, StateFile, Status, UpstreamState, UpstreamStatus};
 use crate::warnings::Waiting;
 use serde::Serialize;
 use std::alloc::{AllocError, Global};
@@ -52,7 +52,7 @@ fn number(alloc: Global, label: &'static str, value: u64) -> Result<Row, AllocEr
 }
 
 /// What came and has not settled.
-fn coming(alloc: Global, upstream: &Upstream<'_>) -> Result<String, AllocError> {
+fn coming(alloc: Global, upstream: &UpstreamStatus<'_>) -> Result<String, AllocError> {
     match upstream.state {
         UpstreamState::Settling => format!(in alloc; "{}", Coming(upstream)),
         _ => String::from_str(alloc, "nothing"),
@@ -60,7 +60,7 @@ fn coming(alloc: Global, upstream: &Upstream<'_>) -> Result<String, AllocError> 
 }
 
 /// What came and waits for a token.
-fn waiting(alloc: Global, upstream: &Upstream<'_>) -> Result<String, AllocError> {
+fn waiting(alloc: Global, upstream: &UpstreamStatus<'_>) -> Result<String, AllocError> {
     match upstream.waiting {
         0 => String::from_str(alloc, "nothing"),
         _ => format!(in alloc; "{}", Waiting(upstream)),
@@ -76,7 +76,7 @@ fn ago(alloc: Global, age: Option<u64>) -> Result<String, AllocError> {
 }
 
 /// Why the last attempt failed, and when.
-fn last_failure(alloc: Global, upstream: &Upstream<'_>) -> Result<String, AllocError> {
+fn last_failure(alloc: Global, upstream: &UpstreamStatus<'_>) -> Result<String, AllocError> {
     match upstream.last_failure {
         Some(failure) => {
             let (text, age) = (failure.text, Time(failure.age_ms));
@@ -87,7 +87,7 @@ fn last_failure(alloc: Global, upstream: &Upstream<'_>) -> Result<String, AllocE
 }
 
 /// How many attempts failed, and how many of them for which reason.
-fn failed(alloc: Global, upstream: &Upstream<'_>) -> Result<String, AllocError> {
+fn failed(alloc: Global, upstream: &UpstreamStatus<'_>) -> Result<String, AllocError> {
     let mut total: u64 = 0;
     for failed in &upstream.failed_by {
         total = total.saturating_add(failed.count);
@@ -103,7 +103,7 @@ fn failed(alloc: Global, upstream: &Upstream<'_>) -> Result<String, AllocError> 
 }
 
 /// How many were refused, and how many of them with which status.
-fn refused(alloc: Global, screens: &Screens) -> Result<String, AllocError> {
+fn refused(alloc: Global, screens: &ScreensStatus) -> Result<String, AllocError> {
     let total = screens.refused;
     let mut text = format!(in alloc; "{total}")?;
     for refused in &screens.refused_by {

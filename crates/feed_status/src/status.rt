@@ -65,7 +65,7 @@ pub struct LastFailure<'a> {
 
 /// The server that is followed.
 #[derive(Clone, Copy, Debug, Serialize)]
-pub struct Upstream<'a> {
+pub struct UpstreamStatus<'a> {
     /// Its host and port, or `standard input`.
     pub name: &'a str,
     pub state: UpstreamState,
@@ -103,7 +103,7 @@ pub struct Refused {
 
 /// The connections on the feed's port.
 #[derive(Clone, Copy, Debug, Serialize)]
-pub struct Screens {
+pub struct ScreensStatus {
     pub open: u64,
     /// Of those open: whose request is not whole or not answered yet.
     pub asking: u64,
@@ -184,7 +184,7 @@ pub struct Status<'a> {
     pub silence_ms: u64,
     /// Whether a request for everything is answered with it: not before a server was heard.
     pub answering: bool,
-    pub upstream: Upstream<'a>,
+    pub upstream: UpstreamStatus<'a>,
     pub token: Option<&'a str>,
     /// How many commits were published since the start.
     pub commits: u64,
@@ -199,7 +199,7 @@ pub struct Status<'a> {
     /// How many connections were closed at once, since their address may not connect, or not once
     /// more.
     pub refused_by_address: u64,
-    pub screens: Screens,
+    pub screens: ScreensStatus,
     pub state_file: Option<StateFile<'a>>,
     pub latency: Latency,
     /// The last second of the plots.

@@ -1,12 +1,12 @@
 //! What is wrong with a relay beside how it follows upstream.
 
 use crate::rows::Time;
-use crate::status::{Status, Upstream};
+use crate::status::{Status, UpstreamStatus};
 use std::fmt;
 
 /// How many changes wait for a token, and for how long the first of them has.
 #[derive(Clone, Copy)]
-pub(crate) struct Waiting<'a>(pub(crate) &'a Upstream<'a>);
+pub(crate) struct Waiting<'a>(pub(crate) &'a UpstreamStatus<'a>);
 
 impl fmt::Display for Waiting<'_> {
     fn fmt<W: fmt::Write>(&self, f: &mut fmt::Formatter<W>) -> fmt::Result {

@@ -30,7 +30,7 @@ use std::collections::VecDeque;
 
 /// A primary, and the batches that it is to commit while it serves.
 #[derive(Drop)]
-pub struct Source {
+pub struct FedPrimary {
     primary: Primary,
     waiting: VecDeque<Vec<Change>>,
 }
@@ -50,11 +50,11 @@ fn read_batches(alloc: Global, feed: &[u8]) -> Result<VecDeque<Vec<Change>>, Fau
 
 /// A primary for the batches of the input, at most 67,108,864 bytes: all of them are committed,
 /// unless they are to be committed in turns.
-pub fn start_source<R: FeedRead>(
+pub fn start_primary<R: FeedRead>(
     alloc: Global,
     options: &ServeOptions<'_>,
     input: &mut R,
-) -> Result<Source, Fault>
+) -> Result<FedPrimary, Fault>
     ensures ok { IfOk result (λ source. StartsServing options.now.turn options.now.limits
         (R.remaining input.old) (R.remaining input.new)
         (intake_of source.primary source.waiting.items)) }
@@ -71,7 +71,7 @@ pub fn start_source<R: FeedRead>(
     if options.turn.is_none() {
         commit_all(alloc, &mut primary, &mut waiting)?;
     }
-    Ok(Source { primary, waiting })
+    Ok(FedPrimary { primary, waiting })
 }
 
 /// How many batches a primary takes each time that its session is up to date.
@@ -99,7 +99,7 @@ fn service_of<'a>(options: &ServeOptions<'a>) -> Service<'a>
 fn serve_one<A: Accept, E: FeedWrite>(
     alloc: Global,
     options: &ServeOptions<'_>,
-    source: &mut Source,
+    source: &mut FedPrimary,
     listener: &mut A,
     teller: &mut Teller,
     err: &mut E,
@@ -135,7 +135,7 @@ fn serve_one<A: Accept, E: FeedWrite>(
 pub fn serve_all<A: Accept, E: FeedWrite>(
     alloc: Global,
     options: &ServeOptions<'_>,
-    source: &mut Source,
+    source: &mut FedPrimary,
     listener: &mut A,
     err: &mut E,
 ) -> Result<(), Fault>

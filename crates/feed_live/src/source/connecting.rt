@@ -4,23 +4,22 @@ ghost use Rattle.std.specs.Prelude.{◌≡◌, ◌<◌, ◌⊎◌, None, Some, I
 ghost use Rattle.feed_device.specs.Calls.{CalledOnce};
 ghost use Rattle.feed_node.specs.States.{published_token};
 
-use crate::desk::Desk;
-use crate::screens::Screens;
 use crate::source::rechecking::token_for;
 use crate::source::settling::{begin_shown, followed_of};
 use crate::source::{Reach, Source};
 use crate::times::{CONNECT_TIME, RESPONSE_TIME};
 use feed_answer::request_text_as;
-use feed_device::{Link, Report, Stop, Why};
+use feed_device::{Desk, Link, Report, Stop, Why};
 use feed_hub::FIRST_PAUSE;
 use feed_node::Mirror;
+use feed_screens::Screens;
 use std::alloc::{AllocError, Global};
 
 impl Source {
     ghost use Rattle.feed_live.specs.Relaying.{StillFollows, SameSource, WasLeft, GoesOnTo, IsToConnect, servers_of};
     ghost use Rattle.feed_live.specs.Upstream.{IsRequestOf, IsRequestWith, asked_with};
     ghost use Rattle.feed_live.specs.declared.source.Reach.TheVariants.{Away, Asks as Asked};
-    ghost use Rattle.feed_live.specs.declared.screens.Screens.{Screens};
+    ghost use Rattle.feed_screens.specs.declared.screens.Screens.{Screens};
 
     /// When a server is late: it does not take the connection, or does not answer.
     pub(crate) fn late_at(&self) -> Option<u64> {

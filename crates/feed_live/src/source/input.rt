@@ -2,20 +2,19 @@
 
 ghost use Rattle.std.specs.Prelude.{◌≡◌, ◌++◌, [], List, ℕ, OnOk, false, true, is_ok};
 
-use crate::desk::Desk;
 use crate::figures::Following;
-use crate::screens::Screens;
 use crate::source::Source;
 use crate::source::reading::split_line;
-use feed_device::Report;
+use feed_device::{Desk, Report};
 use feed_node::FeedFault;
+use feed_screens::Screens;
 
 impl Source {
     ghost use Rattle.feed_live.specs.Relaying.{SameSource, servers_of};
     ghost use Rattle.feed_live.specs.Taking.{BeginsInput, StillTakes, StillTakesMore};
     ghost use Rattle.feed_live.specs.Taking.{TakesOrStops, TakesMoreOrStops, StopsSomewhere};
-    ghost use Rattle.feed_live.specs.declared.screens.Screens.{Screens};
-    ghost use Rattle.feed_live.specs.Serving.{SaysAll};
+    ghost use Rattle.feed_screens.specs.declared.screens.Screens.{Screens};
+    ghost use Rattle.feed_screens.specs.Serving.{SaysAll};
 
     /// The input is a feed from here on, where it feeds.
     pub(crate) fn begin_input(&mut self, feeds: bool, now: u64)

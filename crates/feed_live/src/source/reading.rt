@@ -7,13 +7,12 @@ ghost use Rattle.feed_follow.specs.Standing.{Standing};
 ghost use Rattle.feed_hub.specs.Upstream.{IsFollowing, IsPushed};
 ghost use Rattle.feed_live.specs.Upstream.{wants_memory};
 
-use crate::desk::Desk;
 use crate::figures::Following;
-use crate::screens::Screens;
 use crate::source::{Reach, Source};
-use feed_device::{Excerpt, Link, Report, Stop, Why};
+use feed_device::{Desk, Excerpt, Link, Report, Stop, Why};
 use feed_follow::{FollowFault, Progress};
 use feed_node::{FeedFault, Mirror};
+use feed_screens::Screens;
 use memchr::memchr;
 use std::alloc::{AllocError, Global};
 use std::mem;
@@ -29,7 +28,7 @@ const LOCATION: &[u8] = b"location:";
 impl Source {
     ghost use Rattle.feed_live.specs.Relaying.{StillFollows, SameSource};
     ghost use Rattle.feed_live.specs.Relaying.{SameButUnread, WasLeft, PushesOnly, followed_by};
-    ghost use Rattle.feed_live.specs.Serving.{StillServes, StillStand, AllEnd, SaysAll};
+    ghost use Rattle.feed_screens.specs.Serving.{StillServes, StillStand, AllEnd, SaysAll};
     ghost use Rattle.feed_live.specs.declared.source.Reach.TheVariants.{Away, Reads as Read};
 
     /// Reads what came, so many times.
@@ -377,6 +376,7 @@ impl Source {
     /// Says what had to wait.
     pub(crate) fn say_more(&mut self, desk: &Desk, screens: &mut Screens)
         ensures same { SameSource self.old self.new }
+        ensures heard { self.new.is_heard ≡ self.old.is_heard }
         ensures epoch { self.new.epoch ≡ self.old.epoch }
         ensures serves { StillServes self.old.answers.shown.mirror.node screens.old screens.new }
         ensures says { SaysAll screens.new self.new.answers.shown.mirror.node desk.now.time }

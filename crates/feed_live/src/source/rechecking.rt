@@ -7,14 +7,13 @@ ghost use Rattle.std.specs.Option.{option_copied};
 ghost use Rattle.feed_hub.specs.Follows.{MayAskWith};
 ghost use Rattle.feed_live.specs.Upstream.{asked_with};
 
-use crate::desk::Desk;
-use crate::screens::Screens;
 use crate::source::Source;
 use crate::source::reading::{given_twice, is_want_of_memory, split_line};
 use crate::times::QUIET;
-use feed_device::{Excerpt, Link, Report};
+use feed_device::{Desk, Excerpt, Link, Report};
 use feed_follow::Follower;
 use feed_node::{Limits, Mirror, Node};
+use feed_screens::Screens;
 use std::alloc::{AllocError, Global};
 
 /// What a connection brings that asks for the newest commit again, up to that one, or to the first

@@ -5,11 +5,10 @@
 
 ghost use Rattle.std.specs.Prelude.{◌≡◌, ◌+◌, ◌%◌, min};
 
-use crate::desk::Desk;
 use crate::figures::Following;
 use crate::source::{Reach, Source};
 use crate::times::TURN_TIME;
-use feed_device::{Link, Report};
+use feed_device::{Desk, Link, Report};
 use std::mem;
 
 /// For how many times as long the first one is followed, once each had its turn, until they have

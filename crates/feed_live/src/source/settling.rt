@@ -2,21 +2,20 @@
 //! have a token on each line send all that ever happened, or all that there is, line by line. No
 //! state but the last one of that is to be shown.
 
-ghost use Rattle.std.specs.Prelude.{◌≡◌, ◌<◌, None, IfOk, IfSome, is_none, option_map, if◌then◌else◌};
+ghost use Rattle.std.specs.Prelude.{◌≡◌, ◌<◌, None, IfOk, IfSome, is_none, option_map, if◌then◌else◌, is_some};
 ghost use Rattle.feed_device.specs.Links.{shown_so, all_from};
 ghost use Rattle.feed_node.specs.Mirroring.{new_mirror};
 ghost use Rattle.feed_live.specs.Relaying.{followed};
 
 mod showing;
 
-use crate::desk::Desk;
 use crate::figures::Following;
 use crate::source::Source;
 use crate::source::rate::Rate;
 use crate::source::reading::split_line;
 use crate::times::{LONGEST_REPLAY, REPLAY_REPORT};
 use feed_audit::{Difference, difference_of};
-use feed_device::{Excerpt, Link, Report};
+use feed_device::{Desk, Excerpt, Link, Report};
 use feed_node::{Mirror, Node};
 use std::alloc::{AllocError, Global};
 
@@ -190,12 +189,13 @@ fn differ_at(alloc: Global, one: &Node, other: &Node) -> (Excerpt, Excerpt) {
 
 impl Source {
     ghost use Rattle.feed_live.specs.Relaying.{SameSource};
-    ghost use Rattle.feed_live.specs.Held.{is_first_start};
+    ghost use Rattle.feed_live.specs.Answering.{is_first_start, is_to_settle};
 
     /// A mirror that follows the next connection, where that asks for everything and is to settle.
     pub(crate) fn begin_afresh(&self, alloc: Global) -> Result<Option<Mirror>, AllocError>
-        ensures { IfOk result (λ made. IfSome made (λ mirror.
+        ensures mirror { IfOk result (λ made. IfSome made (λ mirror.
             mirror ≡ new_mirror self.now.answers.shown.mirror.limits)) }
+        ensures made { IfOk result (λ made. is_some made ≡ is_to_settle self.now) }
     {
         let shown = self.answers.shown.mirror();
         let is_fresh = self.settling.is_always || shown.since().is_none();

@@ -1,6 +1,6 @@
 //! The part of a turn that follows: the input, or a server; and writes the state file.
 
-ghost use Rattle.std.specs.Prelude.{◌≡◌, ◌≢◌, ◌⊎◌, [], List, ℕ, ◌≤◌, Some, Contains, IfSome, false};
+ghost use Rattle.std.specs.Prelude.{◌≡◌, ◌≢◌, ◌⊎◌, [], List, ℕ, ◌≤◌, Some, Contains, IfSome, false, true, None};
 ghost use Rattle.feed_node.specs.States.{NodeState};
 ghost use Rattle.feed_device.specs.Calls.{CalledAtLeastOnce};
 ghost use Rattle.feed_device.specs.Files.{IsKnown};
@@ -14,11 +14,12 @@ use feed_device::{Link, Report, Store};
 impl Live {
     ghost use Rattle.feed_live.specs.Relaying.{StillRelaying, OnlyServes, SameEnd};
     ghost use Rattle.feed_live.specs.Ending.{EndsWithInput};
-    ghost use Rattle.feed_live.specs.Serving.{SaysAll};
+    ghost use Rattle.feed_screens.specs.Serving.{SaysAll};
     ghost use Rattle.feed_live.specs.Taking.{StillTaking, StopsTaking, bytes_in};
-    ghost use Rattle.feed_live.specs.Saved.{ArePartsOfRecords, KeepsFiles, SameSaved};
-    ghost use Rattle.feed_live.specs.Writing.{HasFailed, IsToWrite};
-    ghost use Rattle.feed_live.specs.declared.saved.Saved.{Saved};
+    ghost use Rattle.feed_files.specs.Saved.{ArePartsOfRecords, KeepsFiles};
+    ghost use Rattle.feed_live.specs.Ending.{SameSaved};
+    ghost use Rattle.feed_files.specs.Writing.{HasFailed, IsToWrite};
+    ghost use Rattle.feed_files.specs.declared.saved.Saved.{Saved};
 
     /// Says what had to wait.
     pub(super) fn say_more(&mut self)
@@ -79,6 +80,7 @@ impl Live {
         ensures limits { self.new.limits ≡ self.old.limits }
         ensures ends { self.old.limits.ends_with_input ≡ false
             → self.new.ends_at ≡ self.old.ends_at }
+        ensures sets { self.old.limits.ends_with_input ≡ true → self.new.ends_at ≢ None }
     {
         if self.feeds {
             self.desk.reports.add(Report::EndOfInput);
@@ -104,11 +106,12 @@ impl Live {
             return;
         }
         let was_held = !self.source.is_heard();
-        self.source.tick(&mut self.desk, link, self.limits.idle);
+        self.source
+            .tick(&mut self.desk, link, self.limits.screens.idle);
         self.go_on(link);
         self.settle(link);
         if was_held && self.source.is_heard() {
-            self.screens.has_more = true;
+            self.screens.look_again();
         }
     }
 

@@ -5,16 +5,17 @@ ghost use Rattle.slab.specs.Slab.{get};
 ghost use Rattle.feed_device.specs.Calls.{CalledAtLeastOnce};
 ghost use Rattle.feed_device.specs.Sockets.{AllSockets};
 
-use crate::screens::Shown;
 use crate::times::{SCREENS_REPORT, TICK};
 use crate::turn::Live;
 use feed_device::{Ready, Report, Sockets};
+use feed_screens::Shown;
 
 impl Live {
     ghost use Rattle.feed_live.specs.Relaying.{OnlyServes};
-    ghost use Rattle.feed_live.specs.Saved.{SameSaved};
-    ghost use Rattle.feed_live.specs.Held.{Waits, has_heard};
-    ghost use Rattle.feed_live.specs.Waiting.{TakesNobody};
+    ghost use Rattle.feed_live.specs.Ending.{SameSaved};
+    ghost use Rattle.feed_screens.specs.Held.{Waits};
+    ghost use Rattle.feed_live.specs.Answering.{has_heard};
+    ghost use Rattle.feed_screens.specs.Waiting.{TakesNobody};
 
     /// Once a second, looks for who is late; and says a line feed after silence.
     pub(super) fn tick<S: Sockets>(&mut self, sockets: &mut S)
@@ -23,7 +24,7 @@ impl Live {
         ensures saved { SameSaved self.old self.new }
         ensures asks { S.asked sockets.new ≡ S.asked sockets.old }
     {
-        if self.screens.conns.is_empty() {
+        if self.screens.are_none() {
             self.tidy();
             return;
         }
@@ -76,7 +77,7 @@ impl Live {
         ensures serves { (sockets : AllSockets) → OnlyServes self.old self.new sockets sockets }
         ensures saved { SameSaved self.old self.new }
     {
-        self.screens.has_more = true;
+        self.screens.look_again();
         if self.desk.time >= self.limits.hold && !self.is_hold_reported {
             self.is_hold_reported = true;
             self.desk.reports.add(Report::NotHeard);
@@ -92,9 +93,19 @@ impl Live {
     {
         self.serve_more(sockets, had_more);
         for event in events {
-            if let Ready::Screen { at, .. } = *event {
-                self.serve_one(sockets, at);
-            }
+            self.serve_event(sockets, *event);
+        }
+    }
+
+    /// Reads from and writes to the screen that became ready, where it is one.
+    fn serve_event<S: Sockets>(&mut self, sockets: &mut S, event: Ready)
+        ensures serves { OnlyServes self.old self.new (S.socket sockets.old)
+            (S.socket sockets.new) }
+        ensures saved { SameSaved self.old self.new }
+        ensures asks { S.asked sockets.new ≡ S.asked sockets.old }
+    {
+        if let Ready::Screen { at, .. } = event {
+            self.serve_one(sockets, at);
         }
     }
 
@@ -150,7 +161,7 @@ impl Live {
             ⊎ TakesNobody self.new.screens now }
     {
         if somebody_waits(events) {
-            self.screens.is_waited_for = true;
+            self.screens.wait_for_one();
         }
         self.screens.accept(&mut self.desk, sockets, now);
     }

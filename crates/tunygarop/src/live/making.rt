@@ -8,7 +8,7 @@ use feed_commands::{
 };
 use feed_device::Devices;
 use feed_host::{Failure, Hosts, identity_of};
-use feed_live::{LiveLimits, Setup};
+use feed_live::{LiveLimits, ScreenLimits, Setup};
 use feed_node::Limits;
 use feed_state::{Kept, StateFault, StateStore, Texts, take_state};
 use feed_system::{Host, OpenFault, Opened, Port, Servers, open};
@@ -171,13 +171,20 @@ fn of_servers(alloc: Global, fault: Fault) -> Failure {
     }
 }
 
-fn limits_of(options: &LiveOptions<'_>) -> LiveLimits {
-    LiveLimits {
-        screens: options.screens,
+fn screen_limits_of(options: &LiveOptions<'_>) -> ScreenLimits {
+    ScreenLimits {
+        most: options.screens,
         window: options.window,
         pending: options.pending,
         idle: options.idle.saturating_mul(1_000),
         framing: options.framing,
+        is_verbose: options.verbosity == Verbosity::Verbose,
+    }
+}
+
+fn limits_of(options: &LiveOptions<'_>) -> LiveLimits {
+    LiveLimits {
+        screens: screen_limits_of(options),
         settle: options.settle,
         is_fresh: options.fresh,
         are_strange: are_strange(options),
@@ -185,7 +192,6 @@ fn limits_of(options: &LiveOptions<'_>) -> LiveLimits {
         rechecks: !options.no_recheck,
         hold: options.hold.saturating_mul(1_000),
         serves_old: options.serve_old,
-        is_verbose: options.verbosity == Verbosity::Verbose,
         has_store: options.state.is_some(),
         ends_with_input: options.until_eof,
     }

@@ -5,8 +5,8 @@ use feed_live::{
     FeedFigures, FileFigures, Following, LONG_WAIT, Live, Reason, ScreenFigures, ScreenRow,
 };
 use feed_status::{
-    Failed, LastFailure, Latency, Plots, Process, Refused, Screen, Screens, StateFile, Status,
-    Upstream, UpstreamState, Watch,
+    Failed, LastFailure, Latency, Plots, Process, Refused, Screen, ScreensStatus, StateFile,
+    Status, UpstreamState, UpstreamStatus, Watch,
 };
 use feed_system::{process, since_1970};
 use std::alloc::{AllocError, Global};
@@ -145,7 +145,7 @@ fn last_failure<'a>(words: &'a Words, age_ms: u64) -> LastFailure<'a> {
     }
 }
 
-fn upstream_of<'a>(feed: &FeedFigures, words: &'a Words, now: u64) -> Upstream<'a> {
+fn upstream_of<'a>(feed: &FeedFigures, words: &'a Words, now: u64) -> UpstreamStatus<'a> {
     let waiting_ms = match feed.waiting {
         0 => 0,
         _ => now.saturating_sub(feed.waiting_since),
@@ -157,7 +157,7 @@ fn upstream_of<'a>(feed: &FeedFigures, words: &'a Words, now: u64) -> Upstream<'
     let failed_by = feed
         .failed_by
         .map(|(reason, count)| failed(words, reason, count));
-    Upstream {
+    UpstreamStatus {
         name: words.name.as_str(),
         state: state_of(feed.following),
         since_ms: now.saturating_sub(feed.changed),
@@ -195,9 +195,9 @@ fn screen_of(alloc: Global, row: &ScreenRow, now: u64) -> Result<Screen, AllocEr
     })
 }
 
-fn screens_of(screens: &ScreenFigures) -> Screens {
+fn screens_of(screens: &ScreenFigures) -> ScreensStatus {
     let totals = screens.totals;
-    Screens {
+    ScreensStatus {
         open: screens.open as u64,
         asking: screens.asking as u64,
         behind: screens.behind as u64,

@@ -1,6 +1,7 @@
 use Rattle.std.proofs.Common.{◌∙◌, ap, refl, inl, inr}
 use Rattle.feed_live.specs.Running.{moment_of, surroundings}
-use Rattle.feed_live.proofs.RunLemmas.{no_turn, then_on, no_ok}
+use Rattle.feed_live.proofs.RunLemmas.{no_turn, then_on}
+use Rattle.feed_files.proofs.Filed.{no_ok}
 use Rattle.feed_live.proofs.running.run_turns.Goals as goal
 
 pub loop-init : goal.loop-init

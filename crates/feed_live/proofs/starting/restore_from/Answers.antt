@@ -1,8 +1,8 @@
 use Rattle.std.proofs.Common.{ap, sym, ◌∙◌, subst}
 use Rattle.std.specs.Prelude.{IfOk, IfSome}
-use Rattle.feed_live.specs.Saved.{EndsAsRecorded, IsPartOfFile}
+use Rattle.feed_files.specs.Saved.{EndsAsRecorded, IsPartOfFile}
 use Rattle.feed_device.specs.Files.{StateFiles}
-use Rattle.feed_live.proofs.FilesLeft.{left_part, read_part}
+use Rattle.feed_files.proofs.FilesLeft.{left_part, read_part}
 use Rattle.feed_live.proofs.starting.restore_from.Goals as goal
 
 pub returns-in-Ok-clause-in_log : goal.returns-in-Ok-clause-in_log

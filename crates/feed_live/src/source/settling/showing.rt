@@ -3,12 +3,11 @@
 ghost use Rattle.std.specs.Prelude.{◌≡◌, ℕ, List, length, None, IfOk};
 ghost use Rattle.feed_node.specs.Saved.{restored_from};
 
-use crate::desk::Desk;
 use crate::figures::Following;
-use crate::screens::Screens;
 use crate::source::{Reach, Source};
-use feed_device::{Link, Report, Why};
+use feed_device::{Desk, Link, Report, Why};
 use feed_node::Mirror;
+use feed_screens::Screens;
 use std::alloc::{AllocError, Global};
 
 /// Why a server is left at which a feed settled.

@@ -1,4 +1,4 @@
-use Rattle.feed_live.specs.declared.screens.Screens.{Screens}
+use Rattle.feed_screens.specs.declared.screens.Screens.{Screens}
 use Rattle.feed_live.specs.Relaying.{StillFollows}
 use Rattle.feed_live.proofs.source.Source.ask.Given as goal
 

@@ -35,7 +35,7 @@ returns-clause-follows g c =
             subst (λ u. MayFollow limits log servers (g.L.Link.exchanges c.begin_shown.new.link) (pursuit (is_none c.in-Ok.coming) (Connects c.args.desk.now.time) c.in-Ok-Some.request.items u c.opened.new.self.follower (followed c.in-Ok.coming shown))) (sym c.clear.ensures.items)
             (begun_follows limits log servers c.in-Ok.coming c.place.result c.in-Ok-Some.request.items _ _ _ c.args.desk.now.time c.opened.new.self.follower (followed c.in-Ok.coming shown)
             begins c.begin_shown.ensures.shown known
-            (λ honest. let here = follows.1.0 honest in begins_in_log limits log servers c.in-Ok.coming shown c.in-Ok.ensures here.limits_are here.shown_is)
+            (λ honest. let here = follows.1.0 honest in begins_in_log limits log servers c.in-Ok.coming shown c.in-Ok.ensures.mirror here.limits_are here.shown_is)
             asks is_request begun),
       ),
     )

@@ -1,6 +1,7 @@
 use Rattle.std.proofs.Common.{refl, ap, ◌∙◌, ◌++◌}
 use Rattle.std.proofs.lemmas.Result.{err_from_is_err_and}
-use Rattle.feed_live.proofs.InputLemmas.{takes_so, none_ok}
+use Rattle.feed_files.proofs.InputLemmas.{takes_so}
+use Rattle.feed_live.proofs.InputLemmas.{none_ok}
 use Rattle.feed_live.proofs.source.Source.feed.Goals as goal
 
 pub returns-in_err-feed_line-clause-takes : goal.returns-in_err-feed_line-clause-takes

@@ -1,7 +1,7 @@
 use Rattle.std.proofs.Common.{◌≡◌, ℕ, List}
 use Rattle.feed_node.specs.Mirroring.{MirrorState}
 use Rattle.feed_live.specs.Relaying.{servers_of}
-use Rattle.feed_live.specs.Taking.{TakesInput}
+use Rattle.feed_files.specs.Input.{TakesInput}
 use Rattle.feed_live.proofs.InputLemmas.{KeepsTaking}
 use Rattle.feed_live.proofs.source.Source.feed.Given as goal
 

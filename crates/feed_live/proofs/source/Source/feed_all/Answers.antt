@@ -1,6 +1,7 @@
 use Rattle.std.proofs.Common.{ap, ◌∙◌}
 use Rattle.std.proofs.lemmas.Result.{err_from_is_err_and}
-use Rattle.feed_live.proofs.InputLemmas.{takes_so, takes_more, stops_more, shows_kept, honest_before, when_ok, no_ok}
+use Rattle.feed_files.proofs.InputLemmas.{takes_so}
+use Rattle.feed_live.proofs.InputLemmas.{takes_more, stops_more, shows_kept, honest_before, when_ok, no_ok}
 use Rattle.feed_live.proofs.source.Source.feed_all.Goals as goal
 
 pub returns-in_err-feed-clause-takes : goal.returns-in_err-feed-clause-takes

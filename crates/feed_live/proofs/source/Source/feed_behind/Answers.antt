@@ -1,6 +1,6 @@
 use Rattle.std.proofs.Common.{◌≡◌, refl, sym, ap, ◌∙◌, [], ◌++◌, eqb-true}
 use Rattle.std.proofs.lemmas.List.{nil_from_length}
-use Rattle.feed_live.proofs.InputLemmas.{takes_so}
+use Rattle.feed_files.proofs.InputLemmas.{takes_so}
 use Rattle.feed_live.proofs.source.Source.feed_behind.Goals as goal
 
 pub returns-clause-takes : goal.returns-clause-takes

@@ -2,7 +2,8 @@ use Rattle.std.proofs.Common.{refl, sym, subst}
 use Rattle.std.specs.Prelude.{Contains}
 use Rattle.std.proofs.lemmas.Result.{err_from_is_err_and}
 use Rattle.feed_live.specs.States.{states_of}
-use Rattle.feed_live.proofs.InputLemmas.{shows_taken, shows_stopped, stops_in, takes_on, takes_so, none_ok}
+use Rattle.feed_live.proofs.InputLemmas.{shows_taken, shows_stopped, stops_in, none_ok}
+use Rattle.feed_files.proofs.InputLemmas.{takes_on, takes_so}
 use Rattle.feed_live.proofs.StateLemmas.{among_states}
 use Rattle.feed_live.proofs.source.Source.feed_line.Goals as goal
 

@@ -1,7 +1,7 @@
 use Rattle.std.proofs.Common.{◌≡◌, sym, subst, ◌++◌}
 use Rattle.std.specs.Prelude.{true, false}
-use Rattle.feed_live.specs.Taking.{StopsInput}
-use Rattle.feed_live.proofs.InputLemmas.{takes_so}
+use Rattle.feed_files.specs.Input.{StopsInput}
+use Rattle.feed_files.proofs.InputLemmas.{takes_so}
 use Rattle.feed_live.proofs.RelayLemmas.{same_shows}
 use Rattle.feed_live.proofs.source.Source.take_input.Goals as goal
 

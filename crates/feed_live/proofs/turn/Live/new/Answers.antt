@@ -1,9 +1,9 @@
 use Rattle.std.proofs.Common.{◌≡◌, ◌∙◌, refl, ap, sym, subst, []}
 use Rattle.std.specs.Prelude.{Contains, IfSome, false, true}
-use Rattle.feed_live.specs.Saved.{EndsAsRecorded}
+use Rattle.feed_files.specs.Saved.{EndsAsRecorded}
 use Rattle.feed_node.specs.Mirroring.{StandsAt, present_opening}
 use Rattle.feed_live.specs.States.{states_of}
-use Rattle.feed_live.proofs.InputLemmas.{takes_so, takes_nothing}
+use Rattle.feed_files.proofs.InputLemmas.{takes_so, takes_nothing}
 use Rattle.feed_live.proofs.RelayLemmas.{among_shown, with_same, with_screens, shows_still, servers_are}
 use Rattle.feed_live.proofs.TurnLemmas.{with_begun, input_begun}
 use Rattle.feed_live.proofs.turn.Live.new.Goals as goal

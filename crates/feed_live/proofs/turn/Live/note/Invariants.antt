@@ -1,6 +1,6 @@
 use Rattle.feed_device.specs.Sockets.{AllSockets}
 use Rattle.feed_live.specs.Relaying.{OnlyServes}
-use Rattle.feed_live.specs.Saved.{SameSaved}
+use Rattle.feed_live.specs.Ending.{SameSaved}
 use Rattle.feed_live.proofs.turn.Live.note.Given as goal
 
 abbrev pub invariant-loop-event : goal.invariant-loop-event

@@ -1,9 +1,9 @@
 use Rattle.std.proofs.Common.{rules, ◌≡◌, ◌∙◌, Some, sym, subst}
 use Rattle.std.specs.Prelude.{Contains}
-use Rattle.feed_live.specs.Saved.{KeepsFiles}
-use Rattle.feed_live.specs.declared.saved.Saved.{Saved}
-use Rattle.feed_live.specs.Writing.{IsToWrite}
-use Rattle.feed_live.proofs.Filed.{same_some}
+use Rattle.feed_files.specs.Saved.{KeepsFiles}
+use Rattle.feed_files.specs.declared.saved.Saved.{Saved}
+use Rattle.feed_files.specs.Writing.{IsToWrite}
+use Rattle.feed_files.proofs.Filed.{same_some}
 use Rattle.feed_live.proofs.TurnLemmas.{differ_so, same_so}
 use Rattle.feed_live.proofs.turn.Live.save.Goals as goal
 

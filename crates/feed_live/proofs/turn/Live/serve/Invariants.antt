@@ -1,6 +1,6 @@
 use Rattle.std.proofs.Common.{◌≡◌}
 use Rattle.feed_live.specs.Relaying.{OnlyServes}
-use Rattle.feed_live.specs.Saved.{SameSaved}
+use Rattle.feed_live.specs.Ending.{SameSaved}
 use Rattle.feed_live.proofs.turn.Live.serve.Given as goal
 
 abbrev pub invariant-loop-event : goal.invariant-loop-event

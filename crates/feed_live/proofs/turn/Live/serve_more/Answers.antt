@@ -1,5 +1,6 @@
-use Rattle.std.proofs.Common.{subst, refl}
-use Rattle.feed_live.specs.Serving.{StillServing}
+use Rattle.std.proofs.Common.{subst, refl, sym, ◌∙◌}
+use Rattle.std.proofs.lemmas.Bool.{not-true}
+use Rattle.feed_screens.specs.Serving.{StillServing}
 use Rattle.feed_live.proofs.turn.Live.serve_more.Goals as goal
 
 pub returns-clause-serves : goal.returns-clause-serves
@@ -9,6 +10,7 @@ returns-clause-serves g c =
       ends = (refl, refl);
       feeds = refl;
       source = record { servers = refl; shown = c.serve_more.ensures.mirrors.shown; blank = c.serve_more.ensures.mirrors.blank; coming = refl; follower = refl; reach = refl; request = refl; rest = refl };
+      heard = refl;
       epoch = refl;
-      serves = λ nodes shown blank. subst (λ t. StillServing nodes t c.args.self.now.screens c.serve_more.new.self (g.S.Sockets.socket c.args.sockets.now) (g.S.Sockets.socket c.serve_more.new.sockets)) c.as_str.ensures.value (c.serve_more.ensures.serving nodes shown blank);
+      serves = λ nodes shown blank. subst (λ t. StillServing nodes t c.args.self.now.screens c.serve_more.new.self (g.S.Sockets.socket c.args.sockets.now) (g.S.Sockets.socket c.serve_more.new.sockets)) c.as_str.ensures.value (c.serve_more.ensures.serving nodes shown (λ held. blank (sym c.is_heard.ensures ∙ not-true _ held)));
     }

@@ -1,5 +1,7 @@
-use Rattle.std.proofs.Common.{sym, subst, ◌++◌}
-use Rattle.feed_live.specs.Taking.{IsTakingInput, StopsInput, bytes_in}
+use Rattle.std.proofs.Common.{◌≡◌, ◌∙◌, sym, subst, ◌++◌}
+use Rattle.feed_live.specs.Taking.{IsTakingInput, bytes_in}
+use Rattle.feed_files.specs.Input.{StopsInput}
+use Rattle.feed_live.specs.declared.turn.Input.TheVariants.{Nothing, Bytes, End}
 use Rattle.feed_live.proofs.TurnLemmas.{ends_now}
 use Rattle.feed_live.proofs.turn.Live.take_input.Goals as goal
 
@@ -34,10 +36,10 @@ pub returns-in-End-clause-stops : goal.returns-in-End-clause-stops
 returns-in-End-clause-stops c = λ goes_on. absurd (goes_on c.in-End.is)
 
 pub returns-in-Nothing-clause-ends : goal.returns-in-Nothing-clause-ends
-returns-in-Nothing-clause-ends c = record { limits = c.feed.ensures.ends.0; stays = λ goes_on. c.feed.ensures.ends.1 }
+returns-in-Nothing-clause-ends c = record { limits = c.feed.ensures.ends.0; sets = λ is. let no : Nothing ≡ End = sym c.in-Nothing.is ∙ is in absurd (cc); stays = λ goes_on. c.feed.ensures.ends.1 }
 
 pub returns-in-Bytes-clause-ends : goal.returns-in-Bytes-clause-ends
-returns-in-Bytes-clause-ends c = record { limits = c.feed-in-Bytes.ensures.ends.0; stays = λ goes_on. c.feed-in-Bytes.ensures.ends.1 }
+returns-in-Bytes-clause-ends c = record { limits = c.feed-in-Bytes.ensures.ends.0; sets = λ is. let no : Bytes c.in-Bytes.piece ≡ End = sym c.in-Bytes.is ∙ is in absurd (cc); stays = λ goes_on. c.feed-in-Bytes.ensures.ends.1 }
 
 pub returns-in-End-clause-ends : goal.returns-in-End-clause-ends
-returns-in-End-clause-ends c = record { limits = c.end.ensures.limits; stays = ends_now c.in-End.is c.end.ensures.ends }
+returns-in-End-clause-ends c = record { limits = c.end.ensures.limits; sets = λ is. c.end.ensures.sets; stays = ends_now c.in-End.is c.end.ensures.ends }

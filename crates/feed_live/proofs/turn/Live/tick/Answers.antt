@@ -1,8 +1,8 @@
 use Rattle.feed_live.proofs.TurnLemmas.{serves_then}
 use Rattle.feed_live.proofs.turn.Live.tick.Goals as goal
 
-pub returns-then-is_empty-clause-serves : goal.returns-then-is_empty-clause-serves
-returns-then-is_empty-clause-serves g c = c.tidy.ensures.serves _
+pub returns-then-are_none-clause-serves : goal.returns-then-are_none-clause-serves
+returns-then-are_none-clause-serves g c = c.tidy.ensures.serves _
 
 pub returns-then-not-is_heard-clause-serves : goal.returns-then-not-is_heard-clause-serves
 returns-then-not-is_heard-clause-serves g c =

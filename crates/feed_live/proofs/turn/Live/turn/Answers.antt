@@ -1,15 +1,17 @@
 use Rattle.std.proofs.Common.{sym, ap, subst, ◌∙◌, ◌++◌}
 use Rattle.std.specs.Prelude.{Contains}
-use Rattle.feed_live.specs.Saved.{KeepsFiles, SameSaved}
-use Rattle.feed_live.specs.Taking.{StopsInput, bytes_in}
-use Rattle.feed_live.proofs.ServingLemmas.{serving_noted}
+use Rattle.feed_files.specs.Saved.{KeepsFiles}
+use Rattle.feed_live.specs.Ending.{SameSaved}
+use Rattle.feed_files.specs.Input.{StopsInput}
+use Rattle.feed_live.specs.Taking.{bytes_in}
+use Rattle.feed_screens.proofs.ServingLemmas.{serving_noted}
 use Rattle.feed_live.proofs.TurnLemmas.{serves_then, screens_only, relays_on, takes_only, takes_still, asked_then, goes_with}
-use Rattle.feed_live.proofs.OwedLemmas.{owes_what_is_kept}
+use Rattle.feed_screens.proofs.OwedLemmas.{owes_what_is_kept}
 use Rattle.feed_live.proofs.turn.Live.turn.Goals as goal
 
 pub returns : goal.returns
 returns g c =
-    let begun = screens_only c.args.self.now c.begin_turn-had_more.new.self c.begin.new.self (λ nodes shown blank serving. serving_noted c.begin_turn-had_more.ensures serving) in
+    let begun = screens_only c.args.self.now c.begin_turn-had_more.new.self c.begin.new.self (λ nodes shown blank serving. serving_noted c.begin_turn-had_more.ensures.seating serving) in
     let said = serves_then (c.say_more.ensures.serves _) (serves_then (c.note.ensures.serves _) begun) in
     let drained = screens_only c.tick.new.self c.drain_due.new.self c.drain_due.new.desk
     (λ nodes shown blank serving. c.drain_due.ensures.serving nodes _ (subst (λ n. Contains nodes n) (sym c.node-node.ensures) shown) serving) in
@@ -55,6 +57,7 @@ returns g c =
           (c.serve.ensures.asks ∙ c.drain_due.ensures.asks ∙ c.tick.ensures.asks) c.next.ensures.pauses (c.accept.ensures.asks waits);
       ends = record {
         limits = served.ends.0 ∙ c.follow.ensures.ends.0 ∙ c.take_input.ensures.ends.limits ∙ said.ends.0;
+        sets = λ is some none. c.take_input.ensures.ends.sets is (ap (λ l. l.ends_with_input) said.ends.0 ∙ some) (sym (served.ends.1 ∙ c.follow.ensures.ends.1) ∙ none);
         stays = λ goes_on. served.ends.1 ∙ c.follow.ensures.ends.1 ∙ c.take_input.ensures.ends.stays (goes_with c.args.self.now c.say_more.new.self said.ends.0 goes_on) ∙ said.ends.1;
       };
       over = c.next.ensures.over;

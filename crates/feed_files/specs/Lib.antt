@@ -1,0 +1,5 @@
+pub mod Input
+pub mod Saved
+pub mod Writing
+pub mod Audited
+pub mod Laws

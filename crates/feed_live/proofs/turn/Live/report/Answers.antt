@@ -1,0 +1,16 @@
+use Rattle.std.proofs.Common.{refl}
+use Rattle.feed_screens.proofs.ServingLemmas.{serving_noted}
+use Rattle.feed_live.proofs.TurnLemmas.{same_none}
+use Rattle.feed_live.proofs.turn.Live.report.Goals as goal
+
+pub returns-in-Some-clause-serves : goal.returns-in-Some-clause-serves
+returns-in-Some-clause-serves c =
+    λ sockets. record {
+      contest = refl;
+      ends = (refl, refl);
+      feeds = refl;
+      source = same_none c.args.self.now.source;
+      heard = refl;
+      epoch = refl;
+      serves = λ nodes shown blank serving. serving_noted c.report.ensures.same serving;
+    }

@@ -1,0 +1,5 @@
+pub mod RoomLemmas
+pub mod EndingLemmas
+pub mod OwedLemmas
+pub mod PendingLemmas
+pub mod ServingLemmas

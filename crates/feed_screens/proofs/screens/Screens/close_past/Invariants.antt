@@ -1,0 +1,16 @@
+use Rattle.std.proofs.Common.{◌≡◌, ◌⊎◌, ℕ, List}
+use Rattle.slab.specs.Slab.{get}
+use Rattle.feed_node.specs.States.{NodeState}
+use Rattle.feed_screens.specs.Held.{IsPast}
+use Rattle.feed_screens.specs.Serving.{StillServing}
+use Rattle.feed_screens.proofs.screens.Screens.close_past.Given as goal
+
+abbrev pub invariant-loop-at : goal.invariant-loop-at
+invariant-loop-at g l =
+    record {
+      serving : (nodes : List NodeState) (contest : List ℕ)
+          → StillServing nodes contest l.initial.self l.self (g.S.Sockets.socket l.initial.sockets) (g.S.Sockets.socket l.sockets);
+      time : l.desk.time ≡ l.initial.desk.time;
+      asks : g.S.Sockets.asked l.sockets ≡ g.S.Sockets.asked l.initial.sockets;
+      stays : (at : ℕ) → (get l.self.conns at ≡ get l.initial.self.conns at) ⊎ IsPast (get l.initial.self.conns at) l.initial.desk.time;
+    }

@@ -1,0 +1,13 @@
+use Rattle.std.proofs.Common.{◌≡◌, ℕ, List}
+use Rattle.std.specs.Prelude.{Contains}
+use Rattle.feed_node.specs.States.{NodeState}
+use Rattle.feed_screens.specs.Serving.{StillServing}
+use Rattle.feed_screens.proofs.screens.Screens.drain_all.Given as goal
+
+abbrev pub invariant-loop-at : goal.invariant-loop-at
+invariant-loop-at g l =
+    record {
+      serving : (nodes : List NodeState) (contest : List ℕ) → Contains nodes l.node.shown
+          → StillServing nodes contest l.initial.self l.self (g.S.Sockets.socket l.initial.sockets) (g.S.Sockets.socket l.sockets);
+      asks : g.S.Sockets.asked l.sockets ≡ g.S.Sockets.asked l.initial.sockets;
+    }

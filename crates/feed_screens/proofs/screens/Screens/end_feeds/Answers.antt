@@ -1,0 +1,19 @@
+use Rattle.std.proofs.Common.{arith, sym, subst, ap, ◌∙◌}
+use Rattle.feed_screens.specs.Serving.{AllEnd}
+use Rattle.feed_screens.proofs.EndingLemmas.{all_ended}
+use Rattle.feed_screens.proofs.ServingLemmas.{serving_on, serving_noted, still_sits, ended_stays}
+use Rattle.feed_screens.proofs.screens.Screens.end_feeds.Goals as goal
+
+pub returns-clause-serving : goal.returns-clause-serving
+returns-clause-serving c =
+    λ nodes contest sockets serving.
+    serving_noted c.spoke.ensures.same
+    (serving_on (λ key. still_sits contest (ended_stays nodes _ _ key _ _ _ (c.end_all.ensures.left key) (c.end_all.ensures.served nodes key))) (omega (arith, c.end_all.ensures.next)) serving)
+
+pub returns-clause-ended : goal.returns-clause-ended
+returns-clause-ended c =
+    subst AllEnd (sym c.spoke.ensures.same.hub) (all_ended c.args.self.now.hub c.end_all.new.self _ _ _ c.end_all.ensures.left)
+
+pub returns-clause-most : goal.returns-clause-most
+returns-clause-most c =
+    ap (λ h. h.most) c.spoke.ensures.same.hub ∙ c.end_all.ensures.limits.most

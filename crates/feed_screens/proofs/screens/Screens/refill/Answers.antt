@@ -1,0 +1,21 @@
+use Rattle.feed_screens.proofs.ServingLemmas.{serving_changed, serving_noted, still_sits, watched_stays, cut_stays}
+use Rattle.feed_screens.proofs.screens.Screens.refill.Goals as goal
+
+pub returns-in-Goes-clause-serving : goal.returns-in-Goes-clause-serving
+returns-in-Goes-clause-serving c =
+    λ nodes contest sockets among serving.
+    serving_noted c.is_refilled.ensures
+    (serving_changed c.args.keyed.key c.refill.ensures.rest
+    (still_sits contest (watched_stays nodes _ _ _ _ c.in_ok-got.ensures.ok (c.in_ok-got.ensures.served nodes among))) serving)
+
+pub returns-in-Waits-clause-serving : goal.returns-in-Waits-clause-serving
+returns-in-Waits-clause-serving c =
+    λ nodes contest sockets among serving.
+    serving_noted c.wait_for_commit.ensures
+    (serving_changed c.args.keyed.key c.refill.ensures.rest
+    (still_sits contest (watched_stays nodes _ _ _ _ c.in_ok-got.ensures.ok (c.in_ok-got.ensures.served nodes among))) serving)
+
+pub returns-in_err-got-clause-serving : goal.returns-in_err-got-clause-serving
+returns-in_err-got-clause-serving c =
+    λ nodes contest sockets among serving.
+    serving_changed c.args.keyed.key c.refill.ensures.rest (still_sits contest (cut_stays nodes _ _ c.args.keyed.key c.in_err-got.ensures.err.0)) serving

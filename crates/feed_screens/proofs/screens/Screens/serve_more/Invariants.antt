@@ -1,0 +1,15 @@
+use Rattle.std.proofs.Common.{◌≡◌, List, true}
+use Rattle.std.specs.Prelude.{Contains}
+use Rattle.feed_node.specs.States.{NodeState}
+use Rattle.feed_screens.specs.Held.{SameMirrors}
+use Rattle.feed_screens.specs.Serving.{StillServing}
+use Rattle.feed_screens.proofs.screens.Screens.serve_more.Given as goal
+
+abbrev pub invariant-loop-at : goal.invariant-loop-at
+invariant-loop-at g l =
+    record {
+      mirrors : SameMirrors l.initial.answers l.answers;
+      serving : (nodes : List NodeState) → Contains nodes l.initial.answers.shown.mirror.node → (l.shown.is_held ≡ true → Contains nodes l.initial.answers.blank.mirror.node)
+          → StillServing nodes l.shown.contest.now l.initial.self l.self (g.S.Sockets.socket l.initial.sockets) (g.S.Sockets.socket l.sockets);
+      asks : g.S.Sockets.asked l.sockets ≡ g.S.Sockets.asked l.initial.sockets;
+    }

@@ -1,0 +1,49 @@
+-- Requests wait until a server was heard.
+use Rattle.std.specs.Prelude.{◌≡◌, ℕ, ◌+◌, ◌-◌, ◌≤◌, ◌^◌, min, Bool, true, false, nat_le, Option, Some, None}
+use Rattle.feed_screens.specs.declared.conn.Conn.{Conn}
+use Rattle.feed_screens.specs.declared.conn.Stage.{Stage}
+use Rattle.feed_screens.specs.declared.conn.Stage.TheVariants.{Asks, Watches, Lingers}
+use Rattle.feed_screens.specs.declared.screens.Answers.{Answers}
+
+-- with what a request is answered, which is held or not: with what shows nothing, or with what the
+-- relay shows
+abbrev pub answerer : {T : Type 0} → Bool → T → T → T
+answerer false shown blank = shown
+answerer true shown blank = blank
+
+-- whether that is now, where it is held until a time
+abbrev pub is_over : Bool → ℕ → ℕ → Bool
+is_over false until now = true
+is_over true until now = nat_le until now
+
+-- Requests that came at a time are answered: a server was heard, or they were held for so long.
+abbrev pub IsAnswering : Bool → ℕ → ℕ → ℕ → Type 0
+IsAnswering held hold since now = is_over held (min (since + hold) (2 ^ 64 - 1)) now ≡ true
+
+-- the request of this connection waits: it is not answered yet, and none that came when it did is
+-- now
+abbrev pub Waits : Option Conn → Bool → ℕ → ℕ → Type 0
+Waits None held hold now = ⊥
+Waits (Some conn) held hold now =
+    (conn.stage ≡ Asks) × (IsAnswering held hold conn.since now → ⊥)
+
+-- the connection is at this stage
+abbrev pub IsAt : Option Conn → Stage → Type 0
+IsAt None stage = ⊥
+IsAt (Some conn) stage = conn.stage ≡ stage
+
+-- all was sent, and it was read long enough since
+abbrev pub HasLingered : Stage → ℕ → Type 0
+HasLingered Asks now = ⊥
+HasLingered Watches now = ⊥
+HasLingered (Lingers until left) now = until ≤ now
+
+-- so it is with the connection
+abbrev pub IsPast : Option Conn → ℕ → Type 0
+IsPast None now = ⊥
+IsPast (Some conn) now = HasLingered conn.stage now
+
+-- what answers shows what it did
+pub record SameMirrors (old new : Answers) : Type 0 where
+  pub shown : new.shown.mirror ≡ old.shown.mirror
+  pub blank : new.blank.mirror ≡ old.blank.mirror

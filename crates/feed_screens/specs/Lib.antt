@@ -1,0 +1,7 @@
+pub mod Serving
+pub mod Held
+pub mod Waiting
+pub mod Seating
+pub mod Pending
+pub mod Owed
+pub mod Laws

@@ -1,0 +1,48 @@
+-- Who comes has a seat, where one is free; and who is closed where there is no place.
+use Rattle.std.specs.Prelude.{◌≡◌, ◌≢◌, ℕ, ◌<◌, ◌+◌, ◌-◌, ◌^◌, min, Option, Some, None}
+use Rattle.slab.specs.Slab.{Slab, get, slab_len, HasRoomFor}
+use Rattle.feed_hub.specs.declared.hub.Hub.{Hub}
+use Rattle.feed_hub.specs.declared.seats.Key.{Key}
+use Rattle.feed_screens.specs.declared.conn.Conn.{Conn}
+use Rattle.feed_screens.specs.declared.conn.Stage.{Stage}
+use Rattle.feed_screens.specs.declared.screens.Screens.{Screens}
+use Rattle.feed_screens.specs.declared.conn.Stage.TheVariants.{Asks, Watches, Lingers as Lingering}
+use Rattle.feed_screens.specs.Serving.{key_at}
+
+-- there are fewer than there may be, and no memory is needed for one more
+pub record HasFreeSeat (hub : Hub) : Type 0 where
+  pub few : slab_len hub.seats.slab < hub.most
+  pub room : HasRoomFor hub.seats.slab 1
+  pub next : hub.seats.next < 2 ^ 64 - 1
+
+-- until when the request of who comes now has to be there: for half a minute, and as long as
+-- requests may have to wait
+abbrev pub comes_until : Screens → ℕ → ℕ
+comes_until screens now = min (min (now + 30000) (2 ^ 64 - 1) + screens.held) (2 ^ 64 - 1)
+
+-- it has this key, and sent its end
+abbrev pub IsEnded : Option Conn → Key → Type 0
+IsEnded None key = ⊥
+IsEnded (Some conn) key = (conn.key ≡ Some key) × (conn.ended ≢ None)
+
+-- so it is with a connection
+abbrev pub HasSentEnd : Slab Conn → Key → Type 0
+HasSentEnd conns key = (at : ℕ) × IsEnded (get conns at) key
+
+-- all was sent: what comes is read and forgotten
+abbrev pub Lingers : Stage → Type 0
+Lingers Asks = ⊥
+Lingers Watches = ⊥
+Lingers (Lingering until left) = Unit {0}
+
+-- so it is with the connection
+abbrev pub IsLingering : Option Conn → Type 0
+IsLingering None = ⊥
+IsLingering (Some conn) = Lingers conn.stage
+
+-- a connection is there that was not, and it has a key
+pub record HasNewKey (old new : Slab Conn) : Type 0 where
+  pub at : ℕ
+  pub key : Key
+  pub vacant : get old at ≡ None
+  pub keyed : key_at new at ≡ Some (Some key)

@@ -1,0 +1,369 @@
+//! What they ask: requests are read, heard and answered.
+
+ghost use Rattle.std.specs.Prelude.{◌≡◌, ◌≤◌, ◌-◌, ℕ, List, None, Some, Ok, Contains, length, false, IfOk, IfSome};
+ghost use Rattle.slab.specs.Slab.{get};
+ghost use Rattle.feed_node.specs.States.{NodeState};
+ghost use Rattle.feed_hub.specs.Seats.{seat_at, IsAskingSeat};
+ghost use Rattle.feed_device.specs.Sockets.{AllSockets};
+ghost use Rattle.feed_screens.specs.Serving.{ServesScreens, StillServing, StillServesAll, StillAnswers};
+ghost use Rattle.feed_screens.specs.Serving.{ServesBut, HasKey, HearsSome, HearsAll, SameSeating, SameKeys, key_at};
+ghost use Rattle.feed_screens.specs.declared.conn.Stage.TheVariants.{Watches};
+ghost use Rattle.feed_screens.specs.Held.{answerer, IsAt, SameMirrors, Waits};
+
+use crate::conn::Stage;
+use crate::screens::{Answers, Hearing, Keyed, PIECE, Screens, Shown, TextId};
+use feed_device::{Desk, How, Sockets, Stop};
+use feed_hub::{Answering, Key};
+use std::alloc::AllocError;
+
+impl Screens {
+    /// An event came for the connection at a place.
+    pub fn wake(&mut self, at: usize, is_readable: bool, is_writable: bool)
+        ensures { SameSeating self.old self.new }
+    {
+        if let Some(conn) = self.conns.get_mut(at) {
+            conn.wake(is_readable, is_writable);
+        }
+    }
+
+    /// Reads from the connection at a place once, and writes to it once.
+    pub fn serve<S: Sockets>(
+        &mut self,
+        desk: &mut Desk,
+        sockets: &mut S,
+        answers: &mut Answers,
+        shown: &Shown<'_>,
+        at: usize,
+    )
+        ensures serving { StillAnswers shown.now.is_held answers.old shown.now.contest.now self.old
+            self.new (S.socket sockets.old) (S.socket sockets.new) }
+        // nothing is read of a request that waits, and nothing is written
+        ensures waits { Waits (get self.old.conns at) shown.now.is_held shown.now.hold desk.old.time
+            → sockets.new ≡ sockets.old }
+        ensures mirrors { SameMirrors answers.old answers.new }
+        ensures asks { S.asked sockets.new ≡ S.asked sockets.old }
+    {
+        self.read(desk, sockets, answers, shown, at);
+        self.drain(desk, sockets, answers.shown.node(), at);
+        if self.has_more_at(shown, at, desk.time) {
+            self.has_more = true;
+        }
+    }
+
+    /// Whether there may be something to read at a place that is to be read now.
+    fn may_read(&self, shown: &Shown<'_>, at: usize, now: u64) -> bool
+        ensures { Waits (get self.now.conns at) shown.now.is_held shown.now.hold now
+            → result ≡ false }
+    {
+        let Some(conn) = self.conns.get(at) else {
+            return false;
+        };
+        if conn.stage == Stage::Asks && !shown.is_answering(conn.since, now) {
+            return false;
+        }
+        conn.has_input
+    }
+
+    /// Whether the connection at a place has more to read or to write.
+    fn has_more_at(&self, shown: &Shown<'_>, at: usize, now: u64) -> bool {
+        self.may_read(shown, at, now)
+            || self.may_share(at)
+            || self.conns.get(at).is_some_and(|conn| conn.has_more)
+    }
+
+    /// Reads once, where there may be something to read that is to be read now. Of a request that
+    /// waits nothing is read, and so it is answered by nothing.
+    fn read<S: Sockets>(
+        &mut self,
+        desk: &mut Desk,
+        sockets: &mut S,
+        answers: &mut Answers,
+        shown: &Shown<'_>,
+        at: usize,
+    )
+        ensures serving { (nodes : List NodeState)
+            → Contains nodes (answerer shown.now.is_held answers.old.shown.mirror.node
+            answers.old.blank.mirror.node)
+            → StillServing nodes shown.now.contest.now self.old self.new
+            (S.socket sockets.old) (S.socket sockets.new) }
+        ensures waits { Waits (get self.old.conns at) shown.now.is_held shown.now.hold desk.old.time
+            → (self.new ≡ self.old) × (sockets.new ≡ sockets.old) × (answers.new ≡ answers.old) }
+        ensures mirrors { SameMirrors answers.old answers.new }
+        ensures asks { S.asked sockets.new ≡ S.asked sockets.old }
+    {
+        if !self.may_read(shown, at, desk.time) {
+            return;
+        }
+        let mut buf = [0u8; PIECE];
+        match sockets.read(at, &mut buf) {
+            Ok(0) => self.end_of_input(desk, sockets, at),
+            Ok(count) => {
+                let heard = self.take(desk, answers, shown, at, &buf[..count]);
+                self.heed(desk, sockets, at, heard);
+            }
+            Err(Stop::Waits) => self.is_read(at),
+            Err(_) => self.end(desk, sockets, at, How::Left),
+        }
+    }
+
+    /// There is nothing more to read for now.
+    fn is_read(&mut self, at: usize)
+        ensures { SameSeating self.old self.new }
+    {
+        if let Some(conn) = self.conns.get_mut(at) {
+            conn.has_input = false;
+        }
+    }
+
+    /// The peer sends no more; it may still read.
+    fn end_of_input<S: Sockets>(&mut self, desk: &mut Desk, sockets: &mut S, at: usize)
+        ensures serving { StillServesAll self.old self.new
+            (S.socket sockets.old) (S.socket sockets.new) }
+        ensures asks { S.asked sockets.new ≡ S.asked sockets.old }
+        // who is sent something is sent all of it
+        ensures stays { IsAt (get self.old.conns at) Watches
+            → key_at self.new.conns at ≡ key_at self.old.conns at }
+    {
+        self.has_ended(at, desk.time);
+        if self.wants_answer(at) {
+            return;
+        }
+        match self.stage(at) {
+            Some(Stage::Asks) => self.end(desk, sockets, at, How::Left),
+            Some(Stage::Lingers { .. }) => self.end(desk, sockets, at, How::Done),
+            _ => self.probe_at(desk, at),
+        }
+    }
+
+    /// The peer of the connection at a place sends no more.
+    fn has_ended(&mut self, at: usize, now: u64)
+        ensures same { SameSeating self.old self.new }
+        ensures stage { (stage : Stage) → IsAt (get self.old.conns at) stage
+            → IsAt (get self.new.conns at) stage }
+    {
+        if let Some(conn) = self.conns.get_mut(at) {
+            conn.has_input = false;
+            conn.end_input(now);
+        }
+    }
+
+    fn stage(&self, at: usize) -> Option<Stage>
+        ensures { (stage : Stage) → IsAt (get self.now.conns at) stage → result ≡ Some stage }
+    {
+        match self.conns.get(at) {
+            Some(conn) => Some(conn.stage),
+            None => None,
+        }
+    }
+
+    /// Bytes came: those of a request are heard, others are forgotten.
+    fn take(
+        &mut self,
+        desk: &Desk,
+        answers: &mut Answers,
+        shown: &Shown<'_>,
+        at: usize,
+        piece: &[u8],
+    ) -> Result<Hearing, AllocError>
+        ensures serving { (nodes : List NodeState) (sockets : AllSockets)
+            → Contains nodes (answerer shown.now.is_held answers.old.shown.mirror.node
+            answers.old.blank.mirror.node)
+            → ServesBut nodes shown.now.contest.now self.old.hub self.old.conns sockets at piece.now
+            → HearsAll nodes shown.now.contest.now self.new sockets at result }
+        ensures mirrors { SameMirrors answers.old answers.new }
+    {
+        let Some(key) = self.asking(at) else {
+            if self.forget(at, piece.len()) {
+                return Ok(Hearing::Done);
+            }
+            return Ok(Hearing::Goes);
+        };
+        self.hear_of(desk, answers, shown, Keyed { at, key }, piece)
+    }
+
+    /// Goes on with the connection at a place as what was heard of it wants.
+    pub(crate) fn heed<S: Sockets>(
+        &mut self,
+        desk: &mut Desk,
+        sockets: &mut S,
+        at: usize,
+        heard: Result<Hearing, AllocError>,
+    )
+        ensures serving { (nodes : List NodeState) (contest : List ℕ)
+            → HearsAll nodes contest self.old (S.socket sockets.old) at heard
+            → ServesScreens nodes contest self.new.hub self.new.conns (S.socket sockets.new) }
+        // of who goes on nothing is ended
+        ensures goes { heard ≡ Ok Hearing.Goes
+            → (self.new ≡ self.old) × (sockets.new ≡ sockets.old) }
+        ensures asks { S.asked sockets.new ≡ S.asked sockets.old }
+    {
+        match heard {
+            Ok(Hearing::Goes) => {}
+            Ok(Hearing::TooMuch) => self.turn_away(desk, sockets, at),
+            Ok(Hearing::Done) => self.end(desk, sockets, at, How::Done),
+            Err(_) => self.end(desk, sockets, at, How::Memory),
+        }
+    }
+
+    /// Hands bytes of a request to the hub, which answers it as one does that shows nothing where
+    /// requests are held.
+    pub(crate) fn hear_of(
+        &mut self,
+        desk: &Desk,
+        answers: &mut Answers,
+        shown: &Shown<'_>,
+        keyed: Keyed,
+        piece: &[u8],
+    ) -> Result<Hearing, AllocError>
+        ensures serving { (nodes : List NodeState) (sockets : AllSockets)
+            → Contains nodes (answerer shown.now.is_held answers.old.shown.mirror.node
+            answers.old.blank.mirror.node)
+            → HasKey self.old.conns keyed
+            → ServesBut nodes shown.now.contest.now self.old.hub self.old.conns sockets keyed.at
+            piece.now
+            → HearsAll nodes shown.now.contest.now self.new sockets keyed.at result }
+        ensures mirrors { SameMirrors answers.old answers.new }
+    {
+        let contest = shown.contest;
+        if shown.is_held {
+            return self.hear(desk, &mut answers.blank, contest, keyed, piece);
+        }
+        self.hear(desk, &mut answers.shown, contest, keyed, piece)
+    }
+
+    /// The key of the connection at a place whose request comes.
+    pub(crate) fn asking(&self, at: usize) -> Option<Key>
+        ensures some { IfSome result (λ key. (key_at self.now.conns at ≡ Some (Some key))
+            × IsAskingSeat (seat_at self.now.hub.seats.slab key)) }
+        ensures none { result ≡ None → (key : Key) → key_at self.now.conns at ≡ Some (Some key)
+            → ¬ (IsAskingSeat (seat_at self.now.hub.seats.slab key)) }
+    {
+        let conn = self.conns.get(at)?;
+        let key = conn.key?;
+        if self.hub.is_asking(key) {
+            Some(key)
+        } else {
+            None
+        }
+    }
+
+    /// So many bytes that came are forgotten. Whether the connection is to be closed.
+    fn forget(&mut self, at: usize, count: usize) -> bool
+        ensures { SameSeating self.old self.new }
+    {
+        match self.conns.get_mut(at) {
+            Some(conn) => conn.forget(count),
+            None => false,
+        }
+    }
+
+    /// Hands bytes of a request to the hub; of no bytes, it is answered where it has come whole.
+    fn hear(
+        &mut self,
+        desk: &Desk,
+        answering: &mut Answering,
+        contest: &str,
+        keyed: Keyed,
+        piece: &[u8],
+    ) -> Result<Hearing, AllocError>
+        ensures serving { (nodes : List NodeState) (sockets : AllSockets)
+            → Contains nodes answering.old.mirror.node
+            → HasKey self.old.conns keyed
+            → ServesBut nodes contest.now self.old.hub self.old.conns sockets keyed.at piece.now
+            → HearsAll nodes contest.now self.new sockets keyed.at result }
+        ensures mirror { answering.new.mirror ≡ answering.old.mirror }
+    {
+        let mut rest = piece;
+        'parts: loop {
+            if self.has_no_room(desk.alloc, answering, contest, keyed, rest) {
+                return self.wait_for_room(keyed, rest, desk.time);
+            }
+            match self.hear_once(desk, answering, contest, keyed, rest)? {
+                0 => return Ok(Hearing::Goes),
+                taken => rest = &rest[taken..],
+            }
+        }
+    }
+
+    /// Hands some bytes of a request to the hub. How many it took, and none where it takes no more.
+    fn hear_once(
+        &mut self,
+        desk: &Desk,
+        answering: &mut Answering,
+        contest: &str,
+        keyed: Keyed,
+        piece: &[u8],
+    ) -> Result<usize, AllocError>
+        ensures serving { (nodes : List NodeState) (sockets : AllSockets)
+            → Contains nodes answering.old.mirror.node
+            → HasKey self.old.conns keyed
+            → ServesBut nodes contest.now self.old.hub self.old.conns sockets keyed.at piece.now
+            → HearsSome nodes contest.now self.new sockets keyed.at piece.now result }
+        ensures bound { IfOk result (λ taken. taken ≤ length piece.now) }
+        ensures keys { SameKeys self.old.conns self.new.conns }
+        ensures mirror { answering.new.mirror ≡ answering.old.mirror }
+    {
+        let heard = self.hub.hear(desk.alloc, answering, contest, keyed.key, piece, desk.time)?;
+        let Some(status) = heard.status else {
+            return Ok(heard.taken);
+        };
+        self.is_answered(keyed.at, status);
+        let id = if heard.is_shared {
+            TextId::Opening(answering.made())
+        } else {
+            TextId::Own(keyed.at)
+        };
+        let length = self.hub.prefix(keyed.key).len();
+        self.owe(keyed.at, length, id, desk.time)?;
+        Ok(0)
+    }
+
+    fn is_answered(&mut self, at: usize, status: u16)
+        ensures { SameSeating self.old self.new }
+    {
+        self.totals.answer(status);
+        if let Some(conn) = self.conns.get_mut(at) {
+            conn.stage = Stage::Watches;
+            conn.wait = None;
+            conn.status = status;
+        }
+    }
+
+    /// Serves those who have more to read or to write.
+    pub fn serve_more<S: Sockets>(
+        &mut self,
+        desk: &mut Desk,
+        sockets: &mut S,
+        answers: &mut Answers,
+        shown: &Shown<'_>,
+    )
+        ensures serving { StillAnswers shown.now.is_held answers.old shown.now.contest.now self.old
+            self.new (S.socket sockets.old) (S.socket sockets.new) }
+        ensures mirrors { SameMirrors answers.old answers.new }
+        ensures asks { S.asked sockets.new ≡ S.asked sockets.old }
+    {
+        self.serve_waiting(desk, sockets, answers, shown);
+        for at in 0..self.conns.capacity() {
+            self.go_on_at(desk, sockets, answers, shown, at);
+        }
+    }
+
+    /// Serves the one at a place, where it has more to read or to write.
+    fn go_on_at<S: Sockets>(
+        &mut self,
+        desk: &mut Desk,
+        sockets: &mut S,
+        answers: &mut Answers,
+        shown: &Shown<'_>,
+        at: usize,
+    )
+        ensures serving { StillAnswers shown.now.is_held answers.old shown.now.contest.now self.old
+            self.new (S.socket sockets.old) (S.socket sockets.new) }
+        ensures mirrors { SameMirrors answers.old answers.new }
+        ensures asks { S.asked sockets.new ≡ S.asked sockets.old }
+    {
+        if self.has_more_at(shown, at, desk.time) {
+            self.serve(desk, sockets, answers, shown, at);
+        }
+    }
+}

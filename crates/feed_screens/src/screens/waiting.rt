@@ -1,0 +1,411 @@
+//! Who waits for room: long texts that screens have yet to take have a limit together.
+
+ghost use Rattle.std.specs.Prelude.{◌≡◌, ◌≢◌, ◌<◌, ◌≤◌, ◌↔◌, ◌^◌, ◌-◌, [], ℕ, List, None, Some, min, IsTrue, OnOk};
+ghost use Rattle.feed_node.specs.States.{NodeState};
+ghost use Rattle.feed_hub.specs.Seats.{seat_at};
+ghost use Rattle.feed_device.specs.Sockets.{AllSockets};
+ghost use Rattle.slab.specs.Slab.{get};
+ghost use Rattle.feed_screens.specs.Pending.{total, Pays, text_at};
+ghost use Rattle.feed_screens.specs.Serving.{StillServesAll, StillAnswers, StillStand, SameSeating};
+ghost use Rattle.feed_screens.specs.Serving.{ServesBut, HasKey, HearsAll};
+ghost use Rattle.feed_screens.specs.Held.{SameMirrors};
+ghost use Rattle.feed_screens.specs.Waiting.{HasNotWaited, IsOverdue, IsSlow, RefusesOne};
+
+use crate::conn::Wanted;
+use crate::screens::{Answers, Hearing, Keyed, Screens, Shown, TextId};
+use crate::times::ROOM_TIME;
+use feed_device::{Desk, Sockets};
+use feed_hub::{Answering, Key, LONG};
+use std::alloc::{AllocError, Global};
+
+/// How many of those who wait are served in one turn.
+const ANSWERS: usize = 64;
+
+impl Screens {
+    /// Whether a long text may be made: those that screens have yet to take have fewer bytes than
+    /// they may. So one may be made whatever its length, where there is no other.
+    pub(crate) fn has_room(&self) -> bool
+        ensures { IsTrue result ↔ (min (total self.now.pending.texts.list.items) (2 ^ 64 - 1)
+            < self.now.limits.pending) }
+    {
+        self.pending.total() < self.limits.pending
+    }
+
+    /// Forgets the long texts that no screen has any more.
+    pub fn tidy(&mut self)
+        ensures serving { StillStand self.old self.new }
+    {
+        self.hub.tidy();
+    }
+
+    /// The connection at a place has yet to take a text of so many bytes. A long one counts as
+    /// pending, once for all who share it; without memory for that the connection has to end.
+    pub(crate) fn owe(
+        &mut self,
+        at: usize,
+        length: usize,
+        id: TextId,
+        now: u64,
+    ) -> Result<(), AllocError>
+        ensures same { SameSeating self.old self.new }
+        ensures counts { OnOk result (65536 ≤ length → get self.old.conns at ≢ None
+            → text_at self.new.pending.places.items at ≡ Some id) }
+    {
+        self.pay(at);
+        let Some(conn) = self.conns.get_mut(at) else {
+            return Ok(());
+        };
+        conn.owe(length, now);
+        if length < LONG {
+            return Ok(());
+        }
+        self.pending.add(at, id, length)
+    }
+
+    /// The connection at a place took all of its text, or is over. Who waits for room may have it
+    /// then.
+    pub(crate) fn pay(&mut self, at: usize)
+        ensures same { SameSeating self.old self.new }
+        ensures paid { Pays (text_at self.old.pending.places.items at)
+            self.old.pending.texts.list.items self.new.pending.texts.list.items }
+        ensures once { text_at self.new.pending.places.items at ≡ None }
+        ensures others { (other : ℕ) → other ≢ at
+            → get self.new.conns other ≡ get self.old.conns other }
+    {
+        if let Some(conn) = self.conns.get_mut(at) {
+            conn.pay();
+        }
+        if self.pending.remove(at) {
+            self.has_more |= self.is_waited;
+        }
+    }
+
+    /// Whether the connection at a place has yet to take a text that counts as pending, and takes it
+    /// too slowly.
+    pub(crate) fn is_slow(&self, at: usize, now: u64) -> bool
+        ensures { IsTrue result → IsSlow (get self.now.conns at) now }
+    {
+        match self.conns.get(at) {
+            Some(conn) => self.pending.has(at) && conn.is_slow(now),
+            None => false,
+        }
+    }
+
+    /// The connection at a place waits for room no more.
+    pub(crate) fn end_wait(&mut self, at: usize)
+        ensures { SameSeating self.old self.new }
+    {
+        if let Some(conn) = self.conns.get_mut(at) {
+            conn.wait = None;
+        }
+    }
+
+    /// The connection at a place waits for this from now on, or for as long as it has waited.
+    pub(crate) fn wait_for(&mut self, at: usize, wanted: Wanted, now: u64)
+        ensures { SameSeating self.old self.new }
+    {
+        self.is_waited = true;
+        if let Some(conn) = self.conns.get_mut(at) {
+            conn.wait_for(wanted, now);
+        }
+    }
+
+    /// Whether a long text may be made for the connection at a place: there is room, and nobody else
+    /// has waited for that for longer.
+    pub(crate) fn may_take_room(&self, at: usize) -> bool
+        ensures { IsTrue result → (min (total self.now.pending.texts.list.items) (2 ^ 64 - 1)
+            < self.now.limits.pending) }
+    {
+        if !self.has_room() {
+            return false;
+        }
+        match self.longest_waiting() {
+            Some(first) => first == at,
+            None => true,
+        }
+    }
+
+    /// The place of the connection that has waited for longest for room, where somebody waits.
+    fn longest_waiting(&self) -> Option<usize> {
+        if !self.is_waited {
+            return None;
+        }
+        let mut longest: Option<(u64, usize)> = None;
+        for at in 0..self.conns.capacity() {
+            if let Some(conn) = self.conns.get(at) {
+                longest = conn.waits_longer(longest, at);
+            }
+        }
+        Some(longest?.1)
+    }
+
+    /// Whether a screen waits for a commit still. One that follows the log by now, or whose body
+    /// ends, waits for none.
+    pub(crate) fn stays_waiting(&self, keyed: Keyed) -> bool {
+        self.wants_commit(keyed.at)
+            && self.hub.catches_up(keyed.key)
+            && !self.may_take_room(keyed.at)
+            && !self.may_share(keyed.at)
+    }
+
+    fn wants_commit(&self, at: usize) -> bool {
+        match self.conns.get(at) {
+            Some(conn) => conn.wants_commit().is_some(),
+            None => false,
+        }
+    }
+
+    /// Whether the screen at a place waits for a commit that perhaps another one has by now, and its
+    /// socket may take that.
+    pub(crate) fn may_share(&self, at: usize) -> bool {
+        let Some(conn) = self.conns.get(at) else {
+            return false;
+        };
+        match conn.wants_commit() {
+            Some((length, made)) => !conn.is_blocked && self.hub.has_made(made, length),
+            None => false,
+        }
+    }
+
+    /// Whether these bytes end a request for which there is no room: a text has to be made for it.
+    /// Where memory runs out for that look, the hub hears them all the same, and may run out of it.
+    pub(crate) fn has_no_room(
+        &self,
+        alloc: Global,
+        answering: &Answering,
+        contest: &str,
+        keyed: Keyed,
+        piece: &[u8],
+    ) -> bool {
+        if self.may_take_room(keyed.at) {
+            return false;
+        }
+        let makes = self
+            .hub
+            .makes_text(alloc, answering, contest, keyed.key, piece);
+        makes.unwrap_or(false)
+    }
+
+    /// A request waits for room, which these bytes end. One that something comes behind can't wait.
+    pub(crate) fn wait_for_room(
+        &mut self,
+        keyed: Keyed,
+        piece: &[u8],
+        now: u64,
+    ) -> Result<Hearing, AllocError>
+        ensures serving { (nodes : List NodeState) (contest : List ℕ) (sockets : AllSockets)
+            → HasKey self.old.conns keyed
+            → ServesBut nodes contest self.old.hub self.old.conns sockets keyed.at piece.now
+            → HearsAll nodes contest self.new sockets keyed.at result }
+    {
+        let until = now.saturating_add(2 * ROOM_TIME);
+        let taken = self.hub.hold(keyed.key, piece, until)?;
+        if taken < piece.len() {
+            return Ok(Hearing::TooMuch);
+        }
+        self.wait_for(keyed.at, Wanted::Answer, now);
+        Ok(Hearing::Goes)
+    }
+
+    /// Serves those who wait for room, as long as there is some: first who has waited for longest. And
+    /// answers those who can share the text of the snapshot by now.
+    pub(crate) fn serve_waiting<S: Sockets>(
+        &mut self,
+        desk: &mut Desk,
+        sockets: &mut S,
+        answers: &mut Answers,
+        shown: &Shown<'_>,
+    )
+        ensures serving { StillAnswers shown.now.is_held answers.old shown.now.contest.now self.old
+            self.new (S.socket sockets.old) (S.socket sockets.new) }
+        ensures mirrors { SameMirrors answers.old answers.new }
+        ensures asks { S.asked sockets.new ≡ S.asked sockets.old }
+    {
+        self.serve_first(desk, sockets, answers, shown);
+        if answers.shown.has_text() {
+            self.answer_sharing(desk, sockets, answers, shown);
+        }
+    }
+
+    /// Serves those who wait for room, one after another, as long as there is some.
+    fn serve_first<S: Sockets>(
+        &mut self,
+        desk: &mut Desk,
+        sockets: &mut S,
+        answers: &mut Answers,
+        shown: &Shown<'_>,
+    )
+        ensures serving { StillAnswers shown.now.is_held answers.old shown.now.contest.now self.old
+            self.new (S.socket sockets.old) (S.socket sockets.new) }
+        ensures mirrors { SameMirrors answers.old answers.new }
+        ensures asks { S.asked sockets.new ≡ S.asked sockets.old }
+    {
+        for _ in 0..ANSWERS {
+            let Some(at) = self.longest_waiting() else {
+                return;
+            };
+            self.serve_at(desk, sockets, answers, shown, at);
+            if self.waits(at) {
+                return;
+            }
+        }
+        self.has_more = true;
+    }
+
+    /// Answers those whose requests wait for room, where they can share the text of the snapshot.
+    fn answer_sharing<S: Sockets>(
+        &mut self,
+        desk: &mut Desk,
+        sockets: &mut S,
+        answers: &mut Answers,
+        shown: &Shown<'_>,
+    )
+        ensures serving { StillAnswers shown.now.is_held answers.old shown.now.contest.now self.old
+            self.new (S.socket sockets.old) (S.socket sockets.new) }
+        ensures mirrors { SameMirrors answers.old answers.new }
+        ensures asks { S.asked sockets.new ≡ S.asked sockets.old }
+    {
+        for at in 0..self.conns.capacity() {
+            self.share_at(desk, sockets, answers, shown, at);
+        }
+    }
+
+    /// Answers the request at a place, where it waits for room.
+    fn share_at<S: Sockets>(
+        &mut self,
+        desk: &mut Desk,
+        sockets: &mut S,
+        answers: &mut Answers,
+        shown: &Shown<'_>,
+        at: usize,
+    )
+        ensures serving { StillAnswers shown.now.is_held answers.old shown.now.contest.now self.old
+            self.new (S.socket sockets.old) (S.socket sockets.new) }
+        ensures mirrors { SameMirrors answers.old answers.new }
+        ensures asks { S.asked sockets.new ≡ S.asked sockets.old }
+    {
+        if self.wants_answer(at) {
+            self.serve_at(desk, sockets, answers, shown, at);
+        }
+    }
+
+    /// Whether the connection at a place waits for room.
+    fn waits(&self, at: usize) -> bool {
+        self.conns.get(at).is_some_and(|conn| conn.wait.is_some())
+    }
+
+    /// Whether the request of the connection at a place waits for room.
+    pub(crate) fn wants_answer(&self, at: usize) -> bool {
+        self.conns.get(at).is_some_and(|conn| conn.wants_answer())
+    }
+
+    /// Gives the connection at a place what it waits for, where there is room for that or it can be
+    /// shared: its request is answered, or the screen has its commit. Then it is written to.
+    fn serve_at<S: Sockets>(
+        &mut self,
+        desk: &mut Desk,
+        sockets: &mut S,
+        answers: &mut Answers,
+        shown: &Shown<'_>,
+        at: usize,
+    )
+        ensures serving { StillAnswers shown.now.is_held answers.old shown.now.contest.now self.old
+            self.new (S.socket sockets.old) (S.socket sockets.new) }
+        ensures mirrors { SameMirrors answers.old answers.new }
+        ensures asks { S.asked sockets.new ≡ S.asked sockets.old }
+    {
+        self.answer_at(desk, sockets, answers, shown, at);
+        self.drain(desk, sockets, answers.shown.node(), at);
+    }
+
+    /// Answers the request that comes at a place, where it has come whole and there is room for that.
+    fn answer_at<S: Sockets>(
+        &mut self,
+        desk: &mut Desk,
+        sockets: &mut S,
+        answers: &mut Answers,
+        shown: &Shown<'_>,
+        at: usize,
+    )
+        ensures serving { StillAnswers shown.now.is_held answers.old shown.now.contest.now self.old
+            self.new (S.socket sockets.old) (S.socket sockets.new) }
+        ensures mirrors { SameMirrors answers.old answers.new }
+        ensures asks { S.asked sockets.new ≡ S.asked sockets.old }
+    {
+        let Some(key) = self.asking(at) else {
+            return;
+        };
+        let heard = self.hear_of(desk, answers, shown, Keyed { at, key }, &[]);
+        self.heed(desk, sockets, at, heard);
+    }
+
+    /// Tells those that there are too many whose requests have waited for long enough.
+    pub fn refuse_overdue<S: Sockets>(&mut self, desk: &mut Desk, sockets: &mut S)
+        ensures serving { StillServesAll self.old self.new
+            (S.socket sockets.old) (S.socket sockets.new) }
+        // whoever has not waited for so long stays, with its seat
+        ensures stays { (at : ℕ) → ¬ (IsOverdue (get self.old.conns at) desk.old.time)
+            → get self.new.conns at ≡ get self.old.conns at }
+        ensures seats { (key : Key) → HasNotWaited self.old.conns key desk.old.time
+            → seat_at self.new.hub.seats.slab key ≡ seat_at self.old.hub.seats.slab key }
+        ensures time { desk.new.time ≡ desk.old.time }
+        ensures asks { S.asked sockets.new ≡ S.asked sockets.old }
+    {
+        if !self.is_waited {
+            return;
+        }
+        for at in 0..self.conns.capacity() {
+            self.refuse_waiting(desk, sockets, at);
+        }
+        self.is_waited = self.somebody_waits();
+    }
+
+    /// Tells the connection at a place that there are too many, where its request has waited for long
+    /// enough.
+    fn refuse_waiting<S: Sockets>(&mut self, desk: &mut Desk, sockets: &mut S, at: usize)
+        ensures serving { StillServesAll self.old self.new
+            (S.socket sockets.old) (S.socket sockets.new) }
+        ensures refuses { RefusesOne self.old self.new at desk.old.time }
+        ensures time { desk.new.time ≡ desk.old.time }
+        ensures asks { S.asked sockets.new ≡ S.asked sockets.old }
+    {
+        if self.is_overdue(at, desk.time) {
+            self.refuse_at(desk, sockets, at);
+        }
+    }
+
+    /// Cuts those who take their texts too slowly while somebody waits for room.
+    pub fn cut_for_room<S: Sockets>(&mut self, desk: &mut Desk, sockets: &mut S)
+        ensures serving { StillServesAll self.old self.new
+            (S.socket sockets.old) (S.socket sockets.new) }
+        // whoever isn't slow stays
+        ensures stays { (at : ℕ) → ¬ (IsSlow (get self.old.conns at) desk.old.time)
+            → get self.new.conns at ≡ get self.old.conns at }
+        ensures time { desk.new.time ≡ desk.old.time }
+        ensures asks { S.asked sockets.new ≡ S.asked sockets.old }
+    {
+        if self.is_waited {
+            self.has_more = true;
+            self.cut_slow(desk, sockets);
+        }
+    }
+
+    /// Whether somebody waits for room.
+    fn somebody_waits(&self) -> bool {
+        for at in 0..self.conns.capacity() {
+            if self.waits(at) {
+                return true;
+            }
+        }
+        false
+    }
+
+    fn is_overdue(&self, at: usize, now: u64) -> bool
+        ensures { IsTrue result → IsOverdue (get self.now.conns at) now }
+    {
+        match self.conns.get(at) {
+            Some(conn) => conn.is_overdue(now),
+            None => false,
+        }
+    }
+}
