@@ -13,10 +13,11 @@ bench/figures.json, which is kept for parts that were not measured: call bench/p
 - attacks: how soon a screen has a commit while others take all that they can (tools/live)
 - replays: a World Finals that a server replays (tools/live)
 
---only names parts, with commas between. --runs says how often each command runs, 11 times by default: they run in turns,
-and the median counts. Seconds are those of a processor. It needs cargo, librust-serde-json-dev, jq, valgrind, nginx, curl
-and cc, Debian's packages, and says which of them a part lacks. All takes some 25 minutes, of which `screens` is half. How
-long each part took goes to standard error. The status is 1 if a part could not be measured; the others are, all the same."""
+--only names parts, with commas between. --runs says how often each command runs, 11 times by default: they run in
+turns, and the median counts. Seconds are those of a processor. It needs cargo, librust-serde-json-dev, jq, valgrind,
+nginx, curl and cc, Debian's packages, and says which of them a part lacks. All takes some 25 minutes, of which
+`screens` is half. How long each part took goes to standard error. The status is 1 if a part could not be measured;
+the others are, all the same."""
 import argparse
 import hashlib
 import json

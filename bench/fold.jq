@@ -1,5 +1,5 @@
 # The baseline in jq: the last value of each object (jq -c -n -f fold.jq < feed). It stages nothing, so a feed must end
-# with a token, and it spells objects anew. One flat map, since jq is quadratic on nested ones: "type\tid" is an object,
+# with a token, and it spells objects again. One flat map, since jq is quadratic on nested ones: "type\tid" is an object,
 # "type\n" a singleton's object, or [] for a collection.
 def without($t): with_entries(select(.key | (startswith($t + "\t") or . == $t + "\n") | not));
 reduce (inputs | select(.type)) as $n ({};

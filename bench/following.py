@@ -1,8 +1,9 @@
 #!/usr/bin/env python3
 """Times a `Follower` on a generated feed, beside a mirror that is fed the same bytes: bench/following.py [NOTIFICATIONS]
 
-Needs the toolchain (rt). The program bench/following/main.rattle is proved and built in a temporary copy of the crates below it, as
-bench/lines.py builds its own. It reads the feed and makes the response before it looks at the clock. The best of three counts."""
+Needs the toolchain (rt). The program bench/following/main.rattle is proved and built in a temporary copy of the
+crates below it, as bench/lines.py builds its own. It reads the feed and makes the response before it looks at the
+clock. The best of three counts."""
 import subprocess
 import sys
 import tempfile

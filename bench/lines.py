@@ -1,10 +1,10 @@
 #!/usr/bin/env python3
 """Times what reads the lines of a feed, `survey`, and a `Splitter` that is fed in pieces: bench/lines.py [MEGABYTES]
 
-Needs the toolchain (rt). The program bench/lines/main.rattle is proved and built in a temporary copy of the crates below it, with
-what earlier runs kept of their proofs (without any, this takes some minutes). It reads the feed before it looks at the
-clock; `wc -l`, and `tunygarop check` where the built program has it, are timed as whole processes. The best of three
-counts."""
+Needs the toolchain (rt). The program bench/lines/main.rattle is proved and built in a temporary copy of the crates
+below it, with what earlier runs kept of their proofs (without any, this takes some minutes). It reads the feed before
+it looks at the clock; `wc -l`, and `tunygarop check` where the built program has it, are timed as whole processes.
+The best of three counts."""
 import argparse
 import os
 import shutil

@@ -1,12 +1,14 @@
 #!/usr/bin/env python3
 """Times `pull` from `serve` and from nginx, beside `curl`: bench/pulling.py [--runs N] [--feed FILE] [PROGRAM..]
 
-Needs the built program (tools/run builds it), or other builds of it that are named, and nginx and curl, Debian's packages;
-it says which is missing. Every connection goes over 127.0.0.1. It is no part of the gate, since it only times.
+Needs the built program (tools/run builds it), or other builds of it that are named, and nginx and curl, Debian's
+packages; it says which is missing. Every connection goes over 127.0.0.1. It is no part of the gate, since it only
+times.
 
-The feed is generated, 42 MB, unless one is given. `serve` takes it as its input. What that answers is then a file that
-nginx serves at the same path, in one process. All pairs run in turns, N of each (9), and the median counts. What a client
-held is polled in one further run of each, since the system counts its caller's memory as the least of a child."""
+The feed is generated, 42 MB, unless one is given. `serve` takes it as its input. What that answers is then a file
+that nginx serves at the same path, in one process. All pairs run in turns, N of each (9), and the median counts. What
+a client held is polled in one further run of each, since the system counts its caller's memory as the least of a
+child."""
 import argparse
 import os
 import shutil

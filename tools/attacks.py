@@ -11,7 +11,7 @@ these:
 - crowd: screens come to a relay that is full; some two hundred a second, each of which reads its refusal.
 
 At the end a line of JSON says how many of each status were read, and how long the slowest of them took, in seconds.
-The last line is 'attacks.py: N passed, M failed', where those failed that were told nothing."""
+The last line is 'attacks.py: N passed, M failed', where those failed that heard nothing."""
 import json
 import select
 import socket

@@ -1,4 +1,5 @@
-"""What the tools share: a free port, the program that they run, other tools as modules, and how each answers --help."""
+"""What the tools share: a free port, the program that they run, other tools as modules, what they count, and how each
+answers --help."""
 import argparse
 import importlib.machinery
 import importlib.util
@@ -42,6 +43,19 @@ def program_of(path, folder):
     import building
 
     return building.program(Path(folder))
+
+
+class Counts:
+    """How many things were compared, and what is wrong with some."""
+
+    def __init__(self):
+        self.passed, self.broken = 0, []
+
+    def see(self, is_well, text):
+        if is_well:
+            self.passed += 1
+        else:
+            self.broken.append(text)
 
 
 def parser_of(text):

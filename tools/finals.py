@@ -1,9 +1,9 @@
 #!/usr/bin/env python3
 """Writes a World Finals of five hours as a server of the field is believed to: tools/finals.py STYLE [SEED]
 
-STYLE is domjudge, cds (the Contest Data Server) or kattis. There are 130 teams, 12 problems, 1,500 submissions and a hundred
-runs of each: some 156,000 notifications, 34 to 40 MB. The first two have a token on each line. Kattis has one on each but
-those of collections, which are arrays. tools/live serves them to a relay."""
+STYLE is domjudge, cds (the Contest Data Server) or kattis. There are 130 teams, 12 problems, 1,500 submissions and a
+hundred runs of each: some 156,000 notifications, 34 to 40 MB. The first two have a token on each line. Kattis has one
+on each but those of collections, which are arrays. tools/live serves them to a relay."""
 import base64
 import datetime
 import hashlib
