@@ -1,5 +1,4 @@
 pub mod Agreeing
-pub mod Appending
 pub mod Bodies
 pub mod Bringing
 pub mod Cutting

@@ -9,5 +9,4 @@ pub mod Records
 pub mod ScreenLines
 pub mod States
 pub mod Stops
-pub mod Told
 pub mod Walks

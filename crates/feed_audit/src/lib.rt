@@ -13,8 +13,6 @@ mod record;
 mod screen_lines;
 mod since;
 mod text_lines;
-mod told;
-mod told_json;
 mod verdict;
 mod walk;
 
@@ -26,6 +24,4 @@ pub use reading::{Front, Lines, Replayed, Skipped, Unread};
 pub use record::audit_record;
 pub use screen_lines::ScreenLines;
 pub use text_lines::TextLines;
-pub use told::{print_agreement, print_stray};
-pub use told_json::{print_agreement_json, print_stray_json};
 pub use verdict::{AuditFault, Stray, Verdict};

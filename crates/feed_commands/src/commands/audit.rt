@@ -9,11 +9,9 @@ ghost use Rattle.feed_http.specs.Device.{AppendsPrefix, HasFailed};
 use crate::fault::Fault;
 use crate::input::read_within;
 use feed_arguments::AuditOptions;
-use feed_audit::{
-    Replayed, ScreenLines, Skipped, Stray, Verdict, audit_record, count_states, print_agreement,
-    print_agreement_json, print_stray, print_stray_json,
-};
+use feed_audit::{Replayed, ScreenLines, Skipped, Stray, Verdict, audit_record, count_states};
 use feed_http::device::{FeedRead, FeedWrite, write_all};
+use feed_verdicts::{print_agreement, print_agreement_json, print_stray, print_stray_json};
 use std::alloc::{AllocError, Global};
 
 /// The most bytes of a record.

@@ -2,10 +2,9 @@
 
 ghost use Rattle.std.specs.Prelude.{◌≡◌, ◌++◌, OnOk, decimal};
 ghost use Rattle.std.specs.Option.{option_copied};
-ghost use Rattle.feed_audit.specs.Told.{whole_characters as characters, object_text, side_text, place_text, difference_text, agreement_text, state_text, stray_text};
+ghost use Rattle.feed_verdicts.specs.Told.{whole_characters as characters, object_text, side_text, place_text, difference_text, agreement_text, state_text, stray_text};
 
-use crate::difference::{Difference, Side};
-use crate::verdict::Stray;
+use feed_audit::{Difference, Side, Stray};
 use feed_tables::Name;
 use std::alloc::{AllocError, Global};
 

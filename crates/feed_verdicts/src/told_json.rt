@@ -3,11 +3,10 @@
 ghost use Rattle.std.specs.Prelude.{◌≡◌, ◌++◌, OnOk};
 ghost use Rattle.std.specs.Option.{option_copied};
 ghost use Rattle.feed_note.specs.Written.{written_name};
-ghost use Rattle.feed_audit.specs.Told.{side_json, place_json, sides_json, difference_json, agreement_json, state_json, stray_json};
+ghost use Rattle.feed_verdicts.specs.Told.{side_json, place_json, sides_json, difference_json, agreement_json, state_json, stray_json};
 
-use crate::difference::{Difference, Side};
 use crate::told::print_number;
-use crate::verdict::Stray;
+use feed_audit::{Difference, Side, Stray};
 use feed_tables::Name;
 use feed_text::encode_string;
 use std::alloc::{AllocError, Global};
