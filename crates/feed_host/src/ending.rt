@@ -1,5 +1,9 @@
 //! How a command ends.
 
+ghost use Rattle.std.specs.Prelude.{◌≡◌, IfOk, IfErr};
+ghost use Rattle.feed_commands.specs.Fault.{status_of};
+ghost use Rattle.feed_host.specs.Ending.{EndsAs, status_for};
+
 use crate::errors::{Errors, Reporter};
 use feed_commands::{Fault, NetworkFault, REFUSED, Server, tell, tell_about};
 use std::alloc::AllocError;
@@ -32,6 +36,8 @@ pub struct Failure {
 }
 
 impl From<Fault> for Failure {
+    ghost from_gives = { λ fault failure. status_for failure.why ≡ status_of fault };
+
     fn from(fault: Fault) -> Failure {
         Failure {
             why: Why::Fault(fault, None),
@@ -41,14 +47,18 @@ impl From<Fault> for Failure {
 
 impl Failure {
     /// A fault, of which a second line says more.
-    pub(crate) fn with_more(fault: Fault, more: &'static str) -> Failure {
+    pub(crate) fn with_more(fault: Fault, more: &'static str) -> Failure
+        ensures { status_for result.why ≡ status_of fault }
+    {
         Failure {
             why: Why::Fault(fault, Some(more)),
         }
     }
 
     /// A fault at a host and a port; where there is no memory to name them, the fault alone.
-    fn at(fault: Fault, host: Result<String, AllocError>, port: u16) -> Failure {
+    fn at(fault: Fault, host: Result<String, AllocError>, port: u16) -> Failure
+        ensures { status_for result.why ≡ status_of fault }
+    {
         match host {
             Ok(host) => Failure {
                 why: Why::At(fault, host, port),
@@ -58,7 +68,9 @@ impl Failure {
     }
 
     /// A fault, with what it is about; where there is no memory to say that, the fault alone.
-    pub fn about(fault: Fault, what: Result<String, AllocError>) -> Failure {
+    pub fn about(fault: Fault, what: Result<String, AllocError>) -> Failure
+        ensures { status_for result.why ≡ status_of fault }
+    {
         match what {
             Ok(what) => Failure {
                 why: Why::About(fault, what),
@@ -68,21 +80,27 @@ impl Failure {
     }
 
     /// A fault that this text tells, in place of its own.
-    pub fn told_as(fault: Fault, text: &'static str) -> Failure {
+    pub fn told_as(fault: Fault, text: &'static str) -> Failure
+        ensures { status_for result.why ≡ status_of fault }
+    {
         Failure {
             why: Why::ToldAs(fault, text),
         }
     }
 
     /// This port of 127.0.0.1 can't be listened at.
-    pub(crate) fn at_port(rt: &HostRuntime, fault: Fault, port: u16) -> Failure {
+    pub(crate) fn at_port(rt: &HostRuntime, fault: Fault, port: u16) -> Failure
+        ensures { status_for result.why ≡ status_of fault }
+    {
         let host = format!(in rt.alloc(); "{}", Ipv4Addr::LOCALHOST);
         Failure::at(fault, host, port)
     }
 
     /// A fault of following these servers. Where there was no connection, that is about the last one:
     /// each before it was asked in vain.
-    pub(crate) fn of_servers(rt: &HostRuntime, fault: Fault, servers: &[Server<'_>]) -> Failure {
+    pub(crate) fn of_servers(rt: &HostRuntime, fault: Fault, servers: &[Server<'_>]) -> Failure
+        ensures { status_for result.why ≡ status_of fault }
+    {
         match (fault, servers.last()) {
             (Fault::Network(NetworkFault::Connect), Some(server)) => {
                 let host = String::from_str(rt.alloc(), server.host.as_str());
@@ -93,14 +111,18 @@ impl Failure {
     }
 
     /// Options that can't be taken, as this text says.
-    pub fn refused(text: &'static str) -> Failure {
+    pub fn refused(text: &'static str) -> Failure
+        ensures { status_for result.why ≡ 1 }
+    {
         Failure {
             why: Why::Refused(text),
         }
     }
 
     /// The same, where the text names what is in the way; where there is no memory for it, this one.
-    pub fn refused_for(text: Result<String, AllocError>, short: &'static str) -> Failure {
+    pub fn refused_for(text: Result<String, AllocError>, short: &'static str) -> Failure
+        ensures { status_for result.why ≡ 1 }
+    {
         match text {
             Ok(text) => Failure {
                 why: Why::RefusedFor(text),
@@ -111,7 +133,9 @@ impl Failure {
 
     /// A mirror was not restored from standard input: a second line names that, where a line of
     /// it is the fault.
-    pub(crate) fn of_saved_tables(fault: Fault) -> Failure {
+    pub(crate) fn of_saved_tables(fault: Fault) -> Failure
+        ensures { status_for result.why ≡ status_of fault }
+    {
         match fault {
             Fault::Feed(_) => Failure::with_more(fault, SAVED_TABLES),
             _ => Failure::from(fault),
@@ -120,7 +144,9 @@ impl Failure {
 }
 
 /// Tells of a fault, and answers the status.
-fn tell_fault(rt: &HostRuntime, name: &'static str, fault: Fault, more: Option<&str>) -> u8 {
+fn tell_fault(rt: &HostRuntime, name: &'static str, fault: Fault, more: Option<&str>) -> u8
+    ensures { EndsAs (status_of fault) result }
+{
     let status = tell(name, fault, &mut Errors::new(rt));
     if let Some(more) = more {
         Reporter::new(rt, name, false).line(more);
@@ -129,7 +155,9 @@ fn tell_fault(rt: &HostRuntime, name: &'static str, fault: Fault, more: Option<&
 }
 
 /// Tells of a fault with what it is about, and answers the status.
-fn tell_more(rt: &HostRuntime, name: &'static str, fault: Fault, what: &str) -> u8 {
+fn tell_more(rt: &HostRuntime, name: &'static str, fault: Fault, what: &str) -> u8
+    ensures { EndsAs (status_of fault) result }
+{
     let is_told = match format!(in rt.alloc(); "{fault}: {what}") {
         Ok(text) => Reporter::new(rt, name, false).line(text.as_str()),
         Err(_) => false,
@@ -137,21 +165,26 @@ fn tell_more(rt: &HostRuntime, name: &'static str, fault: Fault, what: &str) -> 
     if is_told {
         fault.status()
     } else {
-        Fault::Write.status()
+        fault.status().max(Fault::Write.status())
     }
 }
 
 /// Tells a text, and answers the status, or that of a device that failed.
-fn tell_text(rt: &HostRuntime, name: &'static str, text: &str, status: u8) -> u8 {
+fn tell_text(rt: &HostRuntime, name: &'static str, text: &str, status: u8) -> u8
+    ensures { EndsAs status result }
+{
     if Reporter::new(rt, name, false).line(text) {
         status
     } else {
-        Fault::Write.status()
+        status.max(Fault::Write.status())
     }
 }
 
 /// Tells why the command of this name failed, where it did, and answers the status.
-pub fn ended(rt: &HostRuntime, name: &'static str, outcome: Result<(), Failure>) -> u8 {
+pub fn ended(rt: &HostRuntime, name: &'static str, outcome: Result<(), Failure>) -> u8
+    ensures ok { IfOk outcome (λ _. result ≡ 0) }
+    ensures err { IfErr outcome (λ failure. EndsAs (status_for failure.why) result) }
+{
     let Err(failure) = outcome else {
         return 0;
     };

@@ -1,6 +1,6 @@
 -- How turns make a run, and what holds at each moment of one.
 use Rattle.std.proofs.Common.{◌≡◌, ◌≢◌, ◌⊎◌, inl, inr, refl, sym, ap, ◌∙◌, subst, ℕ, ◌+◌, List, [], ◌∷◌, ◌++◌, append-nil, append_assoc, length, Option, Some, None, arith}
-use Rattle.std.specs.Prelude.{◌≤◌, ◌-◌, ◌^◌, suc, min, Bool, option_map, IfSome, Contains, Result, Ok, Err, OnErr, OnOk, true, false}
+use Rattle.std.specs.Prelude.{◌≤◌, ◌-◌, ◌^◌, ◌&&◌, suc, min, Bool, option_map, is_none, IfSome, Contains, Result, Ok, Err, OnErr, OnOk, true, false}
 use Rattle.std.specs.List.{AllByRecursion}
 use Rattle.slab.specs.Slab.{slab_len}
 use Rattle.feed_settings.specs.Limits.{Limits}
@@ -74,6 +74,9 @@ cleared {old} {live} {after} {next} {time} {around} turn relaying taking same =
         stays = λ goes_on. same.ends_at ∙ turn.ends.stays goes_on;
       };
       awake = subst (λ reported. next.due ≤ min (reported + 60000) (2 ^ 64 - 1)) (sym same.reported) turn.awake;
+      takes =
+          subst (λ ends_at. next.takes_input ≡ (is_none ends_at && is_none after.screens.saying.waits)) (sym same.ends_at)
+          (subst (λ screens. next.takes_input ≡ (is_none live.ends_at && is_none screens.saying.waits)) (sym same.screens) turn.takes);
       over = λ is. still_over same (turn.over is);
     }
 

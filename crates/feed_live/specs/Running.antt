@@ -1,5 +1,5 @@
 -- A run of a relay: what it begins with, and turn after turn, to its end.
-use Rattle.std.specs.Prelude.{◌≡◌, ◌≢◌, ◌⊎◌, ℕ, suc, ◌+◌, ◌-◌, ◌^◌, ◌≤◌, min, Bool, true, false, List, [], ◌∷◌, ◌++◌, length, map, Option, Some, None, option_map, IfSome, Contains, Result, OnOk, IsErr}
+use Rattle.std.specs.Prelude.{◌≡◌, ◌≢◌, ◌⊎◌, ℕ, suc, ◌+◌, ◌-◌, ◌^◌, ◌≤◌, min, Bool, true, false, List, [], ◌∷◌, ◌++◌, length, map, Option, Some, None, option_map, is_none, ◌&&◌, IfSome, Contains, Result, OnOk, IsErr}
 use Rattle.std.specs.List.{AllByRecursion}
 use Rattle.slab.specs.Slab.{slab_len}
 use Rattle.feed_settings.specs.Limits.{Limits}
@@ -148,6 +148,8 @@ pub record IsTurn (old new : Moment) : Type 0 where
   pub says : IfSome new.live.screens.saying.waits (λ at. now ≤ at → new.next.due ≤ at)
   pub awake : new.next.due ≤ min (new.live.reported + 60000) (2 ^ 64 - 1)
   pub ends : EndsWithInput old.live new.live given
+  pub takes : new.next.takes_input
+      ≡ (is_none new.live.ends_at && is_none new.live.screens.saying.waits)
   pub over : new.next.is_over ≡ true → IsOver new.live now
 
 -- all but what is told of a relay stays

@@ -1,6 +1,6 @@
 //! The turn.
 
-ghost use Rattle.std.specs.Prelude.{◌≡◌, ◌≢◌, ◌≤◌, ◌+◌, ◌-◌, ◌^◌, ◌⊎◌, [], List, ℕ, min, None, Some, Contains, IfSome, false, true};
+ghost use Rattle.std.specs.Prelude.{◌≡◌, ◌≢◌, ◌≤◌, ◌+◌, ◌-◌, ◌^◌, ◌⊎◌, ◌&&◌, [], List, ℕ, min, None, Some, Contains, IfSome, is_none, false, true};
 ghost use Rattle.feed_settings.specs.Limits.{Limits};
 ghost use Rattle.feed_node.specs.States.{NodeState};
 ghost use Rattle.feed_world.specs.Log.{Log};
@@ -234,6 +234,10 @@ impl Live {
         // nothing but the end of its input sets an end to it
         ensures ends { EndsWithInput self.old self.new input.entry }
 
+        // input may be read, unless an end is set or something waits to be said
+        ensures takes { result.takes_input
+            ≡ (is_none self.new.ends_at && is_none self.new.screens.saying.waits) }
+
         // it is the last one only where the relay ends with its input, and that is over
         ensures over { result.is_over ≡ true → IsOver self.new now }
     {
@@ -297,6 +301,8 @@ impl Live {
         ensures awake { result.due ≤ min (self.new.reported + 60000) (2 ^ 64 - 1) }
         ensures serves { (sockets : AllSockets) → OnlyServes self.old self.new sockets sockets }
         ensures saved { SameSaved self.old self.new }
+        ensures takes { result.takes_input
+            ≡ (is_none self.new.ends_at && is_none self.new.screens.saying.waits) }
         ensures over { result.is_over ≡ true → IsOver self.new now }
         ensures pauses { self.new.screens.accept_at ≡ self.old.screens.accept_at }
     {
@@ -308,7 +314,9 @@ impl Live {
         }
     }
 
-    fn takes_input(&self) -> bool {
+    fn takes_input(&self) -> bool
+        ensures { result ≡ (is_none self.now.ends_at && is_none self.now.screens.saying.waits) }
+    {
         self.ends_at.is_none() && self.screens.says_at().is_none()
     }
 

@@ -18,5 +18,6 @@ returns g c =
       says = c.turn.ensures.says;
       awake = c.turn.ensures.awake;
       ends = c.turn.ensures.ends;
+      takes = c.turn.ensures.takes;
       over = c.turn.ensures.over;
     }

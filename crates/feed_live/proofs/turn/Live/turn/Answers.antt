@@ -60,5 +60,6 @@ returns g c =
         sets = λ is some none. c.take_input.ensures.ends.sets is (ap (λ l. l.ends_with_input) said.ends.0 ∙ some) (sym (served.ends.1 ∙ c.follow.ensures.ends.1) ∙ none);
         stays = λ goes_on. served.ends.1 ∙ c.follow.ensures.ends.1 ∙ c.take_input.ensures.ends.stays (goes_with c.args.self.now c.say_more.new.self said.ends.0 goes_on) ∙ said.ends.1;
       };
+      takes = c.next.ensures.takes;
       over = c.next.ensures.over;
     }
