@@ -17,8 +17,9 @@ from pathlib import Path
 # The variable of the environment with the folder of slots, a file for each, that the parts of one run share.
 SLOTS = "TUNYGAROP_SLOTS"
 
-# As much memory as is left to the toolchain's gate, and as a heavy command takes, in bytes.
-OF_GATE, OF_ONE = 8_000_000_000, 2_500_000_000
+# As much memory as is left to the toolchain's gate, as a heavy command takes beside it, and as the proof of a crate
+# takes, in bytes.
+OF_GATE, OF_ONE, OF_PROOF = 8_000_000_000, 2_500_000_000, 3_500_000_000
 
 
 def processors():
@@ -79,9 +80,19 @@ def shared_slots():
 def slots():
     """As many as there are processors, but at least one and no more than there is memory for. Where the lowest priority
     does nothing, two processors are left to the gate."""
-    whole = int(re.search(r"^MemTotal: +(\d+) kB$", Path("/proc/meminfo").read_text(), re.M)[1]) * 1024
     bear = processors() if is_priority_kept() else processors() - 2
-    return max(1, min(bear, (whole - OF_GATE) // OF_ONE))
+    return max(1, min(bear, (memory() - OF_GATE) // OF_ONE))
+
+
+def lanes():
+    """How many crates the toolchain's gate may prove at one time: as many as there are processors, but at least one and
+    no more than there is memory for beside the heavy commands."""
+    return max(1, min(processors(), (memory() - OF_ONE * workers()) // OF_PROOF))
+
+
+def memory():
+    """The memory of the machine, in bytes."""
+    return int(re.search(r"^MemTotal: +(\d+) kB$", Path("/proc/meminfo").read_text(), re.M)[1]) * 1024
 
 
 # ---- priority

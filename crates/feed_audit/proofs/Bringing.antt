@@ -11,7 +11,8 @@ use Rattle.feed_node.specs.Reading.{Opening, AllGood, AllGoodAfter}
 use Rattle.feed_audit.specs.States.{Start, IsStateFrom}
 use Rattle.feed_audit.specs.Walks.{ReadsMore, AllAre}
 use Rattle.feed_audit.proofs.Agreeing.{agree_by, good_of, lines_walked}
-use Rattle.feed_audit.proofs.Walking.{published_is, all_end, lines_of_ended, walked_length}
+use Rattle.feed_audit.proofs.Walking.{published_is, all_end, walked_length}
+use Rattle.feed_records.proofs.EndedLines.{lines_of_ended}
 
 unsnoc : {X : Type 0} (xs : List X) → 0 < length xs → (ys : List X) × (y : X) × (xs ≡ ys ++ y ∷ [])
 unsnoc [] h = absurd (omega arith)

@@ -6,8 +6,8 @@ use Rattle.feed_note.specs.Publishing.{Published}
 use Rattle.feed_node.specs.Mirroring.{MirrorState, mirror_after, new_mirror, present_opening}
 use Rattle.feed_node.specs.Reading.{Opening}
 use Rattle.feed_audit.specs.Answers.{AgreementFrom, StrayingFrom, PrimaryFaults, ScreenFaults, IsVerdictFrom, IsVerdictOn, FailsFrom, begun_by}
-use Rattle.feed_audit.specs.Connections.{Recorded, is_chunked}
-use Rattle.feed_audit.specs.Parting.{IsFeedVerdict, IsPartVerdict, FailsInBody}
+use Rattle.feed_records.specs.Connections.{Recorded, is_chunked}
+use Rattle.feed_audit.specs.Reaching.{IsFeedVerdict, IsPartVerdict, FailsInBody}
 use Rattle.feed_audit.specs.Records.{FailsToAuditRecord, MayGoOn, opening_of}
 use Rattle.feed_audit.specs.States.{Start}
 use Rattle.feed_audit.specs.Stops.{IsUnreadScreen}

@@ -11,10 +11,10 @@ use Rattle.feed_audit.specs.Answers.{FailsFrom, FailsToLocate}
 use Rattle.feed_audit.specs.States.{Start, afresh, published_from}
 use Rattle.feed_audit.specs.Stops.{primary_fault, IsUnreadPrimary}
 use Rattle.feed_audit.specs.Walks.{Walked, AllAre, StopsAt, StopsFirst}
-use Rattle.feed_audit.specs.declared.reading.Stop.{Stop}
-use Rattle.feed_audit.specs.declared.reading.Stop.TheVariants as stopped
-use Rattle.feed_audit.specs.declared.reading.Unread.{Unread}
-use Rattle.feed_audit.specs.declared.reading.Unread.TheVariants as unread
+use Rattle.feed_audit.specs.declared.stop.Stop.{Stop}
+use Rattle.feed_audit.specs.declared.stop.Stop.TheVariants as stopped
+use Rattle.feed_records.specs.declared.reading.Unread.{Unread}
+use Rattle.feed_records.specs.declared.reading.Unread.TheVariants as unread
 use Rattle.feed_audit.specs.declared.verdict.AuditFault.{AuditFault}
 use Rattle.feed_audit.specs.declared.verdict.AuditFault.TheVariants as told
 use Rattle.feed_audit.proofs.Agreeing.{state_of}

@@ -12,9 +12,9 @@ use Rattle.feed_audit.specs.Answers.{HasStates, FailsToCount}
 use Rattle.feed_audit.specs.States.{afresh}
 use Rattle.feed_audit.specs.Stops.{primary_fault, IsUnreadPrimary}
 use Rattle.feed_audit.specs.Walks.{Walked, ReadsMore, GoesToEnd, StopsAt}
-use Rattle.feed_audit.specs.declared.reading.Stop.{Stop}
-use Rattle.feed_audit.specs.declared.reading.Stop.TheVariants as stopped
-use Rattle.feed_audit.specs.declared.reading.Unread.TheVariants as unread
+use Rattle.feed_audit.specs.declared.stop.Stop.{Stop}
+use Rattle.feed_audit.specs.declared.stop.Stop.TheVariants as stopped
+use Rattle.feed_records.specs.declared.reading.Unread.TheVariants as unread
 use Rattle.feed_audit.proofs.Agreeing.{good_of, all_lines}
 
 -- the text was read so far, and its states are counted

@@ -2,10 +2,10 @@
 use Rattle.std.proofs.Common.{◌≡◌, refl, ℕ}
 use Rattle.feed_node.specs.declared.fault.FeedFault.TheVariants as feed
 use Rattle.feed_audit.specs.Stops.{IsUnread, IsUnreadScreen, primary_fault, screen_fault}
-use Rattle.feed_audit.specs.declared.reading.Stop.{Stop}
-use Rattle.feed_audit.specs.declared.reading.Stop.TheVariants as stopped
-use Rattle.feed_audit.specs.declared.reading.Unread.{Unread}
-use Rattle.feed_audit.specs.declared.reading.Unread.TheVariants as unread
+use Rattle.feed_audit.specs.declared.stop.Stop.{Stop}
+use Rattle.feed_audit.specs.declared.stop.Stop.TheVariants as stopped
+use Rattle.feed_records.specs.declared.reading.Unread.{Unread}
+use Rattle.feed_records.specs.declared.reading.Unread.TheVariants as unread
 use Rattle.feed_audit.specs.declared.verdict.AuditFault.{AuditFault}
 use Rattle.feed_audit.specs.declared.verdict.AuditFault.TheVariants as told
 

@@ -9,7 +9,7 @@ use Rattle.feed_node.specs.Reading.{AllGood, Reads}
 use Rattle.feed_node.specs.States.{NodeState}
 use Rattle.feed_node.specs.declared.fault.FeedFault.{FeedFault}
 use Rattle.feed_audit.specs.Differences.{Explains}
-use Rattle.feed_audit.specs.Fronts.{IsLeft}
+use Rattle.feed_records.specs.Fronts.{IsLeft}
 use Rattle.feed_audit.specs.States.{Start, afresh, IsStateFrom, IsStateOf, AgreesFrom}
 use Rattle.feed_audit.specs.Stops.{IsOfRecord}
 use Rattle.feed_audit.specs.Walks.{Walked, AllAre, FaultsIn, FaultsFirst}

@@ -1,12 +1,8 @@
 pub mod Answers
-pub mod Connections
 pub mod Differences
-pub mod Fronts
-pub mod InMemory
-pub mod Parting
 pub mod Places
+pub mod Reaching
 pub mod Records
-pub mod ScreenLines
 pub mod States
 pub mod Stops
 pub mod Walks

@@ -6,7 +6,7 @@ use Rattle.feed_node.specs.Mirroring.{MirrorState, new_mirror, mirror_after, fir
 use Rattle.feed_node.specs.Reading.{Opening}
 use Rattle.feed_node.specs.declared.fault.FeedFault.{FeedFault}
 use Rattle.feed_audit.specs.Answers.{AgreementFrom, StrayingFrom, PrimaryFaults, ScreenFaults}
-use Rattle.feed_audit.specs.Connections.{AreConnectionsOf, Recorded, is_chunked}
+use Rattle.feed_records.specs.Connections.{AreConnectionsOf, Recorded, is_chunked}
 use Rattle.feed_audit.specs.States.{Start}
 use Rattle.feed_audit.specs.Stops.{IsOfRecord}
 use Rattle.feed_audit.specs.declared.verdict.AuditFault.{AuditFault}

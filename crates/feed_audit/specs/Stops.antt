@@ -1,10 +1,10 @@
 -- Which fault of an audit it is that one of its records can't be read on.
 use Rattle.std.specs.Prelude.{◌≢◌, ℕ, ◌+◌, min}
 use Rattle.feed_node.specs.declared.fault.FeedFault.TheVariants as feed
-use Rattle.feed_audit.specs.declared.reading.Stop.{Stop}
-use Rattle.feed_audit.specs.declared.reading.Stop.TheVariants as stop
-use Rattle.feed_audit.specs.declared.reading.Unread.{Unread}
-use Rattle.feed_audit.specs.declared.reading.Unread.TheVariants as unread
+use Rattle.feed_audit.specs.declared.stop.Stop.{Stop}
+use Rattle.feed_audit.specs.declared.stop.Stop.TheVariants as stop
+use Rattle.feed_records.specs.declared.reading.Unread.{Unread}
+use Rattle.feed_records.specs.declared.reading.Unread.TheVariants as unread
 use Rattle.feed_audit.specs.declared.verdict.AuditFault.{AuditFault}
 use Rattle.feed_audit.specs.declared.verdict.AuditFault.TheVariants as fault
 

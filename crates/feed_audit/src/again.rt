@@ -4,9 +4,10 @@ ghost use Rattle.std.specs.Prelude.{◌≡◌, ℕ, List, IfOk, IfErr, Some};
 ghost use Rattle.feed_audit.specs.Answers.{StartsReading};
 ghost use Rattle.feed_audit.specs.Stops.{IsUnread, IsUnreadPrimary};
 
-use crate::reading::{Replayed, Stop};
+use crate::stop::Stop;
 use crate::verdict::{AuditFault, of_primary};
 use feed_node::{Limits, Mirror};
+use feed_records::Replayed;
 use std::alloc::Global;
 
 /// Goes back to the beginning of the primary's record, and makes a mirror that reads it as a fresh

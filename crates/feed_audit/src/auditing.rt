@@ -3,7 +3,7 @@
 ghost use Rattle.std.specs.Prelude.{◌≡◌, ◌≤◌, ℕ, List, IfOk, IfErr, IfSome, OnOk, Some, true, false};
 ghost use Rattle.feed_node.specs.States.{published_token};
 ghost use Rattle.feed_audit.specs.Answers.{IsVerdict, IsVerdictOn, begun_by, FailsFrom, FailsToAudit, FailsToLocate, HasReadLines, IsStrange};
-ghost use Rattle.feed_audit.specs.Fronts.{IsLeft};
+ghost use Rattle.feed_records.specs.Fronts.{IsLeft};
 ghost use Rattle.feed_audit.specs.States.{Start, afresh, IsStateOf};
 ghost use Rattle.feed_audit.specs.Walks.{Walked, Finds, IsSince};
 ghost use Rattle.feed_audit.specs.Stops.{IsUnread, IsUnreadPrimary};
@@ -12,13 +12,13 @@ ghost use Rattle.feed_audit.specs.declared.verdict.AuditFault.TheVariants as tol
 
 use crate::again::read_again;
 use crate::explaining::explain;
-use crate::reading::{Lines, Replayed, Stop};
 use crate::since::Since;
-use crate::text_lines::TextLines;
+use crate::stop::Stop;
 use crate::verdict::{AuditFault, Stray, Verdict, of_primary, of_screen};
 use crate::walk::{find, next_state};
 use feed_node::{Limits, Mirror, Node};
 use feed_note::line_laws;
+use feed_records::{Lines, Replayed, TextLines};
 use feed_tables::Name;
 use std::alloc::Global;
 

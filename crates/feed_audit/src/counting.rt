@@ -5,11 +5,11 @@ ghost use Rattle.feed_audit.specs.Answers.{HasStates, FailsToCount};
 ghost use Rattle.feed_audit.specs.Stops.{IsUnread};
 
 use crate::again::read_again;
-use crate::reading::Replayed;
 use crate::verdict::{AuditFault, of_primary};
 use crate::walk::next_state;
 use feed_node::Limits;
 use feed_note::line_laws;
+use feed_records::Replayed;
 use std::alloc::Global;
 
 /// How many states the primary's record publishes, read as a fresh connection from its beginning to

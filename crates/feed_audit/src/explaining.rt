@@ -8,11 +8,11 @@ ghost use Rattle.feed_audit.specs.Stops.{IsUnread};
 
 use crate::again::read_again;
 use crate::difference::{Difference, difference_of};
-use crate::reading::Replayed;
 use crate::verdict::{AuditFault, of_primary};
 use crate::walk::next_state;
 use feed_node::{Limits, Node};
 use feed_note::line_laws;
+use feed_records::Replayed;
 use std::alloc::{AllocError, Global};
 
 /// Whether two nodes publish the same token.

@@ -2,19 +2,19 @@
 
 ghost use Rattle.std.specs.Prelude.{◌≡◌, ◌≢◌, ◌⊎◌, ◌+◌, ◌≤◌, ℕ, List, true, false, min, IfOk, IfErr, OnOk, IsTrue, IfSome, Some};
 ghost use Rattle.feed_node.specs.Mirroring.{new_mirror, present_opening};
-ghost use Rattle.feed_audit.specs.Connections.{is_chunked};
-ghost use Rattle.feed_audit.specs.Parting.{IsPartVerdict, FailsInBody, faults_behind, most, part_of, since_of};
+ghost use Rattle.feed_records.specs.Connections.{is_chunked};
+ghost use Rattle.feed_audit.specs.Reaching.{IsPartVerdict, FailsInBody, faults_behind, part_of};
+ghost use Rattle.feed_records.specs.Parting.{most, since_of};
 ghost use Rattle.feed_audit.specs.States.{IsStateOf};
 ghost use Rattle.feed_audit.specs.Records.{IsRecordVerdict, FailsToAuditRecord, MayGoOn, opening_of};
-ghost use Rattle.feed_audit.specs.ScreenLines.{source_of};
+ghost use Rattle.feed_records.specs.ScreenLines.{source_of};
 ghost use Rattle.feed_audit.specs.Stops.{IsUnread, IsUnreadScreen};
 
 use crate::auditing::audit_on;
-use crate::connections::{Opened, begins_in_chunks};
-use crate::reading::{Lines, Replayed, Skipped, Stop};
-use crate::screen_lines::ScreenLines;
+use crate::stop::Stop;
 use crate::verdict::{AuditFault, Stray, Verdict, of_screen};
 use feed_node::{Limits, Mirror};
+use feed_records::{Lines, Opened, Replayed, ScreenLines, Skipped, begins_in_chunks};
 use std::alloc::Global;
 
 /// Whether a mirror would ask with this token.

@@ -4,8 +4,9 @@ ghost use Rattle.std.specs.Prelude.{◌≡◌};
 ghost use Rattle.feed_audit.specs.Stops.{primary_fault, screen_fault};
 
 use crate::difference::Difference;
-use crate::reading::{Stop, Unread};
+use crate::stop::Stop;
 use feed_node::FeedFault;
+use feed_records::Unread;
 use feed_tables::Name;
 use std::alloc::AllocError;
 use thiserror::Error;

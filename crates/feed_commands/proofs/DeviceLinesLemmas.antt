@@ -7,8 +7,8 @@ use Rattle.feed_text.specs.Limits.{line_bytes}
 use Rattle.feed_note.specs.Lines.{HasNoLineFeed}
 use Rattle.feed_note.proofs.LineEnds.{unbroken_both, unbroken_behind}
 use Rattle.feed_http.specs.Device.{Moved}
-use Rattle.feed_audit.proofs.Parts.{tail_is}
-use Rattle.feed_audit.specs.Fronts.{IsLineAtFront, IsRestAtFront, IsLongAtFront, IsLineBefore}
+use Rattle.feed_records.proofs.EndedLines.{tail_is}
+use Rattle.feed_records.specs.Fronts.{IsLineAtFront, IsRestAtFront, IsLongAtFront, IsLineBefore}
 
 take_seam : (xs ys : List ℕ) → take (length xs) (xs ++ ys) ≡ xs
 take_seam [] ys = refl

@@ -5,7 +5,7 @@ use Rattle.feed_audit.specs.Answers.{HasStates, FailsToCount}
 use Rattle.feed_audit.specs.Records.{RecordAgrees, RecordStrays, FailsToAuditRecord}
 use Rattle.feed_audit.specs.Stops.{IsUnread}
 use Rattle.feed_verdicts.specs.Told.{agreement_text, agreement_json, stray_text, stray_json}
-use Rattle.feed_audit.specs.declared.reading.Unread.{Unread}
+use Rattle.feed_records.specs.declared.reading.Unread.{Unread}
 use Rattle.feed_audit.specs.declared.verdict.AuditFault.{AuditFault}
 use Rattle.feed_audit.specs.declared.verdict.Stray.{Stray}
 use Rattle.feed_http.specs.Device.{AppendsPrefix}

@@ -1,8 +1,8 @@
 -- A device whose bytes are read line by line: what is left of them, and why that ends.
 use Rattle.std.specs.Prelude.{◌⊎◌, ℕ, ◌+◌, ◌-◌, ◌<◌, List, length, take, drop, Option}
 use Rattle.std.specs.Io.KnownBytes.{prepend_known}
-use Rattle.feed_audit.specs.declared.reading.Unread.{Unread}
-use Rattle.feed_audit.specs.declared.reading.Unread.TheVariants.{Failed, TooLong, Memory}
+use Rattle.feed_records.specs.declared.reading.Unread.{Unread}
+use Rattle.feed_records.specs.declared.reading.Unread.TheVariants.{Failed, TooLong, Memory}
 use Rattle.feed_commands.specs.declared.device_lines.DeviceLines.{DeviceLines}
 
 -- the greatest number of bytes of a record that is read line by line

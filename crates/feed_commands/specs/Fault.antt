@@ -1,6 +1,6 @@
 -- Why a command fails, for the fault of what it calls, and the statuses that the program ends with.
 use Rattle.std.specs.Prelude.{◌≡◌, ◌⊎◌, ◌+◌, ◌≤◌, ℕ, Bool, true, false, List, length, Option, None, Some, Result, Ok, Err, if◌then◌else◌}
-use Rattle.feed_audit.specs.declared.reading.Unread.TheVariants as unread
+use Rattle.feed_records.specs.declared.reading.Unread.TheVariants as unread
 use Rattle.feed_audit.specs.declared.verdict.AuditFault.{AuditFault}
 use Rattle.feed_audit.specs.declared.verdict.AuditFault.TheVariants as audit
 use Rattle.feed_settings.specs.declared.place.PlaceFault.{PlaceFault}

@@ -3,11 +3,12 @@ ghost use Rattle.std.specs.Prelude.{◌≡◌};
 
 use crate::placing::{Spot, spot_of};
 use feed_arguments::AddressFault;
-use feed_audit::{AuditFault, Unread};
+use feed_audit::AuditFault;
 use feed_http::{EngineFault, PlaceFault};
 use feed_node::{CommitFault, FeedFault};
 use feed_note::{LineStop, SurveyFault};
 use feed_play::PlayFault;
+use feed_records::Unread;
 use feed_relay::NetworkFault;
 use std::alloc::{AllocError, AllocFailed, Global};
 use thiserror::Error;

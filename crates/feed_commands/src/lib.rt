@@ -25,9 +25,10 @@ pub use feed_arguments::{
     PullOptions, RelayOptions, Request, ServeOptions, TablesOptions, UpstreamOptions, VERSION,
     Verbosity, addresses, parse_words,
 };
-pub use feed_audit::{AuditFault, Replayed, ScreenLines, Skipped, TextLines, Unread};
+pub use feed_audit::AuditFault;
 pub use feed_http::{device, memory, stream};
 pub use feed_play::{PlayCause, PlayFault, play};
+pub use feed_records::{Replayed, ScreenLines, Skipped, TextLines, Unread};
 pub use feed_relay::{Accept, Dial, NetworkFault, Server};
 pub use placing::{Counting, Spot};
 pub use record_lines::{Record, RecordLines};

@@ -4,8 +4,8 @@ ghost use Rattle.std.specs.Prelude.{◌≡◌, ℕ, List, Option, None, Some, If
 ghost use Rattle.feed_commands.specs.DeviceLines.{FailsToOpen};
 
 use crate::device_lines::DeviceLines;
-use feed_audit::{Front, Lines, Replayed, Unread};
 use feed_http::device::FeedRead;
+use feed_records::{Front, Lines, Replayed, Unread};
 use std::alloc::Global;
 
 /// A record that can be opened at its beginning any number of times.

@@ -1,12 +1,11 @@
 //! The program: its arguments, standard streams and sockets, for the commands of `feed_commands`.
 #![tactic(auto)]
 
-mod compare;
 mod live;
 
-use compare::compare_servers;
 use feed_commands::stream::Stream;
 use feed_commands::{Fault, NoCommand, PROGRAM, Request, parse_words, run, tell};
+use feed_compare::compare_servers;
 use feed_host::{audit_records, ended, input_ahead, pull_feed, relay_feed, serve_feed};
 use feed_system::hold_standard;
 use live::live_feed;

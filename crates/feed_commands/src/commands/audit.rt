@@ -2,15 +2,16 @@
 ghost use Rattle.std.specs.Prelude.{◌≡◌, ℕ, List, IfOk, IfErr, OnOk, OnErr, IsErrOf, Some};
 ghost use Rattle.std.specs.Io.KnownBytes.{Appends};
 ghost use Rattle.feed_commands.specs.Audit.{record_bytes, agreement_told, stray_told, PrintsAgreement, AuditFails, IsUnreadRecord};
-ghost use Rattle.feed_audit.specs.ScreenLines.{source_of};
+ghost use Rattle.feed_records.specs.ScreenLines.{source_of};
 ghost use Rattle.feed_commands.specs.Check.{IsWholeWithin, FailsWithin};
 ghost use Rattle.feed_http.specs.Device.{AppendsPrefix, HasFailed};
 
 use crate::fault::Fault;
 use crate::input::read_within;
 use feed_arguments::AuditOptions;
-use feed_audit::{Replayed, ScreenLines, Skipped, Stray, Verdict, audit_record, count_states};
+use feed_audit::{Stray, Verdict, audit_record, count_states};
 use feed_http::device::{FeedRead, FeedWrite, write_all};
+use feed_records::{Replayed, ScreenLines, Skipped};
 use feed_verdicts::{print_agreement, print_agreement_json, print_stray, print_stray_json};
 use std::alloc::{AllocError, Global};
 

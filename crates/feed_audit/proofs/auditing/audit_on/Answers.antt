@@ -3,7 +3,7 @@ use Rattle.std.specs.Prelude.{IfSome}
 use Rattle.std.proofs.lemmas.Result.{err_from_is_err_and}
 use Rattle.feed_node.specs.States.{NodeState}
 use Rattle.feed_audit.specs.Answers.{FailsFrom, begun_by}
-use Rattle.feed_audit.specs.Fronts.{IsLeft}
+use Rattle.feed_records.specs.Fronts.{IsLeft}
 use Rattle.feed_audit.specs.States.{Start, afresh, IsStateOf}
 use Rattle.feed_audit.specs.Walks.{CommitsOn, IsNextState, Finds}
 use Rattle.feed_audit.proofs.Agreeing.{walked_begun, since_unknown, screen_stops}

@@ -3,7 +3,7 @@ use Rattle.std.proofs.Common.{◌≡◌, ◌≤◌, ℕ, List, Some}
 use Rattle.feed_audit.specs.Answers.{HasReadLines, begun_by}
 use Rattle.std.specs.Prelude.{IfSome}
 use Rattle.feed_audit.specs.States.{IsStateOf}
-use Rattle.feed_audit.specs.Fronts.{IsLeft}
+use Rattle.feed_records.specs.Fronts.{IsLeft}
 use Rattle.feed_audit.specs.Walks.{IsSince}
 use Rattle.feed_audit.proofs.Verdicts.{Agrees}
 use Rattle.feed_audit.proofs.auditing.audit_on.Given as goal

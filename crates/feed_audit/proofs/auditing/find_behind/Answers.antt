@@ -1,6 +1,6 @@
 use Rattle.std.proofs.Common.{rules, sym, subst}
 use Rattle.feed_audit.specs.Stops.{IsUnread, IsUnreadPrimary}
-use Rattle.feed_audit.specs.declared.reading.Stop.TheVariants as stopped
+use Rattle.feed_audit.specs.declared.stop.Stop.TheVariants as stopped
 use Rattle.feed_audit.proofs.Missing.{unread_primary}
 use Rattle.feed_audit.proofs.Unreading.{primary_unread}
 use Rattle.feed_audit.proofs.auditing.find_behind.Goals as goal

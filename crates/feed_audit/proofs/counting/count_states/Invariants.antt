@@ -1,6 +1,6 @@
 -- The states so far are counted.
 use Rattle.std.proofs.Common.{◌≡◌, ℕ, List, Some}
-use Rattle.feed_audit.specs.Fronts.{IsLeft}
+use Rattle.feed_records.specs.Fronts.{IsLeft}
 use Rattle.feed_audit.proofs.Tallying.{Counts}
 use Rattle.feed_audit.proofs.counting.count_states.Given as goal
 

@@ -4,7 +4,7 @@ use Rattle.feed_note.specs.declared.line.Line.{Line}
 use Rattle.feed_node.specs.States.{NodeState}
 use Rattle.std.proofs.lemmas.Result.{err_from_is_err_and}
 use Rattle.feed_audit.specs.Answers.{FailsToLocate}
-use Rattle.feed_audit.specs.Fronts.{IsLeft}
+use Rattle.feed_records.specs.Fronts.{IsLeft}
 use Rattle.feed_audit.specs.States.{afresh}
 use Rattle.feed_audit.specs.Walks.{IsNextState, Walked, AllAre}
 use Rattle.feed_audit.proofs.Missing.{locate_unread, explain_stops}

@@ -2,7 +2,7 @@
 use Rattle.std.proofs.Common.{◌≡◌, ◌≢◌, ℕ, List, Some}
 use Rattle.feed_note.specs.Publishing.{Published}
 use Rattle.feed_note.specs.declared.line.Line.{Line}
-use Rattle.feed_audit.specs.Fronts.{IsLeft}
+use Rattle.feed_records.specs.Fronts.{IsLeft}
 use Rattle.feed_audit.specs.States.{afresh}
 use Rattle.feed_audit.specs.Walks.{Walked, AllAre}
 use Rattle.feed_audit.proofs.explaining.explain.Given as goal

@@ -1,6 +1,6 @@
 use Rattle.std.proofs.Common.{rules, sym, ◌∙◌}
 use Rattle.std.proofs.lemmas.Result.{IfOk-weaker, IfErr-weaker, err_from_is_err_and}
-use Rattle.feed_audit.specs.Parting.{part_of}
+use Rattle.feed_audit.specs.Reaching.{part_of}
 use Rattle.feed_audit.proofs.GoingOn.{feed_part, feed_verdict, feed_fails, can_not_go_on, in_chunks, shown_on, unread_part}
 use Rattle.feed_audit.proofs.record.audit_connection.Goals as goal
 

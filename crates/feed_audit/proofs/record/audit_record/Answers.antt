@@ -1,9 +1,10 @@
 use Rattle.std.proofs.Common.{rules, refl, sym, ap, subst, ◌∙◌, true}
 use Rattle.std.specs.Prelude.{option_map}
-use Rattle.feed_audit.specs.Connections.{part}
-use Rattle.feed_audit.specs.Parting.{IsPartVerdict, Reached, body_of, since_of}
+use Rattle.feed_records.specs.Connections.{part}
+use Rattle.feed_audit.specs.Reaching.{IsPartVerdict, Reached}
+use Rattle.feed_records.specs.Parting.{body_of, since_of}
 use Rattle.feed_audit.specs.Records.{FailsToAuditRecord}
-use Rattle.feed_audit.proofs.Looking.{end_of}
+use Rattle.feed_records.proofs.Looking.{end_of}
 use Rattle.feed_audit.proofs.Parts.{goes_on, ends_with, reached_none, reached_more, record_agrees, strays_at, fails_at}
 use Rattle.feed_audit.proofs.record.audit_record.Goals as goal
 

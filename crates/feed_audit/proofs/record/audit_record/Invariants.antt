@@ -1,7 +1,8 @@
 -- The connections so far agree.
 use Rattle.std.proofs.Common.{◌≡◌, ℕ, List, Some}
-use Rattle.feed_audit.specs.Fronts.{IsLeft}
-use Rattle.feed_audit.specs.Parting.{Reached, since_of}
+use Rattle.feed_records.specs.Fronts.{IsLeft}
+use Rattle.feed_audit.specs.Reaching.{Reached}
+use Rattle.feed_records.specs.Parting.{since_of}
 use Rattle.feed_audit.proofs.record.audit_record.Given as goal
 
 abbrev pub invariant-connections : goal.invariant-connections

@@ -1,8 +1,8 @@
 use Rattle.std.proofs.Common.{sym, ap, ◌∙◌, subst}
-use Rattle.feed_audit.specs.Connections.{is_chunked}
+use Rattle.feed_records.specs.Connections.{is_chunked}
 use Rattle.feed_audit.specs.Stops.{IsUnread, IsUnreadScreen}
-use Rattle.feed_audit.specs.declared.reading.Stop.TheVariants as stopped
-use Rattle.feed_audit.proofs.Looking.{chunk_front}
+use Rattle.feed_audit.specs.declared.stop.Stop.TheVariants as stopped
+use Rattle.feed_records.proofs.Looking.{chunk_front}
 use Rattle.feed_audit.proofs.Unreading.{IsStopOf, screen_unread, unread_screen}
 use Rattle.feed_audit.proofs.record.look_for_chunks.Goals as goal
 

@@ -1,0 +1,9 @@
+pub mod Bodies
+pub mod Connecting
+pub mod Cutting
+pub mod EndedLines
+pub mod Looking
+pub mod Openings
+pub mod Passing
+pub mod Quoted
+pub mod Skipping

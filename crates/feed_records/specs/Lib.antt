@@ -1,0 +1,5 @@
+pub mod Connections
+pub mod Fronts
+pub mod InMemory
+pub mod Parting
+pub mod ScreenLines
