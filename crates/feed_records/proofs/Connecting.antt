@@ -1,5 +1,5 @@
 -- The connection that has begun, and the next.
-use Rattle.std.proofs.Common.{◌≡◌, refl, sym, ap, ◌∙◌, subst, ℕ, ◌+◌, min, Bool, true, false, List, [], ◌∷◌, ◌++◌, append-nil, length, length-append, arith, Option, None, Some}
+use Rattle.std.proofs.Common.{◌≡◌, sym, ap, ◌∙◌, subst, ℕ, ◌+◌, min, Bool, true, List, [], ◌∷◌, ◌++◌, append-nil, length, length-append, arith, Option}
 use Rattle.std.specs.List.{AllByRecursion}
 use Rattle.feed_note.specs.Lines.{HasNoLineFeed, lines, ended}
 use Rattle.feed_records.specs.Connections.{Cut, Recorded, part, OpensFeed, OpensNone, announced_by, last, opened, headless, marked, named, answered}

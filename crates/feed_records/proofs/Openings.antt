@@ -1,5 +1,5 @@
 -- What the first bytes of a line say of its opening.
-use Rattle.std.proofs.Common.{◌≡◌, refl, ap, ℕ, drop, cond, Bool, true, false, List, [], ◌∷◌, length, arith, Option, None, Some}
+use Rattle.std.proofs.Common.{◌≡◌, refl, ap, ℕ, drop, cond, true, false, List, [], ◌∷◌, length, arith, None, Some}
 use Rattle.std.specs.Prelude.{◌==◌, codes, slice_index_or}
 use Rattle.std.specs.List.{starts_with}
 use Rattle.feed_records.specs.Connections.{is_status_line, is_since, is_success, since_in, status_in}
