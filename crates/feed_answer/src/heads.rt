@@ -22,7 +22,8 @@ pub enum HeadRead {
     More,
 }
 
-/// Whether a text is short enough for a head. Its fields have room for no more than a head may have.
+/// Whether a text is short enough for a head. Its fields have room for no more than a head may
+/// have.
 pub(crate) fn is_short(text: &[u8]) -> bool
     ensures { IsTrue result ↔ ((length text.now ≤ head_bytes)
         × (line_count text.now ≤ head_lines)) }

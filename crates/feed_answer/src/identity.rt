@@ -70,8 +70,8 @@ impl Identity {
         }
     }
 
-    /// The identity that the texts make. A user is a name, a colon and a password, as in RFC 7617, so
-    /// that the name has no colon, and the password may.
+    /// The identity that the texts make. A user is a name, a colon and a password, as in RFC 7617,
+    /// so that the name has no colon, and the password may.
     pub fn new(
         alloc: Global,
         host: Option<&str>,

@@ -27,9 +27,9 @@ pub fn request_text(place: &Place, since: Option<&str>, out: &mut Vec<u8>) -> Re
     appended
 }
 
-/// Appends the same request with what an identity says: the host by its name for it, and a line with
-/// the credentials of who asks. For nobody in particular it is the request of `request_text`. Out of
-/// memory, nothing is appended.
+/// Appends the same request with what an identity says: the host by its name for it, and a line
+/// with the credentials of who asks. For nobody in particular it is the request of `request_text`.
+/// Out of memory, nothing is appended.
 pub fn request_text_as(
     place: &Place,
     since: Option<&str>,

@@ -233,8 +233,8 @@ fn owned(alloc: Global, all: &[&str]) -> Result<Vec<Network>, AllocError>
     Ok(networks)
 }
 
-/// The networks that a text lists, each an address, or an address, a slash, and how many of its bits
-/// count; the bits after them are 0. There are at most 64.
+/// The networks that a text lists, each an address, or an address, a slash, and how many of its
+/// bits count; the bits after them are 0. There are at most 64.
 pub fn networks(alloc: Global, text: &str) -> Result<Vec<Network>, AddressFault>
     ensures ok { IfOk result (λ networks. AreNetworks (parts text.now) networks.items) }
     ensures few { IfOk result (λ networks. length networks.items ≤ most_networks) }

@@ -46,7 +46,8 @@ pub struct CompareOptions<'a> {
     pub against: &'a str,
     /// The contest whose feeds are compared. Any text will do.
     pub contest: &'a str,
-    /// After how many seconds the comparison ends, 1 to 1,000,000; without it there is no such time.
+    /// After how many seconds the comparison ends, 1 to 1,000,000; without it there is no such
+    /// time.
     pub seconds: Option<u64>,
     /// Whether what was found is printed as JSON.
     pub json: bool,
@@ -167,8 +168,8 @@ pub struct LiveOptions<'a> {
     pub idle: u64,
     /// How many bytes a screen may be late before it is cut off, 1 to 1,073,741,824.
     pub window: u64,
-    /// How many bytes of long texts screens may have yet to take before no further one is made, 1 to
-    /// 1,099,511,627,776.
+    /// How many bytes of long texts screens may have yet to take before no further one is made, 1
+    /// to 1,099,511,627,776.
     pub pending: usize,
     /// How the answers are framed.
     pub framing: Framing,
@@ -176,16 +177,16 @@ pub struct LiveOptions<'a> {
     pub state: Option<&'a str>,
     /// Whether it begins without what that file has.
     pub is_new: bool,
-    /// A feed that was asked for from the start is shown once no more than 1/64 of it came in so many
-    /// milliseconds, 0 to 60,000. Zero: each of its states is shown as it comes.
+    /// A feed that was asked for from the start is shown once no more than 1/64 of it came in so
+    /// many milliseconds, 0 to 60,000. Zero: each of its states is shown as it comes.
     pub settle: u64,
     /// Whether each connection asks for everything.
     pub fresh: bool,
-    /// Whether a connection asks for what comes after the newest token, and not for the newest commit
-    /// again.
+    /// Whether a connection asks for what comes after the newest token, and not for the newest
+    /// commit again.
     pub no_recheck: bool,
-    /// After how many seconds without a commit the other servers are asked in turn, 0 to 3,600. Zero:
-    /// they are asked only where the one that is followed fails.
+    /// After how many seconds without a commit the other servers are asked in turn, 0 to 3,600.
+    /// Zero: they are asked only where the one that is followed fails.
     pub return_after: u64,
     /// How many seconds a request waits for a server to be heard, after a start with a state, 0 to
     /// 3,600.

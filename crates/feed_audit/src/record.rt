@@ -28,7 +28,8 @@ fn asks_with(mirror: &Mirror, token: &[u8]) -> bool
     }
 }
 
-/// The mirror of a connection is a new one, or where a token is said the one that read those before.
+/// The mirror of a connection is a new one, or where a token is said the one that read those
+/// before.
 fn choose(
     alloc: Global,
     limits: Limits,
@@ -158,8 +159,8 @@ fn stray_behind(stray: Stray, before: usize, states: usize) -> Stray
 
 /// Whether each state that the screen's record publishes is one that the primary's publishes under
 /// the same token. The screen's may have several connections, one after the other, with heads or
-/// lines `# connection` before them. Each is read as a fresh one, and so is the primary's record; but
-/// behind a line `# connection since TOKEN` it goes on where those before it ended, whose last
+/// lines `# connection` before them. Each is read as a fresh one, and so is the primary's record;
+/// but behind a line `# connection since TOKEN` it goes on where those before it ended, whose last
 /// state's token that has to be. What is left of the screen's record is read once.
 pub fn audit_record<P: Replayed, L: Skipped>(
     alloc: Global,

@@ -147,9 +147,9 @@ fn local_of<'r, 'a>(request: &'r Request<'a>) -> Option<&'r Local<'a>>
 /// Runs the command that these words ask for, the first of which is the program's name, and answers
 /// the status that the program ends with. Of a command that opens no connection that is 0, or the
 /// first of these that applies: 5 when out of memory, 4 for a device that failed or an input that
-/// did not end, 2 for a faulty input, 3 where nothing was published. Where the words ask for another
-/// command, nothing is read or written, and the status is 1. Where they ask for none, it is that of
-/// what is replied to them.
+/// did not end, 2 for a faulty input, 3 where nothing was published. Where the words ask for
+/// another command, nothing is read or written, and the status is 1. Where they ask for none, it is
+/// that of what is replied to them.
 pub fn run<'a, R: FeedRead, W: FeedWrite, E: FeedWrite>(
     alloc: Global,
     words: &'a [&'a str],

@@ -137,8 +137,8 @@ impl Teller {
         }
     }
 
-    /// Tells a fault, and on a second line the address that it is about where there is one. Where it
-    /// can't be told, the command goes on all the same.
+    /// Tells a fault, and on a second line the address that it is about where there is one. Where
+    /// it can't be told, the command goes on all the same.
     fn tell<E: FeedWrite>(&mut self, fault: Fault, address: Option<Address<'_>>, err: &mut E)
         ensures told { HasTold (E.failures err.old) (E.failures err.new)
             self.old.has_failed self.new.has_failed }

@@ -149,8 +149,8 @@ impl<'r> Comparison<'r> {
         Ok(())
     }
 
-    /// Compares what both show, and prints what was found. With `are_next` both made one commit since
-    /// they agreed.
+    /// Compares what both show, and prints what was found. With `are_next` both made one commit
+    /// since they agreed.
     fn compare(&mut self, are_next: bool) -> Result<(), Fault> {
         let (text, is_same) = needs_memory(self.verdict(are_next))?;
         if self.rt.stdout().write_all(text.as_slice()).is_err() {
@@ -216,8 +216,8 @@ impl<'r> Comparison<'r> {
     }
 }
 
-/// Whether two nodes that agreed before their last commits publish the same wherever these may have made
-/// a difference.
+/// Whether two nodes that agreed before their last commits publish the same wherever these may have
+/// made a difference.
 fn commits_agree(node: &Node, other: &Node) -> bool {
     let (Some(tables), Some(others)) = (node.published(), other.published()) else {
         return false;
@@ -239,12 +239,9 @@ fn shows_same(node: &Node, other: &Node) -> bool {
     }
 }
 
-/// Follows two servers, and prints at each token that both have whether they agree, until they don't
-/// or for as long as is asked for.
-pub fn compare_servers(
-    rt: &HostRuntime,
-    options: &CompareOptions<'_>,
-) -> Result<(), Failure> {
+/// Follows two servers, and prints at each token that both have whether they agree, until they
+/// don't or for as long as is asked for.
+pub fn compare_servers(rt: &HostRuntime, options: &CompareOptions<'_>) -> Result<(), Failure> {
     let mut comparison = Comparison::new(rt, options)?;
     let until = match options.seconds {
         Some(seconds) => seconds.saturating_mul(1_000),

@@ -80,8 +80,8 @@ fn put_side(side: &Side, whole: bool, out: &mut Vec<u8>) -> Result<(), AllocErro
     }
 }
 
-/// Appends an object: its first bytes, as far as they are whole characters, and dots where there are
-/// more.
+/// Appends an object: its first bytes, as far as they are whole characters, and dots where there
+/// are more.
 fn put_object(object: &[u8], whole: bool, out: &mut Vec<u8>) -> Result<(), AllocError> {
     let front = match object.get(..PRINTED) {
         Some(front) if !whole => front,

@@ -160,8 +160,8 @@ pub enum Report {
     Ignores {
         server: usize,
     },
-    /// A server that was asked for everything has another state at the token that is shown: first at
-    /// this type, and at this id in its collection. They are empty where it was not found out.
+    /// A server that was asked for everything has another state at the token that is shown: first
+    /// at this type, and at this id in its collection. They are empty where it was not found out.
     Differs {
         server: usize,
         kind: Excerpt,
@@ -204,8 +204,8 @@ pub enum Report {
         server: usize,
         bytes: u64,
     },
-    /// The input can't be followed from the line of this number on, counted from 1: nothing more of it
-    /// is read.
+    /// The input can't be followed from the line of this number on, counted from 1: nothing more of
+    /// it is read.
     BadInput {
         fault: FeedFault,
         line: u64,

@@ -96,8 +96,8 @@ impl Failure {
         Failure::at(fault, host, port)
     }
 
-    /// A fault of following these servers. Where there was no connection, that is about the last one:
-    /// each before it was asked in vain.
+    /// A fault of following these servers. Where there was no connection, that is about the last
+    /// one: each before it was asked in vain.
     pub(crate) fn of_servers(rt: &HostRuntime, fault: Fault, servers: &[Server<'_>]) -> Failure
         ensures { status_for result.why ≡ status_of fault }
     {
@@ -119,7 +119,8 @@ impl Failure {
         }
     }
 
-    /// The same, where the text names what is in the way; where there is no memory for it, this one.
+    /// The same, where the text names what is in the way; where there is no memory for it, this
+    /// one.
     pub fn refused_for(text: Result<String, AllocError>, short: &'static str) -> Failure
         ensures { status_for result.why ≡ 1 }
     {

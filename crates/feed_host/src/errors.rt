@@ -1,4 +1,5 @@
-//! Standard error, which never makes a command wait: a line that it can't take at once is left away.
+//! Standard error, which never makes a command wait: a line that it can't take at once is left
+//! away.
 ghost use Rattle.std.specs.Prelude.{◌≡◌};
 
 use feed_commands::device::{Failed, FeedWrite};

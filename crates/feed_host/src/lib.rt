@@ -1,6 +1,6 @@
-//! The commands that open connections one after another, over TCP and the standard streams; and what
-//! every command of the network has in common: how servers are named, as whom they are asked, and
-//! what is reported of a failure.
+//! The commands that open connections one after another, over TCP and the standard streams; and
+//! what every command of the network has in common: how servers are named, as whom they are asked,
+//! and what is reported of a failure.
 #![tactic(auto)]
 
 mod ahead;

@@ -6,9 +6,10 @@ use crate::laws::hub_laws;
 use feed_answer::followed_laws;
 use feed_world::following_laws;
 
-/// What a node, or a primary that takes batches meanwhile, writes on a connection is followed in any
-/// pieces: after each byte the mirror shows a state that the log has at its token, and after all of
-/// them it is as far as the server. The first holds of what a primary wrote until it broke off, too.
+/// What a node, or a primary that takes batches meanwhile, writes on a connection is followed in
+/// any pieces: after each byte the mirror shows a state that the log has at its token, and after
+/// all of them it is as far as the server. The first holds of what a primary wrote until it broke
+/// off, too.
 pub fn connection_laws()
     ensures nodes { NodesAreFollowed }
     ensures primaries { PrimariesAreFollowed }

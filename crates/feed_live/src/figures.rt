@@ -30,8 +30,8 @@ pub struct FeedFigures {
     pub failures: u64,
     pub commits: u64,
     pub bytes: u64,
-    /// How many lines and bytes came on a connection of which nothing is shown until it has settled;
-    /// zero where none is to settle.
+    /// How many lines and bytes came on a connection of which nothing is shown until it has
+    /// settled; zero where none is to settle.
     pub coming_lines: u64,
     pub coming_bytes: u64,
     /// When the last commit was published, where one was since the start.
@@ -197,8 +197,8 @@ impl Live {
         self.screens.open()
     }
 
-    /// At most so many of the screens, the slowest first: who lacks most, then who came first. Takes
-    /// time in proportion to how many there are.
+    /// At most so many of the screens, the slowest first: who lacks most, then who came first.
+    /// Takes time in proportion to how many there are.
     pub fn screen_rows(&self, alloc: Global, most: usize) -> Result<Vec<ScreenRow>, AllocError> {
         self.screens.rows(alloc, most)
     }

@@ -28,10 +28,10 @@ pub fn live_laws()
     hub_laws();
 }
 
-/// What a server of other make sends is honest where its lines, whatever else stands in them, tell a
-/// log whose states have any tokens, each its own. So is a feed of written lines, each with a token
-/// that no other has; and a replay that came whole, as far as it is shown, whose end is a state of
-/// the log. Two lines are an example of each.
+/// What a server of other make sends is honest where its lines, whatever else stands in them, tell
+/// a log whose states have any tokens, each its own. So is a feed of written lines, each with a
+/// token that no other has; and a replay that came whole, as far as it is shown, whose end is a
+/// state of the log. Two lines are an example of each.
 pub fn foreign_laws()
     ensures meaning { MeaningTells }
     ensures input { ToldIsHonest }

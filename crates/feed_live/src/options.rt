@@ -12,8 +12,8 @@ use feed_screens::ScreenLimits;
 pub struct LiveLimits {
     /// Those of its screens. A server that is silent for twice as long as a screen is left.
     pub screens: ScreenLimits,
-    /// A feed that was asked for from the start is shown once no more than 1/64 of it came in so many
-    /// milliseconds. Zero: each of its states is shown as it comes.
+    /// A feed that was asked for from the start is shown once no more than 1/64 of it came in so
+    /// many milliseconds. Zero: each of its states is shown as it comes.
     pub settle: u64,
     /// Whether each connection asks for everything.
     pub is_fresh: bool,
@@ -22,8 +22,8 @@ pub struct LiveLimits {
     /// After how many milliseconds without a publication the other servers are asked in turn. Zero:
     /// only where the one that is followed fails.
     pub return_after: u64,
-    /// Whether each connection asks for the newest commit again, to see whether the server still has
-    /// that.
+    /// Whether each connection asks for the newest commit again, to see whether the server still
+    /// has that.
     pub rechecks: bool,
     /// How many milliseconds a request waits for a server to be heard.
     pub hold: u64,

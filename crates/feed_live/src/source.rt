@@ -42,7 +42,8 @@ pub(crate) struct Source {
     identity: Identity,
     upstream: Upstream,
     pub(crate) answers: Answers,
-    /// What follows a connection that asked for everything, until that has settled: it is not shown.
+    /// What follows a connection that asked for everything, until that has settled: it is not
+    /// shown.
     coming: Option<Mirror>,
     settling: Settling,
     /// The last token of what came afresh when the connection ended before it had settled.
@@ -197,9 +198,9 @@ impl Source {
         dues.iter().flatten().fold(due, |due, at| due.min(*at))
     }
 
-    /// When the server counts as heard though it publishes nothing: it answered with what comes after
-    /// our token. One that was asked for everything counts only once it has published, and one that was
-    /// asked for the newest commit again not before that came.
+    /// When the server counts as heard though it publishes nothing: it answered with what comes
+    /// after our token. One that was asked for everything counts only once it has published, and
+    /// one that was asked for the newest commit again not before that came.
     fn heard_at(&self) -> Option<u64> {
         if self.is_heard || self.is_fresh || self.rechecking.is_going() {
             return None;

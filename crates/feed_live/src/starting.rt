@@ -27,8 +27,8 @@ fn or_nothing(alloc: Global, read: Result<Vec<u8>, Stop>) -> Vec<u8>
     }
 }
 
-/// What the state files had when the relay began: a state of the feed that they were written from, or
-/// nothing; nothing, too, where they can't be read, and when it is asked for again.
+/// What the state files had when the relay began: a state of the feed that they were written from,
+/// or nothing; nothing, too, where they can't be read, and when it is asked for again.
 pub fn restore_from<D: Store>(
     alloc: Global,
     limits: Limits,
@@ -87,8 +87,8 @@ fn restored_for<D: Store>(
     })
 }
 
-/// A relay of this setup, which begins with what its state files had. What that is, the host is told
-/// before.
+/// A relay of this setup, which begins with what its state files had. What that is, the host is
+/// told before.
 pub(crate) fn begin<S, L, D: Store, H: Host<S, L, D>>(
     alloc: Global,
     setup: Setup,

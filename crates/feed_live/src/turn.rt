@@ -201,7 +201,8 @@ impl Live {
             → KeepsFiles nodes (D.files devices.old.store) self.old.saved
             → KeepsFiles nodes (D.files devices.new.store) self.new.saved }
 
-        // all that they ever had is some of what records of such nodes wrote, from the first byte on
+        // all that they ever had is some of what records of such nodes wrote, from the first byte
+        // on
         ensures parts { (nodes : List NodeState)
             → Contains nodes self.new.source.answers.shown.mirror.node
             → KeepsFiles nodes (D.files devices.old.store) self.old.saved

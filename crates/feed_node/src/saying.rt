@@ -36,8 +36,8 @@ fn stand_all(tables: &Tables, made: &Tables, changes: &[Change]) -> bool {
     true
 }
 
-/// So it is where one change speaks of. One that takes an object away leaves no collection where none
-/// was.
+/// So it is where one change speaks of. One that takes an object away leaves no collection where
+/// none was.
 fn stands_at(tables: &Tables, made: &Tables, change: &Change) -> bool {
     match change {
         Change::Remove(kind, id) => {

@@ -148,8 +148,8 @@ pub(crate) fn opens(line: &[u8]) -> bool
     opening_of(line).is_some()
 }
 
-/// Makes it how the connection on the line was opened that begins there, and answers whether that is
-/// a head. A head directly behind the beginning of a connection was asked for with its token.
+/// Makes it how the connection on the line was opened that begins there, and answers whether that
+/// is a head. A head directly behind the beginning of a connection was asked for with its token.
 pub(crate) fn read_opening(
     alloc: Global,
     line: &[u8],

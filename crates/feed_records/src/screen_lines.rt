@@ -113,7 +113,8 @@ impl<L: Lines> ScreenLines<L> {
         self.lines
     }
 
-    /// Looks at the front of what is left of the record, and whether another connection begins there.
+    /// Looks at the front of what is left of the record, and whether another connection begins
+    /// there.
     fn look_ahead(&mut self) -> Result<Front, Unread>
         ensures left { (text : List ℕ) → L.left self.old.source ≡ Some text
             → OnOk result (L.left self.new.source ≡ Some text) }

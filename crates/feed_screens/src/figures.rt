@@ -69,8 +69,8 @@ impl ScreenTotals {
         self.bytes = self.bytes.saturating_add(bytes as u64);
     }
 
-    /// So many bodies were ended, since something is published afresh. Where nothing was before, that
-    /// is no news.
+    /// So many bodies were ended, since something is published afresh. Where nothing was before,
+    /// that is no news.
     pub(crate) fn reset(&mut self, was_said: bool, bodies: u64) {
         if was_said {
             self.resets = self.resets.saturating_add(1);

@@ -1,5 +1,5 @@
-//! The screens of a relay: each has a socket, a connection at the same place, and a seat in the hub.
-//! What came on a socket is heard, what the hub has for it is written, and nothing waits.
+//! The screens of a relay: each has a socket, a connection at the same place, and a seat in the
+//! hub. What came on a socket is heard, what the hub has for it is written, and nothing waits.
 //!
 //! Nothing here has a handle: the sockets are given (`Sockets`), and so is the time. Whoever runs a
 //! relay says when: `relay` says to all what a node has next, `serve` reads from and writes to one

@@ -61,8 +61,8 @@ impl Screens {
         had_more
     }
 
-    /// Whether what had to wait can be said now: the time has come, or all took what was said. After
-    /// memory ran out only the time counts, or the same would be tried again and again.
+    /// Whether what had to wait can be said now: the time has come, or all took what was said.
+    /// After memory ran out only the time counts, or the same would be tried again and again.
     pub fn says_now(&self, now: u64) -> bool
         ensures { IfSome self.now.saying.waits (λ at. at ≤ now → result ≡ true) }
     {
@@ -180,8 +180,8 @@ impl Screens {
         true
     }
 
-    /// Where nobody is there to hear a commit the log is at no token, so it begins at the newest one,
-    /// and no text of those between is made.
+    /// Where nobody is there to hear a commit the log is at no token, so it begins at the newest
+    /// one, and no text of those between is made.
     fn skip_unheard(&mut self, desk: &Desk)
         ensures serving { StillStand self.old self.new }
         ensures ended { AllEnd self.old.hub → AllEnd self.new.hub }

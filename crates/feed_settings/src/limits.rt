@@ -22,9 +22,9 @@ pub const MOST_CHANGES: usize = 1_000_000;
 pub const MOST_MEMORY: usize = 1_000_000_000_000;
 
 /// How many commits a node keeps, 1 to [`MOST_COMMITS`], and how many changes may wait for a token,
-/// 1 to [`MOST_CHANGES`]; the second bounds the size of the tables that it publishes, too. Where its
-/// memory is limited, so are the bytes of the objects that wait, of those in these tables, and of
-/// those in the commits that it keeps. The last may be limited alone.
+/// 1 to [`MOST_CHANGES`]; the second bounds the size of the tables that it publishes, too. Where
+/// its memory is limited, so are the bytes of the objects that wait, of those in these tables, and
+/// of those in the commits that it keeps. The last may be limited alone.
 #[derive(Clone, Copy)]
 pub struct Limits {
     history: usize,

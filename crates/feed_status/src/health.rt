@@ -12,8 +12,8 @@ use std::fmt;
 pub enum Level {
     /// It follows, and has something to show.
     Good,
-    /// It shows nothing, or nothing new at the moment, and heard upstream not long ago; or something
-    /// else is wrong that somebody should look at.
+    /// It shows nothing, or nothing new at the moment, and heard upstream not long ago; or
+    /// something else is wrong that somebody should look at.
     Doubtful,
     /// Nothing was heard of upstream for longer than it may be silent.
     Bad,

@@ -11,8 +11,8 @@ const TICKS: u64 = 100;
 /// How many bytes a kibibyte has.
 const KIBIBYTE: u64 = 1_024;
 
-/// Which of the fields of `stat` behind the name are the time in the program and that in the kernel,
-/// counted from 0.
+/// Which of the fields of `stat` behind the name are the time in the program and that in the
+/// kernel, counted from 0.
 const IN_PROGRAM: usize = 11;
 
 const IN_KERNEL: usize = 12;

@@ -22,8 +22,8 @@ pub(crate) fn stamp(rt: &HostRuntime) -> Timestamp {
     }
 }
 
-/// What is reported where a state file was written last at a time, in seconds since 1970, this token was
-/// restored, and so many bytes were left away.
+/// What is reported where a state file was written last at a time, in seconds since 1970, this
+/// token was restored, and so many bytes were left away.
 pub fn restored_text(
     alloc: Global,
     written: i64,

@@ -43,8 +43,8 @@ enum Key {
     Other,
 }
 
-/// One of the four keys, where it stands to the letter behind a quotation mark, and what comes after
-/// its colon.
+/// One of the four keys, where it stands to the letter behind a quotation mark, and what comes
+/// after its colon.
 #[inline(always)]
 fn usual_key(text: &[u8]) -> Option<(Key, &[u8])>
     ensures { IfSome result (λ found. IsKeyAt text.now found.0 found.1.now) }
@@ -87,8 +87,8 @@ fn key_of(name: &[u8]) -> Key
     Key::Other
 }
 
-/// A key without a backslash behind its quotation mark, and what comes after its colon. It is a call
-/// of its own, so that what reads the four names stays short.
+/// A key without a backslash behind its quotation mark, and what comes after its colon. It is a
+/// call of its own, so that what reads the four names stays short.
 #[inline(never)]
 fn any_key(text: &[u8]) -> Option<(Key, &[u8])>
     ensures { IfSome result (λ found. IsKeyAt text.now found.0 found.1.now) }

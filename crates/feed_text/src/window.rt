@@ -2,8 +2,8 @@
 //!
 //! An object has many short strings. Each of them would be looked at on its own, and most bytes
 //! more than once. Here the bytes ahead are looked at once, and the mask that is made of them is
-//! shifted from string to string. Where it is used up, it is made anew. Where it does not tell where
-//! a string ends, or the string has an escape, the caller goes another way.
+//! shifted from string to string. Where it is used up, it is made anew. Where it does not tell
+//! where a string ends, or the string has an escape, the caller goes another way.
 
 ghost use Rattle.std.specs.Prelude.{◌≡◌, ◌≤◌, ◌<◌, ◌-◌, IfSome, Some, option_map, length, drop, map};
 ghost use Rattle.std.specs.Simd.Lanes.{mask_l};

@@ -38,8 +38,8 @@ pub fn sending_laws()
 /// Where a mirror is that followed what a node at a place of a log sent to it. Who asks with a
 /// token is sent what comes after that, and who asks with none a snapshot. Whatever prefix of the
 /// bytes came, with the end of the body or without, the mirror is at a place of the log, no further
-/// than what was sent, and with all of it as far. No fault comes but running out of memory, and that
-/// leaves it at such a place, too. A refusal leaves what it shows.
+/// than what was sent, and with all of it as far. No fault comes but running out of memory, and
+/// that leaves it at such a place, too. A refusal leaves what it shows.
 pub fn following_laws()
     ensures opens { SessionsOpenAsAsked }
     ensures places { PlacesStay }

@@ -120,8 +120,8 @@ pub(super) fn limits(matches: &ArgMatches<'_>) -> Option<Limits>
     }
 }
 
-/// The limits of the node of `live`: the commits that it keeps have so many bytes, too, where memory
-/// is not limited.
+/// The limits of the node of `live`: the commits that it keeps have so many bytes, too, where
+/// memory is not limited.
 pub(super) fn live_limits(matches: &ArgMatches<'_>) -> Option<Limits>
     ensures some { IfSome result
         (λ limits. AsksLimitsOr (Some kept_bytes) (rows_of (found_of matches.now)) limits) }

@@ -80,8 +80,8 @@ fn print_text<W: FeedWrite>(text: &[u8], out: &mut W) -> Result<(), Fault>
 /// Prints whether each state that the screen's record publishes is one that the primary's publishes
 /// under the same token. The screen's may have several connections, each read as a fresh one, and
 /// what is left of it is read once. Where a state is not the primary's, the fault is `Differs`,
-/// behind what is printed of the first such state. Where the screen's publishes nothing, and where a
-/// line of a record can't be read, nothing is printed.
+/// behind what is printed of the first such state. Where the screen's publishes nothing, and where
+/// a line of a record can't be read, nothing is printed.
 pub fn print_verdict<P: Replayed, L: Skipped, W: FeedWrite>(
     alloc: Global,
     options: &AuditOptions<'_>,

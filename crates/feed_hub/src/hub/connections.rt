@@ -320,8 +320,8 @@ impl Hub {
         Ok(())
     }
 
-    /// Sends a line feed to the screen at a key, where its body goes on and nothing is pending: so it
-    /// is soon seen whether that is still there. Where memory runs out the connection is cut.
+    /// Sends a line feed to the screen at a key, where its body goes on and nothing is pending: so
+    /// it is soon seen whether that is still there. Where memory runs out the connection is cut.
     pub fn probe(&mut self, alloc: Global, key: Key, now: u64) -> Result<(), AllocError>
         ensures ok { OnOk result (Watched (Probes self.old.broadcast.log now)
             (seat_at self.old.seats.slab key) (seat_at self.new.seats.slab key)) }

@@ -51,14 +51,14 @@ impl Source {
         }
     }
 
-    /// Leaves a server that is late, silent or has nothing new for long, and begins to connect where
-    /// that is due.
+    /// Leaves a server that is late, silent or has nothing new for long, and begins to connect
+    /// where that is due.
     pub(crate) fn tick<L: Link>(&mut self, desk: &mut Desk, link: &mut L, idle: u64)
         ensures follows { (screens : Screens) → StillFollows self.old self.new
             (L.exchanges link.old) (L.exchanges link.new) self.old.rest.items
             self.new.rest.items screens screens }
-        // where there is no connection, and one is due, it is begun, once; or memory ran out, and the
-        // next place is asked after that
+        // where there is no connection, and one is due, it is begun, once; or memory ran out, and
+        // the next place is asked after that
         ensures begins { IsToConnect self.old desk.old.time
             → CalledOnce (L.begun link.old) (L.begun link.new)
             ⊎ ((L.begun link.new ≡ L.begun link.old) × GoesOnTo self.old self.new desk.old.time) }
@@ -232,8 +232,8 @@ impl Source {
             .add_if(is_reported, Report::Lost { server, why, pause });
     }
 
-    /// A server is lost. Whether that is to be reported: not where it only had its turn, and did not
-    /// answer.
+    /// A server is lost. Whether that is to be reported: not where it only had its turn, and did
+    /// not answer.
     fn lose(&mut self) -> bool
         ensures same { SameSource self.old self.new }
         ensures upstream { self.new.upstream ≡ self.old.upstream }

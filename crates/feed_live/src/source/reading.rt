@@ -252,8 +252,8 @@ impl Source {
         }
     }
 
-    /// The server does not hold the token: the others are asked with it before it is forgotten. Where
-    /// that is the one before the newest, it is asked with the newest first.
+    /// The server does not hold the token: the others are asked with it before it is forgotten.
+    /// Where that is the one before the newest, it is asked with the newest first.
     fn refused<L: Link>(&mut self, desk: &mut Desk, link: &mut L)
         ensures left { WasLeft self.old self.new (L.exchanges link.old) (L.exchanges link.new) }
     {
@@ -301,8 +301,8 @@ impl Source {
         desk.reports.add_if(!self.returning.has_turned(), found);
     }
 
-    /// Says what was published, where it is to be shown now. Where a connection published afresh, no
-    /// screen goes on from what it has.
+    /// Says what was published, where it is to be shown now. Where a connection published afresh,
+    /// no screen goes on from what it has.
     pub(crate) fn say(&mut self, desk: &mut Desk, screens: &mut Screens)
         ensures same { SameSource self.old self.new }
         ensures serves { StillServes self.old.answers.shown.mirror.node screens.old screens.new }

@@ -1,6 +1,6 @@
-//! A server that was set back, as after a rehearsal, may give the tokens that this relay has to other
-//! states. So a connection asks for the newest commit again, and that has to be what it was. Only
-//! commits that the relay holds may come before it. Else everything is asked for.
+//! A server that was set back, as after a rehearsal, may give the tokens that this relay has to
+//! other states. So a connection asks for the newest commit again, and that has to be what it was.
+//! Only commits that the relay holds may come before it. Else everything is asked for.
 
 ghost use Rattle.std.specs.Prelude.{◌≡◌, List, ℕ, IfSome, None};
 ghost use Rattle.std.specs.Option.{option_copied};
@@ -179,9 +179,9 @@ impl Source {
         Ok(Some(Again::new(alloc, shown.limits())?))
     }
 
-    /// The first line of the piece comes, or a part of one, of a connection that asked for the newest
-    /// commit again. Whether that brings a token that isn't held before the newest one came. A server
-    /// may begin further back.
+    /// The first line of the piece comes, or a part of one, of a connection that asked for the
+    /// newest commit again. Whether that brings a token that isn't held before the newest one came.
+    /// A server may begin further back.
     fn brings_another(&mut self, alloc: Global, piece: &[u8]) -> bool
         ensures same { SameSource self.old self.new }
         ensures epoch { self.new.epoch ≡ self.old.epoch }
@@ -210,8 +210,8 @@ impl Source {
         }
     }
 
-    /// Whether the newest commit just came again, and would change what is shown. If it wouldn't, the
-    /// server has what this relay has.
+    /// Whether the newest commit just came again, and would change what is shown. If it wouldn't,
+    /// the server has what this relay has.
     fn differs_again(&mut self) -> bool
         ensures same { SameSource self.old self.new }
         ensures epoch { self.new.epoch ≡ self.old.epoch }
@@ -255,8 +255,8 @@ impl Source {
         self.ask_again(link, now);
     }
 
-    /// A server has another commit where this relay has its newest one: the others are asked whether
-    /// they have that, and then everything is asked for.
+    /// A server has another commit where this relay has its newest one: the others are asked
+    /// whether they have that, and then everything is asked for.
     fn forgot<L: Link>(&mut self, desk: &mut Desk, link: &mut L)
         ensures left { WasLeft self.old self.new (L.exchanges link.old) (L.exchanges link.new) }
     {

@@ -1,6 +1,6 @@
 //! A server that has nothing new for long may have lost its own way to the primary, or may be a
-//! relay that follows this one. So the others are asked in turn with our token: whoever has something
-//! new is followed then. That costs screens nothing. Where nobody has, the first one is
+//! relay that follows this one. So the others are asked in turn with our token: whoever has
+//! something new is followed then. That costs screens nothing. Where nobody has, the first one is
 //! followed for longer, until the next round.
 
 ghost use Rattle.std.specs.Prelude.{◌≡◌, ◌+◌, ◌%◌, min};
@@ -59,8 +59,8 @@ impl Returning {
         self.turns > 0
     }
 
-    /// For how long a server is followed that has nothing new: the first one, or another; and whether
-    /// each had its turn since something was published.
+    /// For how long a server is followed that has nothing new: the first one, or another; and
+    /// whether each had its turn since something was published.
     fn time(&self, is_first: bool, had_turns: bool) -> u64 {
         if had_turns && is_first {
             self.after.saturating_mul(ROUNDS_APART)
@@ -107,8 +107,8 @@ impl Source {
         }
     }
 
-    /// The server is left, and the next one is asked at once. It did not fail: the pauses stay as they
-    /// are, and so does what is counted of failures.
+    /// The server is left, and the next one is asked at once. It did not fail: the pauses stay as
+    /// they are, and so does what is counted of failures.
     pub(crate) fn turn<L: Link>(&mut self, desk: &mut Desk, link: &mut L)
         ensures left { WasLeft self.old self.new (L.exchanges link.old) (L.exchanges link.new) }
         ensures next { self.new.upstream.place

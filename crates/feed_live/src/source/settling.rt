@@ -168,8 +168,8 @@ fn have_one_state(one: &Node, other: &Node) -> bool {
     }
 }
 
-/// The first type, and id, at which the tables of two nodes differ; nothing where there is no memory
-/// to find out.
+/// The first type, and id, at which the tables of two nodes differ; nothing where there is no
+/// memory to find out.
 fn differ_at(alloc: Global, one: &Node, other: &Node) -> (Excerpt, Excerpt) {
     let nowhere = (Excerpt::of(""), Excerpt::of(""));
     let (Some(tables), Some(others)) = (one.published(), other.published()) else {

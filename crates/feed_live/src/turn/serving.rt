@@ -47,8 +47,8 @@ impl Live {
         self.screens.idle(&self.desk);
     }
 
-    /// Looks for who is late: requests that have waited for room for long enough are refused, others
-    /// cut, and so are screens that take nothing.
+    /// Looks for who is late: requests that have waited for room for long enough are refused,
+    /// others cut, and so are screens that take nothing.
     fn look_for_late<S: Sockets>(&mut self, sockets: &mut S)
         ensures serves { OnlyServes self.old self.new (S.socket sockets.old)
             (S.socket sockets.new) }

@@ -78,8 +78,8 @@ impl Screens {
         self.conns.len() >= self.limits.most.saturating_add(FURTHER)
     }
 
-    /// Makes place for a connection, where there is none: those that lost their seats are closed, and
-    /// the one that has lingered for longest.
+    /// Makes place for a connection, where there is none: those that lost their seats are closed,
+    /// and the one that has lingered for longest.
     fn make_place<S: Sockets>(&mut self, desk: &mut Desk, sockets: &mut S)
         ensures serving { StillServesAll self.old self.new
             (S.socket sockets.old) (S.socket sockets.new) }

@@ -180,8 +180,8 @@ impl Screens {
         }
     }
 
-    /// The screen at a place waits for a commit of so many bytes, which were made in vain; unless it
-    /// follows the log by now.
+    /// The screen at a place waits for a commit of so many bytes, which were made in vain; unless
+    /// it follows the log by now.
     fn wait_for_commit(&mut self, keyed: Keyed, length: usize, now: u64)
         ensures { SameSeating self.old self.new }
     {

@@ -80,8 +80,8 @@ impl Screens {
         }
     }
 
-    /// Whether the connection at a place has yet to take a text that counts as pending, and takes it
-    /// too slowly.
+    /// Whether the connection at a place has yet to take a text that counts as pending, and takes
+    /// it too slowly.
     pub(crate) fn is_slow(&self, at: usize, now: u64) -> bool
         ensures { IsTrue result → IsSlow (get self.now.conns at) now }
     {
@@ -110,8 +110,8 @@ impl Screens {
         }
     }
 
-    /// Whether a long text may be made for the connection at a place: there is room, and nobody else
-    /// has waited for that for longer.
+    /// Whether a long text may be made for the connection at a place: there is room, and nobody
+    /// else has waited for that for longer.
     pub(crate) fn may_take_room(&self, at: usize) -> bool
         ensures { IsTrue result → (min (total self.now.pending.texts.list.items) (2 ^ 64 - 1)
             < self.now.limits.pending) }
@@ -155,8 +155,8 @@ impl Screens {
         }
     }
 
-    /// Whether the screen at a place waits for a commit that perhaps another one has by now, and its
-    /// socket may take that.
+    /// Whether the screen at a place waits for a commit that perhaps another one has by now, and
+    /// its socket may take that.
     pub(crate) fn may_share(&self, at: usize) -> bool {
         let Some(conn) = self.conns.get(at) else {
             return false;
@@ -207,8 +207,8 @@ impl Screens {
         Ok(Hearing::Goes)
     }
 
-    /// Serves those who wait for room, as long as there is some: first who has waited for longest. And
-    /// answers those who can share the text of the snapshot by now.
+    /// Serves those who wait for room, as long as there is some: first who has waited for longest.
+    /// And answers those who can share the text of the snapshot by now.
     pub(crate) fn serve_waiting<S: Sockets>(
         &mut self,
         desk: &mut Desk,
@@ -318,7 +318,8 @@ impl Screens {
         self.drain(desk, sockets, answers.shown.node(), at);
     }
 
-    /// Answers the request that comes at a place, where it has come whole and there is room for that.
+    /// Answers the request that comes at a place, where it has come whole and there is room for
+    /// that.
     fn answer_at<S: Sockets>(
         &mut self,
         desk: &mut Desk,
@@ -360,8 +361,8 @@ impl Screens {
         self.is_waited = self.somebody_waits();
     }
 
-    /// Tells the connection at a place that there are too many, where its request has waited for long
-    /// enough.
+    /// Tells the connection at a place that there are too many, where its request has waited for
+    /// long enough.
     fn refuse_waiting<S: Sockets>(&mut self, desk: &mut Desk, sockets: &mut S, at: usize)
         ensures serving { StillServesAll self.old self.new
             (S.socket sockets.old) (S.socket sockets.new) }

@@ -102,7 +102,8 @@ fn of_system<T: Drop>(outcome: io::Result<T>) -> Result<T, Fault> {
     }
 }
 
-/// Whether several servers have tokens of their own. All addresses of a name are servers of one log.
+/// Whether several servers have tokens of their own. All addresses of a name are servers of one
+/// log.
 fn are_strange(options: &LiveOptions<'_>) -> bool {
     match &options.upstream {
         Some(upstream) => options.fresh && upstream.from.is_some(),
@@ -110,8 +111,8 @@ fn are_strange(options: &LiveOptions<'_>) -> bool {
     }
 }
 
-/// The limits of what the relay shows. Where several servers have tokens of their own, older tokens may
-/// stand for states of another one: then one commit is kept, with the token before it.
+/// The limits of what the relay shows. Where several servers have tokens of their own, older tokens
+/// may stand for states of another one: then one commit is kept, with the token before it.
 fn kept_limits(options: &LiveOptions<'_>) -> Limits {
     let limits = options.limits;
     if !are_strange(options) {

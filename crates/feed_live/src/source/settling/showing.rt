@@ -68,8 +68,8 @@ impl Source {
         }
     }
 
-    /// The connection ended, or what comes on it can't be followed any more. What came afresh may be
-    /// all, or the server was killed. It counts as all where it ended at the same token the last
+    /// The connection ended, or what comes on it can't be followed any more. What came afresh may
+    /// be all, or the server was killed. It counts as all where it ended at the same token the last
     /// time, too. So many bytes of it are unread.
     pub(crate) fn settle_ended<L: Link>(
         &mut self,
@@ -105,10 +105,10 @@ impl Source {
         again
     }
 
-    /// What came afresh takes the place of what is shown, where it has published. Screens go on from
-    /// what they have where it had the same state at that token, and has all since then. Else it is
-    /// shown at its own token alone: it may hold tokens of states that were none. So many bytes that
-    /// came are unread. Why the server is to be left then, if it is.
+    /// What came afresh takes the place of what is shown, where it has published. Screens go on
+    /// from what they have where it had the same state at that token, and has all since then. Else
+    /// it is shown at its own token alone: it may hold tokens of states that were none. So many
+    /// bytes that came are unread. Why the server is to be left then, if it is.
     pub(crate) fn settle<L: Link>(
         &mut self,
         desk: &mut Desk,
