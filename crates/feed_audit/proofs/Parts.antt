@@ -1,5 +1,5 @@
 -- The connections of a record so far.
-use Rattle.std.proofs.Common.{◌≡◌, refl, sym, ap, ◌∙◌, subst, ℕ, ◌+◌, min, Bool, true, false, true≢false, List, [], ◌∷◌, ◌++◌, append_assoc, arith, Option, None, Some}
+use Rattle.std.proofs.Common.{◌≡◌, refl, sym, ap, ◌∙◌, subst, ℕ, ◌+◌, min, Bool, true, false, true≢false, List, [], ◌∷◌, ◌++◌, append_assoc, arith, Option, None}
 use Rattle.std.specs.Prelude.{IfSome}
 use Rattle.feed_settings.specs.Limits.{Limits}
 use Rattle.feed_node.specs.Mirroring.{MirrorState, new_mirror}

@@ -5,7 +5,8 @@ use Rattle.feed_audit.specs.Reaching.{IsPartVerdict, Reached}
 use Rattle.feed_records.specs.Parting.{body_of, since_of}
 use Rattle.feed_audit.specs.Records.{FailsToAuditRecord}
 use Rattle.feed_records.proofs.Looking.{end_of}
-use Rattle.feed_audit.proofs.Parts.{goes_on, ends_with, reached_none, reached_more, record_agrees, strays_at, fails_at}
+use Rattle.feed_records.proofs.Connecting.{goes_on, ends_with}
+use Rattle.feed_audit.proofs.Parts.{reached_none, reached_more, record_agrees, strays_at, fails_at}
 use Rattle.feed_audit.proofs.record.audit_record.Goals as goal
 
 pub connections-init : goal.connections-init
