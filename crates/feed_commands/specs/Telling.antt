@@ -18,14 +18,16 @@ IsEnded text = (front : List ℕ) × (text ≡ front ++ line_feed ∷ [])
 abbrev pub TellsLines : Option (List ℕ) → Option (List ℕ) → Type 0
 TellsLines old new = (text : List ℕ) × IsEnded text × Appends old new text
 
--- a fault was told, and this is the status for it; or the device failed, which the status tells,
--- too
+-- lines were told of what has this status, and it is answered; or the device failed, which the
+-- answer tells, too
+abbrev pub IsTold : ℕ → Wrote → ℕ → Type 0
+IsTold status wrote answer =
+    ((answer ≡ status) × TellsLines wrote.old wrote.new × (wrote.failed_new ≡ wrote.failed_old))
+    ⊎ (HasFailed wrote.failed_old wrote.failed_new × (answer ≡ max status (status_of fault.Write)))
+
+-- the same of a fault
 abbrev pub IsToldStatus : Fault → Wrote → ℕ → Type 0
-IsToldStatus why wrote status =
-    ((status ≡ status_of why) × TellsLines wrote.old wrote.new
-    × (wrote.failed_new ≡ wrote.failed_old))
-    ⊎ (HasFailed wrote.failed_old wrote.failed_new
-    × (status ≡ max (status_of why) (status_of fault.Write)))
+IsToldStatus why wrote status = IsTold (status_of why) wrote status
 
 -- between these counts of its failures a device took all that was told; or it failed, and that is
 -- kept in mind

@@ -32,4 +32,4 @@ pub use feed_records::{Replayed, ScreenLines, Skipped, TextLines, Unread};
 pub use feed_relay::{Accept, Dial, NetworkFault, Server};
 pub use placing::{Counting, Spot};
 pub use record_lines::{Record, RecordLines};
-pub use telling::{tell, tell_about};
+pub use telling::{tell, tell_about, tell_more, tell_text, tell_with};

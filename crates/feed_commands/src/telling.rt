@@ -1,9 +1,10 @@
 //! What is told of faults.
-ghost use Rattle.std.specs.Prelude.{◌≡◌, true, false, IfErr, OnOk, OnErr};
+ghost use Rattle.std.specs.Prelude.{◌≡◌, true, false, IfErr, IfOk, OnOk, OnErr, max};
 ghost use Rattle.feed_http.specs.Device.{failures_after};
 ghost use Rattle.feed_http.specs.Exchange.{wrote_by};
-ghost use Rattle.feed_commands.specs.Fault.{goes_on};
-ghost use Rattle.feed_commands.specs.Telling.{IsEnded, TellsLines, IsToldStatus, HasTold, FailsAs};
+ghost use Rattle.feed_commands.specs.Fault.{goes_on, status_of};
+ghost use Rattle.feed_commands.specs.declared.fault.Fault.TheVariants as why;
+ghost use Rattle.feed_commands.specs.Telling.{IsEnded, TellsLines, IsTold, IsToldStatus, HasTold, FailsAs};
 
 use crate::commands::pull::attempt_outcome;
 use crate::fault::Fault;
@@ -86,6 +87,38 @@ fn print_fault<E: FeedWrite>(
     write_all(err, text.as_bytes())
 }
 
+/// Prints a line of the command of this name: these texts, one after the other.
+fn print_line<E: FeedWrite>(name: &str, kind: &str, text: &str, err: &mut E) -> Result<(), Failed>
+    ensures lines { OnOk result (TellsLines (E.contents err.old) (E.contents err.new)) }
+    ensures failures { E.failures err.new ≡ failures_after (E.failures err.old) result }
+{
+    write_all(err, name.as_bytes())?;
+    write_all(err, b": ")?;
+    write_all(err, kind.as_bytes())?;
+    write_all(err, text.as_bytes())?;
+    write_all(err, b"\n")
+}
+
+/// Prints a fault of the command of this name, and a line that says more.
+fn print_more<E: FeedWrite>(name: &str, fault: Fault, more: &str, err: &mut E) -> Result<(), Failed>
+    ensures lines { OnOk result (TellsLines (E.contents err.old) (E.contents err.new)) }
+    ensures failures { E.failures err.new ≡ failures_after (E.failures err.old) result }
+{
+    print_fault(name, fault, None, err)?;
+    print_line(name, "", more, err)
+}
+
+/// The status, where all was told; else the greater of that and the one of a device that failed.
+fn status_after(told: Result<(), Failed>, status: u8) -> u8
+    ensures ok { IfOk told (λ _. result ≡ status) }
+    ensures err { IfErr told (λ _. result ≡ max status (status_of why.Write)) }
+{
+    match told {
+        Ok(()) => status,
+        Err(Failed) => status.max(Fault::Write.status()),
+    }
+}
+
 /// Tells a fault of the command of this name, and answers the status of the program. Where it can't
 /// be told, a device has failed too.
 pub fn tell<E: FeedWrite>(name: &str, fault: Fault, err: &mut E) -> u8
@@ -103,10 +136,30 @@ pub fn tell_about<E: FeedWrite>(
 ) -> u8
     ensures { IsToldStatus fault (wrote_by E.contents E.failures err.old err.new) result }
 {
-    match print_fault(name, fault, address, err) {
-        Ok(()) => fault.status(),
-        Err(Failed) => fault.status().max(Fault::Write.status()),
-    }
+    status_after(print_fault(name, fault, address, err), fault.status())
+}
+
+/// The same of a fault that a second line says more of.
+pub fn tell_more<E: FeedWrite>(name: &str, fault: Fault, more: &str, err: &mut E) -> u8
+    ensures { IsToldStatus fault (wrote_by E.contents E.failures err.old err.new) result }
+{
+    status_after(print_more(name, fault, more, err), fault.status())
+}
+
+/// The same of a fault with what it is about, on one line.
+pub fn tell_with<E: FeedWrite>(name: &str, fault: Fault, what: &str, err: &mut E) -> u8
+    ensures { IsToldStatus fault (wrote_by E.contents E.failures err.old err.new) result }
+{
+    let mut kind: ArrayString<WORDS> = ArrayString::new();
+    let _ = write!(kind, "{fault}: ");
+    status_after(print_line(name, kind.as_str(), what, err), fault.status())
+}
+
+/// The same of a text, and of what ends with this status.
+pub fn tell_text<E: FeedWrite>(name: &str, text: &str, status: u8, err: &mut E) -> u8
+    ensures { IsTold status (wrote_by E.contents E.failures err.old err.new) result }
+{
+    status_after(print_line(name, "", text, err), status)
 }
 
 /// The address of the server that an attempt did not reach.

@@ -2,10 +2,14 @@
 
 ghost use Rattle.std.specs.Prelude.{◌≡◌, IfOk, IfErr};
 ghost use Rattle.feed_commands.specs.Fault.{status_of};
-ghost use Rattle.feed_host.specs.Ending.{EndsAs, status_for};
+ghost use Rattle.feed_commands.specs.Telling.{IsTold};
+ghost use Rattle.feed_http.specs.Exchange.{wrote_by};
+ghost use Rattle.feed_host.specs.Ending.{status_for};
 
-use crate::errors::{Errors, Reporter};
-use feed_commands::{Fault, NetworkFault, REFUSED, Server, tell, tell_about};
+use feed_commands::device::FeedWrite;
+use feed_commands::{
+    Fault, NetworkFault, REFUSED, Server, tell, tell_about, tell_more, tell_text, tell_with,
+};
 use std::alloc::AllocError;
 use std::net::Ipv4Addr;
 
@@ -144,60 +148,24 @@ impl Failure {
     }
 }
 
-/// Tells of a fault, and answers the status.
-fn tell_fault(rt: &HostRuntime, name: &'static str, fault: Fault, more: Option<&str>) -> u8
-    ensures { EndsAs (status_of fault) result }
-{
-    let status = tell(name, fault, &mut Errors::new(rt));
-    if let Some(more) = more {
-        Reporter::new(rt, name, false).line(more);
-    }
-    status
-}
-
-/// Tells of a fault with what it is about, and answers the status.
-fn tell_more(rt: &HostRuntime, name: &'static str, fault: Fault, what: &str) -> u8
-    ensures { EndsAs (status_of fault) result }
-{
-    let is_told = match format!(in rt.alloc(); "{fault}: {what}") {
-        Ok(text) => Reporter::new(rt, name, false).line(text.as_str()),
-        Err(_) => false,
-    };
-    if is_told {
-        fault.status()
-    } else {
-        fault.status().max(Fault::Write.status())
-    }
-}
-
-/// Tells a text, and answers the status, or that of a device that failed.
-fn tell_text(rt: &HostRuntime, name: &'static str, text: &str, status: u8) -> u8
-    ensures { EndsAs status result }
-{
-    if Reporter::new(rt, name, false).line(text) {
-        status
-    } else {
-        status.max(Fault::Write.status())
-    }
-}
-
-/// Tells why the command of this name failed, where it did, and answers the status.
-pub fn ended(rt: &HostRuntime, name: &'static str, outcome: Result<(), Failure>) -> u8
+/// Reports why the command of this name failed, if it did, and answers the status: that of what it
+/// failed for, or the greater of that and 4 if the device failed.
+pub fn ended<E: FeedWrite>(name: &str, outcome: Result<(), Failure>, err: &mut E) -> u8
     ensures ok { IfOk outcome (λ _. result ≡ 0) }
-    ensures err { IfErr outcome (λ failure. EndsAs (status_for failure.why) result) }
+    ensures quiet { IfOk outcome (λ _. err.new ≡ err.old) }
+    ensures err { IfErr outcome (λ failure. IsTold (status_for failure.why)
+        (wrote_by E.contents E.failures err.old err.new) result) }
 {
     let Err(failure) = outcome else {
         return 0;
     };
     match failure.why {
-        Why::Fault(fault, more) => tell_fault(rt, name, fault, more),
-        Why::At(fault, host, port) => {
-            let address = Some((host.as_str(), port));
-            tell_about(name, fault, address, &mut Errors::new(rt))
-        }
-        Why::About(fault, what) => tell_more(rt, name, fault, what.as_str()),
-        Why::ToldAs(fault, text) => tell_text(rt, name, text, fault.status()),
-        Why::Refused(text) => tell_text(rt, name, text, REFUSED),
-        Why::RefusedFor(text) => tell_text(rt, name, text.as_str(), REFUSED),
+        Why::Fault(fault, None) => tell(name, fault, err),
+        Why::Fault(fault, Some(more)) => tell_more(name, fault, more, err),
+        Why::At(fault, host, port) => tell_about(name, fault, Some((host.as_str(), port)), err),
+        Why::About(fault, what) => tell_with(name, fault, what.as_str(), err),
+        Why::ToldAs(fault, text) => tell_text(name, text, fault.status(), err),
+        Why::Refused(text) => tell_text(name, text, REFUSED, err),
+        Why::RefusedFor(text) => tell_text(name, text.as_str(), REFUSED, err),
     }
 }

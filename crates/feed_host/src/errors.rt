@@ -24,9 +24,10 @@ fn write_line(rt: &HostRuntime, line: &[u8]) -> bool {
     is_ready() && rt.stderr().write_all(line).is_ok()
 }
 
-/// Standard error as a device, which takes whole lines.
+/// Standard error as a device, which takes whole lines, and never waits: a line that it can't take
+/// at once has failed.
 #[derive(Drop)]
-pub(crate) struct Errors<'r> {
+pub struct Errors<'r> {
     rt: &'r HostRuntime,
     // The line that has not ended yet.
     line: Vec<u8>,
@@ -35,7 +36,7 @@ pub(crate) struct Errors<'r> {
 
 impl<'r> Errors<'r> {
     /// Nothing was written yet.
-    pub(crate) fn new(rt: &'r HostRuntime) -> Errors<'r> {
+    pub fn new(rt: &'r HostRuntime) -> Errors<'r> {
         Errors {
             rt,
             line: Vec::new(rt.alloc()),

@@ -18,6 +18,7 @@ mod sockets;
 pub use ahead::input_ahead;
 pub use audit::audit_records;
 pub use ending::{Failure, ended};
+pub use errors::Errors;
 pub use hosts::Hosts;
 pub use identity::identity_of;
 pub use pull::pull_feed;

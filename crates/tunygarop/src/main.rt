@@ -6,7 +6,9 @@ mod live;
 use feed_commands::stream::Stream;
 use feed_commands::{Fault, NoCommand, PROGRAM, Request, parse_words, run, tell};
 use feed_compare::compare_servers;
-use feed_host::{audit_records, ended, input_ahead, pull_feed, relay_feed, serve_feed};
+use feed_host::{
+    Errors, Failure, audit_records, ended, input_ahead, pull_feed, relay_feed, serve_feed,
+};
 use feed_system::hold_standard;
 use live::live_feed;
 use std::io::ErrorKind;
@@ -36,17 +38,22 @@ fn run_words<'a>(rt: &HostRuntime, name: &str, words: &'a [&'a str]) -> u8 {
     )
 }
 
+/// Reports why a command of the network failed, if it did, and answers its status.
+fn end(rt: &HostRuntime, name: &str, outcome: Result<(), Failure>) -> u8 {
+    ended(name, outcome, &mut Errors::new(rt))
+}
+
 /// Runs the command that is asked for. What `run` does is proved of the words, which it reads once
 /// more.
 fn run_request<'a>(rt: &HostRuntime, request: &Request<'_>, words: &'a [&'a str]) -> u8 {
     match request {
         Request::Local(request) => run_words(rt, request.name(), words),
-        Request::Audit(options) => ended(rt, "audit", audit_records(rt, options)),
-        Request::Compare(options) => ended(rt, "audit", compare_servers(rt, options)),
-        Request::Serve(options) => ended(rt, "serve", serve_feed(rt, options)),
-        Request::Pull(options) => ended(rt, "pull", pull_feed(rt, options)),
-        Request::Relay(options) => ended(rt, "relay", relay_feed(rt, options)),
-        Request::Live(options) => ended(rt, "live", live_feed(rt, options)),
+        Request::Audit(options) => end(rt, "audit", audit_records(rt, options)),
+        Request::Compare(options) => end(rt, "audit", compare_servers(rt, options)),
+        Request::Serve(options) => end(rt, "serve", serve_feed(rt, options)),
+        Request::Pull(options) => end(rt, "pull", pull_feed(rt, options)),
+        Request::Relay(options) => end(rt, "relay", relay_feed(rt, options)),
+        Request::Live(options) => end(rt, "live", live_feed(rt, options)),
     }
 }
 
