@@ -78,6 +78,7 @@ cleared {old} {live} {after} {next} {time} {around} turn relaying taking same =
           subst (λ ends_at. next.takes_input ≡ (is_none ends_at && is_none after.screens.saying.waits)) (sym same.ends_at)
           (subst (λ screens. next.takes_input ≡ (is_none live.ends_at && is_none screens.saying.waits)) (sym same.screens) turn.takes);
       over = λ is. still_over same (turn.over is);
+      in_time = subst (λ ends_at. IfSome ends_at (λ at. at ≤ turn.now → next.is_over ≡ true)) (sym same.ends_at) turn.in_time;
     }
 
 -- what the input gave before is what it had given then, and the time stays while a turn is told

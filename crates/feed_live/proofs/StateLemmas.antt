@@ -88,7 +88,8 @@ among_states limits log node (Some p, within, is) =
     subst (λ n. Contains (states_of limits log) n) (sym is)
     (subst (λ l. Contains (states_of limits log) (node_at log (place_at p.at l))) low there)
 
--- a place of the log up to this number, with no more commits kept than these, and within a limit in bytes
+-- a place of the log up to this number, with no more commits kept than these, and within a limit in
+-- bytes
 record IsWithin (limit : Option ℕ) (history : ℕ) (log : Log) (last : ℕ) (node : NodeState) : Type 0 where
   pub place : Position
   pub order : place.low ≤ place.at

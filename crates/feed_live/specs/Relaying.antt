@@ -40,8 +40,8 @@ IsShownSo true (once_at at) count = ⊥
 IsShownSo true nothing_shown count = ⊥
 
 -- What comes from a server: how far its connection is, and what is asked there; what was read of it
--- and is still to be followed; and the follower, if there is one, with its mirror, which is shown or
--- not.
+-- and is still to be followed; and the follower, if there is one, with its mirror, which is shown
+-- or not.
 pub record Pursuit : Type 0 where
   pub is_shown : Bool
   pub reach : Reach
@@ -268,8 +268,8 @@ pub record ShowsAlone (old new : Source) : Type 0 where
 abbrev pub SameEnd : Live → Live → Type 0
 SameEnd old new = (new.limits ≡ old.limits) × (new.ends_at ≡ old.ends_at)
 
--- Only screens were served, from what the relay shows; and until a server was heard, from what shows
--- nothing. All else is as it was.
+-- Only screens were served, from what the relay shows; and until a server was heard, from what
+-- shows nothing. All else is as it was.
 pub record OnlyServes (old new : Live) (before after : AllSockets) : Type 0 where
   pub contest : new.contest ≡ old.contest
   pub ends : SameEnd old new

@@ -151,6 +151,7 @@ pub record IsTurn (old new : Moment) : Type 0 where
   pub takes : new.next.takes_input
       ≡ (is_none new.live.ends_at && is_none new.live.screens.saying.waits)
   pub over : new.next.is_over ≡ true → IsOver new.live now
+  pub in_time : IfSome new.live.ends_at (λ at. at ≤ now → new.next.is_over ≡ true)
 
 -- all but what is told of a relay stays
 pub record IsSameRelay (old new : Live) : Type 0 where

@@ -51,7 +51,7 @@ pub struct Setup {
 
 impl Setup {
     /// Whether the relay begins with what its state files have: where its feed is the input, it
-    /// begins anew.
+    /// begins again.
     pub(crate) fn reads_files(&self) -> bool
         ensures stored { result ≡ true → self.now.limits.has_store ≡ true }
         ensures input { self.now.places.items ≡ [] → result ≡ false }

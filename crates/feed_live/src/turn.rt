@@ -241,6 +241,9 @@ impl Live {
 
         // it is the last one only where the relay ends with its input, and that is over
         ensures over { result.is_over ≡ true → IsOver self.new now }
+
+        // and it is where the time for that has come
+        ensures in_time { IfSome self.new.ends_at (λ at. at ≤ now → result.is_over ≡ true) }
     {
         self.desk.begin(alloc, now);
         let held = self.held();
@@ -305,6 +308,7 @@ impl Live {
         ensures takes { result.takes_input
             ≡ (is_none self.new.ends_at && is_none self.new.screens.saying.waits) }
         ensures over { result.is_over ≡ true → IsOver self.new now }
+        ensures in_time { IfSome self.new.ends_at (λ at. at ≤ now → result.is_over ≡ true) }
         ensures pauses { self.new.screens.accept_at ≡ self.old.screens.accept_at }
     {
         self.report();
@@ -322,7 +326,8 @@ impl Live {
     }
 
     fn is_over(&self, now: u64) -> bool
-        ensures { result ≡ true → IsOver self.now now }
+        ensures over { result ≡ true → IsOver self.now now }
+        ensures in_time { IfSome self.now.ends_at (λ at. at ≤ now → result ≡ true) }
     {
         match self.ends_at {
             Some(at) => at <= now || self.screens.are_none() && self.is_saved(),

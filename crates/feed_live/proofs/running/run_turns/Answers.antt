@@ -1,4 +1,4 @@
-use Rattle.std.proofs.Common.{◌∙◌, ap, refl, inl, inr}
+use Rattle.std.proofs.Common.{◌∙◌, ap, refl, inl}
 use Rattle.feed_live.specs.Running.{moment_of, surroundings}
 use Rattle.feed_live.proofs.RunLemmas.{no_turn, then_on}
 use Rattle.feed_files.proofs.Filed.{no_ok}
