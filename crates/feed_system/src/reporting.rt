@@ -23,7 +23,7 @@ pub(crate) fn stamp(rt: &HostRuntime) -> Timestamp {
 }
 
 /// What is reported where a state file was written last at a time, in seconds since 1970, this
-/// token was restored, and so many bytes were left away.
+/// token was restored, and so many bytes were left out.
 pub fn restored_text(
     alloc: Global,
     written: i64,
@@ -32,7 +32,7 @@ pub fn restored_text(
 ) -> Result<String, AllocError> {
     let token = Excerpt::of(token);
     let (token, time) = (token.text(), time_of(written));
-    format!(in alloc; "state: restored token {token:?}, written at {time}, {left} bytes left away")
+    format!(in alloc; "state: restored token {token:?}, written at {time}, {left} bytes left out")
 }
 
 /// A time in seconds since 1970.
@@ -98,7 +98,7 @@ pub(crate) fn text_of(
             let name = feed_of(alloc, servers, server)?;
             let token = token.text();
             format!(in alloc;
-                "{name}: gave the token {token} to two states; what came with it again is left away"
+                "{name}: gave the token {token} to two states; what came with it again is left out"
             )
         }
         Report::Forgot { server, token } => {

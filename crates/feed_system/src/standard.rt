@@ -107,7 +107,7 @@ impl ErrorStream {
         }
     }
 
-    /// So many lines more are left away.
+    /// So many lines more are left out.
     pub(crate) fn miss(&mut self, count: u64) {
         self.missed = self.missed.saturating_add(count);
     }

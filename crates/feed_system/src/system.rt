@@ -183,7 +183,7 @@ impl System<'_> {
             return;
         }
         let missed = self.errors.missed();
-        if let Ok(text) = format!(in self.rt.alloc(); "{missed} lines are left away") {
+        if let Ok(text) = format!(in self.rt.alloc(); "{missed} lines are left out") {
             self.line(text.as_str());
         }
     }

@@ -214,7 +214,7 @@ fn of_state(alloc: Global, path: &str, fault: &StateFault) -> Failure {
     }
 }
 
-/// What the files had is let go where the feed is the input, which begins anew.
+/// What the files had is let go where the feed is the input, which begins again.
 fn to_be_read(rt: &HostRuntime, options: &LiveOptions<'_>, kept: Kept<File>) -> Kept<File> {
     if options.upstream.is_some() {
         return kept;

@@ -9,7 +9,7 @@ use std::alloc::{AllocError, Global};
 /// Why a relay begins with nothing, where its files had nothing that counts.
 fn reason(options: &LiveOptions<'_>, about: About) -> &'static str {
     if options.upstream.is_none() {
-        "standard input begins anew"
+        "standard input begins again"
     } else if options.is_new {
         "--new was given"
     } else if about.length == 0 {
