@@ -29,7 +29,8 @@ fails_then : (a b : Bool) → b ≡ false → (a && b) ≡ false
 fails_then true b none = none
 fails_then false b none = refl
 
--- an option that requires another one, one that another may stand for, and one that another excludes
+-- an option that requires another one, one that another may stand for, and one that another
+-- excludes
 requires : (old new : Arg) (x : ArgPredicate × Bor (List ℕ)) → AddsRequirements old new (x ∷ [])
     → rule_of new ≡ tied (rule_of old)
 requires old new x (same, more) =

@@ -32,7 +32,8 @@ whole_init : (xs : List (List ℕ)) (x : List ℕ) → AllByRecursion HasNoLineF
 whole_init [] x h = tt
 whole_init (y ∷ ys) x h = (h.0, whole_init ys x h.1)
 
--- Of a text that was read so far, this many lines come before the one that publishes this, and what was published before is so.
+-- Of a text that was read so far, this many lines come before the one that publishes this, and what
+-- was published before is so.
 pub record Brings (start : Start) (P : Published → Type 0) (text : List ℕ) (before : List Line) (line_count : ℕ) (state : Published) : Type 0 where
   pub earlier : List (List ℕ)
   pub line : List ℕ

@@ -162,7 +162,8 @@ pub frames-append : (framing : Framing) (xs ys : List Commit)
     → commit_frames framing (xs ++ ys) ≡ commit_frames framing xs ++ commit_frames framing ys
 frames-append framing xs ys = ap (flat_map (frame framing)) (map-append commit_text xs ys) ∙ flat_map-append (frame framing) (map commit_text xs) (map commit_text ys)
 
--- what a run wrote is a prefix of all that is written, if what came last is a prefix of what comes next
+-- what a run wrote is a prefix of all that is written, if what came last is a prefix of what comes
+-- next
 pub wrote_some : (node : NodeState) (start to : List ℕ) (sent : List Commit) (framing : Framing) (old new : Option (List ℕ)) (begun behind : List ℕ) (rest : Runs node to)
     → Sent node start sent to → Appends old new (commit_frames framing sent ++ begun)
     → behind_opening framing (map commit_text rest.sent) rest.gone ≡ begun ++ behind

@@ -196,7 +196,8 @@ pub record Given : Type 0 where
 no_start : (k : ℕ) → true ≡ false → (own : Position) × (None ≡ Some own) × (own.low ≤ k) × (k ≤ own.at)
 no_start k e = absurd (true≢false e)
 
--- what a mirror that had published nothing makes of a snapshot of the log and what a session was told behind it
+-- what a mirror that had published nothing makes of a snapshot of the log and what a session was
+-- told behind it
 module _ (g : Given) (limits : Limits) (log : Log) (nodes : List NodeState) (k : ℕ) (texts : List (List ℕ)) (token : List ℕ)
     (is_log : IsLog limits log) (in_log : AreInLog log nodes) (small : k ≤ length log.commits) (told : Told nodes (log.token k) texts token) where
   abbrev order : StandInOrder log k texts token

@@ -187,7 +187,8 @@ or_right false b e = e
 neither : (a b : Bool) → a ≡ false → b ≡ false → (a || b) ≡ false
 neither a b e f = rw (e, f) refl
 
--- what is gathered of some values is what is kept of the first one, and what is gathered of the others
+-- what is gathered of some values is what is kept of the first one, and what is gathered of the
+-- others
 pub record Gathered (v : Value) (vs : List Value) (es : List Element) : Type 0 where
   pub first : Element
   pub others : List Element

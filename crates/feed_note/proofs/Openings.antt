@@ -63,7 +63,8 @@ mutual
       (behind_key w k x y (print v ++ (z ++ more)) (depth v) (within (print v) (z ++ more) (depth v) (one_for_each v)))
       (behind_key w k x y (print v ++ (z ++ more)) n (behind (print v) (z ++ more) n (behind z more n (after 44 (print_members ms) n (one_for_members ms)))))
 
--- an object with fewer opening brackets than levels that are too deep is too large only where it is too long
+-- an object with fewer opening brackets than levels that are too deep is too large only where it is
+-- too long
 pub few_openings : (text : List ℕ) (v : Value) → text ≡ print v → length text ≤ 1048576 → count_by is_opening text < 101 → false ≡ is_too_large v
 few_openings text v e short few =
     let levels = one_for_each v in

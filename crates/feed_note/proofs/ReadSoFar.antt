@@ -16,7 +16,8 @@ use Rattle.feed_note.proofs.ChangeBounds.{changes-le-bytes}
 abbrev pub change_count : Line → ℕ
 change_count note = length (changes_in note)
 
--- the lines before what is left are read as these notes; neither they nor their changes are more than their bytes
+-- the lines before what is left are read as these notes; neither they nor their changes are more
+-- than their bytes
 pub record ReadSoFar (text left : List ℕ) (notes : List Line) : Type 0 where
   pub seen : List (List ℕ)
   pub lines_are : lines text ≡ seen ++ lines left

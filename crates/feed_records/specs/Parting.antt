@@ -138,8 +138,8 @@ SaysOpening true line is_direct old new =
 SaysOpening false line is_direct old new =
     (before : Option (List ℕ)) → OpensFeed before (line ∷ []) new.is_feed (since_of new)
 
--- Behind a connection of so many lines this is left of a record, and another one begins behind these
--- lines, and was opened like this. The lines are counted with those before.
+-- Behind a connection of so many lines this is left of a record, and another one begins behind
+-- these lines, and was opened like this. The lines are counted with those before.
 pub record GoesOn (end : ℕ × List ℕ) (old new : Opened) (count : ℕ) (behind : List ℕ) : Type 0 where
   pub head : List (List ℕ)
   pub whole : AllByRecursion HasNoLineFeed head

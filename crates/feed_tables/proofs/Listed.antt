@@ -1,4 +1,5 @@
--- What a listing has: one change for each type and object, within the limits where its tables were made so.
+-- What a listing has: one change for each type and object, within the limits where its tables were
+-- made so.
 use Rattle.std.proofs.Common.{◌≡◌, refl, sym, ap, ◌∙◌, subst, ℕ, ◌+◌, true, false, cond, arith, max, List, [], ◌∷◌, length, Option, Some, None, length-append, flat_map}
 use Rattle.std.specs.Prelude.{IfSome}
 use Rattle.std.specs.List.{AllByRecursion}

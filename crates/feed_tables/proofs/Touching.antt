@@ -1,4 +1,5 @@
--- Tables that changes made of the same ones are the same, if they are wherever a change could have made a difference.
+-- Tables that changes made of the same ones are the same, if they are wherever a change could have
+-- made a difference.
 use Rattle.std.proofs.Common.{◌≡◌, refl, sym, ap, ◌∙◌, subst, ℕ, Bool, true, false, cond, List, [], ◌∷◌, Option, None, Some, inl, inr, ◌⊎◌}
 use Rattle.std.specs.List.{AllByRecursion}
 use Rattle.std.specs.Ordering.{eq_by_cmp}

@@ -1,4 +1,5 @@
--- Strings whose bytes all stand for themselves: what is between their quotation marks is what they say.
+-- Strings whose bytes all stand for themselves: what is between their quotation marks is what they
+-- say.
 use Rattle.std.proofs.Common.{◌≡◌, ℕ, Bool, true, false, cond, inl, inr, List, [], ◌∷◌, ◌++◌, Option, Some, None, refl, sym, ap, subst, ◌∙◌, ◌<◌, ◌≤◌, ◌-◌, arith, leb, length, take, drop, eqb-true, length-append, append-nil}
 use Rattle.std.proofs.Math.Seq.{take-append_seam}
 use Rattle.std.specs.Prelude.{◌&&◌, ◌==◌, not, nat_lt, nat_eq, bytes_eq, IsUtf8}

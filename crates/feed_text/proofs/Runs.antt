@@ -1,4 +1,5 @@
--- A run of bytes that stand for themselves, seen a block at a time through the mask of those that don't.
+-- A run of bytes that stand for themselves, seen a block at a time through the mask of those that
+-- don't.
 use Rattle.std.proofs.Common.{◌≡◌, ℕ, ◌+◌, ◌*◌, ◌<◌, ◌≤◌, ◌%◌, ◌^◌, Bool, true, false, cond, eqb, leb, zero, suc, replicate, List, [], ◌∷◌, ◌++◌, map, length, take, drop, Fits, w8, refl, sym, ap, ap₂, ◌∙◌, arith, add-one, add_comm}
 use Rattle.std.specs.Prelude.{not}
 use Rattle.std.specs.List.{prefix_len}

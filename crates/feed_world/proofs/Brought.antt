@@ -1,4 +1,5 @@
--- A mirror that has followed a prefix of the response on its connection is where the whole blocks of that prefix bring it.
+-- A mirror that has followed a prefix of the response on its connection is where the whole blocks
+-- of that prefix bring it.
 use Rattle.std.proofs.Common.{◌≡◌, refl, sym, ap, ◌∙◌, subst, ℕ, zero, suc, ◌+◌, ◌-◌, ◌<◌, ◌≤◌, ◌^◌, min, Bool, true, false, ◌&&◌, arith, List, [], ◌∷◌, ◌++◌, length, take, drop, append_assoc, length-append, length-take-le, take-take, take-append-drop, Option, Some, None, Ok, Err, inl, inr, nat_le, nat_lt, eqb-true, ltb-true, ltb-false}
 use Rattle.std.specs.Prelude.{if◌then◌else◌, ◌==◌, ◌≢◌, Result}
 use Rattle.feed_settings.specs.Limits.{Limits, History}
@@ -101,8 +102,8 @@ still_afresh true fresh xs ys h t =
     let same : length (drop (length xs) ys) ≡ length ys = ap (λ bs. length (drop (length bs) ys)) k.1 in
     (k.0, is_empty ys (sym same ∙ none))
 
--- The blocks so far are xs, and then ys; after each list of blocks there is a token to ask with. Where the mirror asks with
--- what it should before, so it does after.
+-- The blocks so far are xs, and then ys; after each list of blocks there is a token to ask with.
+-- Where the mirror asks with what it should before, so it does after.
 asks_after : (token : List Part → Option (List ℕ)) (afresh fresh : Bool) (xs ys : List Part) → length xs ≤ length ys
     → (afresh ≡ true → (fresh ≡ true) × (xs ≡ []))
     → (if fresh && (length xs == 0) then None else token xs) ≡ (if afresh then None else token xs)
@@ -282,8 +283,9 @@ pub record IsNumbered (mirror : MirrorState) (number : Option ℕ) : Type 0 wher
   pub some : (k : ℕ) → k < 2 ^ 64 → mirror.since ≡ Some (token_after k) → number ≡ Some k
   pub none : mirror.since ≡ None → number ≡ None
 
--- how often a connection that began at the number `start` published, and the number that the mirror asks with then: nothing
--- came of a fresh one; or its snapshot came and so many commits; or so many commits behind the number at which the mirror was
+-- how often a connection that began at the number `start` published, and the number that the mirror
+-- asks with then: nothing came of a fresh one; or its snapshot came and so many commits; or so many
+-- commits behind the number at which the mirror was
 data IsTold (start own : ℕ) (fresh : Bool) (count : ℕ) (number : Option ℕ) : Type 0 where
   none_yet : fresh ≡ true → count ≡ 0 → number ≡ None → IsTold start own fresh count number
   came_fresh : (more : ℕ) → fresh ≡ true → count ≡ more + 1 → number ≡ Some (start + more) → IsTold start own fresh count number

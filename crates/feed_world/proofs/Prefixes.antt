@@ -1,4 +1,5 @@
--- Whatever prefix of what was sent came, its lines are taken one after another, and each whole block moves the mirror on.
+-- Whatever prefix of what was sent came, its lines are taken one after another, and each whole
+-- block moves the mirror on.
 use Rattle.std.proofs.Common.{◌≡◌, refl, sym, ap, ◌∙◌, subst, ℕ, suc, ◌+◌, ◌-◌, ◌<◌, ◌≤◌, Bool, true, false, not, ◌&&◌, arith, List, [], ◌∷◌, ◌++◌, length, Option, Some, None, nat_le, nat_lt, ltb-true, ltb-false, ◌||◌, leb-true, leb-false, eqb-true, length-append}
 use Rattle.std.specs.Prelude.{if◌then◌else◌, ◌==◌, ◌≢◌}
 use Rattle.std.proofs.lemmas.Bool.{le-leb}
@@ -42,7 +43,8 @@ times-append s (n ∷ ns) ms =
     let later = times-append (step s n) ns ms in
     omega arith
 
--- the lines of one part are taken and publish this many times, and before its end nothing is published
+-- the lines of one part are taken and publish this many times, and before its end nothing is
+-- published
 record IsTakenPart (limits : Limits) (log : Log) (s : Standing) (part : Part) (t : Standing) (many : ℕ) : Type 0 where
   notes : List Line
   takes : TakesText limits s (part_text log part) notes

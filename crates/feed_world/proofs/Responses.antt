@@ -1,4 +1,5 @@
--- The bytes of a response: what is appended to them, and how much of the text has come with a prefix of them.
+-- The bytes of a response: what is appended to them, and how much of the text has come with a
+-- prefix of them.
 use Rattle.std.proofs.Common.{◌≡◌, refl, sym, ap, ◌∙◌, subst, ℕ, ◌+◌, ◌-◌, ◌<◌, ◌≤◌, ◌^◌, min, false, arith, List, [], ◌∷◌, ◌++◌, length, append_assoc, append-nil, length-append}
 use Rattle.std.specs.Fmt.{digits}
 use Rattle.std.specs.List.{AllByRecursion, flat_map}

@@ -1,4 +1,5 @@
--- What was printed is what the lines so far ask for, of a run that leads to the world in memory; and no line is lost.
+-- What was printed is what the lines so far ask for, of a run that leads to the world in memory;
+-- and no line is lost.
 use Rattle.std.proofs.Common.{◌≡◌, length}
 use Rattle.feed_world.specs.States.{IsWorld}
 use Rattle.feed_world.specs.World.{World}
