@@ -48,10 +48,12 @@ on_ok (Err fault) f h = h
 pub line_told : (a b c d e f : Option (List ℕ)) (name mark kind text last : List ℕ) → Appends a b name → Appends b c mark → Appends c d kind → Appends d e text
     → Appends e f last → last ≡ line_feed ∷ [] → TellsLines a f
 line_told a b c d e f name mark kind text last one two three four five is =
-    let front = ((name ++ mark) ++ kind) ++ text in
-    (front ++ last, (front, ap (λ t. front ++ t) is),
-    Appends-trans a e f front last
-    (Appends-trans a d e ((name ++ mark) ++ kind) text (Appends-trans a c d (name ++ mark) kind (Appends-trans a b c name mark one two) three) four) five)
+    let front = ((name ++ mark) ++ kind) ++ text in (
+      front ++ last,
+      (front, ap (λ t. front ++ t) is),
+      Appends-trans a e f front last
+          (Appends-trans a d e ((name ++ mark) ++ kind) text (Appends-trans a c d (name ++ mark) kind (Appends-trans a b c name mark one two) three) four) five,
+    )
 
 -- lines, and then more
 pub lines_more : (a b c : Option (List ℕ)) → TellsLines a b → TellsLines b c → TellsLines a c

@@ -6,6 +6,6 @@ pub returns-clause-lines : goal.returns-clause-lines
 returns-clause-lines g c =
     on_ok c.write_all-5.result
     (λ h.
-        line_told _ _ _ _ _ _ _ _ _ _ _ c.in_ok-write_all.ensures.ok c.in_ok-write_all-2.ensures.ok c.in_ok-write_all-3.ensures.ok
-        c.in_ok-write_all-4.ensures.ok h refl)
+    line_told _ _ _ _ _ _ _ _ _ _ _ c.in_ok-write_all.ensures.ok c.in_ok-write_all-2.ensures.ok c.in_ok-write_all-3.ensures.ok
+    c.in_ok-write_all-4.ensures.ok h refl)
     c.write_all-5.ensures.ok
