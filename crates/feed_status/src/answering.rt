@@ -1,24 +1,24 @@
 //! The answers to requests on the status port.
 
-use crate::health::{Headline, Level};
+use crate::health::Headline;
+use crate::json::StatusJson;
 use crate::metrics::Metrics;
-use crate::page::page_of;
-use crate::plots::PlotsReport;
-use crate::rows::{Row, rows_of};
+use crate::page::put_page;
+use crate::plots::PlotsJson;
+use crate::rows::rows_of;
 use crate::screens::{MOST_SCREENS, report};
 use crate::status::Status;
 use crate::watch::Watch;
 use http::StatusCode;
 use httparse::Status as Parsed;
 use httparse::spans::{EMPTY_HEADER_SPAN, parse_request};
-use serde::Serialize;
 use std::alloc::{AllocError, Global};
 
 /// The most fields of a request's head.
 const MOST_FIELDS: usize = 64;
 
 /// What is asked for.
-#[derive(Clone, Copy, Debug, PartialEq, Eq)]
+#[derive(Clone, Copy)]
 enum Wanted {
     Page,
     Json,
@@ -84,26 +84,17 @@ fn read_request(head: &[u8]) -> Result<Asked, StatusCode> {
     }
 }
 
-/// What is told as JSON.
-#[derive(Clone, Copy, Serialize)]
-struct Report<'a> {
-    level: Level,
-    headline: &'a str,
-    rows: &'a [Row],
-    status: &'a Status<'a>,
-}
-
 /// The status as JSON, with its level, its headline and the rows of the page's table.
 fn json(alloc: Global, status: &Status<'_>) -> Result<Vec<u8>, AllocError> {
     let headline = format!(in alloc; "{}", Headline(status))?;
     let rows = rows_of(alloc, status)?;
-    let report = Report {
+    let told = StatusJson {
         level: status.level(),
         headline: headline.as_str(),
         rows: rows.as_slice(),
         status,
     };
-    serde_json::to_vec(alloc, &report).map_err(|_| AllocError)
+    serde_json::to_vec(alloc, &told).map_err(|_| AllocError)
 }
 
 /// The screens as JSON, the slowest first.
@@ -115,38 +106,53 @@ fn screens<W: Watch>(alloc: Global, relay: &W, status: &Status<'_>) -> Result<Ve
 
 /// The last ten minutes as JSON.
 fn plots<W: Watch>(alloc: Global, relay: &W) -> Result<Vec<u8>, AllocError> {
-    let told = PlotsReport::of(alloc, relay.plots())?;
+    let told = PlotsJson::of(alloc, relay.plots())?;
     serde_json::to_vec(alloc, &told).map_err(|_| AllocError)
 }
 
 /// The page, with the table of the screens.
 fn page<W: Watch>(alloc: Global, relay: &W, status: &Status<'_>) -> Result<Vec<u8>, AllocError> {
     let screens = relay.screens(alloc, MOST_SCREENS)?;
-    page_of(alloc, status, screens.as_slice())
+    let mut out = Vec::new(alloc);
+    put_page(alloc, status, screens.as_slice(), &mut out)?;
+    Ok(out)
 }
 
-/// The status code and the body of an answer.
+/// The metrics, with those of the process.
+fn metrics<W: Watch>(alloc: Global, relay: &W, status: &Status<'_>) -> Result<Vec<u8>, AllocError> {
+    let text = format!(in alloc; "{}", Metrics(status, relay.process()))?;
+    Ok(text.into_bytes())
+}
+
+/// The line on how the relay is.
+fn health(alloc: Global, status: &Status<'_>) -> Result<Vec<u8>, AllocError> {
+    let text = format!(in alloc; "{}\n", Headline(status))?;
+    Ok(text.into_bytes())
+}
+
+/// The body of an answer.
 fn body<W: Watch>(
     alloc: Global,
     wanted: Wanted,
     relay: &W,
-) -> Result<(StatusCode, Vec<u8>), AllocError> {
-    let status = &relay.status();
-    let body = match wanted {
-        Wanted::Page => page(alloc, relay, status)?,
-        Wanted::Json => json(alloc, status)?,
-        Wanted::Screens => screens(alloc, relay, status)?,
-        Wanted::Plots => plots(alloc, relay)?,
-        Wanted::Metrics => {
-            format!(in alloc; "{}", Metrics(status, relay.process()))?.into_bytes()
-        }
-        Wanted::Health => format!(in alloc; "{}\n", Headline(status))?.into_bytes(),
-    };
-    let code = match wanted {
+    status: &Status<'_>,
+) -> Result<Vec<u8>, AllocError> {
+    match wanted {
+        Wanted::Page => page(alloc, relay, status),
+        Wanted::Json => json(alloc, status),
+        Wanted::Screens => screens(alloc, relay, status),
+        Wanted::Plots => plots(alloc, relay),
+        Wanted::Metrics => metrics(alloc, relay, status),
+        Wanted::Health => health(alloc, status),
+    }
+}
+
+/// The status code of an answer.
+fn code_of(wanted: Wanted, status: &Status<'_>) -> StatusCode {
+    match wanted {
         Wanted::Health if !status.is_healthy() => StatusCode::SERVICE_UNAVAILABLE,
         _ => StatusCode::OK,
-    };
-    Ok((code, body))
+    }
 }
 
 /// The head of an answer. The page may run its own script and ask its own server, and nothing else.
@@ -171,6 +177,19 @@ fn head_of(
     Ok(text.into_bytes())
 }
 
+/// The answer to a request.
+fn answered<W: Watch>(alloc: Global, asked: Asked, relay: &W) -> Result<Vec<u8>, AllocError> {
+    let Asked { wanted, has_body } = asked;
+    let status = &relay.status();
+    let body = body(alloc, wanted, relay, status)?;
+    let code = code_of(wanted, status);
+    let mut text = head_of(alloc, code, wanted.content_type(), body.len())?;
+    if has_body {
+        text.extend_from_slice(body.as_slice())?;
+    }
+    Ok(text)
+}
+
 /// The whole answer to a request of which this is the head: `/` is the page, `/status.json` the
 /// status, `/screens.json` the 200 slowest screens, `/plots.json` the last ten minutes, `/metrics`
 /// the metrics for Prometheus, `/health` one line, with status 503 where upstream is silent for too
@@ -178,14 +197,7 @@ fn head_of(
 /// connection is closed after it.
 pub fn answer<W: Watch>(alloc: Global, head: &[u8], relay: &W) -> Result<Vec<u8>, AllocError> {
     match read_request(head) {
-        Ok(Asked { wanted, has_body }) => {
-            let (code, body) = body(alloc, wanted, relay)?;
-            let mut text = head_of(alloc, code, wanted.content_type(), body.len())?;
-            if has_body {
-                text.extend_from_slice(body.as_slice())?;
-            }
-            Ok(text)
-        }
+        Ok(asked) => answered(alloc, asked, relay),
         Err(code) => head_of(alloc, code, "text/plain; charset=utf-8", 0),
     }
 }

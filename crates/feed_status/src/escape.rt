@@ -32,3 +32,15 @@ pub fn put_text(text: &str, out: &mut Vec<u8>) -> Result<(), AllocError>
     }
     Ok(())
 }
+
+/// Appends a text between two pieces of markup.
+pub(crate) fn put_element(
+    open: &str,
+    text: &str,
+    close: &str,
+    out: &mut Vec<u8>,
+) -> Result<(), AllocError> {
+    out.extend_from_slice(open.as_bytes())?;
+    put_text(text, out)?;
+    out.extend_from_slice(close.as_bytes())
+}

@@ -1,14 +1,12 @@
 //! Whether a relay is well.
 
-use crate::rows::Time;
+use crate::cells::Time;
 use crate::status::{Status, UpstreamState, UpstreamStatus};
 use crate::warnings::Warnings;
-use serde::Serialize;
 use std::fmt;
 
 /// How well a relay follows.
-#[derive(Clone, Copy, Debug, PartialEq, Eq, Serialize)]
-#[serde(rename_all = "snake_case")]
+#[derive(Clone, Copy)]
 pub enum Level {
     /// It follows, and has something to show.
     Good,
@@ -20,7 +18,7 @@ pub enum Level {
 }
 
 impl Level {
-    /// The word that a page has for it.
+    /// The word that JSON and a page have for it.
     pub(crate) fn word(self) -> &'static str {
         match self {
             Level::Good => "good",
@@ -76,12 +74,9 @@ pub(crate) struct Coming<'a>(pub(crate) &'a UpstreamStatus<'a>);
 
 impl fmt::Display for Coming<'_> {
     fn fmt<W: fmt::Write>(&self, f: &mut fmt::Formatter<W>) -> fmt::Result {
-        match self.0.coming_lines {
-            1 => f.write_str("1 line")?,
-            lines => write!(f, "{lines} lines")?,
-        }
-        let bytes = self.0.coming_bytes;
-        write!(f, ", {bytes} bytes")
+        let (lines, bytes) = (self.0.coming_lines, self.0.coming_bytes);
+        let word = if lines == 1 { "line" } else { "lines" };
+        write!(f, "{lines} {word}, {bytes} bytes")
     }
 }
 
@@ -137,14 +132,46 @@ impl fmt::Display for Followed<'_> {
                 )
             }
             UpstreamState::Asking => {
-                write!(f, "asking {name}{}", Because(upstream))?;
-                write!(f, ", nothing heard for {silent} s")
+                let because = Because(upstream);
+                write!(f, "asking {name}{because}, nothing heard for {silent} s")
             }
             UpstreamState::Pausing => {
-                write!(f, "{name} is lost{}", Because(upstream))?;
-                write!(f, ", nothing heard for {silent} s")
+                let because = Because(upstream);
+                write!(f, "{name} is lost{because}, nothing heard for {silent} s")
             }
             UpstreamState::Ended => write!(f, "the end of {name}"),
+        }
+    }
+}
+
+/// What is shown.
+#[derive(Clone, Copy)]
+struct Shown<'a>(&'a Status<'a>);
+
+impl fmt::Display for Shown<'_> {
+    fn fmt<W: fmt::Write>(&self, f: &mut fmt::Formatter<W>) -> fmt::Result {
+        let settles = matches!(self.0.upstream.state, UpstreamState::Settling);
+        let age = LastCommit(self.0.commit_age_ms);
+        match self.0.token {
+            Some(token) if settles => write!(f, ", still at token {token}{age}"),
+            Some(token) => write!(f, ", token {token}{age}"),
+            None if settles => Ok(()),
+            None => f.write_str(", nothing published yet"),
+        }
+    }
+}
+
+/// How many screens there are, and how many of them are behind.
+#[derive(Clone, Copy)]
+struct Connected(u64, u64);
+
+impl fmt::Display for Connected {
+    fn fmt<W: fmt::Write>(&self, f: &mut fmt::Formatter<W>) -> fmt::Result {
+        let Connected(open, behind) = *self;
+        let screens = if open == 1 { "screen" } else { "screens" };
+        match behind {
+            0 => write!(f, ", {open} {screens}, none behind"),
+            _ => write!(f, ", {open} {screens}, {behind} behind"),
         }
     }
 }
@@ -155,24 +182,14 @@ pub(crate) struct Headline<'a>(pub(crate) &'a Status<'a>);
 
 impl fmt::Display for Headline<'_> {
     fn fmt<W: fmt::Write>(&self, f: &mut fmt::Formatter<W>) -> fmt::Result {
-        let settles = self.0.upstream.state == UpstreamState::Settling;
-        write!(f, "{}", Followed(self.0))?;
-        let age = LastCommit(self.0.commit_age_ms);
-        match self.0.token {
-            Some(token) if settles => write!(f, ", still at token {token}{age}")?,
-            Some(token) => write!(f, ", token {token}{age}")?,
-            None if settles => {}
-            None => f.write_str(", nothing published yet")?,
-        }
-        let screens = &self.0.screens;
-        match screens.open {
-            1 => f.write_str(", 1 screen")?,
-            open => write!(f, ", {open} screens")?,
-        }
-        match screens.behind {
-            0 => f.write_str(", none behind")?,
-            behind => write!(f, ", {behind} behind")?,
-        }
-        write!(f, "{}", Warnings(self.0))
+        let status = self.0;
+        let screens = Connected(status.screens.open, status.screens.behind);
+        write!(
+            f,
+            "{}{}{screens}{}",
+            Followed(status),
+            Shown(status),
+            Warnings(status)
+        )
     }
 }

@@ -3,8 +3,10 @@
 #![tactic(auto)]
 
 mod answering;
+mod cells;
 mod escape;
 mod health;
+mod json;
 mod metrics;
 mod page;
 mod plots;

@@ -1,64 +1,29 @@
 //! The metrics, in the text format of Prometheus (version 0.0.4).
 
-use crate::status::{BOUNDS, Latency, Status, UpstreamState, UpstreamStatus};
+use crate::status::{
+    BOUNDS, Latency, ScreensStatus, StateFile, Status, UpstreamState, UpstreamStatus,
+};
 use crate::watch::Process;
 use std::fmt;
 use std::fmt::Write;
 
-/// Seconds, of a number of milliseconds.
+/// The value of a metric.
 #[derive(Clone, Copy)]
-struct Seconds(u64);
+enum Value {
+    Count(u64),
+    /// Seconds, of a number of milliseconds.
+    Time(u64),
+    /// Seconds, of a number of microseconds.
+    FineTime(u64),
+}
 
-impl fmt::Display for Seconds {
+impl fmt::Display for Value {
     fn fmt<W: fmt::Write>(&self, f: &mut fmt::Formatter<W>) -> fmt::Result {
-        let (whole, part) = (self.0 / 1_000, self.0 % 1_000);
-        write!(f, "{whole}.{part:03}")
-    }
-}
-
-/// Seconds, of a number of microseconds.
-#[derive(Clone, Copy)]
-struct FineSeconds(u64);
-
-impl fmt::Display for FineSeconds {
-    fn fmt<W: fmt::Write>(&self, f: &mut fmt::Formatter<W>) -> fmt::Result {
-        let (whole, part) = (self.0 / 1_000_000, self.0 % 1_000_000);
-        write!(f, "{whole}.{part:06}")
-    }
-}
-
-/// What stands before the values of a metric: what it is, and its type.
-#[derive(Clone, Copy)]
-struct Family<'a> {
-    name: &'a str,
-    kind: &'a str,
-    help: &'a str,
-}
-
-impl fmt::Display for Family<'_> {
-    fn fmt<W: fmt::Write>(&self, f: &mut fmt::Formatter<W>) -> fmt::Result {
-        let (name, kind, help) = (self.name, self.kind, self.help);
-        write!(
-            f,
-            "# HELP tunygarop_{name} {help}\n# TYPE tunygarop_{name} {kind}\n"
-        )
-    }
-}
-
-/// One metric without labels.
-#[derive(Clone, Copy)]
-struct Metric<'a, V> {
-    name: &'a str,
-    kind: &'a str,
-    help: &'a str,
-    value: V,
-}
-
-impl<V: fmt::Display> fmt::Display for Metric<'_, V> {
-    fn fmt<W: fmt::Write>(&self, f: &mut fmt::Formatter<W>) -> fmt::Result {
-        let (name, kind, help) = (self.name, self.kind, self.help);
-        write!(f, "{}", Family { name, kind, help })?;
-        write!(f, "tunygarop_{name} {}\n", self.value)
+        match *self {
+            Value::Count(count) => write!(f, "{count}"),
+            Value::Time(time) => write!(f, "{}.{:03}", time / 1_000, time % 1_000),
+            Value::FineTime(time) => write!(f, "{}.{:06}", time / 1_000_000, time % 1_000_000),
+        }
     }
 }
 
@@ -80,22 +45,421 @@ impl fmt::Display for Label<'_> {
     }
 }
 
-fn gauge<'a, V>(name: &'a str, help: &'a str, value: V) -> Metric<'a, V> {
-    Metric {
+/// What tells a value from the others of its metric: names, each with a text.
+#[derive(Clone, Copy)]
+enum Labels<'a> {
+    None,
+    One(&'static str, &'a str),
+    Two(&'static str, &'a str, &'static str, &'a str),
+    Number(&'static str, Value),
+}
+
+impl fmt::Display for Labels<'_> {
+    fn fmt<W: fmt::Write>(&self, f: &mut fmt::Formatter<W>) -> fmt::Result {
+        match *self {
+            Labels::None => Ok(()),
+            Labels::One(name, text) => write!(f, "{{{name}=\"{}\"}}", Label(text)),
+            Labels::Two(first, text, second, more) => {
+                write!(f, "{{{first}=\"{}\",", Label(text))?;
+                write!(f, "{second}=\"{}\"}}", Label(more))
+            }
+            Labels::Number(name, number) => write!(f, "{{{name}=\"{number}\"}}"),
+        }
+    }
+}
+
+/// What stands before the values of a metric: what it is, and its type.
+#[derive(Clone, Copy)]
+struct Family {
+    name: &'static str,
+    kind: &'static str,
+    help: &'static str,
+}
+
+impl fmt::Display for Family {
+    fn fmt<W: fmt::Write>(&self, f: &mut fmt::Formatter<W>) -> fmt::Result {
+        let (name, kind, help) = (self.name, self.kind, self.help);
+        write!(f, "# HELP {name} {help}\n# TYPE {name} {kind}\n")
+    }
+}
+
+/// A value of a metric.
+#[derive(Clone, Copy)]
+struct Sample<'a>(&'static str, Labels<'a>, Value);
+
+impl fmt::Display for Sample<'_> {
+    fn fmt<W: fmt::Write>(&self, f: &mut fmt::Formatter<W>) -> fmt::Result {
+        write!(f, "{}{} {}\n", self.0, self.1, self.2)
+    }
+}
+
+/// A metric with one value.
+#[derive(Clone, Copy)]
+struct Metric<'a> {
+    family: Family,
+    labels: Labels<'a>,
+    value: Value,
+}
+
+/// What has a value at each moment.
+fn gauge<'a>(name: &'static str, help: &'static str, value: Value) -> Metric<'a> {
+    labelled(name, help, Labels::None, value)
+}
+
+/// The same, with labels.
+fn labelled<'a>(
+    name: &'static str,
+    help: &'static str,
+    labels: Labels<'a>,
+    value: Value,
+) -> Metric<'a> {
+    let family = Family {
         name,
         kind: "gauge",
         help,
+    };
+    Metric {
+        family,
+        labels,
         value,
     }
 }
 
-fn counter<'a, V>(name: &'a str, help: &'a str, value: V) -> Metric<'a, V> {
-    Metric {
+/// What only grows.
+fn counter<'a>(name: &'static str, help: &'static str, value: Value) -> Metric<'a> {
+    let family = Family {
         name,
         kind: "counter",
         help,
+    };
+    Metric {
+        family,
+        labels: Labels::None,
         value,
     }
+}
+
+/// The program, its contest, how long it has run, and what came.
+fn of_relay<'a>(status: &Status<'a>) -> [Metric<'a>; 5] {
+    [
+        labelled(
+            "tunygarop_build_info",
+            "The version of the program.",
+            Labels::One("version", status.version),
+            Value::Count(1),
+        ),
+        labelled(
+            "tunygarop_info",
+            "The version and the contest.",
+            Labels::Two("version", status.version, "contest", status.contest),
+            Value::Count(1),
+        ),
+        gauge(
+            "tunygarop_uptime_seconds",
+            "How long the relay has run.",
+            Value::Time(status.uptime_ms),
+        ),
+        counter(
+            "tunygarop_commits_total",
+            "Commits that were published.",
+            Value::Count(status.commits),
+        ),
+        counter(
+            "tunygarop_upstream_bytes_total",
+            "Bytes that came.",
+            Value::Count(status.bytes),
+        ),
+    ]
+}
+
+/// When the last commit came.
+fn of_commit<'a>(age: u64) -> [Metric<'a>; 1] {
+    [gauge(
+        "tunygarop_last_commit_age_seconds",
+        "Time since a commit.",
+        Value::Time(age),
+    )]
+}
+
+/// How much is shown, the server that it is from, and what else comes of it.
+fn of_upstream<'a>(status: &Status<'a>) -> [Metric<'a>; 10] {
+    let upstream = &status.upstream;
+    let state = upstream.state;
+    let follows = matches!(state, UpstreamState::Following | UpstreamState::Input);
+    [
+        gauge(
+            "tunygarop_types",
+            "Types that are published.",
+            Value::Count(status.types),
+        ),
+        gauge(
+            "tunygarop_objects",
+            "Objects of their collections.",
+            Value::Count(status.objects),
+        ),
+        labelled(
+            "tunygarop_upstream_info",
+            "The server, and its state.",
+            Labels::Two("name", upstream.name, "state", state.word()),
+            Value::Count(1),
+        ),
+        gauge(
+            "tunygarop_upstream_state_seconds",
+            "Time in this state.",
+            Value::Time(upstream.since_ms),
+        ),
+        gauge(
+            "tunygarop_healthy",
+            "1 where /health answers 200.",
+            Value::Count(u64::from(status.is_healthy())),
+        ),
+        gauge(
+            "tunygarop_following",
+            "1 while what comes is shown.",
+            Value::Count(u64::from(follows)),
+        ),
+        gauge(
+            "tunygarop_upstream_silent_seconds",
+            "Time without a byte.",
+            Value::Time(upstream.silent_ms),
+        ),
+        gauge(
+            "tunygarop_upstream_failures",
+            "Attempts failed in a row.",
+            Value::Count(upstream.failures),
+        ),
+        gauge(
+            "tunygarop_upstream_coming_lines",
+            "Lines not shown until they settle.",
+            Value::Count(upstream.coming_lines),
+        ),
+        gauge(
+            "tunygarop_upstream_coming_bytes",
+            "Bytes not shown until they settle.",
+            Value::Count(upstream.coming_bytes),
+        ),
+    ]
+}
+
+/// What waits for a token.
+fn of_waiting<'a>(upstream: &UpstreamStatus<'a>) -> [Metric<'a>; 2] {
+    [
+        gauge(
+            "tunygarop_upstream_waiting_changes",
+            "Changes that wait for a token.",
+            Value::Count(upstream.waiting),
+        ),
+        gauge(
+            "tunygarop_upstream_waiting_seconds",
+            "How long the first of them waits.",
+            Value::Time(upstream.waiting_ms),
+        ),
+    ]
+}
+
+/// The connections on the feed's port.
+fn of_screens<'a>(screens: &ScreensStatus) -> [Metric<'a>; 8] {
+    [
+        gauge(
+            "tunygarop_screens",
+            "Open connections.",
+            Value::Count(screens.open),
+        ),
+        gauge(
+            "tunygarop_screens_asking",
+            "Those not answered yet.",
+            Value::Count(screens.asking),
+        ),
+        gauge(
+            "tunygarop_screens_behind",
+            "Those that lack bytes.",
+            Value::Count(screens.behind),
+        ),
+        gauge(
+            "tunygarop_screens_waiting",
+            "Who wait for room.",
+            Value::Count(screens.waiting),
+        ),
+        gauge(
+            "tunygarop_screens_most",
+            "The most at once.",
+            Value::Count(screens.most),
+        ),
+        counter(
+            "tunygarop_screens_opened_total",
+            "Connections taken.",
+            Value::Count(screens.opened),
+        ),
+        counter(
+            "tunygarop_screens_cut_total",
+            "Slow screens cut.",
+            Value::Count(screens.cut),
+        ),
+        counter(
+            "tunygarop_screens_bytes_total",
+            "Bytes sent to screens.",
+            Value::Count(screens.bytes),
+        ),
+    ]
+}
+
+/// What was closed, and what was published afresh.
+fn of_ends<'a>(status: &Status<'a>) -> [Metric<'a>; 3] {
+    [
+        counter(
+            "tunygarop_refused_by_address_total",
+            "Connections closed for their address.",
+            Value::Count(status.refused_by_address),
+        ),
+        counter(
+            "tunygarop_resets_total",
+            "Publications afresh.",
+            Value::Count(status.screens.resets),
+        ),
+        counter(
+            "tunygarop_bodies_ended_total",
+            "Bodies that those ended.",
+            Value::Count(status.screens.ended),
+        ),
+    ]
+}
+
+/// The state file.
+fn of_file<'a>(file: &StateFile<'a>) -> [Metric<'a>; 4] {
+    [
+        gauge(
+            "tunygarop_state_file_failing",
+            "1 where it can't be written.",
+            Value::Count(u64::from(file.fault.is_some())),
+        ),
+        counter(
+            "tunygarop_state_file_failures_total",
+            "Failed writes.",
+            Value::Count(file.failures),
+        ),
+        gauge(
+            "tunygarop_state_file_bytes",
+            "Bytes of the state file.",
+            Value::Count(file.bytes),
+        ),
+        gauge(
+            "tunygarop_state_file_age_seconds",
+            "Time since it was written.",
+            Value::Time(file.age_ms),
+        ),
+    ]
+}
+
+/// What the system counts of the process, by the names that Prometheus has for it.
+fn of_process<'a>(process: &Process) -> [Metric<'a>; 4] {
+    [
+        gauge(
+            "process_start_time_seconds",
+            "When it began, after 1970.",
+            Value::Time(process.began_ms),
+        ),
+        counter(
+            "process_cpu_seconds_total",
+            "Time that it had a processor.",
+            Value::Time(process.processor_ms),
+        ),
+        gauge(
+            "process_resident_memory_bytes",
+            "Memory that it has.",
+            Value::Count(process.resident_bytes),
+        ),
+        gauge(
+            "process_open_fds",
+            "Files and sockets that it has open.",
+            Value::Count(process.open_files),
+        ),
+    ]
+}
+
+/// Appends metrics, one after another.
+fn put_all<W: fmt::Write>(metrics: &[Metric<'_>], f: &mut fmt::Formatter<W>) -> fmt::Result {
+    for metric in metrics {
+        let (family, value) = (metric.family, metric.value);
+        write!(f, "{family}{}", Sample(family.name, metric.labels, value))?;
+    }
+    Ok(())
+}
+
+/// Appends when the last commit came, where one did.
+fn put_commit<W: fmt::Write>(age: Option<u64>, f: &mut fmt::Formatter<W>) -> fmt::Result {
+    match age {
+        Some(age) => put_all(&of_commit(age), f),
+        None => Ok(()),
+    }
+}
+
+/// Appends what is known of the state file, where there is one.
+fn put_file<W: fmt::Write>(file: Option<StateFile<'_>>, f: &mut fmt::Formatter<W>) -> fmt::Result {
+    match &file {
+        Some(file) => put_all(&of_file(file), f),
+        None => Ok(()),
+    }
+}
+
+/// Appends what is known of the process, where something is.
+fn put_process<W: fmt::Write>(process: Option<Process>, f: &mut fmt::Formatter<W>) -> fmt::Result {
+    match &process {
+        Some(process) => put_all(&of_process(process), f),
+        None => Ok(()),
+    }
+}
+
+/// Appends why attempts to follow a server failed, and what waits for a token.
+fn put_failures<W: fmt::Write>(
+    upstream: &UpstreamStatus<'_>,
+    f: &mut fmt::Formatter<W>,
+) -> fmt::Result {
+    let name = "tunygarop_upstream_failures_total";
+    let help = "Attempts to follow that failed, by reason.";
+    let kind = "counter";
+    write!(f, "{}", Family { name, kind, help })?;
+    for failed in &upstream.failed_by {
+        let labels = Labels::One("reason", failed.reason);
+        write!(f, "{}", Sample(name, labels, Value::Count(failed.count)))?;
+    }
+    put_all(&of_waiting(upstream), f)
+}
+
+/// Appends with which statuses requests were refused, and what else was closed.
+fn put_refusals<W: fmt::Write>(status: &Status<'_>, f: &mut fmt::Formatter<W>) -> fmt::Result {
+    let name = "tunygarop_screens_refused_total";
+    let help = "Requests refused, by the status of the answer.";
+    let kind = "counter";
+    write!(f, "{}", Family { name, kind, help })?;
+    for refused in &status.screens.refused_by {
+        let labels = Labels::Number("status", Value::Count(u64::from(refused.status)));
+        write!(f, "{}", Sample(name, labels, Value::Count(refused.count)))?;
+    }
+    put_all(&of_ends(status), f)
+}
+
+/// Appends how long commits took.
+fn put_latency<W: fmt::Write>(latency: &Latency, f: &mut fmt::Formatter<W>) -> fmt::Result {
+    let name = "tunygarop_latency_seconds";
+    let help = "From a commit's end to its last write.";
+    let kind = "histogram";
+    write!(f, "{}", Family { name, kind, help })?;
+    let bucket = "tunygarop_latency_seconds_bucket";
+    for (bound, count) in BOUNDS.iter().zip(latency.at_most.iter()) {
+        let labels = Labels::Number("le", Value::FineTime(*bound));
+        write!(f, "{}", Sample(bucket, labels, Value::Count(*count)))?;
+    }
+    let (sum, commits) = (
+        Value::FineTime(latency.sum_us),
+        Value::Count(latency.commits),
+    );
+    write!(
+        f,
+        "{}{}{}",
+        Sample(bucket, Labels::One("le", "+Inf"), commits),
+        Sample("tunygarop_latency_seconds_sum", Labels::None, sum),
+        Sample("tunygarop_latency_seconds_count", Labels::None, commits)
+    )
 }
 
 /// All metrics of a relay, and of its process where something is known of that.
@@ -105,389 +469,14 @@ pub(crate) struct Metrics<'a>(pub(crate) &'a Status<'a>, pub(crate) Option<Proce
 impl fmt::Display for Metrics<'_> {
     fn fmt<W: fmt::Write>(&self, f: &mut fmt::Formatter<W>) -> fmt::Result {
         let status = self.0;
-        write!(f, "{}{}", About(status), Feed(status))?;
-        write!(f, "{}{}", UpstreamInfo(status), OfUpstream(status))?;
-        write!(f, "{}", OfComing(&status.upstream))?;
-        write!(f, "{}", OfFailures(&status.upstream))?;
-        write!(f, "{}{}", OfScreens(status), OfRefused(status))?;
-        write!(f, "{}{}", OfResets(status), OfFile(status))?;
-        if let Some(process) = self.1 {
-            write!(f, "{}", OfProcess(process))?;
-        }
-        write!(f, "{}", Histogram(&status.latency))
-    }
-}
-
-#[derive(Clone, Copy)]
-struct About<'a>(&'a Status<'a>);
-
-impl fmt::Display for About<'_> {
-    fn fmt<W: fmt::Write>(&self, f: &mut fmt::Formatter<W>) -> fmt::Result {
-        let (version, contest) = (Label(self.0.version), Label(self.0.contest));
-        f.write_str("# HELP tunygarop_build_info The version of the program.\n")?;
-        f.write_str("# TYPE tunygarop_build_info gauge\n")?;
-        write!(f, "tunygarop_build_info{{version=\"{version}\"}} 1\n")?;
-        f.write_str("# HELP tunygarop_info The version and the contest.\n")?;
-        f.write_str("# TYPE tunygarop_info gauge\n")?;
-        write!(
-            f,
-            "tunygarop_info{{version=\"{version}\",contest=\"{contest}\"}} 1\n"
-        )?;
-        let uptime = Seconds(self.0.uptime_ms);
-        write!(
-            f,
-            "{}",
-            gauge("uptime_seconds", "How long the relay has run.", uptime)
-        )
-    }
-}
-
-#[derive(Clone, Copy)]
-struct Feed<'a>(&'a Status<'a>);
-
-impl fmt::Display for Feed<'_> {
-    fn fmt<W: fmt::Write>(&self, f: &mut fmt::Formatter<W>) -> fmt::Result {
-        let (commits, bytes) = (self.0.commits, self.0.bytes);
-        write!(
-            f,
-            "{}",
-            counter("commits_total", "Commits that were published.", commits)
-        )?;
-        write!(
-            f,
-            "{}",
-            counter("upstream_bytes_total", "Bytes that came.", bytes)
-        )?;
-        if let Some(age) = self.0.commit_age_ms {
-            let age = Seconds(age);
-            write!(
-                f,
-                "{}",
-                gauge("last_commit_age_seconds", "Time since a commit.", age)
-            )?;
-        }
-        write!(
-            f,
-            "{}",
-            gauge("types", "Types that are published.", self.0.types)
-        )?;
-        write!(
-            f,
-            "{}",
-            gauge("objects", "Objects of their collections.", self.0.objects)
-        )
-    }
-}
-
-#[derive(Clone, Copy)]
-struct UpstreamInfo<'a>(&'a Status<'a>);
-
-impl fmt::Display for UpstreamInfo<'_> {
-    fn fmt<W: fmt::Write>(&self, f: &mut fmt::Formatter<W>) -> fmt::Result {
-        let upstream = &self.0.upstream;
-        let (name, state) = (Label(upstream.name), upstream.state.word());
-        f.write_str("# HELP tunygarop_upstream_info The server, and its state.\n")?;
-        f.write_str("# TYPE tunygarop_upstream_info gauge\n")?;
-        write!(
-            f,
-            "tunygarop_upstream_info{{name=\"{name}\",state=\"{state}\"}} 1\n"
-        )?;
-        let since = Seconds(upstream.since_ms);
-        write!(
-            f,
-            "{}",
-            gauge("upstream_state_seconds", "Time in this state.", since)
-        )
-    }
-}
-
-#[derive(Clone, Copy)]
-struct OfUpstream<'a>(&'a Status<'a>);
-
-impl fmt::Display for OfUpstream<'_> {
-    fn fmt<W: fmt::Write>(&self, f: &mut fmt::Formatter<W>) -> fmt::Result {
-        let upstream = &self.0.upstream;
-        let follows = match upstream.state {
-            UpstreamState::Following => 1u64,
-            UpstreamState::Input => 1,
-            _ => 0,
-        };
-        let healthy = u64::from(self.0.is_healthy());
-        let silent = Seconds(upstream.silent_ms);
-        write!(
-            f,
-            "{}",
-            gauge("healthy", "1 where /health answers 200.", healthy)
-        )?;
-        write!(
-            f,
-            "{}",
-            gauge("following", "1 while what comes is shown.", follows)
-        )?;
-        write!(
-            f,
-            "{}",
-            gauge("upstream_silent_seconds", "Time without a byte.", silent)
-        )?;
-        let failures = upstream.failures;
-        write!(
-            f,
-            "{}",
-            gauge("upstream_failures", "Attempts failed in a row.", failures)
-        )
-    }
-}
-
-#[derive(Clone, Copy)]
-struct OfComing<'a>(&'a UpstreamStatus<'a>);
-
-impl fmt::Display for OfComing<'_> {
-    fn fmt<W: fmt::Write>(&self, f: &mut fmt::Formatter<W>) -> fmt::Result {
-        let (lines, bytes) = (self.0.coming_lines, self.0.coming_bytes);
-        write!(
-            f,
-            "{}",
-            gauge(
-                "upstream_coming_lines",
-                "Lines not shown until they settle.",
-                lines
-            )
-        )?;
-        write!(
-            f,
-            "{}",
-            gauge(
-                "upstream_coming_bytes",
-                "Bytes not shown until they settle.",
-                bytes
-            )
-        )
-    }
-}
-
-#[derive(Clone, Copy)]
-struct OfFailures<'a>(&'a UpstreamStatus<'a>);
-
-impl fmt::Display for OfFailures<'_> {
-    fn fmt<W: fmt::Write>(&self, f: &mut fmt::Formatter<W>) -> fmt::Result {
-        let family = Family {
-            name: "upstream_failures_total",
-            kind: "counter",
-            help: "Attempts to follow that failed, by reason.",
-        };
-        write!(f, "{family}")?;
-        for failed in &self.0.failed_by {
-            let (reason, count) = (Label(failed.reason), failed.count);
-            write!(
-                f,
-                "tunygarop_upstream_failures_total{{reason=\"{reason}\"}} {count}\n"
-            )?;
-        }
-        let (waiting, time) = (self.0.waiting, Seconds(self.0.waiting_ms));
-        write!(
-            f,
-            "{}",
-            gauge(
-                "upstream_waiting_changes",
-                "Changes that wait for a token.",
-                waiting
-            )
-        )?;
-        write!(
-            f,
-            "{}",
-            gauge(
-                "upstream_waiting_seconds",
-                "How long the first of them waits.",
-                time
-            )
-        )
-    }
-}
-
-#[derive(Clone, Copy)]
-struct OfResets<'a>(&'a Status<'a>);
-
-impl fmt::Display for OfResets<'_> {
-    fn fmt<W: fmt::Write>(&self, f: &mut fmt::Formatter<W>) -> fmt::Result {
-        let screens = &self.0.screens;
-        write!(
-            f,
-            "{}",
-            counter("resets_total", "Publications afresh.", screens.resets)
-        )?;
-        write!(
-            f,
-            "{}",
-            counter(
-                "bodies_ended_total",
-                "Bodies that those ended.",
-                screens.ended
-            )
-        )
-    }
-}
-
-/// What the system counts of the process, by the names that Prometheus has for it.
-#[derive(Clone, Copy)]
-struct OfProcess(Process);
-
-impl fmt::Display for OfProcess {
-    fn fmt<W: fmt::Write>(&self, f: &mut fmt::Formatter<W>) -> fmt::Result {
-        let process = &self.0;
-        let (began, processor) = (Seconds(process.began_ms), Seconds(process.processor_ms));
-        let (memory, files) = (process.resident_bytes, process.open_files);
-        f.write_str("# HELP process_start_time_seconds When it began, after 1970.\n")?;
-        f.write_str("# TYPE process_start_time_seconds gauge\n")?;
-        write!(f, "process_start_time_seconds {began}\n")?;
-        f.write_str("# HELP process_cpu_seconds_total Time that it had a processor.\n")?;
-        f.write_str("# TYPE process_cpu_seconds_total counter\n")?;
-        write!(f, "process_cpu_seconds_total {processor}\n")?;
-        f.write_str("# HELP process_resident_memory_bytes Memory that it has.\n")?;
-        f.write_str("# TYPE process_resident_memory_bytes gauge\n")?;
-        write!(f, "process_resident_memory_bytes {memory}\n")?;
-        f.write_str("# HELP process_open_fds Files and sockets that it has open.\n")?;
-        f.write_str("# TYPE process_open_fds gauge\n")?;
-        write!(f, "process_open_fds {files}\n")
-    }
-}
-
-#[derive(Clone, Copy)]
-struct OfScreens<'a>(&'a Status<'a>);
-
-impl fmt::Display for OfScreens<'_> {
-    fn fmt<W: fmt::Write>(&self, f: &mut fmt::Formatter<W>) -> fmt::Result {
-        let screens = &self.0.screens;
-        write!(f, "{}", gauge("screens", "Open connections.", screens.open))?;
-        write!(
-            f,
-            "{}",
-            gauge("screens_asking", "Those not answered yet.", screens.asking)
-        )?;
-        write!(
-            f,
-            "{}",
-            gauge("screens_behind", "Those that lack bytes.", screens.behind)
-        )?;
-        write!(
-            f,
-            "{}",
-            gauge("screens_waiting", "Who wait for room.", screens.waiting)
-        )?;
-        write!(
-            f,
-            "{}",
-            gauge("screens_most", "The most at once.", screens.most)
-        )?;
-        write!(
-            f,
-            "{}",
-            counter("screens_opened_total", "Connections taken.", screens.opened)
-        )?;
-        write!(
-            f,
-            "{}",
-            counter("screens_cut_total", "Slow screens cut.", screens.cut)
-        )?;
-        write!(
-            f,
-            "{}",
-            counter(
-                "screens_bytes_total",
-                "Bytes sent to screens.",
-                screens.bytes
-            )
-        )
-    }
-}
-
-#[derive(Clone, Copy)]
-struct OfRefused<'a>(&'a Status<'a>);
-
-impl fmt::Display for OfRefused<'_> {
-    fn fmt<W: fmt::Write>(&self, f: &mut fmt::Formatter<W>) -> fmt::Result {
-        let family = Family {
-            name: "screens_refused_total",
-            kind: "counter",
-            help: "Requests refused, by the status of the answer.",
-        };
-        write!(f, "{family}")?;
-        for refused in &self.0.screens.refused_by {
-            let (status, count) = (refused.status, refused.count);
-            write!(
-                f,
-                "tunygarop_screens_refused_total{{status=\"{status}\"}} {count}\n"
-            )?;
-        }
-        write!(
-            f,
-            "{}",
-            counter(
-                "refused_by_address_total",
-                "Connections closed for their address.",
-                self.0.refused_by_address
-            )
-        )
-    }
-}
-
-#[derive(Clone, Copy)]
-struct OfFile<'a>(&'a Status<'a>);
-
-impl fmt::Display for OfFile<'_> {
-    fn fmt<W: fmt::Write>(&self, f: &mut fmt::Formatter<W>) -> fmt::Result {
-        let Some(file) = &self.0.state_file else {
-            return Ok(());
-        };
-        let (age, failures) = (Seconds(file.age_ms), file.failures);
-        let failing = u64::from(file.fault.is_some());
-        write!(
-            f,
-            "{}",
-            gauge(
-                "state_file_failing",
-                "1 where it can't be written.",
-                failing
-            )
-        )?;
-        write!(
-            f,
-            "{}",
-            counter("state_file_failures_total", "Failed writes.", failures)
-        )?;
-        write!(
-            f,
-            "{}",
-            gauge("state_file_bytes", "Bytes of the state file.", file.bytes)
-        )?;
-        write!(
-            f,
-            "{}",
-            gauge("state_file_age_seconds", "Time since it was written.", age)
-        )
-    }
-}
-
-#[derive(Clone, Copy)]
-struct Histogram<'a>(&'a Latency);
-
-impl fmt::Display for Histogram<'_> {
-    fn fmt<W: fmt::Write>(&self, f: &mut fmt::Formatter<W>) -> fmt::Result {
-        f.write_str("# HELP tunygarop_latency_seconds From a commit's end to its last write.\n")?;
-        f.write_str("# TYPE tunygarop_latency_seconds histogram\n")?;
-        for (bound, count) in BOUNDS.iter().zip(self.0.at_most.iter()) {
-            let bound = FineSeconds(*bound);
-            write!(
-                f,
-                "tunygarop_latency_seconds_bucket{{le=\"{bound}\"}} {count}\n"
-            )?;
-        }
-        let (commits, sum) = (self.0.commits, FineSeconds(self.0.sum_us));
-        write!(
-            f,
-            "tunygarop_latency_seconds_bucket{{le=\"+Inf\"}} {commits}\n"
-        )?;
-        write!(f, "tunygarop_latency_seconds_sum {sum}\n")?;
-        write!(f, "tunygarop_latency_seconds_count {commits}\n")
+        put_all(&of_relay(status), f)?;
+        put_commit(status.commit_age_ms, f)?;
+        put_all(&of_upstream(status), f)?;
+        put_failures(&status.upstream, f)?;
+        put_all(&of_screens(&status.screens), f)?;
+        put_refusals(status, f)?;
+        put_file(status.state_file, f)?;
+        put_process(self.1, f)?;
+        put_latency(&status.latency, f)
     }
 }

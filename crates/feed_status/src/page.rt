@@ -1,6 +1,6 @@
 //! The page.
 
-use crate::escape::put_text;
+use crate::escape::put_element;
 use crate::health::Headline;
 use crate::rows::{Row, rows_of};
 use crate::screens::{HEADERS, Screen, put_screens};
@@ -49,6 +49,9 @@ polyline { fill: none; stroke: #2a78d6; stroke-width: 2; vector-effect: non-scal
 </head>
 <body>
 <h1 id="headline" class=""#;
+
+/// The page from the end of its headline up to its table.
+const ROWS: &str = "</h1>\n<main>\n<section><table id=\"rows\"><tbody>\n";
 
 /// The page between its table and that of the screens.
 const PLOTS: &str = r##"</tbody></table></section>
@@ -175,50 +178,47 @@ fn put(text: &str, out: &mut Vec<u8>) -> Result<(), AllocError> {
 
 /// One row of the table.
 fn put_row(row: &Row, out: &mut Vec<u8>) -> Result<(), AllocError> {
-    put("<tr><th>", out)?;
-    put_text(row.label, out)?;
-    put("</th><td>", out)?;
-    put_text(row.text.as_str(), out)?;
-    put("</td></tr>\n", out)
+    put_element("<tr><th>", row.label, "</th>", out)?;
+    put_element("<td>", row.text.as_str(), "</td></tr>\n", out)
 }
 
 /// What stands above the screens.
 fn put_headers(out: &mut Vec<u8>) -> Result<(), AllocError> {
     for header in &HEADERS {
-        put("<th>", out)?;
-        put_text(header, out)?;
-        put("</th>", out)?;
+        put_element("<th>", header, "</th>", out)?;
     }
     put("</tr></thead><tbody>\n", out)
 }
 
 /// The page up to its table.
 fn put_head(alloc: Global, status: &Status<'_>, out: &mut Vec<u8>) -> Result<(), AllocError> {
-    put(HEAD, out)?;
-    put_text(status.contest, out)?;
-    put(STYLE, out)?;
-    put(status.level().word(), out)?;
-    put("\">", out)?;
     let headline = format!(in alloc; "{}", Headline(status))?;
-    put_text(headline.as_str(), out)?;
-    put("</h1>\n<main>\n<section><table id=\"rows\"><tbody>\n", out)
+    put_element(HEAD, status.contest, STYLE, out)?;
+    put(status.level().word(), out)?;
+    put_element("\">", headline.as_str(), ROWS, out)
 }
 
-/// The page: a headline, a table, plots of the last ten minutes, and the screens. Its script renews
-/// all of it each second. Without scripts it is loaded again each five seconds, and has no plots.
-pub(crate) fn page_of(
+/// The rows of the table.
+fn put_rows(alloc: Global, status: &Status<'_>, out: &mut Vec<u8>) -> Result<(), AllocError> {
+    for row in &rows_of(alloc, status)? {
+        put_row(row, out)?;
+    }
+    Ok(())
+}
+
+/// Appends the page: a headline, a table, plots of the last ten minutes, and the screens. Its
+/// script renews all of it each second. Without scripts it is loaded again each five seconds, and
+/// has no plots.
+pub(crate) fn put_page(
     alloc: Global,
     status: &Status<'_>,
     screens: &[Screen],
-) -> Result<Vec<u8>, AllocError> {
-    let mut out = Vec::new(alloc);
-    put_head(alloc, status, &mut out)?;
-    for row in &rows_of(alloc, status)? {
-        put_row(row, &mut out)?;
-    }
-    put(PLOTS, &mut out)?;
-    put_headers(&mut out)?;
-    put_screens(alloc, screens, status.token, &mut out)?;
-    put(END, &mut out)?;
-    Ok(out)
+    out: &mut Vec<u8>,
+) -> Result<(), AllocError> {
+    put_head(alloc, status, out)?;
+    put_rows(alloc, status, out)?;
+    put(PLOTS, out)?;
+    put_headers(out)?;
+    put_screens(alloc, screens, status.token, out)?;
+    put(END, out)
 }

@@ -1,14 +1,14 @@
 //! The last ten minutes, second by second.
 
-use serde::Serialize;
 use std::alloc::{AllocError, Global};
 
 /// How many seconds are kept.
 const MOST: usize = 600;
 
 /// What happened in one second.
-#[derive(Clone, Copy, Debug, PartialEq, Eq, Serialize)]
+#[derive(Clone, Copy)]
 pub struct Point {
+    /// How many commits were published in it.
     pub commits: u64,
     /// How many screens there were at its end.
     pub screens: u64,
@@ -27,10 +27,11 @@ impl Point {
 }
 
 /// The last second that is over.
-#[derive(Clone, Copy, Debug, Serialize)]
+#[derive(Clone, Copy)]
 pub struct Latest {
     /// How many seconds are over since the start.
     pub second: u64,
+    /// What happened in the last of them; none before one is over.
     pub point: Option<Point>,
 }
 
@@ -118,19 +119,19 @@ impl Plots {
 
 /// What is told as JSON: each point as the number of its commits, that of its screens, and the
 /// microseconds of its slowest commit.
-#[derive(Drop, Serialize)]
-pub(crate) struct PlotsReport {
-    second: u64,
-    points: Vec<[u64; 3]>,
+#[derive(Drop)]
+pub(crate) struct PlotsJson {
+    pub(crate) second: u64,
+    pub(crate) points: Vec<[u64; 3]>,
 }
 
-impl PlotsReport {
-    pub(crate) fn of(alloc: Global, plots: &Plots) -> Result<PlotsReport, AllocError> {
+impl PlotsJson {
+    pub(crate) fn of(alloc: Global, plots: &Plots) -> Result<PlotsJson, AllocError> {
         let mut points = Vec::new(alloc);
         for point in &plots.points(alloc)? {
             points.push([point.commits, point.screens, point.slowest_us])?;
         }
-        Ok(PlotsReport {
+        Ok(PlotsJson {
             second: plots.second,
             points,
         })

@@ -1,8 +1,7 @@
 //! The table of the screens.
 
-use crate::escape::put_text;
-use crate::rows::Time;
-use serde::Serialize;
+use crate::cells::Cell;
+use crate::escape::put_element;
 use std::alloc::{AllocError, Global};
 
 /// How many screens are told of.
@@ -15,7 +14,7 @@ const CELLS: usize = 5;
 pub(crate) const HEADERS: [&str; CELLS] = ["Address", "For", "Status", "Token", "Bytes"];
 
 /// One screen's connection.
-#[derive(Debug, Drop)]
+#[derive(Drop)]
 pub struct Screen {
     /// Its address and port.
     pub address: String,
@@ -41,53 +40,45 @@ impl Screen {
         }
     }
 
-    /// Its token, or how far behind it is.
-    fn place(&self, alloc: Global, token: Option<&str>) -> Result<String, AllocError> {
-        let behind = self.behind_bytes;
-        match self.token(token) {
-            Some(token) => String::from_str(alloc, token),
-            None if behind > 0 => format!(in alloc; "{behind} bytes behind"),
-            None => String::from_str(alloc, "none"),
-        }
-    }
-
-    fn answered(&self, alloc: Global) -> Result<String, AllocError> {
-        match self.status {
-            Some(status) => format!(in alloc; "{status}"),
-            None => String::from_str(alloc, "asks"),
-        }
+    /// Its cells in the page's table.
+    fn cells<'a>(&'a self, token: Option<&'a str>) -> [Cell<'a>; CELLS] {
+        [
+            Cell::Text(self.address.as_str()),
+            Cell::Time(self.for_ms),
+            Cell::Answer(self.status),
+            Cell::Place(self.token(token), self.behind_bytes),
+            Cell::Number(self.bytes),
+        ]
     }
 
     /// The texts of its cells.
-    fn cells(&self, alloc: Global, token: Option<&str>) -> Result<Vec<String>, AllocError> {
-        let mut cells = Vec::new(alloc);
-        cells.push(String::from_str(alloc, self.address.as_str())?)?;
-        cells.push(format!(in alloc; "{}", Time(self.for_ms))?)?;
-        cells.push(self.answered(alloc)?)?;
-        cells.push(self.place(alloc, token)?)?;
-        cells.push(format!(in alloc; "{}", self.bytes)?)?;
-        Ok(cells)
+    fn texts(&self, alloc: Global, token: Option<&str>) -> Result<Vec<String>, AllocError> {
+        let mut texts = Vec::new(alloc);
+        for cell in &self.cells(token) {
+            texts.push(format!(in alloc; "{cell}")?)?;
+        }
+        Ok(texts)
     }
 }
 
 /// What is told of a screen as JSON.
-#[derive(Drop, Serialize)]
-pub(crate) struct ScreenReport<'a> {
-    address: &'a str,
-    for_ms: u64,
-    status: Option<u16>,
-    token: Option<&'a str>,
-    behind_bytes: u64,
-    bytes: u64,
-    cells: Vec<String>,
+#[derive(Drop)]
+pub(crate) struct ScreenJson<'a> {
+    pub(crate) address: &'a str,
+    pub(crate) for_ms: u64,
+    pub(crate) status: Option<u16>,
+    pub(crate) token: Option<&'a str>,
+    pub(crate) behind_bytes: u64,
+    pub(crate) bytes: u64,
+    pub(crate) cells: Vec<String>,
 }
 
 /// What is told of screens as JSON.
-#[derive(Drop, Serialize)]
-pub(crate) struct ScreensReport<'a> {
+#[derive(Drop)]
+pub(crate) struct ScreensJson<'a> {
     /// How many there are in all.
-    open: u64,
-    screens: Vec<ScreenReport<'a>>,
+    pub(crate) open: u64,
+    pub(crate) screens: Vec<ScreenJson<'a>>,
 }
 
 /// What is told of these screens, of so many, where this token is published.
@@ -96,20 +87,20 @@ pub(crate) fn report<'a>(
     screens: &'a [Screen],
     open: u64,
     token: Option<&'a str>,
-) -> Result<ScreensReport<'a>, AllocError> {
+) -> Result<ScreensJson<'a>, AllocError> {
     let mut told = Vec::new(alloc);
     for screen in screens {
-        told.push(ScreenReport {
+        told.push(ScreenJson {
             address: screen.address.as_str(),
             for_ms: screen.for_ms,
             status: screen.status,
             token: screen.token(token),
             behind_bytes: screen.behind_bytes,
             bytes: screen.bytes,
-            cells: screen.cells(alloc, token)?,
+            cells: screen.texts(alloc, token)?,
         })?;
     }
-    Ok(ScreensReport {
+    Ok(ScreensJson {
         open,
         screens: told,
     })
@@ -118,9 +109,7 @@ pub(crate) fn report<'a>(
 fn put_cells(cells: &[String], out: &mut Vec<u8>) -> Result<(), AllocError> {
     out.extend_from_slice(b"<tr>")?;
     for cell in cells {
-        out.extend_from_slice(b"<td>")?;
-        put_text(cell.as_str(), out)?;
-        out.extend_from_slice(b"</td>")?;
+        put_element("<td>", cell.as_str(), "</td>", out)?;
     }
     out.extend_from_slice(b"</tr>\n")
 }
@@ -133,7 +122,7 @@ pub(crate) fn put_screens(
     out: &mut Vec<u8>,
 ) -> Result<(), AllocError> {
     for screen in screens {
-        put_cells(screen.cells(alloc, token)?.as_slice(), out)?;
+        put_cells(screen.texts(alloc, token)?.as_slice(), out)?;
     }
     Ok(())
 }

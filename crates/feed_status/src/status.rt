@@ -1,7 +1,6 @@
 //! What a relay is at one moment. Times are in milliseconds.
 
 use crate::plots::Latest;
-use serde::Serialize;
 
 /// How many buckets a latency has.
 const BUCKETS: usize = 12;
@@ -12,8 +11,7 @@ pub const BOUNDS: [u64; BUCKETS] = [
 ];
 
 /// How things stand with the server that is followed.
-#[derive(Clone, Copy, Debug, PartialEq, Eq, Serialize)]
-#[serde(rename_all = "snake_case")]
+#[derive(Clone, Copy)]
 pub enum UpstreamState {
     /// Its answer is followed.
     Following,
@@ -47,15 +45,16 @@ impl UpstreamState {
 const REASONS: usize = 10;
 
 /// How many attempts to follow a server failed for a reason.
-#[derive(Clone, Copy, Debug, Serialize)]
+#[derive(Clone, Copy)]
 pub struct Failed<'a> {
     /// One word.
     pub reason: &'a str,
+    /// How many failed for it since the start.
     pub count: u64,
 }
 
 /// The last attempt to follow a server that failed.
-#[derive(Clone, Copy, Debug, Serialize)]
+#[derive(Clone, Copy)]
 pub struct LastFailure<'a> {
     /// Why it did.
     pub text: &'a str,
@@ -64,10 +63,11 @@ pub struct LastFailure<'a> {
 }
 
 /// The server that is followed.
-#[derive(Clone, Copy, Debug, Serialize)]
+#[derive(Clone, Copy)]
 pub struct UpstreamStatus<'a> {
     /// Its host and port, or `standard input`.
     pub name: &'a str,
+    /// How things stand with it.
     pub state: UpstreamState,
     /// For how long that is its state.
     pub since_ms: u64,
@@ -95,15 +95,18 @@ pub struct UpstreamStatus<'a> {
 const REFUSALS: usize = 5;
 
 /// How many requests were answered with a status.
-#[derive(Clone, Copy, Debug, Serialize)]
+#[derive(Clone, Copy)]
 pub struct Refused {
+    /// The status, such as 503.
     pub status: u16,
+    /// How many requests since the start.
     pub count: u64,
 }
 
 /// The connections on the feed's port.
-#[derive(Clone, Copy, Debug, Serialize)]
+#[derive(Clone, Copy)]
 pub struct ScreensStatus {
+    /// How many are open.
     pub open: u64,
     /// Of those open: whose request is not whole or not answered yet.
     pub asking: u64,
@@ -121,6 +124,7 @@ pub struct ScreensStatus {
     pub refused_by: [Refused; REFUSALS],
     /// How many were cut, since they were too slow.
     pub cut: u64,
+    /// How many bytes they were handed since the start.
     pub bytes: u64,
     /// Whether one more would be answered 503, since there are as many as there may be.
     pub full: bool,
@@ -131,8 +135,9 @@ pub struct ScreensStatus {
 }
 
 /// The state file.
-#[derive(Clone, Copy, Debug, Serialize)]
+#[derive(Clone, Copy)]
 pub struct StateFile<'a> {
+    /// How many bytes it has.
     pub bytes: u64,
     /// How long ago it was written to.
     pub age_ms: u64,
@@ -144,11 +149,13 @@ pub struct StateFile<'a> {
 
 /// How long it took from the read that had the end of a commit until it was written to each screen
 /// that was up to date and took it.
-#[derive(Clone, Copy, Debug, Serialize)]
+#[derive(Clone, Copy)]
 pub struct Latency {
     /// How many commits took at most the time of each of the bounds.
     pub at_most: [u64; BUCKETS],
+    /// How many commits were measured.
     pub commits: u64,
+    /// The sum of their times, in microseconds.
     pub sum_us: u64,
 }
 
@@ -175,16 +182,21 @@ impl Latency {
 }
 
 /// All that is told of a relay.
-#[derive(Clone, Copy, Debug, Serialize)]
+#[derive(Clone, Copy)]
 pub struct Status<'a> {
+    /// The version of the program.
     pub version: &'a str,
+    /// The id of the contest.
     pub contest: &'a str,
+    /// For how long the relay has run, in milliseconds.
     pub uptime_ms: u64,
-    /// After how long without a byte a server is silent.
+    /// After how long without a byte a server is silent, in milliseconds.
     pub silence_ms: u64,
     /// Whether a request for everything is answered with it: not before a server was heard.
     pub answering: bool,
+    /// The server that is followed.
     pub upstream: UpstreamStatus<'a>,
+    /// The token that is published; none if nothing is.
     pub token: Option<&'a str>,
     /// How many commits were published since the start.
     pub commits: u64,
@@ -199,8 +211,11 @@ pub struct Status<'a> {
     /// How many connections were closed at once, since their address may not connect, or not once
     /// more.
     pub refused_by_address: u64,
+    /// The connections on the feed's port.
     pub screens: ScreensStatus,
+    /// The state file; none if nothing is kept.
     pub state_file: Option<StateFile<'a>>,
+    /// How long commits took.
     pub latency: Latency,
     /// The last second of the plots.
     pub plot: Latest,

@@ -1,6 +1,6 @@
 //! What is wrong with a relay beside how it follows upstream.
 
-use crate::rows::Time;
+use crate::cells::Time;
 use crate::status::{Status, UpstreamStatus};
 use std::fmt;
 
@@ -10,11 +10,40 @@ pub(crate) struct Waiting<'a>(pub(crate) &'a UpstreamStatus<'a>);
 
 impl fmt::Display for Waiting<'_> {
     fn fmt<W: fmt::Write>(&self, f: &mut fmt::Formatter<W>) -> fmt::Result {
-        match self.0.waiting {
-            1 => f.write_str("1 change waits")?,
-            changes => write!(f, "{changes} changes wait")?,
+        let (changes, time) = (self.0.waiting, Time(self.0.waiting_ms));
+        let wait = if changes == 1 {
+            "change waits"
+        } else {
+            "changes wait"
+        };
+        write!(f, "{changes} {wait} for a token, for {time}")
+    }
+}
+
+/// That there is no token so far, where that is wrong.
+#[derive(Clone, Copy)]
+struct NoToken<'a>(&'a UpstreamStatus<'a>);
+
+impl fmt::Display for NoToken<'_> {
+    fn fmt<W: fmt::Write>(&self, f: &mut fmt::Formatter<W>) -> fmt::Result {
+        if self.0.lacks_tokens {
+            write!(f, "; no token so far: {}", Waiting(self.0))
+        } else {
+            Ok(())
         }
-        write!(f, " for a token, for {}", Time(self.0.waiting_ms))
+    }
+}
+
+/// Why the state file can't be written, where that is so.
+#[derive(Clone, Copy)]
+struct NotSaved<'a>(Option<&'a str>);
+
+impl fmt::Display for NotSaved<'_> {
+    fn fmt<W: fmt::Write>(&self, f: &mut fmt::Formatter<W>) -> fmt::Result {
+        match self.0 {
+            Some(fault) => write!(f, "; the state file can't be written: {fault}"),
+            None => Ok(()),
+        }
     }
 }
 
@@ -22,23 +51,29 @@ impl fmt::Display for Waiting<'_> {
 #[derive(Clone, Copy)]
 pub(crate) struct Warnings<'a>(pub(crate) &'a Status<'a>);
 
+impl Warnings<'_> {
+    fn on_requests(&self) -> &'static str {
+        if self.0.token.is_some() && !self.0.answering {
+            "; requests wait, since no server was heard yet"
+        } else {
+            ""
+        }
+    }
+
+    fn on_room(&self) -> &'static str {
+        if self.0.screens.full {
+            "; no room for one screen more"
+        } else {
+            ""
+        }
+    }
+}
+
 impl fmt::Display for Warnings<'_> {
     fn fmt<W: fmt::Write>(&self, f: &mut fmt::Formatter<W>) -> fmt::Result {
-        let status = self.0;
-        if status.upstream.lacks_tokens {
-            write!(f, "; no token so far: {}", Waiting(&status.upstream))?;
-        }
-        if let Some(file) = status.state_file {
-            if let Some(fault) = file.fault {
-                write!(f, "; the state file can't be written: {fault}")?;
-            }
-        }
-        if status.token.is_some() && !status.answering {
-            f.write_str("; requests wait, since no server was heard yet")?;
-        }
-        if status.screens.full {
-            f.write_str("; no room for one screen more")?;
-        }
-        Ok(())
+        let token = NoToken(&self.0.upstream);
+        let saved = NotSaved(self.0.state_file.and_then(|file| file.fault));
+        let (requests, room) = (self.on_requests(), self.on_room());
+        write!(f, "{token}{saved}{requests}{room}")
     }
 }

@@ -6,7 +6,7 @@ use crate::status::Status;
 use std::alloc::{AllocError, Global};
 
 /// What the system counts of the process.
-#[derive(Clone, Copy, Debug)]
+#[derive(Clone, Copy)]
 pub struct Process {
     /// When it began, in milliseconds after 1970.
     pub began_ms: u64,

@@ -1,0 +1,150 @@
+//! What stands in the cells of the page's tables.
+
+use crate::health::Coming;
+use crate::status::{LastFailure, ScreensStatus, StateFile, UpstreamState, UpstreamStatus};
+use crate::warnings::Waiting;
+use std::fmt;
+
+/// A time as people read it: with its two greatest units.
+#[derive(Clone, Copy)]
+pub(crate) struct Time(pub(crate) u64);
+
+impl fmt::Display for Time {
+    fn fmt<W: fmt::Write>(&self, f: &mut fmt::Formatter<W>) -> fmt::Result {
+        let seconds = self.0 / 1_000;
+        let (minutes, hours) = (seconds / 60, seconds / 3_600);
+        if hours > 0 {
+            write!(f, "{hours} h {} min", minutes % 60)
+        } else if minutes > 0 {
+            write!(f, "{minutes} min {} s", seconds % 60)
+        } else {
+            write!(f, "{seconds} s")
+        }
+    }
+}
+
+fn word(state: UpstreamState) -> &'static str {
+    match state {
+        UpstreamState::Following => "following",
+        UpstreamState::Settling => "settling",
+        UpstreamState::Asking => "asking",
+        UpstreamState::Pausing => "waiting to ask again",
+        UpstreamState::Input => "following",
+        UpstreamState::Ended => "ended",
+    }
+}
+
+/// What a cell says.
+#[derive(Clone, Copy)]
+pub(crate) enum Cell<'a> {
+    Text(&'a str),
+    Number(u64),
+    /// How long something took.
+    Time(u64),
+    /// How long ago something was; none if it never was.
+    Ago(Option<u64>),
+    /// How things stand with the server, and for how long.
+    State(UpstreamState, u64),
+    /// What came and has not settled.
+    Coming(&'a UpstreamStatus<'a>),
+    /// What came and waits for a token.
+    Waiting(&'a UpstreamStatus<'a>),
+    /// Why the last attempt failed, and when.
+    LastFailure(Option<LastFailure<'a>>),
+    /// How many attempts failed, and how many of them for which reason.
+    Failures(&'a UpstreamStatus<'a>),
+    /// How many requests were refused, and how many of them with which status.
+    Refusals(&'a ScreensStatus),
+    StateFile(Option<StateFile<'a>>),
+    /// The status that a screen was answered with; none while its request comes.
+    Answer(Option<u16>),
+    /// The token of what a screen was sent, if that is all, and how many bytes it lacks.
+    Place(Option<&'a str>, u64),
+}
+
+impl fmt::Display for Cell<'_> {
+    fn fmt<W: fmt::Write>(&self, f: &mut fmt::Formatter<W>) -> fmt::Result {
+        match *self {
+            Cell::Text(text) => f.write_str(text),
+            Cell::Number(number) => write!(f, "{number}"),
+            Cell::Time(time) => write!(f, "{}", Time(time)),
+            Cell::Ago(Some(age)) => write!(f, "{} ago", Time(age)),
+            Cell::Ago(None) | Cell::LastFailure(None) => f.write_str("none since the start"),
+            Cell::State(state, time) => write!(f, "{}, for {}", word(state), Time(time)),
+            Cell::Coming(upstream) => put_coming(upstream, f),
+            Cell::Waiting(upstream) => put_waiting(upstream, f),
+            Cell::LastFailure(Some(failure)) => {
+                write!(f, "{}, {} ago", failure.text, Time(failure.age_ms))
+            }
+            Cell::Failures(upstream) => put_failures(upstream, f),
+            Cell::Refusals(screens) => put_refusals(screens, f),
+            Cell::StateFile(file) => put_state_file(file, f),
+            Cell::Answer(Some(status)) => write!(f, "{status}"),
+            Cell::Answer(None) => f.write_str("asks"),
+            Cell::Place(Some(token), _) => f.write_str(token),
+            Cell::Place(None, 0) => f.write_str("none"),
+            Cell::Place(None, behind) => write!(f, "{behind} bytes behind"),
+        }
+    }
+}
+
+fn put_coming<W: fmt::Write>(
+    upstream: &UpstreamStatus<'_>,
+    f: &mut fmt::Formatter<W>,
+) -> fmt::Result {
+    match upstream.state {
+        UpstreamState::Settling => write!(f, "{}", Coming(upstream)),
+        _ => f.write_str("nothing"),
+    }
+}
+
+fn put_waiting<W: fmt::Write>(
+    upstream: &UpstreamStatus<'_>,
+    f: &mut fmt::Formatter<W>,
+) -> fmt::Result {
+    match upstream.waiting {
+        0 => f.write_str("nothing"),
+        _ => write!(f, "{}", Waiting(upstream)),
+    }
+}
+
+fn put_failures<W: fmt::Write>(
+    upstream: &UpstreamStatus<'_>,
+    f: &mut fmt::Formatter<W>,
+) -> fmt::Result {
+    let mut total: u64 = 0;
+    for failed in &upstream.failed_by {
+        total = total.saturating_add(failed.count);
+    }
+    write!(f, "{total}")?;
+    for failed in &upstream.failed_by {
+        if failed.count > 0 {
+            write!(f, ", {}: {}", failed.reason, failed.count)?;
+        }
+    }
+    Ok(())
+}
+
+fn put_refusals<W: fmt::Write>(screens: &ScreensStatus, f: &mut fmt::Formatter<W>) -> fmt::Result {
+    write!(f, "{}", screens.refused)?;
+    for refused in &screens.refused_by {
+        if refused.count > 0 {
+            write!(f, ", {}: {}", refused.status, refused.count)?;
+        }
+    }
+    Ok(())
+}
+
+fn put_state_file<W: fmt::Write>(
+    file: Option<StateFile<'_>>,
+    f: &mut fmt::Formatter<W>,
+) -> fmt::Result {
+    let Some(file) = file else {
+        return f.write_str("none");
+    };
+    match file.fault {
+        Some(fault) => write!(f, "can't be written ({} times): {fault}", file.failures),
+        None if file.bytes == 0 => f.write_str("nothing written yet"),
+        None => write!(f, "{} bytes, written {} ago", file.bytes, Time(file.age_ms)),
+    }
+}
