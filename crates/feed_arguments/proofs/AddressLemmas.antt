@@ -78,9 +78,9 @@ bad_port text host digits is lacks none good =
 -- the first part that a search finds is the first that is no address
 pub first_of : (all : List (List ℕ)) (r : Option ℕ)
     → MatchOption r (AreGood all) (λ i. (i < length all) × HoldsAt IsBad all i × AllWithin IsGood all 0 i)
-    → IfSome r (IsFirstBad all) × (r ≡ None → AreGood all)
-first_of all None h = (tt, λ e. h)
-first_of all (Some i) h = (record { inside = h.0; bad = h.1; earlier = h.2 }, λ e. absurd (cc))
+    → MatchOption r (AreGood all) (IsFirstBad all)
+first_of all None h = h
+first_of all (Some i) h = record { inside = h.0; bad = h.1; earlier = h.2 }
 
 -- one more part is an address
 pub are_more : (parts : List (List ℕ)) (part : List ℕ) (addresses : List (List ℕ × ℕ)) (address : List ℕ × ℕ)

@@ -70,10 +70,9 @@ next_network all i d networks now network inside are is more =
 pub first_network : (all : List (List ℕ)) (r : Option ℕ)
     → MatchOption r (AreGoodNetworks all)
     (λ i. (i < length all) × HoldsAt IsNoNetwork all i × AllWithin IsGoodNetwork all 0 i)
-    → IfSome r (IsFirstNoNetwork all) × (r ≡ None → AreGoodNetworks all)
-first_network all None h = (tt, λ e. h)
-first_network all (Some i) h =
-    (record { inside = h.0; bad = h.1; earlier = h.2 }, λ e. absurd (cc))
+    → MatchOption r (AreGoodNetworks all) (IsFirstNoNetwork all)
+first_network all None h = h
+first_network all (Some i) h = record { inside = h.0; bad = h.1; earlier = h.2 }
 
 -- of parts that are networks, the one at this place; and what there is once it was taken
 pub good_network : (all : List (Bor (List ℕ))) (i : ℕ) (d : Bor (List ℕ)) → i < length all

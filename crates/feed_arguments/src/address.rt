@@ -1,6 +1,6 @@
 //! Addresses of servers.
-ghost use Rattle.std.specs.Prelude.{◌≡◌, ◌++◌, ◌∷◌, [], ℕ, List, None, true, false, map, length, string_bytes, IfOk, IfErr, IfSome, OnOk};
-ghost use Rattle.feed_arguments.specs.Addresses.{parts, IsPort, IsAddress, IsGood, IsBad, IsFirstBad};
+ghost use Rattle.std.specs.Prelude.{◌≡◌, ◌≤◌, ◌++◌, ◌∷◌, [], ℕ, List, None, true, false, map, length, string_bytes, IfOk, IfErr, IfSome, OnOk, MatchOption};
+ghost use Rattle.feed_arguments.specs.Addresses.{parts, most_addresses, IsPort, IsAddress, IsGood, IsBad, IsFirstBad};
 ghost use Rattle.feed_arguments.specs.Addresses.{AreGood, AreAddresses, IsListOf, RefusesList};
 ghost use Rattle.feed_arguments.specs.declared.address.AddressFault.TheVariants as address_fault;
 
@@ -73,8 +73,7 @@ fn is_address(part: &str) -> bool
 
 /// The number of the first part that is no address.
 fn first_bad(text: &str) -> Option<usize>
-    ensures bad { IfSome result (λ number. IsFirstBad (parts text.now) number) }
-    ensures good { result ≡ None → AreGood (parts text.now) }
+    ensures { MatchOption result (AreGood (parts text.now)) (IsFirstBad (parts text.now)) }
 {
     text.split(',').position(|part| !is_address(part))
 }
@@ -124,18 +123,37 @@ fn owned(alloc: Global, all: &[&str]) -> Result<Vec<(String, u16)>, AllocError>
     Ok(addresses)
 }
 
+/// The addresses that a text lists, where each of its parts is one.
+fn listed(alloc: Global, text: &str) -> Result<Vec<(String, u16)>, AllocError>
+    requires { AreGood (parts text.now) }
+    ensures { IfOk result (λ all. AreAddresses (parts text.now)
+        (map (λ a. (string_bytes a.0, a.1)) all.items)) }
+{
+    let all = parts_of(alloc, text)?;
+    owned(alloc, &all)
+}
+
+/// Why a text is no list of addresses; none where it is one.
+fn refusal(text: &str) -> Option<AddressFault>
+    ensures { MatchOption result
+        (AreGood (parts text.now) × (length (parts text.now) ≤ most_addresses))
+        (RefusesList text.now) }
+{
+    match first_bad(text) {
+        Some(number) => Some(AddressFault::BadAddress(number as u64)),
+        None if count_parts(text) > MOST_ADDRESSES => Some(AddressFault::TooMany),
+        None => None,
+    }
+}
+
 /// The addresses that the text lists: of each, in order, the host and the port.
 pub fn addresses(alloc: Global, text: &str) -> Result<Vec<(String, u16)>, AddressFault>
     ensures ok { IfOk result (λ all. IsListOf text.now
         (map (λ a. (string_bytes a.0, a.1)) all.items)) }
     ensures err { IfErr result (λ fault. RefusesList text.now fault) }
 {
-    if let Some(number) = first_bad(text) {
-        return Err(AddressFault::BadAddress(number as u64));
+    match refusal(text) {
+        Some(fault) => Err(fault),
+        None => Ok(listed(alloc, text)?),
     }
-    if count_parts(text) > MOST_ADDRESSES {
-        return Err(AddressFault::TooMany);
-    }
-    let all = parts_of(alloc, text)?;
-    Ok(owned(alloc, &all)?)
 }

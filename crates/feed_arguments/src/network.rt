@@ -1,5 +1,5 @@
 //! Networks of addresses: who may connect.
-ghost use Rattle.std.specs.Prelude.{◌≡◌, ◌==◌, ◌⊎◌, ◌≤◌, ◌/◌, ◌%◌, ◌^◌, ◌++◌, ◌∷◌, [], true, false, None, length, map, IfOk, IfErr, IfSome, OnOk};
+ghost use Rattle.std.specs.Prelude.{◌≡◌, ◌==◌, ◌⊎◌, ◌≤◌, ◌/◌, ◌%◌, ◌^◌, ◌++◌, ◌∷◌, [], true, false, None, length, map, IfOk, IfErr, IfSome, OnOk, MatchOption};
 ghost use Rattle.std.specs.List.{list_any};
 ghost use Rattle.std.specs.Net.Grammar.{IsIpText};
 ghost use Rattle.feed_arguments.specs.Addresses.{parts};
@@ -17,7 +17,7 @@ use std::net::IpAddr;
 const MOST_NETWORKS: usize = 64;
 
 /// Who an address is, as a number. An address of IPv6 that stands for one of IPv4 is that one.
-#[derive(Clone, Copy, Debug, PartialEq, Eq)]
+#[derive(Clone, Copy)]
 pub enum Origin {
     V4(u32),
     V6(u128),
@@ -55,7 +55,7 @@ impl Origin {
 }
 
 /// A network: an address, and how many of its bits all addresses in it begin with.
-#[derive(Clone, Copy, Debug, PartialEq, Eq)]
+#[derive(Clone, Copy)]
 pub struct Network {
     pub(crate) base: Origin,
     pub(crate) bits: u32,
@@ -201,8 +201,8 @@ fn is_network(part: &str) -> bool
 
 /// The number of the first part that is no network.
 fn first_bad(text: &str) -> Option<usize>
-    ensures bad { IfSome result (λ number. IsFirstNoNetwork (parts text.now) number) }
-    ensures good { result ≡ None → AreGoodNetworks (parts text.now) }
+    ensures { MatchOption result (AreGoodNetworks (parts text.now))
+        (IsFirstNoNetwork (parts text.now)) }
 {
     text.split(',').position(|part| !is_network(part))
 }
@@ -233,6 +233,28 @@ fn owned(alloc: Global, all: &[&str]) -> Result<Vec<Network>, AllocError>
     Ok(networks)
 }
 
+/// The networks that a text lists, where each of its parts is one.
+fn listed(alloc: Global, text: &str) -> Result<Vec<Network>, AllocError>
+    requires { AreGoodNetworks (parts text.now) }
+    ensures { IfOk result (λ networks. AreNetworks (parts text.now) networks.items) }
+{
+    let all = parts_of(alloc, text)?;
+    owned(alloc, &all)
+}
+
+/// Why a text is no list of networks; none where it is one.
+fn refusal(text: &str) -> Option<AddressFault>
+    ensures { MatchOption result
+        (AreGoodNetworks (parts text.now) × (length (parts text.now) ≤ most_networks))
+        (RefusesNetworks (parts text.now)) }
+{
+    match first_bad(text) {
+        Some(number) => Some(AddressFault::BadAddress(number as u64)),
+        None if count_parts(text) > MOST_NETWORKS => Some(AddressFault::TooMany),
+        None => None,
+    }
+}
+
 /// The networks that a text lists, each an address, or an address, a slash, and how many of its
 /// bits count; the bits after them are 0. There are at most 64.
 pub fn networks(alloc: Global, text: &str) -> Result<Vec<Network>, AddressFault>
@@ -240,12 +262,8 @@ pub fn networks(alloc: Global, text: &str) -> Result<Vec<Network>, AddressFault>
     ensures few { IfOk result (λ networks. length networks.items ≤ most_networks) }
     ensures err { IfErr result (λ fault. RefusesNetworks (parts text.now) fault) }
 {
-    if let Some(number) = first_bad(text) {
-        return Err(AddressFault::BadAddress(number as u64));
+    match refusal(text) {
+        Some(fault) => Err(fault),
+        None => Ok(listed(alloc, text)?),
     }
-    if count_parts(text) > MOST_NETWORKS {
-        return Err(AddressFault::TooMany);
-    }
-    let all = parts_of(alloc, text)?;
-    Ok(owned(alloc, &all)?)
 }

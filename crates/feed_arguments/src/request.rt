@@ -130,7 +130,7 @@ pub struct RelayOptions<'a> {
 }
 
 /// How much `live` reports on standard error.
-#[derive(Clone, Copy, Debug, PartialEq, Eq)]
+#[derive(Clone, Copy, PartialEq, Eq)]
 pub enum Verbosity {
     /// Why it ends, and nothing else.
     Quiet,
@@ -244,7 +244,7 @@ pub enum Request<'a> {
 }
 
 /// What is replied to words that ask for no command.
-#[derive(Debug, Drop)]
+#[derive(Drop)]
 pub enum NoCommand {
     /// Memory ran out.
     Memory,

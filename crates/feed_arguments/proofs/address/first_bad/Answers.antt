@@ -5,18 +5,10 @@ use Rattle.feed_arguments.specs.Addresses.{IsGood, IsBad, parts}
 use Rattle.feed_arguments.proofs.AddressLemmas.{first_of}
 use Rattle.feed_arguments.proofs.address.first_bad.Goals as goal
 
-pub returns-clause-bad : goal.returns-clause-bad
-returns-clause-bad c =
-    (first_of (parts c.args.text.now) c.position.result
+pub returns : goal.returns
+returns c =
+    first_of (parts c.args.text.now) c.position.result
     (IsFirst-from_position _ _ c.position.result IsBad IsGood c.position.ensures.ran
     (YieldsList-from_str_split 44 c.args.text.now (lit< tt) c.split.ensures.text c.split.ensures.has_more
     c.split.ensures.pattern)
-    (λ x q k. search rules) (λ x q k. search rules))).0
-
-pub returns-clause-good : goal.returns-clause-good
-returns-clause-good c =
-    (first_of (parts c.args.text.now) c.position.result
-    (IsFirst-from_position _ _ c.position.result IsBad IsGood c.position.ensures.ran
-    (YieldsList-from_str_split 44 c.args.text.now (lit< tt) c.split.ensures.text c.split.ensures.has_more
-    c.split.ensures.pattern)
-    (λ x q k. search rules) (λ x q k. search rules))).1
+    (λ x q k. search rules) (λ x q k. search rules))

@@ -6,18 +6,10 @@ use Rattle.feed_arguments.specs.Networks.{IsGoodNetwork, IsNoNetwork}
 use Rattle.feed_arguments.proofs.NetworkLemmas.{first_network}
 use Rattle.feed_arguments.proofs.network.first_bad.Goals as goal
 
-pub returns-clause-bad : goal.returns-clause-bad
-returns-clause-bad c =
-    (first_network (parts c.args.text.now) c.position.result
+pub returns : goal.returns
+returns c =
+    first_network (parts c.args.text.now) c.position.result
     (IsFirst-from_position _ _ c.position.result IsNoNetwork IsGoodNetwork c.position.ensures.ran
     (YieldsList-from_str_split 44 c.args.text.now (lit< tt) c.split.ensures.text
     c.split.ensures.has_more c.split.ensures.pattern)
-    (λ x q k. search rules) (λ x q k. search rules))).0
-
-pub returns-clause-good : goal.returns-clause-good
-returns-clause-good c =
-    (first_network (parts c.args.text.now) c.position.result
-    (IsFirst-from_position _ _ c.position.result IsNoNetwork IsGoodNetwork c.position.ensures.ran
-    (YieldsList-from_str_split 44 c.args.text.now (lit< tt) c.split.ensures.text
-    c.split.ensures.has_more c.split.ensures.pattern)
-    (λ x q k. search rules) (λ x q k. search rules))).1
+    (λ x q k. search rules) (λ x q k. search rules))
