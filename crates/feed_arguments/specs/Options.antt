@@ -132,8 +132,9 @@ host_header = text_option (codes "host-header")
 abbrev pub user_file : Rule
 user_file = text_option (codes "user-file")
 
-abbrev pub turns : Rule
-turns = with_default (codes "1000000") (number_in (codes "turns") most_rounds)
+-- `--turns T`: the most reads of one connection
+abbrev pub reads : Rule
+reads = with_default (codes "1000000") (number_in (codes "turns") most_rounds)
 
 abbrev pub silence : Rule
 silence = number_in (codes "silence") most_silence

@@ -7,7 +7,7 @@ use Rattle.clap.specs.Words.{App, Row, Rule, Text, new_app, subcommand_of, takes
 use Rattle.feed_settings.specs.Limits.{most_commits}
 use Rattle.feed_arguments.specs.Addresses.{most_port}
 use Rattle.feed_arguments.specs.Live.{live, AsksLive}
-use Rattle.feed_arguments.specs.Options.{most_rounds, most_silence, at, stream, verbose, primary, screen, of, against, compared_contest, for_seconds, json, port, listen, contest, count, turn, chunked, back, host, from, base, host_header, user_file, turns, silence, resume, limits, with_rules}
+use Rattle.feed_arguments.specs.Options.{most_rounds, most_silence, at, stream, verbose, primary, screen, of, against, compared_contest, for_seconds, json, port, listen, contest, count, turn, chunked, back, host, from, base, host_header, user_file, reads, silence, resume, limits, with_rules}
 use Rattle.feed_arguments.specs.Options.{text_at, IsNumber, IsNumberUpTo, IsNumberIfGiven, IsGiven, IsFramed, AsksLimits}
 use Rattle.feed_arguments.specs.Upstream.{AsksUpstream}
 use Rattle.feed_arguments.specs.declared.request.Local.TheVariants as local
@@ -33,7 +33,7 @@ place = host ∷ port ∷ from ∷ contest ∷ []
 
 -- those that say as whom, and how far
 abbrev pub followed : List Rule
-followed = base ∷ host_header ∷ user_file ∷ turns ∷ silence ∷ []
+followed = base ∷ host_header ∷ user_file ∷ reads ∷ silence ∷ []
 
 -- a command with the options of `pull`
 abbrev pub with_pull : App → App

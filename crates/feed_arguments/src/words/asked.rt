@@ -299,12 +299,12 @@ fn serve_options<'a>(matches: &ArgMatches<'a>) -> Option<ServeOptions<'a>>
 
 /// The most reads of a connection, and the most seconds of silence.
 fn patience(matches: &ArgMatches<'_>) -> Option<(u64, Option<u64>)>
-    ensures turns { IfSome result
+    ensures reads { IfSome result
         (λ p. IsNumber (codes "turns") most_rounds (rows_of (found_of matches.now)) p.0) }
     ensures silence { IfSome result
         (λ p. IsNumberIfGiven (codes "silence") most_silence (rows_of (found_of matches.now)) p.1) }
-    ensures none { result ≡ None → (turns : ℕ) → (most : Option ℕ)
-        → IsNumber (codes "turns") most_rounds (rows_of (found_of matches.now)) turns
+    ensures none { result ≡ None → (reads : ℕ) → (most : Option ℕ)
+        → IsNumber (codes "turns") most_rounds (rows_of (found_of matches.now)) reads
         → ¬ (IsNumberIfGiven (codes "silence") most_silence (rows_of (found_of matches.now)) most) }
 {
     let most_reads = number(matches, "turns", MOST_ROUNDS)?;
