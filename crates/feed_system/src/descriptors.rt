@@ -10,8 +10,11 @@ const NOTHING: &str = "/dev/null";
 /// What stands in the place of each standard stream that was closed at the start.
 #[derive(Drop)]
 pub struct Placeholders {
+    /// That of standard input, descriptor 0.
     input: Option<File>,
+    /// That of standard output, descriptor 1.
     output: Option<File>,
+    /// That of standard error, descriptor 2.
     errors: Option<File>,
 }
 

@@ -27,8 +27,11 @@ fn addresses_of(rt: &HostRuntime, host: &str, port: u16) -> Result<Vec<SocketAdd
 /// start, it counts as one.
 #[derive(Drop)]
 pub struct Host {
+    /// The name, or an address; one of IPv6 may stand in brackets.
     name: String,
+    /// The port of each of its servers, 1 to 65,535.
     port: u16,
+    /// The addresses that the name had when it was looked up last, at most 8.
     addresses: Vec<SocketAddr>,
     /// How many servers it stands for.
     servers: usize,
@@ -36,7 +39,7 @@ pub struct Host {
     is_address: bool,
     /// Whether its addresses are to be asked for again.
     is_stale: bool,
-    /// Not before this time.
+    /// Not before this time; none if they may be asked for at once.
     rests_until: Option<Instant>,
     /// How many servers were asked in rounds that failed: where there are more addresses than
     /// servers, the others have their turn.

@@ -23,11 +23,17 @@ struct Server {
 /// The servers, and the connection to one of them.
 #[derive(Drop)]
 pub struct Servers<'r> {
+    /// What opens connections, and asks for addresses.
     rt: &'r HostRuntime,
+    /// Where the connection is registered for its events.
     registry: Registry,
+    /// The token that its events have.
     token: Token,
+    /// The hosts, in the order in which they were given.
     hosts: Vec<Host>,
+    /// The servers of all hosts, host by host.
     servers: Vec<Server>,
+    /// The connection; none if it is closed.
     stream: Option<TcpStream>,
 }
 

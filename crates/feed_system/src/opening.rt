@@ -33,7 +33,7 @@ const EVENTS: usize = 1_024;
 const INPUT_PIECE: usize = 65_536;
 
 /// Why a relay has nothing to run on.
-#[derive(Clone, Copy, Debug, PartialEq, Eq)]
+#[derive(Clone, Copy)]
 pub enum OpenFault {
     /// Memory ran out.
     Memory,
@@ -189,6 +189,7 @@ fn open_ends(rt: &HostRuntime, options: &LiveOptions<'_>) -> Result<Ends, OpenFa
 /// All that a relay runs on.
 #[derive(Drop)]
 pub struct Opened<'r> {
+    /// What waits, reads standard input, and writes reports.
     pub system: System<'r>,
     /// What its turns read from and write to.
     pub devices: Devices<Port, Servers<'r>, StateStore<&'r HostRuntime>>,

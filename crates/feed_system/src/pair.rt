@@ -15,11 +15,17 @@ const EVENTS: usize = 16;
 /// Two servers, and a clock.
 #[derive(Drop)]
 pub struct Pair<'r> {
+    /// What waits, and reads the clock.
     rt: &'r HostRuntime,
+    /// What tells which connections are ready.
     poll: Poll,
+    /// The events of the last wait, at most 16.
     events: Events,
+    /// The first server, with its connection.
     pub first: Servers<'r>,
+    /// The second server, with its connection.
     pub second: Servers<'r>,
+    /// When its time began.
     start: Instant,
 }
 

@@ -21,11 +21,15 @@ pub(crate) const FIRST_SCREEN: usize = 16;
 /// A port that screens connect to, who may connect, and their sockets, each at its number.
 #[derive(Drop)]
 pub struct Port {
+    /// Where listener and sockets are registered for their events.
     registry: Registry,
+    /// What takes connections; none if nobody is served.
     listener: Option<TcpListener>,
+    /// Who may connect.
     guard: Guard,
-    // Whose they are, where an address may have only so many.
+    /// Whose the sockets are, if an address may have only so many.
     tally: Option<Tally>,
+    /// The socket of each number; none if that is free.
     streams: Vec<Option<TcpStream>>,
 }
 

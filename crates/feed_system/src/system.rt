@@ -19,16 +19,23 @@ use std::time::{Duration, Instant};
 
 /// What waits for sockets, standard streams and the clock.
 pub struct System<'r> {
+    /// What waits, reads, writes, and tells the time.
     pub(crate) rt: &'r HostRuntime,
+    /// What tells which devices are ready.
     pub(crate) poll: Poll,
+    /// The events of the last wait.
     pub(crate) events: Events,
     /// What became ready while it waited last.
     pub ready: Vec<Ready>,
     /// What the input gave is read into this.
     pub piece: Vec<u8>,
+    /// Standard input.
     pub(crate) input: InputStream,
+    /// Standard error, which reports are written to.
     pub(crate) errors: ErrorStream,
+    /// The status port, with its connections.
     pub(crate) watchers: Watchers,
+    /// When the relay began; times are milliseconds from then on.
     pub(crate) start: Instant,
 }
 
