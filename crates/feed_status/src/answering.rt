@@ -1,17 +1,17 @@
 //! The answers to requests on the status port.
 
-use crate::health::{Headline, Level};
+use crate::health::Headline;
+use crate::json::StatusJson;
 use crate::metrics::Metrics;
 use crate::page::put_page;
 use crate::plots::PlotsJson;
-use crate::rows::{Row, rows_of};
+use crate::rows::rows_of;
 use crate::screens::{MOST_SCREENS, report};
 use crate::status::Status;
 use crate::watch::Watch;
 use http::StatusCode;
 use httparse::Status as Parsed;
 use httparse::spans::{EMPTY_HEADER_SPAN, parse_request};
-use serde::Serialize;
 use std::alloc::{AllocError, Global};
 
 /// The most fields of a request's head.
@@ -82,15 +82,6 @@ fn read_request(head: &[u8]) -> Result<Asked, StatusCode> {
         Some(wanted) => Ok(Asked { wanted, has_body }),
         None => Err(StatusCode::NOT_FOUND),
     }
-}
-
-/// What is told as JSON.
-#[derive(Clone, Copy, Serialize)]
-struct StatusJson<'a> {
-    level: Level,
-    headline: &'a str,
-    rows: &'a [Row],
-    status: &'a Status<'a>,
 }
 
 /// The status as JSON, with its level, its headline and the rows of the page's table.

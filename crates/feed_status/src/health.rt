@@ -3,12 +3,10 @@
 use crate::cells::Time;
 use crate::status::{Status, UpstreamState, UpstreamStatus};
 use crate::warnings::Warnings;
-use serde::Serialize;
 use std::fmt;
 
 /// How well a relay follows.
-#[derive(Clone, Copy, Serialize)]
-#[serde(rename_all = "snake_case")]
+#[derive(Clone, Copy)]
 pub enum Level {
     /// It follows, and has something to show.
     Good,
@@ -20,7 +18,7 @@ pub enum Level {
 }
 
 impl Level {
-    /// The word that a page has for it.
+    /// The word that JSON and a page have for it.
     pub(crate) fn word(self) -> &'static str {
         match self {
             Level::Good => "good",

@@ -1,7 +1,14 @@
-//! Objects of JSON that have many members. Derived impls of these are slow to prove.
+//! What is told as JSON. Each object is written member by member, since derived impls are slower to
+//! prove.
 
-use crate::screens::ScreenJson;
-use crate::status::{ScreensStatus, StateFile, Status, UpstreamStatus};
+use crate::health::Level;
+use crate::plots::{Latest, PlotsJson, Point};
+use crate::rows::Row;
+use crate::screens::{ScreenJson, ScreensJson};
+use crate::status::{
+    Failed, LastFailure, Latency, Refused, ScreensStatus, StateFile, Status, UpstreamState,
+    UpstreamStatus,
+};
 use serde::{Described, Serialize, Serializer};
 
 /// Writes a member of an object, if what comes before it was written.
@@ -20,6 +27,29 @@ fn put_member<T: Serialize, S: Serializer>(
 fn put_end<S: Serializer>(before: Result<(), S::Error>, out: &mut S) -> Result<(), S::Error> {
     before?;
     out.end_map()
+}
+
+/// What `/status.json` has: the status, with its level, its headline and the rows of the page's
+/// table.
+#[derive(Clone, Copy)]
+pub(crate) struct StatusJson<'a> {
+    pub(crate) level: Level,
+    pub(crate) headline: &'a str,
+    pub(crate) rows: &'a [Row],
+    pub(crate) status: &'a Status<'a>,
+}
+
+impl Described for StatusJson<'_> {}
+
+impl Serialize for StatusJson<'_> {
+    fn serialize<S: Serializer>(&self, out: &mut S) -> Result<(), S::Error> {
+        let put = out.begin_map(None);
+        let put = put_member(put, "level", &self.level, out);
+        let put = put_member(put, "headline", &self.headline, out);
+        let put = put_member(put, "rows", &self.rows, out);
+        let put = put_member(put, "status", &self.status, out);
+        put_end(put, out)
+    }
 }
 
 impl Described for Status<'_> {}
@@ -117,5 +147,122 @@ impl Serialize for ScreenJson<'_> {
         let put = put_member(put, "bytes", &self.bytes, out);
         let put = put_member(put, "cells", &self.cells, out);
         put_end(put, out)
+    }
+}
+
+impl Described for Failed<'_> {}
+
+impl Serialize for Failed<'_> {
+    fn serialize<S: Serializer>(&self, out: &mut S) -> Result<(), S::Error> {
+        let put = out.begin_map(None);
+        let put = put_member(put, "reason", &self.reason, out);
+        let put = put_member(put, "count", &self.count, out);
+        put_end(put, out)
+    }
+}
+
+impl Described for LastFailure<'_> {}
+
+impl Serialize for LastFailure<'_> {
+    fn serialize<S: Serializer>(&self, out: &mut S) -> Result<(), S::Error> {
+        let put = out.begin_map(None);
+        let put = put_member(put, "text", &self.text, out);
+        let put = put_member(put, "age_ms", &self.age_ms, out);
+        put_end(put, out)
+    }
+}
+
+impl Described for Refused {}
+
+impl Serialize for Refused {
+    fn serialize<S: Serializer>(&self, out: &mut S) -> Result<(), S::Error> {
+        let put = out.begin_map(None);
+        let put = put_member(put, "status", &self.status, out);
+        let put = put_member(put, "count", &self.count, out);
+        put_end(put, out)
+    }
+}
+
+impl Described for Latency {}
+
+impl Serialize for Latency {
+    fn serialize<S: Serializer>(&self, out: &mut S) -> Result<(), S::Error> {
+        let put = out.begin_map(None);
+        let put = put_member(put, "at_most", &self.at_most, out);
+        let put = put_member(put, "commits", &self.commits, out);
+        let put = put_member(put, "sum_us", &self.sum_us, out);
+        put_end(put, out)
+    }
+}
+
+impl Described for Latest {}
+
+impl Serialize for Latest {
+    fn serialize<S: Serializer>(&self, out: &mut S) -> Result<(), S::Error> {
+        let put = out.begin_map(None);
+        let put = put_member(put, "second", &self.second, out);
+        let put = put_member(put, "point", &self.point, out);
+        put_end(put, out)
+    }
+}
+
+impl Described for Point {}
+
+impl Serialize for Point {
+    fn serialize<S: Serializer>(&self, out: &mut S) -> Result<(), S::Error> {
+        let put = out.begin_map(None);
+        let put = put_member(put, "commits", &self.commits, out);
+        let put = put_member(put, "screens", &self.screens, out);
+        let put = put_member(put, "slowest_us", &self.slowest_us, out);
+        put_end(put, out)
+    }
+}
+
+impl Described for PlotsJson {}
+
+impl Serialize for PlotsJson {
+    fn serialize<S: Serializer>(&self, out: &mut S) -> Result<(), S::Error> {
+        let put = out.begin_map(None);
+        let put = put_member(put, "second", &self.second, out);
+        let put = put_member(put, "points", &self.points, out);
+        put_end(put, out)
+    }
+}
+
+impl Described for ScreensJson<'_> {}
+
+impl Serialize for ScreensJson<'_> {
+    fn serialize<S: Serializer>(&self, out: &mut S) -> Result<(), S::Error> {
+        let put = out.begin_map(None);
+        let put = put_member(put, "open", &self.open, out);
+        let put = put_member(put, "screens", &self.screens, out);
+        put_end(put, out)
+    }
+}
+
+impl Described for Row {}
+
+impl Serialize for Row {
+    fn serialize<S: Serializer>(&self, out: &mut S) -> Result<(), S::Error> {
+        let put = out.begin_map(None);
+        let put = put_member(put, "label", &self.label, out);
+        let put = put_member(put, "text", &self.text, out);
+        put_end(put, out)
+    }
+}
+
+impl Described for Level {}
+
+impl Serialize for Level {
+    fn serialize<S: Serializer>(&self, out: &mut S) -> Result<(), S::Error> {
+        out.str(self.word())
+    }
+}
+
+impl Described for UpstreamState {}
+
+impl Serialize for UpstreamState {
+    fn serialize<S: Serializer>(&self, out: &mut S) -> Result<(), S::Error> {
+        out.str(self.word())
     }
 }

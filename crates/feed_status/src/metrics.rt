@@ -51,6 +51,7 @@ enum Labels<'a> {
     None,
     One(&'static str, &'a str),
     Two(&'static str, &'a str, &'static str, &'a str),
+    Number(&'static str, Value),
 }
 
 impl fmt::Display for Labels<'_> {
@@ -58,14 +59,11 @@ impl fmt::Display for Labels<'_> {
         match *self {
             Labels::None => Ok(()),
             Labels::One(name, text) => write!(f, "{{{name}=\"{}\"}}", Label(text)),
-            Labels::Two(first, one, second, two) => {
-                write!(
-                    f,
-                    "{{{first}=\"{}\",{second}=\"{}\"}}",
-                    Label(one),
-                    Label(two)
-                )
+            Labels::Two(first, text, second, more) => {
+                write!(f, "{{{first}=\"{}\",", Label(text))?;
+                write!(f, "{second}=\"{}\"}}", Label(more))
             }
+            Labels::Number(name, number) => write!(f, "{{{name}=\"{number}\"}}"),
         }
     }
 }
@@ -85,19 +83,22 @@ impl fmt::Display for Family {
     }
 }
 
+/// A value of a metric.
+#[derive(Clone, Copy)]
+struct Sample<'a>(&'static str, Labels<'a>, Value);
+
+impl fmt::Display for Sample<'_> {
+    fn fmt<W: fmt::Write>(&self, f: &mut fmt::Formatter<W>) -> fmt::Result {
+        write!(f, "{}{} {}\n", self.0, self.1, self.2)
+    }
+}
+
 /// A metric with one value.
 #[derive(Clone, Copy)]
 struct Metric<'a> {
     family: Family,
     labels: Labels<'a>,
     value: Value,
-}
-
-impl fmt::Display for Metric<'_> {
-    fn fmt<W: fmt::Write>(&self, f: &mut fmt::Formatter<W>) -> fmt::Result {
-        let (family, labels, value) = (self.family, self.labels, self.value);
-        write!(f, "{family}{}{labels} {value}\n", family.name)
-    }
 }
 
 /// What has a value at each moment.
@@ -138,8 +139,8 @@ fn counter<'a>(name: &'static str, help: &'static str, value: Value) -> Metric<'
     }
 }
 
-/// The program, its contest, and how long it has run.
-fn of_program<'a>(status: &Status<'a>) -> [Metric<'a>; 3] {
+/// The program, its contest, how long it has run, and what came.
+fn of_relay<'a>(status: &Status<'a>) -> [Metric<'a>; 5] {
     [
         labelled(
             "tunygarop_build_info",
@@ -158,12 +159,6 @@ fn of_program<'a>(status: &Status<'a>) -> [Metric<'a>; 3] {
             "How long the relay has run.",
             Value::Time(status.uptime_ms),
         ),
-    ]
-}
-
-/// What came.
-fn of_feed<'a>(status: &Status<'a>) -> [Metric<'a>; 2] {
-    [
         counter(
             "tunygarop_commits_total",
             "Commits that were published.",
@@ -186,8 +181,11 @@ fn of_commit<'a>(age: u64) -> [Metric<'a>; 1] {
     )]
 }
 
-/// How much is shown.
-fn of_shown<'a>(status: &Status<'a>) -> [Metric<'a>; 2] {
+/// How much is shown, the server that it is from, and what else comes of it.
+fn of_upstream<'a>(status: &Status<'a>) -> [Metric<'a>; 10] {
+    let upstream = &status.upstream;
+    let state = upstream.state;
+    let follows = matches!(state, UpstreamState::Following | UpstreamState::Input);
     [
         gauge(
             "tunygarop_types",
@@ -199,15 +197,6 @@ fn of_shown<'a>(status: &Status<'a>) -> [Metric<'a>; 2] {
             "Objects of their collections.",
             Value::Count(status.objects),
         ),
-    ]
-}
-
-/// The server, and what comes of it.
-fn of_upstream<'a>(status: &Status<'a>) -> [Metric<'a>; 8] {
-    let upstream = &status.upstream;
-    let state = upstream.state;
-    let follows = matches!(state, UpstreamState::Following | UpstreamState::Input);
-    [
         labelled(
             "tunygarop_upstream_info",
             "The server, and its state.",
@@ -390,12 +379,37 @@ fn of_process<'a>(process: &Process) -> [Metric<'a>; 4] {
 /// Appends metrics, one after another.
 fn put_all<W: fmt::Write>(metrics: &[Metric<'_>], f: &mut fmt::Formatter<W>) -> fmt::Result {
     for metric in metrics {
-        write!(f, "{metric}")?;
+        let (family, value) = (metric.family, metric.value);
+        write!(f, "{family}{}", Sample(family.name, metric.labels, value))?;
     }
     Ok(())
 }
 
-/// Appends why attempts to follow a server failed.
+/// Appends when the last commit came, where one did.
+fn put_commit<W: fmt::Write>(age: Option<u64>, f: &mut fmt::Formatter<W>) -> fmt::Result {
+    match age {
+        Some(age) => put_all(&of_commit(age), f),
+        None => Ok(()),
+    }
+}
+
+/// Appends what is known of the state file, where there is one.
+fn put_file<W: fmt::Write>(file: Option<StateFile<'_>>, f: &mut fmt::Formatter<W>) -> fmt::Result {
+    match &file {
+        Some(file) => put_all(&of_file(file), f),
+        None => Ok(()),
+    }
+}
+
+/// Appends what is known of the process, where something is.
+fn put_process<W: fmt::Write>(process: Option<Process>, f: &mut fmt::Formatter<W>) -> fmt::Result {
+    match &process {
+        Some(process) => put_all(&of_process(process), f),
+        None => Ok(()),
+    }
+}
+
+/// Appends why attempts to follow a server failed, and what waits for a token.
 fn put_failures<W: fmt::Write>(
     upstream: &UpstreamStatus<'_>,
     f: &mut fmt::Formatter<W>,
@@ -405,23 +419,23 @@ fn put_failures<W: fmt::Write>(
     let kind = "counter";
     write!(f, "{}", Family { name, kind, help })?;
     for failed in &upstream.failed_by {
-        let (labels, count) = (Labels::One("reason", failed.reason), failed.count);
-        write!(f, "{name}{labels} {count}\n")?;
+        let labels = Labels::One("reason", failed.reason);
+        write!(f, "{}", Sample(name, labels, Value::Count(failed.count)))?;
     }
-    Ok(())
+    put_all(&of_waiting(upstream), f)
 }
 
-/// Appends with which statuses requests were refused.
-fn put_refusals<W: fmt::Write>(screens: &ScreensStatus, f: &mut fmt::Formatter<W>) -> fmt::Result {
+/// Appends with which statuses requests were refused, and what else was closed.
+fn put_refusals<W: fmt::Write>(status: &Status<'_>, f: &mut fmt::Formatter<W>) -> fmt::Result {
     let name = "tunygarop_screens_refused_total";
     let help = "Requests refused, by the status of the answer.";
     let kind = "counter";
     write!(f, "{}", Family { name, kind, help })?;
-    for refused in &screens.refused_by {
-        let (status, count) = (refused.status, refused.count);
-        write!(f, "{name}{{status=\"{status}\"}} {count}\n")?;
+    for refused in &status.screens.refused_by {
+        let labels = Labels::Number("status", Value::Count(u64::from(refused.status)));
+        write!(f, "{}", Sample(name, labels, Value::Count(refused.count)))?;
     }
-    Ok(())
+    put_all(&of_ends(status), f)
 }
 
 /// Appends how long commits took.
@@ -430,13 +444,22 @@ fn put_latency<W: fmt::Write>(latency: &Latency, f: &mut fmt::Formatter<W>) -> f
     let help = "From a commit's end to its last write.";
     let kind = "histogram";
     write!(f, "{}", Family { name, kind, help })?;
+    let bucket = "tunygarop_latency_seconds_bucket";
     for (bound, count) in BOUNDS.iter().zip(latency.at_most.iter()) {
-        let bound = Value::FineTime(*bound);
-        write!(f, "{name}_bucket{{le=\"{bound}\"}} {count}\n")?;
+        let labels = Labels::Number("le", Value::FineTime(*bound));
+        write!(f, "{}", Sample(bucket, labels, Value::Count(*count)))?;
     }
-    let (commits, sum) = (latency.commits, Value::FineTime(latency.sum_us));
-    write!(f, "{name}_bucket{{le=\"+Inf\"}} {commits}\n")?;
-    write!(f, "{name}_sum {sum}\n{name}_count {commits}\n")
+    let (sum, commits) = (
+        Value::FineTime(latency.sum_us),
+        Value::Count(latency.commits),
+    );
+    write!(
+        f,
+        "{}{}{}",
+        Sample(bucket, Labels::One("le", "+Inf"), commits),
+        Sample("tunygarop_latency_seconds_sum", Labels::None, sum),
+        Sample("tunygarop_latency_seconds_count", Labels::None, commits)
+    )
 }
 
 /// All metrics of a relay, and of its process where something is known of that.
@@ -446,24 +469,14 @@ pub(crate) struct Metrics<'a>(pub(crate) &'a Status<'a>, pub(crate) Option<Proce
 impl fmt::Display for Metrics<'_> {
     fn fmt<W: fmt::Write>(&self, f: &mut fmt::Formatter<W>) -> fmt::Result {
         let status = self.0;
-        put_all(&of_program(status), f)?;
-        put_all(&of_feed(status), f)?;
-        if let Some(age) = status.commit_age_ms {
-            put_all(&of_commit(age), f)?;
-        }
-        put_all(&of_shown(status), f)?;
+        put_all(&of_relay(status), f)?;
+        put_commit(status.commit_age_ms, f)?;
         put_all(&of_upstream(status), f)?;
         put_failures(&status.upstream, f)?;
-        put_all(&of_waiting(&status.upstream), f)?;
         put_all(&of_screens(&status.screens), f)?;
-        put_refusals(&status.screens, f)?;
-        put_all(&of_ends(status), f)?;
-        if let Some(file) = &status.state_file {
-            put_all(&of_file(file), f)?;
-        }
-        if let Some(process) = &self.1 {
-            put_all(&of_process(process), f)?;
-        }
+        put_refusals(status, f)?;
+        put_file(status.state_file, f)?;
+        put_process(self.1, f)?;
         put_latency(&status.latency, f)
     }
 }

@@ -1,13 +1,12 @@
 //! The last ten minutes, second by second.
 
-use serde::Serialize;
 use std::alloc::{AllocError, Global};
 
 /// How many seconds are kept.
 const MOST: usize = 600;
 
 /// What happened in one second.
-#[derive(Clone, Copy, Serialize)]
+#[derive(Clone, Copy)]
 pub struct Point {
     /// How many commits were published in it.
     pub commits: u64,
@@ -28,7 +27,7 @@ impl Point {
 }
 
 /// The last second that is over.
-#[derive(Clone, Copy, Serialize)]
+#[derive(Clone, Copy)]
 pub struct Latest {
     /// How many seconds are over since the start.
     pub second: u64,
@@ -120,10 +119,10 @@ impl Plots {
 
 /// What is told as JSON: each point as the number of its commits, that of its screens, and the
 /// microseconds of its slowest commit.
-#[derive(Drop, Serialize)]
+#[derive(Drop)]
 pub(crate) struct PlotsJson {
-    second: u64,
-    points: Vec<[u64; 3]>,
+    pub(crate) second: u64,
+    pub(crate) points: Vec<[u64; 3]>,
 }
 
 impl PlotsJson {

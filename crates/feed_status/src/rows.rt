@@ -2,11 +2,10 @@
 
 use crate::cells::Cell;
 use crate::status::Status;
-use serde::Serialize;
 use std::alloc::{AllocError, Global};
 
 /// One row of the table.
-#[derive(Drop, Serialize)]
+#[derive(Drop)]
 pub(crate) struct Row {
     pub(crate) label: &'static str,
     pub(crate) text: String,

@@ -2,7 +2,6 @@
 
 use crate::cells::Cell;
 use crate::escape::put_element;
-use serde::Serialize;
 use std::alloc::{AllocError, Global};
 
 /// How many screens are told of.
@@ -75,11 +74,11 @@ pub(crate) struct ScreenJson<'a> {
 }
 
 /// What is told of screens as JSON.
-#[derive(Drop, Serialize)]
+#[derive(Drop)]
 pub(crate) struct ScreensJson<'a> {
     /// How many there are in all.
-    open: u64,
-    screens: Vec<ScreenJson<'a>>,
+    pub(crate) open: u64,
+    pub(crate) screens: Vec<ScreenJson<'a>>,
 }
 
 /// What is told of these screens, of so many, where this token is published.

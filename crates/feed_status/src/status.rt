@@ -1,7 +1,6 @@
 //! What a relay is at one moment. Times are in milliseconds.
 
 use crate::plots::Latest;
-use serde::Serialize;
 
 /// How many buckets a latency has.
 const BUCKETS: usize = 12;
@@ -12,8 +11,7 @@ pub const BOUNDS: [u64; BUCKETS] = [
 ];
 
 /// How things stand with the server that is followed.
-#[derive(Clone, Copy, Serialize)]
-#[serde(rename_all = "snake_case")]
+#[derive(Clone, Copy)]
 pub enum UpstreamState {
     /// Its answer is followed.
     Following,
@@ -47,7 +45,7 @@ impl UpstreamState {
 const REASONS: usize = 10;
 
 /// How many attempts to follow a server failed for a reason.
-#[derive(Clone, Copy, Serialize)]
+#[derive(Clone, Copy)]
 pub struct Failed<'a> {
     /// One word.
     pub reason: &'a str,
@@ -56,7 +54,7 @@ pub struct Failed<'a> {
 }
 
 /// The last attempt to follow a server that failed.
-#[derive(Clone, Copy, Serialize)]
+#[derive(Clone, Copy)]
 pub struct LastFailure<'a> {
     /// Why it did.
     pub text: &'a str,
@@ -97,7 +95,7 @@ pub struct UpstreamStatus<'a> {
 const REFUSALS: usize = 5;
 
 /// How many requests were answered with a status.
-#[derive(Clone, Copy, Serialize)]
+#[derive(Clone, Copy)]
 pub struct Refused {
     /// The status, such as 503.
     pub status: u16,
@@ -151,7 +149,7 @@ pub struct StateFile<'a> {
 
 /// How long it took from the read that had the end of a commit until it was written to each screen
 /// that was up to date and took it.
-#[derive(Clone, Copy, Serialize)]
+#[derive(Clone, Copy)]
 pub struct Latency {
     /// How many commits took at most the time of each of the bounds.
     pub at_most: [u64; BUCKETS],
