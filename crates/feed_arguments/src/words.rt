@@ -68,6 +68,19 @@ fn with_usual_calls(reply: NoCommand) -> NoCommand
     NoCommand::Refused(text)
 }
 
+/// What is replied to words that clap refuses: with the usual calls, where nothing stands behind
+/// the program's name.
+fn reply_to(alloc: Global, words: &[&str], error: &clap::Error) -> NoCommand
+    ensures { (words : List Text) → RefusesBy words (kind_of error.now) → AsksNothing words result }
+{
+    let reply = reply(alloc, error);
+    if words.len() <= 1 {
+        with_usual_calls(reply)
+    } else {
+        reply
+    }
+}
+
 /// What the words ask for; the first of them is the program's name.
 pub fn parse_words<'a>(alloc: Global, words: &'a [&'a str]) -> Result<Request<'a>, NoCommand>
     ensures ok { IfOk result (λ request. Asks (map (λ word. word.now) words.entry.now) request) }
@@ -76,7 +89,6 @@ pub fn parse_words<'a>(alloc: Global, words: &'a [&'a str]) -> Result<Request<'a
 {
     match parse(alloc, words) {
         Ok(request) => Ok(request),
-        Err(error) if words.len() <= 1 => Err(with_usual_calls(reply(alloc, &error))),
-        Err(error) => Err(reply(alloc, &error)),
+        Err(error) => Err(reply_to(alloc, words, &error)),
     }
 }
