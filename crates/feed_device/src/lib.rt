@@ -4,10 +4,12 @@
 
 mod desk;
 mod device;
+mod lines;
 mod report;
 mod reports;
 
 pub use desk::Desk;
 pub use device::{Before, Devices, FileSlot, Link, Ready, Sockets, Stop, Store};
+pub use lines::whole_line;
 pub use report::{Excerpt, How, Report, Why};
 pub use reports::Reports;

@@ -153,7 +153,7 @@ pub record IsTurn (old new : Moment) : Type 0 where
   pub over : new.next.is_over ≡ true → IsOver new.live now
   pub in_time : IfSome new.live.ends_at (λ at. at ≤ now → new.next.is_over ≡ true)
 
--- all but what is told of a relay stays
+-- all but what is reported of a relay stays
 pub record IsSameRelay (old new : Live) : Type 0 where
   pub source : new.source ≡ old.source
   pub screens : new.screens ≡ old.screens
@@ -176,7 +176,7 @@ IsRun first (before ∷ earlier) last = IsTurn before last × IsRun first earlie
 abbrev pub waited_at : List Moment → List Turn
 waited_at moments = map (λ (moment : Moment). moment.next) moments
 
--- the host was to wait for just that, and it was to tell of each turn
+-- the host was to wait for just that, and it was to report each turn
 abbrev pub calls_in : List Moment → HostCalls → HostCalls
 calls_in earlier calls = record {
   waits = option_map (λ waits. waited_at earlier ++ waits) calls.waits;

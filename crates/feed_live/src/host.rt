@@ -14,6 +14,7 @@ use feed_files::Restored;
 pub struct Given<'a> {
     /// What became ready.
     pub events: &'a [Ready],
+    /// What came of the input.
     pub input: Input<'a>,
     /// The time, in milliseconds since the start.
     pub now: u64,
@@ -37,7 +38,7 @@ pub trait Host<S, L, D> {
 
     ghost failed: { Self → Option ℕ } = { λ _. None };
 
-    /// Tells what the relay begins with, before it does.
+    /// Reports what the relay begins with, before it does.
     fn begin(&mut self, restored: &Restored) -> Result<(), Self::Error>
         ensures input { input self.new ≡ input self.old }
         ensures calls { calls self.new ≡ calls self.old }

@@ -87,8 +87,8 @@ fn restored_for<D: Store>(
     })
 }
 
-/// A relay of this setup, which begins with what its state files had. What that is, the host is
-/// told before.
+/// A relay of this setup, which begins with what its state files had. What that is, the host reports
+/// before.
 pub(crate) fn begin<S, L, D: Store, H: Host<S, L, D>>(
     alloc: Global,
     setup: Setup,

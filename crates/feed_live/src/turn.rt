@@ -47,20 +47,29 @@ pub struct Turn {
 /// A relay.
 #[derive(Drop)]
 pub struct Live {
+    /// The contest whose feed is served.
     contest: String,
+    /// What it may do, and how long it waits.
     limits: LiveLimits,
+    /// What it follows, and shows of that.
     pub(crate) source: Source,
+    /// Whom it serves.
     pub(crate) screens: Screens,
+    /// Its state files; none where nothing is kept.
     pub(crate) saved: Option<Saved>,
+    /// What its parts have at hand.
     desk: Desk,
+    /// When it looked last for who is late, in milliseconds.
     ticked: u64,
+    /// When the number of screens was reported last, in milliseconds.
     reported: u64,
     /// How often the feed was published afresh when the state file was looked after last.
     epoch: u64,
     /// Whether the input is the feed and goes on.
     feeds: bool,
-    /// When a relay that ends does so at the latest.
+    /// When a relay that ends does so at the latest, in milliseconds; none where it goes on.
     ends_at: Option<u64>,
+    /// It was reported that requests wait for a server.
     is_hold_reported: bool,
 }
 

@@ -1,4 +1,4 @@
--- THE PROMISE, up to each socket: what is written to it is what the hub was told at the key of its
+-- THE PROMISE, up to each socket: what is written to it is what the hub counts at the key of its
 -- connection, and so a prefix of what is due to the answer that one of the nodes gave.
 use Rattle.std.specs.Prelude.{◌≡◌, ℕ, zero, suc, ◌<◌, ◌≤◌, ◌+◌, ◌-◌, ◌^◌, min, List, [], ◌++◌, take, drop, Option, Some, None, Bool, true, false, Result, MatchResult, Contains, IfSome, ◌⊎◌}
 use Rattle.std.specs.List.{AllByRecursion}
@@ -80,7 +80,7 @@ pub record IsSent (nodes : List NodeState) (contest : List ℕ) (socket : Option
   pub faithful : IsFaithful nodes contest came bytes
 
 -- The socket of the connection with this key. All that came is its request so far, and nothing was
--- written; or it is served, and what was written is what the hub was told of; or the hub cut it.
+-- written; or it is served, and what was written is what the hub counts; or the hub cut it.
 pub data Sits (nodes : List NodeState) (contest : List ℕ) (hub : Hub) (key : Key)
     (socket : Option Socket) : Type 0 where
   asks : (asking : Asking) → seat_at hub.seats.slab key ≡ Some (Asks asking)

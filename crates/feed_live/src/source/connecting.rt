@@ -44,7 +44,7 @@ impl Source {
     /// How long a server may take to take a connection: not long where another one was left for it
     /// that did not fail.
     fn connect_time(&self) -> u64 {
-        if self.returning.has_turned() {
+        if self.returning.has_left_quiet() {
             CONNECT_TIME / 5
         } else {
             CONNECT_TIME
@@ -85,8 +85,8 @@ impl Source {
         match self.leaves(idle, desk.time) {
             Some(why) => self.lost(desk, link, why),
             None => {
-                if self.is_to_turn(desk.time) {
-                    self.turn(desk, link);
+                if self.is_to_leave_quiet(desk.time) {
+                    self.leave_quiet(desk, link);
                 } else if self.is_to_ask_newest(desk.time) {
                     self.ask_newest(link, desk.time);
                 }
@@ -232,8 +232,8 @@ impl Source {
             .add_if(is_reported, Report::Lost { server, why, pause });
     }
 
-    /// A server is lost. Whether that is to be reported: not where it only had its turn, and did
-    /// not answer.
+    /// A server is lost. Whether that is to be reported: not where it was only asked since another
+    /// one had nothing new, and did not answer.
     fn lose(&mut self) -> bool
         ensures same { SameSource self.old self.new }
         ensures upstream { self.new.upstream ≡ self.old.upstream }
@@ -241,7 +241,7 @@ impl Source {
         if self.body_since.is_some() {
             self.returning.lose();
         }
-        !self.returning.has_turned()
+        !self.returning.has_left_quiet()
     }
 
     /// A server that ended its answer has sent all that comes after our token.

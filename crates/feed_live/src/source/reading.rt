@@ -17,7 +17,7 @@ use memchr::memchr;
 use std::alloc::{AllocError, Global};
 use std::mem;
 
-/// How many reads one turn makes before the screens have theirs, and how many bytes each takes.
+/// How many reads one turn makes before the screens are served, and how many bytes each takes.
 const READS: usize = 16;
 
 const PIECE: usize = 16_384;
@@ -162,7 +162,7 @@ impl Source {
 
     /// Reports more of a fault: where the feed is said to be, or the line that can't be followed.
     fn report_fault(&self, desk: &mut Desk, fault: FollowFault, line: &[u8]) {
-        if self.returning.has_turned() {
+        if self.returning.has_left_quiet() {
             return;
         }
         let server = self.upstream.place();
@@ -195,7 +195,7 @@ impl Source {
             → (left : List ℕ) → StillFollows self.old self.new (L.exchanges link.old)
             (L.exchanges link.new) piece.entry.now left screens.old screens.new) }
     {
-        let (line, next) = split_line(piece);
+        let (line, next) = line_or_part(piece);
         match self.push(desk, line) {
             Ok(Progress::Head) => Some(next),
             Ok(Progress::Body) => {
@@ -264,7 +264,8 @@ impl Source {
         let refused = Report::Refused {
             server: self.upstream.place(),
         };
-        desk.reports.add_if(!self.returning.has_turned(), refused);
+        desk.reports
+            .add_if(!self.returning.has_left_quiet(), refused);
         self.without_token(link, desk.time);
     }
 
@@ -298,7 +299,8 @@ impl Source {
             server: self.upstream.place(),
             away: desk.time.saturating_sub(self.away_since),
         };
-        desk.reports.add_if(!self.returning.has_turned(), found);
+        desk.reports
+            .add_if(!self.returning.has_left_quiet(), found);
     }
 
     /// Says what was published, where it is to be shown now. Where a connection published afresh,
@@ -412,8 +414,9 @@ fn location_of(line: &[u8]) -> Option<&[u8]> {
     Some(value.trim_ascii())
 }
 
-/// A piece up to and with its first line feed, or all of it; and what comes after that.
-pub(crate) fn split_line(piece: &[u8]) -> (&[u8], &[u8])
+/// The first line of a piece, with its line feed, or all of it, where it has none: a part of a
+/// line; and what comes after that.
+pub(crate) fn line_or_part(piece: &[u8]) -> (&[u8], &[u8])
     ensures { result.0.now ++ result.1.now ≡ piece.now }
 {
     match memchr(b'\n', piece) {

@@ -8,7 +8,7 @@ ghost use Rattle.feed_hub.specs.Follows.{MayAskWith};
 ghost use Rattle.feed_live.specs.Upstream.{asked_with};
 
 use crate::source::Source;
-use crate::source::reading::{given_twice, is_want_of_memory, split_line};
+use crate::source::reading::{given_twice, is_want_of_memory, line_or_part};
 use crate::times::QUIET;
 use feed_device::{Desk, Excerpt, Link, Report};
 use feed_follow::Follower;
@@ -20,6 +20,7 @@ use std::alloc::{AllocError, Global};
 /// token that isn't held.
 #[derive(Drop)]
 pub(crate) struct Again {
+    /// How far the response was read into the mirror.
     follower: Follower,
     /// It had nothing when the connection began, and is shown to nobody.
     mirror: Mirror,
@@ -95,7 +96,7 @@ impl Rechecking {
         self.has_come = false;
     }
 
-    /// It failed: the next server has its turn.
+    /// It failed: the next server is asked.
     pub(crate) fn lose(&mut self) {
         self.asks_newest = false;
     }
@@ -190,7 +191,7 @@ impl Source {
         let Some(again) = &mut self.rechecking.again else {
             return false;
         };
-        let (line, _) = split_line(piece);
+        let (line, _) = line_or_part(piece);
         if !again.hears(alloc, line) {
             self.rechecking.again = None;
             return false;
@@ -222,8 +223,8 @@ impl Source {
         if given_twice(self.answers.shown.mirror()).is_some() {
             return true;
         }
-        // Where another one was set back, servers keep their turns: else two relays would tell each
-        // other for ever that they still have what it had.
+        // Where another one was set back, refusals are counted on: else two relays that follow
+        // each other would keep for ever what it had.
         if !self.rechecking.is_doubted {
             self.upstream.held();
         }

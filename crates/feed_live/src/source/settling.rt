@@ -12,7 +12,7 @@ mod showing;
 use crate::figures::Following;
 use crate::source::Source;
 use crate::source::rate::Rate;
-use crate::source::reading::split_line;
+use crate::source::reading::line_or_part;
 use crate::times::{LONGEST_REPLAY, REPLAY_REPORT};
 use feed_audit::{Difference, difference_of};
 use feed_device::{Desk, Excerpt, Link, Report};
@@ -34,19 +34,23 @@ pub(crate) struct Settling {
     is_always: bool,
     /// Whether that is so of several servers: they have tokens of their own.
     is_strange: bool,
-    /// When the first byte of the connection came, or it was begun.
+    /// When the first byte of the connection came, or it was begun, in milliseconds.
     began: u64,
+    /// Whether a byte of it came.
     is_begun: bool,
+    /// How much came of late.
     rate: Rate,
-    /// How many bytes and whole lines came on the connection.
+    /// How many bytes came on the connection.
     bytes: u64,
+    /// How many lines came on it.
     lines: u64,
     /// Whether the last line that was begun has not ended yet.
     is_within: bool,
-    /// When it was reported last how much has come.
+    /// When it was reported last how much has come, in milliseconds.
     reported: u64,
-    /// Whether it was at the token that is shown, and had the same state there.
+    /// Whether it was at the token that is shown.
     is_compared: bool,
+    /// Whether it had the same state there.
     is_same: bool,
     /// Whether what settled last was shown at its own token alone.
     was_alone: bool,
@@ -345,7 +349,7 @@ impl Source {
             return false;
         }
         self.is_at_start = false;
-        let (line, _) = split_line(piece);
+        let (line, _) = line_or_part(piece);
         if self.coming.is_none() {
             return self.replayed.as_slice() == line;
         }

@@ -20,14 +20,18 @@ pub(crate) enum TextId {
 /// A text, of so many bytes, that so many screens have yet to take.
 #[derive(Clone, Copy)]
 pub(crate) struct Text {
+    // No other text of the list has it.
     id: TextId,
+    // How many bytes it has.
     length: usize,
+    // How many screens have yet to take it: one at least.
     readers: usize,
 }
 
 /// Long texts, each with a reader, and none of them twice.
 #[derive(Drop)]
 pub(crate) struct Texts {
+    // In the order in which they came.
     list: Vec<Text>,
     ghost read: { HaveReaders list.items },
     ghost once: { AreDistinct list.items },
@@ -107,6 +111,7 @@ impl Texts {
 /// whose screens have it.
 #[derive(Drop)]
 pub(crate) struct Pending {
+    /// Each once, for however many screens it is.
     texts: Texts,
     /// The text that the screen at each place has yet to take.
     places: Vec<Option<TextId>>,

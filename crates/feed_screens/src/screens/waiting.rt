@@ -340,7 +340,7 @@ impl Screens {
         self.heed(desk, sockets, at, heard);
     }
 
-    /// Tells those that there are too many whose requests have waited for long enough.
+    /// Answers those that there are too many whose requests have waited for long enough.
     pub fn refuse_overdue<S: Sockets>(&mut self, desk: &mut Desk, sockets: &mut S)
         ensures serving { StillServesAll self.old self.new
             (S.socket sockets.old) (S.socket sockets.new) }
@@ -361,7 +361,7 @@ impl Screens {
         self.is_waited = self.somebody_waits();
     }
 
-    /// Tells the connection at a place that there are too many, where its request has waited for
+    /// Answers the connection at a place that there are too many, where its request has waited for
     /// long enough.
     fn refuse_waiting<S: Sockets>(&mut self, desk: &mut Desk, sockets: &mut S, at: usize)
         ensures serving { StillServesAll self.old self.new
