@@ -29,7 +29,7 @@ use Rattle.feed_screens.specs.declared.screens.Screens.{Screens}
 use Rattle.feed_live.specs.declared.source.Reach.{Reach}
 use Rattle.feed_live.specs.declared.source.Reach.TheVariants.{Away, Connects, Asks, Reads}
 use Rattle.feed_live.specs.declared.source.Source.{Source}
-use Rattle.feed_live.specs.Relaying.{pursuit, pursuit_of, servers_of, IsShownSo, FollowsResponse, MayFollow, MayShow, FollowsServers, IsToShow, AnswersFromLog, SameSource, SameButUnread, WasLeft, KeepsShown, PushesOnly, IsNowShown, ShowsAlone, followed, followed_by}
+use Rattle.feed_live.specs.Relaying.{pursuit, pursuit_of, servers_of, IsShownSo, FollowsResponse, MayFollow, MayShow, FollowsServers, IsToShow, AnswersFromLog, SameSource, SameButUnread, WasLeft, KeepsShown, PushesOnly, IsNowShown, ShowsAlone, following_mirror, followed_by}
 use Rattle.feed_screens.specs.Serving.{ServesScreens}
 use Rattle.feed_live.specs.States.{states_of}
 use Rattle.feed_live.specs.Upstream.{AsksInLog, Servers, IsRequestOf, IsOfLog, wants_memory, StaysInLog, EndsInLog, IsHonestAs, IsHonest, AreHonest, AreKnownHonest}
@@ -111,8 +111,8 @@ module _ (limits : Limits) (log : Log) where
       (subst (λ m. AnswersFromLog limits log contest old.answers.shown.mirror m hub conns sockets) (sym same.blank) shows)
 
 -- the same mirror follows
-pub same_followed : {before after : Option MirrorState} {old new : MirrorState} → after ≡ before → new ≡ old → followed after new ≡ followed before old
-same_followed {before} {after} {old} {new} coming shown = ap (λ c. followed c new) coming ∙ ap (λ s. followed before s) shown
+pub same_followed : {before after : Option MirrorState} {old new : MirrorState} → after ≡ before → new ≡ old → following_mirror after new ≡ following_mirror before old
+same_followed {before} {after} {old} {new} coming shown = ap (λ c. following_mirror c new) coming ∙ ap (λ s. following_mirror before s) shown
 
 -- the exchanges were known before
 pub known_before : (f : List Exchange → List Exchange) (before after : Exchanges) → after ≡ option_map f before → IsSome after → IsSome before
@@ -266,7 +266,7 @@ module _ (limits : Limits) (log : Log) (servers : Servers) where
 
   -- what may be asked with: what is shown, or a mirror that begins afresh
   pub begins_in_log : (coming : Option MirrorState) (shown : MirrorState) → IfSome coming (λ mirror. mirror ≡ new_mirror shown.limits)
-      → shown.limits ≡ limits → IsInLog limits log shown.node → ((followed coming shown).limits ≡ limits) × IsInLog limits log (followed coming shown).node
+      → shown.limits ≡ limits → IsInLog limits log shown.node → ((following_mirror coming shown).limits ≡ limits) × IsInLog limits log (following_mirror coming shown).node
   begins_in_log None shown is bounds at = (bounds, at)
   begins_in_log (Some mirror) shown is bounds at = (ap (λ m. m.limits) is ∙ bounds, subst (λ m. IsInLog limits log m.node) (sym is) (None, tt, refl))
 
@@ -583,10 +583,10 @@ module _ (limits : Limits) (log : Log) (servers : Servers) where
 
   -- what follows is at a place of the log then: so is what is shown
   shown_after : (coming now : Option MirrorState) {contest : List ℕ} {hub : Hub} {conns : Slab Conn} {sockets : AllSockets} (old new blank blank_new : MirrorState)
-      → KeepsShown coming now old new → (followed now new).limits ≡ (followed coming old).limits → (is_none coming ≡ true → IsInLog limits log (followed now new).node) → blank_new ≡ blank
+      → KeepsShown coming now old new → (following_mirror now new).limits ≡ (following_mirror coming old).limits → (is_none coming ≡ true → IsInLog limits log (following_mirror now new).node) → blank_new ≡ blank
       → AnswersFromLog limits log contest old blank hub conns sockets → AnswersFromLog limits log contest new blank_new hub conns sockets
   shown_after None now {contest} {hub} {conns} {sockets} old new blank blank_new keeps bounds at same shows =
-      shows_at limits log (subst (λ n. (followed n new).limits ≡ old.limits) keeps bounds) (subst (λ n. IsInLog limits log (followed n new).node) keeps (at refl)) same shows
+      shows_at limits log (subst (λ n. (following_mirror n new).limits ≡ old.limits) keeps bounds) (subst (λ n. IsInLog limits log (following_mirror n new).node) keeps (at refl)) same shows
   shown_after (Some coming) now {contest} {hub} {conns} {sockets} old new blank blank_new keeps bounds at same shows =
       shows_at limits log (ap (λ m. m.limits) keeps) (subst (λ m. IsInLog limits log m.node) (sym keeps) shows.shown_is) same shows
 
@@ -841,7 +841,7 @@ module _ (limits : Limits) (log : Log) (servers : Servers) where
   with_now_shown {old = old} {new = new} unread before after is reads now follows = (
     shows_now (length unread) before after is now follows.0
         (follows_may_show (is_none old.coming) old.reach old.request.items unread before old.upstream.follower (followed_by old) reads follows.1),
-    λ known. follows_as after (ap is_none now.coming) now.request refl (now.reach ∙ reads) now.follower (ap (λ c. followed c new.answers.shown.mirror) now.coming ∙ now.shown)
+    λ known. follows_as after (ap is_none now.coming) now.request refl (now.reach ∙ reads) now.follower (ap (λ c. following_mirror c new.answers.shown.mirror) now.coming ∙ now.shown)
         (now_follows (is_none old.coming) old.request.items unread before after old.upstream.follower (followed_by old) is
         (subst (λ r. MayFollow limits log servers before (pursuit (is_none old.coming) r old.request.items unread old.upstream.follower (followed_by old))) reads
         (follows.1 (known_before (shown_so all_from (length unread)) before after is known)))),

@@ -111,12 +111,12 @@ abbrev pub servers_of : Source → Servers
 servers_of source = record { places = source.places.items; identity = source.identity }
 
 -- the mirror that follows: one that began afresh, and nobody is shown yet, or the one that is shown
-abbrev pub followed : Option MirrorState → MirrorState → MirrorState
-followed None shown = shown
-followed (Some coming) shown = coming
+abbrev pub following_mirror : Option MirrorState → MirrorState → MirrorState
+following_mirror None shown = shown
+following_mirror (Some coming) shown = coming
 
 abbrev pub followed_by : Source → MirrorState
-followed_by source = followed source.coming source.answers.shown.mirror
+followed_by source = following_mirror source.coming source.answers.shown.mirror
 
 -- what it follows so, where this is unread
 abbrev pub pursuit_of : Source → List ℕ → Pursuit

@@ -78,7 +78,7 @@ impl Live {
     ghost use Rattle.feed_live.specs.Taking.{IsTakingInput, StillTaking, StopsTaking, bytes_in};
     ghost use Rattle.feed_live.specs.Ending.{SameSaved};
     ghost use Rattle.feed_screens.specs.Owed.{OwesWhatIsKept};
-    ghost use Rattle.feed_live.specs.Running.{IsOver, IsSameRelay};
+    ghost use Rattle.feed_live.specs.Running.{IsRelayOver, IsSameRelay};
     ghost use Rattle.feed_screens.specs.Waiting.{TakesNobody};
     ghost use Rattle.feed_live.specs.Ending.{EndsWithInput};
 
@@ -249,7 +249,7 @@ impl Live {
             ≡ (is_none self.new.ends_at && is_none self.new.screens.saying.waits) }
 
         // it is the last one only where the relay ends with its input, and that is over
-        ensures over { result.is_over ≡ true → IsOver self.new now }
+        ensures over { result.is_over ≡ true → IsRelayOver self.new now }
 
         // and it is where the time for that has come
         ensures in_time { IfSome self.new.ends_at (λ at. at ≤ now → result.is_over ≡ true) }
@@ -316,7 +316,7 @@ impl Live {
         ensures saved { SameSaved self.old self.new }
         ensures takes { result.takes_input
             ≡ (is_none self.new.ends_at && is_none self.new.screens.saying.waits) }
-        ensures over { result.is_over ≡ true → IsOver self.new now }
+        ensures over { result.is_over ≡ true → IsRelayOver self.new now }
         ensures in_time { IfSome self.new.ends_at (λ at. at ≤ now → result.is_over ≡ true) }
         ensures pauses { self.new.screens.accept_at ≡ self.old.screens.accept_at }
     {
@@ -335,7 +335,7 @@ impl Live {
     }
 
     fn is_over(&self, now: u64) -> bool
-        ensures over { result ≡ true → IsOver self.now now }
+        ensures over { result ≡ true → IsRelayOver self.now now }
         ensures in_time { IfSome self.now.ends_at (λ at. at ≤ now → result ≡ true) }
     {
         match self.ends_at {

@@ -162,7 +162,7 @@ StillServes node old new =
     → StillServing nodes contest old new sockets sockets
 
 -- these bytes more came over the connection at a number, and nothing else happened
-pub record Came (old new : AllSockets) (at : ℕ) (bytes : List ℕ) : Type 0 where
+pub record BytesCame (old new : AllSockets) (at : ℕ) (bytes : List ℕ) : Type 0 where
   pub more : new at ≡ on_current (came_to bytes) (old at)
   pub others : OtherSockets old new at
 
@@ -170,7 +170,7 @@ pub record Came (old new : AllSockets) (at : ℕ) (bytes : List ℕ) : Type 0 wh
 pub record ServesBut (nodes : List NodeState) (contest : List ℕ) (hub : Hub) (conns : Slab Conn)
     (sockets : AllSockets) (at : ℕ) (unheard : List ℕ) : Type 0 where
   pub before : AllSockets
-  pub came : Came before sockets at unheard
+  pub came : BytesCame before sockets at unheard
   pub serving : ServesScreens nodes contest hub conns before
 
 -- it was so before these bytes came, and is so now

@@ -2,7 +2,7 @@
 
 ghost use Rattle.std.specs.Prelude.{◌≡◌, ◌⊎◌, None, Some, IsTrue, IfSome};
 ghost use Rattle.feed_screens.specs.Held.{HasLingered};
-ghost use Rattle.feed_screens.specs.Seating.{IsEnded, Lingers};
+ghost use Rattle.feed_screens.specs.Seating.{SentEndWithKey, Lingers};
 ghost use Rattle.feed_screens.specs.Waiting.{HasWaited, TakesSlowly};
 
 use crate::times::{LINGER, PATIENCE, ROOM_TIME, SHARE_TIME};
@@ -275,7 +275,7 @@ impl Conn {
     /// The one of two screens that sent its end first, and when: another one, and this one.
     pub(crate) fn ended_before(&self, other: Option<(u64, Key)>) -> Option<(u64, Key)>
         ensures { (result ≡ other)
-            ⊎ IfSome result (λ found. IsEnded (Some self.now) found.1) }
+            ⊎ IfSome result (λ found. SentEndWithKey (Some self.now) found.1) }
     {
         let (Some(ended), Some(key)) = (self.ended, self.key) else {
             return other;

@@ -299,8 +299,7 @@ impl Source {
             server: self.upstream.place(),
             away: desk.time.saturating_sub(self.away_since),
         };
-        desk.reports
-            .add_if(!self.returning.has_left_quiet(), found);
+        desk.reports.add_if(!self.returning.has_left_quiet(), found);
     }
 
     /// Says what was published, where it is to be shown now. Where a connection published afresh,

@@ -125,7 +125,7 @@ impl Rechecking {
 
 /// What a connection brought that asked for the newest commit again.
 #[derive(Clone, Copy)]
-enum Came {
+enum Brought {
     /// No token yet, or one from further back.
     Nothing,
     Newest,
@@ -133,16 +133,16 @@ enum Came {
 }
 
 /// What this token is to a node, where one came.
-fn what_came(token: Option<&str>, node: &Node) -> Came {
+fn what_came(token: Option<&str>, node: &Node) -> Brought {
     let (Some(came), Some(newest)) = (token, node.token()) else {
-        return Came::Nothing;
+        return Brought::Nothing;
     };
     if came == newest.text() {
-        Came::Newest
+        Brought::Newest
     } else if node.holds(came) {
-        Came::Nothing
+        Brought::Nothing
     } else {
-        Came::Another
+        Brought::Another
     }
 }
 
@@ -198,13 +198,13 @@ impl Source {
         }
         let came = what_came(again.mirror.since(), self.answers.shown.node());
         match came {
-            Came::Nothing => false,
-            Came::Newest => {
+            Brought::Nothing => false,
+            Brought::Newest => {
                 self.rechecking.again = None;
                 self.rechecking.has_come = true;
                 false
             }
-            Came::Another => {
+            Brought::Another => {
                 self.rechecking.again = None;
                 true
             }

@@ -5,7 +5,7 @@
 ghost use Rattle.std.specs.Prelude.{◌≡◌, ◌<◌, None, IfOk, IfSome, is_none, option_map, if◌then◌else◌, is_some};
 ghost use Rattle.feed_device.specs.Links.{shown_so, all_from};
 ghost use Rattle.feed_node.specs.Mirroring.{new_mirror};
-ghost use Rattle.feed_live.specs.Relaying.{followed};
+ghost use Rattle.feed_live.specs.Relaying.{following_mirror};
 
 mod showing;
 
@@ -137,7 +137,7 @@ impl Settling {
 
 /// The mirror that a connection is to follow: one that begins afresh, or the one that is shown.
 pub(crate) fn followed_of<'a>(coming: &'a Option<Mirror>, shown: &'a Mirror) -> &'a Mirror
-    ensures { result.now ≡ followed coming.now shown.now }
+    ensures { result.now ≡ following_mirror coming.now shown.now }
 {
     match coming {
         Some(coming) => coming,
