@@ -1,5 +1,6 @@
 //! What stands around the turn of a relay: the devices that it reads from and writes to, by what a
-//! contract can say of them, and what it reports. Nothing here is a device of a system.
+//! contract can say of them, what it reports, and the lines of its state files. Nothing here is a
+//! device of a system.
 #![tactic(auto)]
 
 mod desk;

@@ -26,7 +26,7 @@ const PIECE: usize = 16_384;
 const LOCATION: &[u8] = b"location:";
 
 impl Source {
-    ghost use Rattle.feed_live.specs.Relaying.{StillFollows, SameSource};
+    ghost use Rattle.feed_live.specs.Relaying.{StillFollows, SameSource, within_turn};
     ghost use Rattle.feed_live.specs.Relaying.{SameButUnread, WasLeft, PushesOnly, followed_by};
     ghost use Rattle.feed_screens.specs.Serving.{StillServes, StillStand, AllEnd, SaysAll};
     ghost use Rattle.feed_live.specs.declared.source.Reach.TheVariants.{Away, Reads as Read};
@@ -38,9 +38,9 @@ impl Source {
         link: &mut L,
         screens: &mut Screens,
     )
-        ensures follows { self.old.reach ≡ Read → StillFollows self.old self.new
-            (L.exchanges link.old) (L.exchanges link.new) self.old.rest.items
-            self.new.rest.items screens.old screens.new }
+        ensures follows { self.old.reach ≡ Read → StillFollows
+            (within_turn (L.exchanges link.old) self.old self.old.rest.items screens.old)
+            (within_turn (L.exchanges link.new) self.new self.new.rest.items screens.new) }
     {
         let rest = self.kept(desk.alloc);
         self.take(desk, link, screens, rest.as_slice());
@@ -59,8 +59,9 @@ impl Source {
     /// One read. Whether there may be more.
     fn read<L: Link>(&mut self, desk: &mut Desk, link: &mut L, screens: &mut Screens) -> bool
         ensures follows { self.old.reach ≡ Read → self.old.rest.items ≡ []
-            → StillFollows self.old self.new (L.exchanges link.old) (L.exchanges link.new) []
-            self.new.rest.items screens.old screens.new }
+            → StillFollows
+            (within_turn (L.exchanges link.old) self.old [] screens.old)
+            (within_turn (L.exchanges link.new) self.new self.new.rest.items screens.new) }
     {
         let mut buf = [0u8; PIECE];
         match link.read(&mut buf) {
@@ -88,8 +89,9 @@ impl Source {
     /// Bytes came: they are followed up to each line feed, so that one step publishes at most once.
     fn take<L: Link>(&mut self, desk: &mut Desk, link: &mut L, screens: &mut Screens, piece: &[u8])
         ensures follows { self.old.reach ≡ Read → self.old.rest.items ≡ []
-            → StillFollows self.old self.new (L.exchanges link.old) (L.exchanges link.new)
-            piece.now self.new.rest.items screens.old screens.new }
+            → StillFollows
+            (within_turn (L.exchanges link.old) self.old piece.now screens.old)
+            (within_turn (L.exchanges link.new) self.new self.new.rest.items screens.new) }
     {
         let mut rest = piece;
         for _ in 0..piece.len() {
@@ -135,11 +137,13 @@ impl Source {
     ) -> Option<&'a [u8]>
         ensures goes_on { IfSome result (λ next. (self.new.reach ≡ self.old.reach)
             × (self.new.rest.items ≡ self.old.rest.items)
-            × (self.old.reach ≡ Read → StillFollows self.old self.new (L.exchanges link.old)
-            (L.exchanges link.new) piece.entry.now next.now screens.old screens.new)) }
+            × (self.old.reach ≡ Read → StillFollows
+            (within_turn (L.exchanges link.old) self.old piece.entry.now screens.old)
+            (within_turn (L.exchanges link.new) self.new next.now screens.new))) }
         ensures stops { result ≡ None → (self.new.reach ≡ Away) × (self.old.reach ≡ Read
-            → (left : List ℕ) → StillFollows self.old self.new (L.exchanges link.old)
-            (L.exchanges link.new) piece.entry.now left screens.old screens.new) }
+            → (left : List ℕ) → StillFollows
+            (within_turn (L.exchanges link.old) self.old piece.entry.now screens.old)
+            (within_turn (L.exchanges link.new) self.new left screens.new)) }
     {
         if self.is_noted_replay(piece) {
             self.ignored(desk, link);
@@ -189,11 +193,13 @@ impl Source {
     ) -> Option<&'a [u8]>
         ensures goes_on { IfSome result (λ next. (self.new.reach ≡ self.old.reach)
             × (self.new.rest.items ≡ self.old.rest.items)
-            × (self.old.reach ≡ Read → StillFollows self.old self.new (L.exchanges link.old)
-            (L.exchanges link.new) piece.entry.now next.now screens.old screens.new)) }
+            × (self.old.reach ≡ Read → StillFollows
+            (within_turn (L.exchanges link.old) self.old piece.entry.now screens.old)
+            (within_turn (L.exchanges link.new) self.new next.now screens.new))) }
         ensures stops { result ≡ None → (self.new.reach ≡ Away) × (self.old.reach ≡ Read
-            → (left : List ℕ) → StillFollows self.old self.new (L.exchanges link.old)
-            (L.exchanges link.new) piece.entry.now left screens.old screens.new) }
+            → (left : List ℕ) → StillFollows
+            (within_turn (L.exchanges link.old) self.old piece.entry.now screens.old)
+            (within_turn (L.exchanges link.new) self.new left screens.new)) }
     {
         let (line, next) = line_or_part(piece);
         match self.push(desk, line) {

@@ -165,7 +165,7 @@ pub(crate) fn token_for<'a>(mirror: &'a Mirror, is_again: bool) -> Option<&'a st
 }
 
 impl Source {
-    ghost use Rattle.feed_live.specs.Relaying.{StillFollows, SameSource, WasLeft};
+    ghost use Rattle.feed_live.specs.Relaying.{StillFollows, SameSource, WasLeft, within_turn};
     ghost use Rattle.feed_live.specs.declared.source.Reach.TheVariants.{Away, Reads as Read};
 
     /// What the next connection is to bring, where it asks for the newest commit again.
@@ -283,11 +283,13 @@ impl Source {
     ) -> Option<&'a [u8]>
         ensures goes_on { IfSome result (λ next. (self.new.reach ≡ self.old.reach)
             × (self.new.rest.items ≡ self.old.rest.items)
-            × (self.old.reach ≡ Read → StillFollows self.old self.new (L.exchanges link.old)
-            (L.exchanges link.new) piece.entry.now next.now screens.old screens.new)) }
+            × (self.old.reach ≡ Read → StillFollows
+            (within_turn (L.exchanges link.old) self.old piece.entry.now screens.old)
+            (within_turn (L.exchanges link.new) self.new next.now screens.new))) }
         ensures stops { result ≡ None → (self.new.reach ≡ Away) × (self.old.reach ≡ Read
-            → (left : List ℕ) → StillFollows self.old self.new (L.exchanges link.old)
-            (L.exchanges link.new) piece.entry.now left screens.old screens.new) }
+            → (left : List ℕ) → StillFollows
+            (within_turn (L.exchanges link.old) self.old piece.entry.now screens.old)
+            (within_turn (L.exchanges link.new) self.new left screens.new)) }
     {
         if self.brings_another(desk.alloc, piece) {
             self.forgot(desk, link);
