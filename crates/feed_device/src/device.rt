@@ -16,7 +16,7 @@ use std::net::SocketAddr;
 /// Why a device did nothing.
 #[derive(Clone, Copy, Debug, PartialEq, Eq)]
 pub enum Stop {
-    /// It would have to wait: it is told when it is ready again.
+    /// It would have to wait: an event comes when it is ready again.
     Waits,
     /// It is this one that failed, and the next may not: a connection that broke off before it was
     /// taken.
@@ -93,8 +93,8 @@ pub trait Link {
     // How often a connection was begun, also where that failed, where that is counted.
     ghost begun: { Self → Option ℕ } = { λ _. None };
 
-    /// Begins to connect to the server of this number. One that was open is closed. Why nothing was
-    /// begun is told.
+    /// Begins to connect to the server of this number. One that was open is closed. An error says
+    /// why nothing was begun.
     fn connect(&mut self, server: usize) -> Result<(), Why>
         ensures begins { BeginsLink (exchanges self.old) (exchanges self.new) result server }
         ensures calls { CalledOnce (begun self.old) (begun self.new) };
@@ -231,8 +231,11 @@ pub trait Store {
 /// All that a turn reads from and writes to.
 #[derive(Drop)]
 pub struct Devices<S, L, D> {
+    /// Those of the screens.
     pub sockets: S,
+    /// The connection to the server that is asked.
     pub link: L,
+    /// The state files.
     pub store: D,
 }
 

@@ -74,7 +74,9 @@ const LONGEST_EXCERPT: usize = 120;
 /// The first bytes of a text: at most 120, and whole characters.
 #[derive(Clone, Copy, Debug)]
 pub struct Excerpt {
+    // The text, and then zeros, or more of the text that it was taken from.
     bytes: [u8; LONGEST_EXCERPT],
+    // How many of those are the text: it is UTF-8.
     length: usize,
 }
 

@@ -12,7 +12,9 @@ const MOST_REPORTS: usize = 256;
 /// What was reported and not yet taken.
 #[derive(Drop)]
 pub struct Reports {
+    // The earliest first, 256 at most.
     reports: Vec<Report>,
+    // How many there was no room for.
     missed: u64,
 }
 

@@ -19,8 +19,8 @@ HasStatesOf limits log text =
     (k : ℕ) → k ≤ length log.commits → IsStateOf limits text (state_at log k)
 
 -- each state of the text is one of the log
-abbrev pub IsOfLog : Limits → Log → List ℕ → Type 0
-IsOfLog limits log text =
+abbrev pub HasOnlyStatesOf : Limits → Log → List ℕ → Type 0
+HasOnlyStatesOf limits log text =
     (state : Published) → IsStateOf limits text state
     → (k : ℕ) × (k ≤ length log.commits) × (state ≡ state_at log k)
 
@@ -29,7 +29,7 @@ abbrev pub FilesAreOfLog : Type 0
 FilesAreOfLog =
     (limits : Limits) (log : Log) (nodes : List NodeState) (written text behind : List ℕ)
     (r : Record) → IsLog limits log → AreInLog log nodes → IsRecorded nodes written r
-    → text ++ behind ≡ written → IsOfLog limits log text
+    → text ++ behind ≡ written → HasOnlyStatesOf limits log text
 
 -- It agrees with each record of the server that has the states of the log.
 abbrev pub FilesAgree : Type 0

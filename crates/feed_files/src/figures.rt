@@ -3,8 +3,9 @@
 /// What was counted of the state file.
 #[derive(Clone, Copy, Debug)]
 pub struct FileFigures {
+    /// How many bytes of the feed it has; zero where it is not written to.
     pub bytes: u64,
-    /// When it was written to last, in milliseconds.
+    /// When it was written to last, in milliseconds since the start; zero where it was not.
     pub written: u64,
     /// Whether it could not be written the last time.
     pub is_failing: bool,

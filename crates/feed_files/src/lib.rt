@@ -11,6 +11,8 @@ mod figures;
 mod laws;
 mod restoring;
 mod saved;
+mod sheet;
+mod times;
 
 pub use audited::audited_laws;
 pub use figures::FileFigures;

@@ -29,7 +29,7 @@ use Rattle.feed_screens.specs.declared.screens.Screens.{Screens}
 use Rattle.feed_live.specs.declared.source.Reach.{Reach}
 use Rattle.feed_live.specs.declared.source.Reach.TheVariants.{Away, Connects, Asks, Reads}
 use Rattle.feed_live.specs.declared.source.Source.{Source}
-use Rattle.feed_live.specs.Relaying.{pursuit, pursuit_of, servers_of, IsShownSo, FollowsResponse, MayFollow, MayShow, FollowsServers, IsToShow, AnswersFromLog, SameSource, SameButUnread, WasLeft, KeepsShown, PushesOnly, IsNowShown, ShowsAlone, followed, followed_by}
+use Rattle.feed_live.specs.Relaying.{pursuit, pursuit_of, servers_of, IsShownSo, FollowsResponse, MayFollow, MayShow, FollowsServers, IsToShow, AnswersFromLog, SameSource, SameButUnread, WasLeft, KeepsShown, PushesOnly, IsNowShown, ShowsAlone, following_mirror, followed_by, counted_within_turn, screen_side, within_turn}
 use Rattle.feed_screens.specs.Serving.{ServesScreens}
 use Rattle.feed_live.specs.States.{states_of}
 use Rattle.feed_live.specs.Upstream.{AsksInLog, Servers, IsRequestOf, IsOfLog, wants_memory, StaysInLog, EndsInLog, IsHonestAs, IsHonest, AreHonest, AreKnownHonest}
@@ -74,24 +74,24 @@ module _ (limits : Limits) (log : Log) where
   -- ---- what is shown
 
   pub among_shown : {contest : List ℕ} {shown blank : MirrorState} {hub : Hub} {conns : Slab Conn} {sockets : AllSockets}
-      → AnswersFromLog limits log contest shown blank hub conns sockets → Contains (states_of limits log) shown.node
+      → AnswersFromLog limits log contest (screen_side shown blank hub conns) sockets → Contains (states_of limits log) shown.node
   among_shown {shown = shown} shows = among_states limits log shown.node shows.shown_is
 
   pub among_blank : {contest : List ℕ} {shown blank : MirrorState} {hub : Hub} {conns : Slab Conn} {sockets : AllSockets}
-      → AnswersFromLog limits log contest shown blank hub conns sockets → Contains (states_of limits log) blank.node
+      → AnswersFromLog limits log contest (screen_side shown blank hub conns) sockets → Contains (states_of limits log) blank.node
   among_blank {blank = blank} shows = among_states limits log blank.node shows.blank_is
 
   -- the screens changed, and are served as before
   pub shows_still : {contest : List ℕ} {shown blank : MirrorState} {hub hub_new : Hub} {conns conns_new : Slab Conn} {sockets sockets_new : AllSockets}
       → (ServesScreens (states_of limits log) contest hub conns sockets → ServesScreens (states_of limits log) contest hub_new conns_new sockets_new)
-      → AnswersFromLog limits log contest shown blank hub conns sockets → AnswersFromLog limits log contest shown blank hub_new conns_new sockets_new
+      → AnswersFromLog limits log contest (screen_side shown blank hub conns) sockets → AnswersFromLog limits log contest (screen_side shown blank hub_new conns_new) sockets_new
   shows_still still shows =
       record { limits_are = shows.limits_are; shown_is = shows.shown_is; blank_is = shows.blank_is; serving = still shows.serving }
 
   -- the mirror changed, and is at a place of the log
   pub shows_at : {contest : List ℕ} {shown shown_new blank blank_new : MirrorState} {hub : Hub} {conns : Slab Conn} {sockets : AllSockets}
       → shown_new.limits ≡ shown.limits → IsInLog limits log shown_new.node → blank_new ≡ blank
-      → AnswersFromLog limits log contest shown blank hub conns sockets → AnswersFromLog limits log contest shown_new blank_new hub conns sockets
+      → AnswersFromLog limits log contest (screen_side shown blank hub conns) sockets → AnswersFromLog limits log contest (screen_side shown_new blank_new hub conns) sockets
   shows_at bounds at same shows =
       record {
         limits_are = bounds ∙ shows.limits_are;
@@ -104,15 +104,15 @@ module _ (limits : Limits) (log : Log) where
 
   pub same_shows : {old new : Source} → SameSource old new
       → {contest : List ℕ} {hub : Hub} {conns : Slab Conn} {sockets : AllSockets}
-      → AnswersFromLog limits log contest old.answers.shown.mirror old.answers.blank.mirror hub conns sockets
-      → AnswersFromLog limits log contest new.answers.shown.mirror new.answers.blank.mirror hub conns sockets
+      → AnswersFromLog limits log contest (screen_side old.answers.shown.mirror old.answers.blank.mirror hub conns) sockets
+      → AnswersFromLog limits log contest (screen_side new.answers.shown.mirror new.answers.blank.mirror hub conns) sockets
   same_shows {old} {new} same {contest} {hub} {conns} {sockets} shows =
-      subst (λ m. AnswersFromLog limits log contest m new.answers.blank.mirror hub conns sockets) (sym same.shown)
-      (subst (λ m. AnswersFromLog limits log contest old.answers.shown.mirror m hub conns sockets) (sym same.blank) shows)
+      subst (λ m. AnswersFromLog limits log contest (screen_side m new.answers.blank.mirror hub conns) sockets) (sym same.shown)
+      (subst (λ m. AnswersFromLog limits log contest (screen_side old.answers.shown.mirror m hub conns) sockets) (sym same.blank) shows)
 
 -- the same mirror follows
-pub same_followed : {before after : Option MirrorState} {old new : MirrorState} → after ≡ before → new ≡ old → followed after new ≡ followed before old
-same_followed {before} {after} {old} {new} coming shown = ap (λ c. followed c new) coming ∙ ap (λ s. followed before s) shown
+pub same_followed : {before after : Option MirrorState} {old new : MirrorState} → after ≡ before → new ≡ old → following_mirror after new ≡ following_mirror before old
+same_followed {before} {after} {old} {new} coming shown = ap (λ c. following_mirror c new) coming ∙ ap (λ s. following_mirror before s) shown
 
 -- the exchanges were known before
 pub known_before : (f : List Exchange → List Exchange) (before after : Exchanges) → after ≡ option_map f before → IsSome after → IsSome before
@@ -161,8 +161,8 @@ module _ (limits : Limits) (log : Log) (servers : Servers) where
 
   pub left_shows : {old new : Source} {before after : Exchanges} → WasLeft old new before after
       → {contest : List ℕ} {hub : Hub} {conns : Slab Conn} {sockets : AllSockets}
-      → AnswersFromLog limits log contest old.answers.shown.mirror old.answers.blank.mirror hub conns sockets
-      → AnswersFromLog limits log contest new.answers.shown.mirror new.answers.blank.mirror hub conns sockets
+      → AnswersFromLog limits log contest (screen_side old.answers.shown.mirror old.answers.blank.mirror hub conns) sockets
+      → AnswersFromLog limits log contest (screen_side new.answers.shown.mirror new.answers.blank.mirror hub conns) sockets
   left_shows left shows =
       shows_at limits log left.limits (subst (λ n. IsInLog limits log n) (sym left.node) shows.shown_is) left.blank shows
 
@@ -266,7 +266,7 @@ module _ (limits : Limits) (log : Log) (servers : Servers) where
 
   -- what may be asked with: what is shown, or a mirror that begins afresh
   pub begins_in_log : (coming : Option MirrorState) (shown : MirrorState) → IfSome coming (λ mirror. mirror ≡ new_mirror shown.limits)
-      → shown.limits ≡ limits → IsInLog limits log shown.node → ((followed coming shown).limits ≡ limits) × IsInLog limits log (followed coming shown).node
+      → shown.limits ≡ limits → IsInLog limits log shown.node → ((following_mirror coming shown).limits ≡ limits) × IsInLog limits log (following_mirror coming shown).node
   begins_in_log None shown is bounds at = (bounds, at)
   begins_in_log (Some mirror) shown is bounds at = (ap (λ m. m.limits) is ∙ bounds, subst (λ m. IsInLog limits log m.node) (sym is) (None, tt, refl))
 
@@ -537,25 +537,25 @@ module _ (limits : Limits) (log : Log) (servers : Servers) where
 
   -- the screens changed, and are served as before
   pub with_screens : (exchanges : Exchanges) {contest : List ℕ} {X : Type 0} {shown blank : MirrorState} {hub hub_new : Hub} {conns conns_new : Slab Conn} {sockets sockets_new : AllSockets}
-      → (AnswersFromLog limits log contest shown blank hub conns sockets → ServesScreens (states_of limits log) contest hub conns sockets → ServesScreens (states_of limits log) contest hub_new conns_new sockets_new)
-      → (AreKnownHonest limits log servers exchanges → AnswersFromLog limits log contest shown blank hub conns sockets) × X
-      → (AreKnownHonest limits log servers exchanges → AnswersFromLog limits log contest shown blank hub_new conns_new sockets_new) × X
+      → (AnswersFromLog limits log contest (screen_side shown blank hub conns) sockets → ServesScreens (states_of limits log) contest hub conns sockets → ServesScreens (states_of limits log) contest hub_new conns_new sockets_new)
+      → (AreKnownHonest limits log servers exchanges → AnswersFromLog limits log contest (screen_side shown blank hub conns) sockets) × X
+      → (AreKnownHonest limits log servers exchanges → AnswersFromLog limits log contest (screen_side shown blank hub_new conns_new) sockets_new) × X
   with_screens exchanges still follows = (λ honest. let here = follows.0 honest in shows_still limits log (still here) here, follows.1)
 
   -- what is followed and shown is the same
   pub with_same : {contest : List ℕ} {old new : Source} → SameSource old new
       → (exchanges : Exchanges) {hub : Hub} {conns : Slab Conn} {sockets : AllSockets} (unread left : List ℕ) → left ≡ unread
-      → (AreKnownHonest limits log servers exchanges → AnswersFromLog limits log contest old.answers.shown.mirror old.answers.blank.mirror hub conns sockets)
+      → (AreKnownHonest limits log servers exchanges → AnswersFromLog limits log contest (screen_side old.answers.shown.mirror old.answers.blank.mirror hub conns) sockets)
       × (IsSome exchanges → MayFollow limits log servers exchanges (pursuit_of old unread))
-      → (AreKnownHonest limits log servers exchanges → AnswersFromLog limits log contest new.answers.shown.mirror new.answers.blank.mirror hub conns sockets)
+      → (AreKnownHonest limits log servers exchanges → AnswersFromLog limits log contest (screen_side new.answers.shown.mirror new.answers.blank.mirror hub conns) sockets)
       × (IsSome exchanges → MayFollow limits log servers exchanges (pursuit_of new left))
   with_same same exchanges unread left rest follows = (λ honest. same_shows limits log same (follows.0 honest), λ known. same_follows same exchanges unread left rest (follows.1 known))
 
   -- the server is left
   pub with_left : {contest : List ℕ} {old new : Source} {before after : Exchanges} → WasLeft old new before after
       → {hub : Hub} {conns : Slab Conn} {sockets : AllSockets} (unread : List ℕ)
-      → (AreKnownHonest limits log servers before → AnswersFromLog limits log contest old.answers.shown.mirror old.answers.blank.mirror hub conns sockets)
-      → (AreKnownHonest limits log servers after → AnswersFromLog limits log contest new.answers.shown.mirror new.answers.blank.mirror hub conns sockets)
+      → (AreKnownHonest limits log servers before → AnswersFromLog limits log contest (screen_side old.answers.shown.mirror old.answers.blank.mirror hub conns) sockets)
+      → (AreKnownHonest limits log servers after → AnswersFromLog limits log contest (screen_side new.answers.shown.mirror new.answers.blank.mirror hub conns) sockets)
       × (IsSome after → MayFollow limits log servers after (pursuit_of new unread))
   with_left {old} {new} left unread shows =
       (λ honest. left_shows left (shows (left_honest left honest)), λ known. left_follows left new.request.items unread (followed_by new))
@@ -570,12 +570,12 @@ module _ (limits : Limits) (log : Log) (servers : Servers) where
   -- what is kept changed alone
   pub with_kept : {contest : List ℕ} {hub : Hub} {conns : Slab Conn} {sockets : AllSockets} {old new : Source} → SameButUnread old new
       → (exchanges : Exchanges) (unread left : List ℕ) → left ≡ unread
-      → (AreKnownHonest limits log servers exchanges → AnswersFromLog limits log contest old.answers.shown.mirror old.answers.blank.mirror hub conns sockets)
+      → (AreKnownHonest limits log servers exchanges → AnswersFromLog limits log contest (screen_side old.answers.shown.mirror old.answers.blank.mirror hub conns) sockets)
       × (IsSome exchanges → MayFollow limits log servers exchanges (pursuit_of old unread))
-      → (AreKnownHonest limits log servers exchanges → AnswersFromLog limits log contest new.answers.shown.mirror new.answers.blank.mirror hub conns sockets)
+      → (AreKnownHonest limits log servers exchanges → AnswersFromLog limits log contest (screen_side new.answers.shown.mirror new.answers.blank.mirror hub conns) sockets)
       × (IsSome exchanges → MayFollow limits log servers exchanges (pursuit_of new left))
   with_kept {contest} {hub} {conns} {sockets} {old} {new} same exchanges unread left rest follows = (
-    λ honest. subst (λ a. AnswersFromLog limits log contest a.shown.mirror a.blank.mirror hub conns sockets) (sym same.answers) (follows.0 honest),
+    λ honest. subst (λ a. AnswersFromLog limits log contest (screen_side a.shown.mirror a.blank.mirror hub conns) sockets) (sym same.answers) (follows.0 honest),
     λ known. follows_as exchanges (ap is_none same.coming) (ap (λ r. r.items) same.request) rest same.reach (ap (λ u. u.follower) same.upstream) (same_followed same.coming (ap (λ a. a.shown.mirror) same.answers)) (follows.1 known),
   )
 
@@ -583,17 +583,17 @@ module _ (limits : Limits) (log : Log) (servers : Servers) where
 
   -- what follows is at a place of the log then: so is what is shown
   shown_after : (coming now : Option MirrorState) {contest : List ℕ} {hub : Hub} {conns : Slab Conn} {sockets : AllSockets} (old new blank blank_new : MirrorState)
-      → KeepsShown coming now old new → (followed now new).limits ≡ (followed coming old).limits → (is_none coming ≡ true → IsInLog limits log (followed now new).node) → blank_new ≡ blank
-      → AnswersFromLog limits log contest old blank hub conns sockets → AnswersFromLog limits log contest new blank_new hub conns sockets
+      → KeepsShown coming now old new → (following_mirror now new).limits ≡ (following_mirror coming old).limits → (is_none coming ≡ true → IsInLog limits log (following_mirror now new).node) → blank_new ≡ blank
+      → AnswersFromLog limits log contest (screen_side old blank hub conns) sockets → AnswersFromLog limits log contest (screen_side new blank_new hub conns) sockets
   shown_after None now {contest} {hub} {conns} {sockets} old new blank blank_new keeps bounds at same shows =
-      shows_at limits log (subst (λ n. (followed n new).limits ≡ old.limits) keeps bounds) (subst (λ n. IsInLog limits log (followed n new).node) keeps (at refl)) same shows
+      shows_at limits log (subst (λ n. (following_mirror n new).limits ≡ old.limits) keeps bounds) (subst (λ n. IsInLog limits log (following_mirror n new).node) keeps (at refl)) same shows
   shown_after (Some coming) now {contest} {hub} {conns} {sockets} old new blank blank_new keeps bounds at same shows =
       shows_at limits log (ap (λ m. m.limits) keeps) (subst (λ m. IsInLog limits log m.node) (sym keeps) shows.shown_is) same shows
 
   pub with_shown : (exchanges : Exchanges) {contest : List ℕ} {hub : Hub} {conns : Slab Conn} {sockets : AllSockets} {old new : Source} → PushesOnly old new
       → (AreKnownHonest limits log servers exchanges → is_none old.coming ≡ true → IsInLog limits log (followed_by new).node)
-      → (AreKnownHonest limits log servers exchanges → AnswersFromLog limits log contest old.answers.shown.mirror old.answers.blank.mirror hub conns sockets)
-      → AreKnownHonest limits log servers exchanges → AnswersFromLog limits log contest new.answers.shown.mirror new.answers.blank.mirror hub conns sockets
+      → (AreKnownHonest limits log servers exchanges → AnswersFromLog limits log contest (screen_side old.answers.shown.mirror old.answers.blank.mirror hub conns) sockets)
+      → AreKnownHonest limits log servers exchanges → AnswersFromLog limits log contest (screen_side new.answers.shown.mirror new.answers.blank.mirror hub conns) sockets
   with_shown exchanges {old = old} {new = new} only at shows honest =
       shown_after old.coming new.coming old.answers.shown.mirror new.answers.shown.mirror old.answers.blank.mirror new.answers.blank.mirror only.shown only.limits (at honest) only.blank (shows honest)
 
@@ -601,9 +601,9 @@ module _ (limits : Limits) (log : Log) (servers : Servers) where
   pub with_taken : (exchanges : Exchanges) {contest : List ℕ} {hub : Hub} {conns : Slab Conn} {sockets : AllSockets} {old new : Source} (line next : List ℕ) (progress : Progress)
       → old.reach ≡ Reads → PushesOnly old new → (progress ≡ reached.TokenRefused → ⊥)
       → ((start : MirrorState) (bytes : List ℕ) (standing : Standing) → IsFollowing start bytes standing old.upstream.follower (followed_by old) → IsPushed start (bytes ++ line) new.upstream.follower (followed_by new) progress)
-      → (AreKnownHonest limits log servers exchanges → AnswersFromLog limits log contest old.answers.shown.mirror old.answers.blank.mirror hub conns sockets)
+      → (AreKnownHonest limits log servers exchanges → AnswersFromLog limits log contest (screen_side old.answers.shown.mirror old.answers.blank.mirror hub conns) sockets)
       × (IsSome exchanges → MayFollow limits log servers exchanges (pursuit_of old (line ++ next)))
-      → (AreKnownHonest limits log servers exchanges → AnswersFromLog limits log contest new.answers.shown.mirror new.answers.blank.mirror hub conns sockets)
+      → (AreKnownHonest limits log servers exchanges → AnswersFromLog limits log contest (screen_side new.answers.shown.mirror new.answers.blank.mirror hub conns) sockets)
       × (IsSome exchanges → MayFollow limits log servers exchanges (pursuit_of new next))
   with_taken exchanges {old = old} {new = new} line next progress reads only on push follows = (
     with_shown exchanges only (λ honest. (is_taken (known_of exchanges honest)).at honest) follows.0,
@@ -619,9 +619,9 @@ module _ (limits : Limits) (log : Log) (servers : Servers) where
   pub with_refused : (exchanges : Exchanges) {contest : List ℕ} {hub : Hub} {conns : Slab Conn} {sockets : AllSockets} {old new : Source} (line next : List ℕ) (progress : Progress)
       → old.reach ≡ Reads → PushesOnly old new → progress ≡ reached.TokenRefused
       → ((start : MirrorState) (bytes : List ℕ) (standing : Standing) → IsFollowing start bytes standing old.upstream.follower (followed_by old) → IsPushed start (bytes ++ line) new.upstream.follower (followed_by new) progress)
-      → (AreKnownHonest limits log servers exchanges → AnswersFromLog limits log contest old.answers.shown.mirror old.answers.blank.mirror hub conns sockets)
+      → (AreKnownHonest limits log servers exchanges → AnswersFromLog limits log contest (screen_side old.answers.shown.mirror old.answers.blank.mirror hub conns) sockets)
       × (IsSome exchanges → MayFollow limits log servers exchanges (pursuit_of old (line ++ next)))
-      → AreKnownHonest limits log servers exchanges → AnswersFromLog limits log contest new.answers.shown.mirror new.answers.blank.mirror hub conns sockets
+      → AreKnownHonest limits log servers exchanges → AnswersFromLog limits log contest (screen_side new.answers.shown.mirror new.answers.blank.mirror hub conns) sockets
   with_refused exchanges {old = old} {new = new} line next progress reads only is push follows =
       with_shown exchanges only (λ honest. refused_at old.request.items line next exchanges old.upstream.follower new.upstream.follower (followed_by old) (followed_by new) progress is push honest
       (subst (λ r. MayFollow limits log servers exchanges (pursuit (is_none old.coming) r old.request.items (line ++ next) old.upstream.follower (followed_by old))) reads (follows.1 (known_of exchanges honest)))) follows.0
@@ -631,9 +631,9 @@ module _ (limits : Limits) (log : Log) (servers : Servers) where
       → old.reach ≡ Reads → PushesOnly old new
       → ((start : MirrorState) (bytes : List ℕ) (standing : Standing) → IsFollowing start bytes standing old.upstream.follower (followed_by old)
       → (had_token : Bool) × (had_token ≡ is_some start.since) × Fails start had_token bytes line (followed_by new) fault)
-      → (AreKnownHonest limits log servers exchanges → AnswersFromLog limits log contest old.answers.shown.mirror old.answers.blank.mirror hub conns sockets)
+      → (AreKnownHonest limits log servers exchanges → AnswersFromLog limits log contest (screen_side old.answers.shown.mirror old.answers.blank.mirror hub conns) sockets)
       × (IsSome exchanges → MayFollow limits log servers exchanges (pursuit_of old (line ++ next)))
-      → AreKnownHonest limits log servers exchanges → AnswersFromLog limits log contest new.answers.shown.mirror new.answers.blank.mirror hub conns sockets
+      → AreKnownHonest limits log servers exchanges → AnswersFromLog limits log contest (screen_side new.answers.shown.mirror new.answers.blank.mirror hub conns) sockets
   with_failed exchanges {old = old} {new = new} line next fault reads only fail follows =
       with_shown exchanges only (λ honest. failed_at old.request.items line next exchanges old.upstream.follower (followed_by old) (followed_by new) fault fail honest
       (subst (λ r. MayFollow limits log servers exchanges (pursuit (is_none old.coming) r old.request.items (line ++ next) old.upstream.follower (followed_by old))) reads (follows.1 (known_of exchanges honest)))) follows.0
@@ -819,9 +819,9 @@ module _ (limits : Limits) (log : Log) (servers : Servers) where
 
   pub shows_now : {contest : List ℕ} {hub : Hub} {conns : Slab Conn} {sockets : AllSockets} {old new : Source} (unread : ℕ) (before after : Exchanges)
       → after ≡ option_map (shown_so all_from unread) before → IsNowShown old new
-      → (AreKnownHonest limits log servers before → AnswersFromLog limits log contest old.answers.shown.mirror old.answers.blank.mirror hub conns sockets)
+      → (AreKnownHonest limits log servers before → AnswersFromLog limits log contest (screen_side old.answers.shown.mirror old.answers.blank.mirror hub conns) sockets)
       → MayShow limits log servers unread before (followed_by old)
-      → AreKnownHonest limits log servers after → AnswersFromLog limits log contest new.answers.shown.mirror new.answers.blank.mirror hub conns sockets
+      → AreKnownHonest limits log servers after → AnswersFromLog limits log contest (screen_side new.answers.shown.mirror new.answers.blank.mirror hub conns) sockets
   shows_now {old = old} unread before after is now shows may honest =
       let here = shows (shown_so_honest all_from unread before after is honest) in
       let at = may.all (subst (λ e. AreKnownHonest limits log servers e) is honest) in
@@ -834,14 +834,14 @@ module _ (limits : Limits) (log : Log) (servers : Servers) where
 
   pub with_now_shown : {contest : List ℕ} {hub : Hub} {conns : Slab Conn} {sockets : AllSockets} {old new : Source} (unread : List ℕ) (before after : Exchanges)
       → after ≡ option_map (shown_so all_from (length unread)) before → old.reach ≡ Reads → IsNowShown old new
-      → (AreKnownHonest limits log servers before → AnswersFromLog limits log contest old.answers.shown.mirror old.answers.blank.mirror hub conns sockets)
+      → (AreKnownHonest limits log servers before → AnswersFromLog limits log contest (screen_side old.answers.shown.mirror old.answers.blank.mirror hub conns) sockets)
       × (IsSome before → MayFollow limits log servers before (pursuit_of old unread))
-      → (AreKnownHonest limits log servers after → AnswersFromLog limits log contest new.answers.shown.mirror new.answers.blank.mirror hub conns sockets)
+      → (AreKnownHonest limits log servers after → AnswersFromLog limits log contest (screen_side new.answers.shown.mirror new.answers.blank.mirror hub conns) sockets)
       × (IsSome after → MayFollow limits log servers after (pursuit_of new unread))
   with_now_shown {old = old} {new = new} unread before after is reads now follows = (
     shows_now (length unread) before after is now follows.0
         (follows_may_show (is_none old.coming) old.reach old.request.items unread before old.upstream.follower (followed_by old) reads follows.1),
-    λ known. follows_as after (ap is_none now.coming) now.request refl (now.reach ∙ reads) now.follower (ap (λ c. followed c new.answers.shown.mirror) now.coming ∙ now.shown)
+    λ known. follows_as after (ap is_none now.coming) now.request refl (now.reach ∙ reads) now.follower (ap (λ c. following_mirror c new.answers.shown.mirror) now.coming ∙ now.shown)
         (now_follows (is_none old.coming) old.request.items unread before after old.upstream.follower (followed_by old) is
         (subst (λ r. MayFollow limits log servers before (pursuit (is_none old.coming) r old.request.items unread old.upstream.follower (followed_by old))) reads
         (follows.1 (known_before (shown_so all_from (length unread)) before after is known)))),
@@ -870,16 +870,16 @@ module _ (limits : Limits) (log : Log) (servers : Servers) where
 
   pub with_alone : {contest : List ℕ} {hub : Hub} {conns : Slab Conn} {sockets : AllSockets} {old new : Source} (unread : ℕ) (before after : Exchanges)
       → after ≡ option_map (shown_so once_at unread) before → ShowsAlone old new
-      → (AreKnownHonest limits log servers before → AnswersFromLog limits log contest old.answers.shown.mirror old.answers.blank.mirror hub conns sockets)
+      → (AreKnownHonest limits log servers before → AnswersFromLog limits log contest (screen_side old.answers.shown.mirror old.answers.blank.mirror hub conns) sockets)
       → MayShow limits log servers unread before (followed_by old)
-      → AreKnownHonest limits log servers after → AnswersFromLog limits log contest new.answers.shown.mirror new.answers.blank.mirror hub conns sockets
+      → AreKnownHonest limits log servers after → AnswersFromLog limits log contest (screen_side new.answers.shown.mirror new.answers.blank.mirror hub conns) sockets
   with_alone {contest} {hub} {conns} {sockets} {old} {new} unread before after is alone shows may honest =
       by (may.once (subst (λ e. AreKnownHonest limits log servers e) is honest)) alone.shown (shows (shown_so_honest once_at unread before after is honest))
     where
       by : (followed_by old).limits ≡ limits × IsOfLog log (followed_by old).node.published
           → (new.answers.shown.mirror ≡ old.answers.shown.mirror) ⊎ (new.answers.shown.mirror ≡ restored_from (followed_by old).limits (followed_by old).node.published)
-          → AnswersFromLog limits log contest old.answers.shown.mirror old.answers.blank.mirror hub conns sockets
-          → AnswersFromLog limits log contest new.answers.shown.mirror new.answers.blank.mirror hub conns sockets
+          → AnswersFromLog limits log contest (screen_side old.answers.shown.mirror old.answers.blank.mirror hub conns) sockets
+          → AnswersFromLog limits log contest (screen_side new.answers.shown.mirror new.answers.blank.mirror hub conns) sockets
       by at (inl same) here = shows_at limits log (ap (λ m. m.limits) same) (subst (λ m. IsInLog limits log m.node) (sym same) here.shown_is) alone.blank here
       by at (inr is_it) here =
           shows_at limits log (ap (λ m. m.limits) is_it ∙ restored_limits _ (followed_by old).node.published ∙ at.0 ∙ sym here.limits_are)
@@ -888,7 +888,7 @@ module _ (limits : Limits) (log : Log) (servers : Servers) where
   -- ---- what follows may be shown
 
   pub to_show : {contest : List ℕ} (source : Source) (screens : Screens) {sockets : AllSockets} (exchanges : Exchanges) (unread : List ℕ) → source.reach ≡ Reads
-      → FollowsServers limits log servers contest exchanges source unread screens sockets → IsToShow limits log servers contest exchanges source (length unread) screens sockets
+      → FollowsServers limits log servers contest (within_turn exchanges source unread screens) sockets → IsToShow limits log servers contest (counted_within_turn exchanges source (length unread) screens) sockets
   to_show source screens exchanges unread reads follows = (
     follows.0,
     follows.1.0,
@@ -896,7 +896,7 @@ module _ (limits : Limits) (log : Log) (servers : Servers) where
   )
 
   pub same_to_show : {contest : List ℕ} {old new : Source} (screens : Screens) {sockets : AllSockets} {exchanges : Exchanges} {unread : ℕ} → SameSource old new
-      → IsToShow limits log servers contest exchanges old unread screens sockets → IsToShow limits log servers contest exchanges new unread screens sockets
+      → IsToShow limits log servers contest (counted_within_turn exchanges old unread screens) sockets → IsToShow limits log servers contest (counted_within_turn exchanges new unread screens) sockets
   same_to_show screens {exchanges = exchanges} {unread = unread} same to = (
     same.servers ∙ to.0,
     λ honest. same_shows limits log same (to.1 honest),
@@ -904,5 +904,5 @@ module _ (limits : Limits) (log : Log) (servers : Servers) where
   )
 
   pub to_show_of : {contest : List ℕ} (source : Source) (screens : Screens) {sockets : AllSockets} {exchanges : Exchanges} {count unread : ℕ} → count ≡ unread
-      → IsToShow limits log servers contest exchanges source count screens sockets → IsToShow limits log servers contest exchanges source unread screens sockets
-  to_show_of {contest} source screens {sockets} {exchanges} is to = subst (λ n. IsToShow limits log servers contest exchanges source n screens sockets) is to
+      → IsToShow limits log servers contest (counted_within_turn exchanges source count screens) sockets → IsToShow limits log servers contest (counted_within_turn exchanges source unread screens) sockets
+  to_show_of {contest} source screens {sockets} {exchanges} is to = subst (λ n. IsToShow limits log servers contest (counted_within_turn exchanges source n screens) sockets) is to

@@ -17,7 +17,7 @@ use Rattle.feed_live.specs.declared.turn.Live.{Live}
 use Rattle.feed_live.specs.declared.turn.Turn.{Turn}
 use Rattle.feed_live.specs.Laws.{ShowsTheLog}
 use Rattle.feed_live.specs.Relaying.{IsRelaying, StillRelaying}
-use Rattle.feed_live.specs.Running.{Came, nothing_came, has_ended_by, came_on, came_more, HostCalls, waited_for, reported_once, Surroundings, surroundings, Moment, moment_of, shown_at, KeepsFilesAt, at_once, RunsFrom, IsOver, IsTurn, IsSameRelay, IsRun, waited_at, calls_in, HasRun, servers_of_setup, AreUnused, AreAllFilesOfLog, Begins, IsKnownHonestInput, EndsWithItsInput, TakesAllAt, EndsOrStops, TakesItsInput, KeepsToTheLog}
+use Rattle.feed_live.specs.Running.{InputSoFar, nothing_came, has_ended_by, came_on, came_more, HostCalls, waited_for, reported_once, Surroundings, surroundings, Moment, moment_of, node_at_moment, KeepsFilesAt, at_once, RunsFrom, IsRelayOver, IsTurn, IsSameRelay, IsRun, waited_at, calls_in, HasRun, servers_of_setup, AreUnused, AreAllFilesOfLog, BeginsAsSetUp, IsKnownHonestInput, EndsWithItsInput, TakesAllAt, EndsOrStops, TakesItsInput, KeepsToTheLog}
 use Rattle.feed_files.specs.Saved.{ArePartsOfRecords, KeepsFiles}
 use Rattle.feed_live.specs.Taking.{IsTakingInput, StillTaking, bytes_in}
 use Rattle.feed_files.specs.Input.{StopsInput}
@@ -32,7 +32,7 @@ at_err P (Err e) p = p
 -- ---- one turn
 
 -- it is over, too, where nothing but what is told of it has changed
-still_over : {live after : Live} {now : ℕ} → IsSameRelay live after → IsOver live now → IsOver after now
+still_over : {live after : Live} {now : ℕ} → IsSameRelay live after → IsRelayOver live now → IsRelayOver after now
 still_over {live} {after} {now} same over =
     record {
       at = over.at;
@@ -83,7 +83,7 @@ cleared {old} {live} {after} {next} {time} {around} turn relaying taking same =
 
 -- what the input gave before is what it had given then, and the time stays while a turn is told
 pub given_so : {live after : Live} {waits next : Turn} {earlier_time time time_now : Option ℕ} {exchanges exchanges_then : Exchanges} {sockets sockets_then : AllSockets} {files files_then : StateFiles}
-    {input before came now : Option Came} → before ≡ input → now ≡ came → time_now ≡ time
+    {input before came now : Option InputSoFar} → before ≡ input → now ≡ came → time_now ≡ time
     → IsTurn (moment_of live waits earlier_time (surroundings exchanges sockets files before)) (moment_of after next time (surroundings exchanges_then sockets_then files_then came))
     → IsTurn (moment_of live waits earlier_time (surroundings exchanges sockets files input)) (moment_of after next time_now (surroundings exchanges_then sockets_then files_then now))
 given_so {live} {after} {waits} {next} {earlier_time} {time} {time_now} {exchanges} {exchanges_then} {sockets} {sockets_then} {files} {files_then} {input} {before} {came} {now} was is stays turn =
@@ -161,10 +161,10 @@ pub failed_run : {first : Moment} {live : Live} {next : Turn} {time : Option ℕ
 failed_run {next = next} {time = time} {n = n} run few = (n, few, next, time, run)
 
 -- nothing was touched
-pub untouched : (exchanges : Exchanges) (sockets : AllSockets) {files files_now : StateFiles} {input input_now : Option Came}
+pub untouched : (exchanges : Exchanges) (sockets : AllSockets) {files files_now : StateFiles} {input input_now : Option InputSoFar}
     → files_now ≡ files → input_now ≡ input → surroundings exchanges sockets files_now input_now ≡ surroundings exchanges sockets files input
 untouched exchanges sockets {files} {files_now} {input} {input_now} one two =
-    ap (λ (f : StateFiles). surroundings exchanges sockets f input_now) one ∙ ap (λ (i : Option Came). surroundings exchanges sockets files i) two
+    ap (λ (f : StateFiles). surroundings exchanges sockets f input_now) one ∙ ap (λ (i : Option InputSoFar). surroundings exchanges sockets files i) two
 
 -- one run behind another
 pub then_on : {first between last : Moment} {calls calls_between calls_now : HostCalls} {n m : ℕ} → HasRun between last calls_between calls_now m → HasRun first between calls calls_between n
@@ -190,7 +190,7 @@ module _ (limits : Limits) (log : Log) where
       (subst (KeepsFilesAt nodes) (sym run) keeps, subst (λ m. ArePartsOfRecords nodes m.around.files.had) (sym run) parts)
   files_to nodes files of first last (before ∷ earlier) run shows keeps parts =
       let kept = files_to nodes files of first before earlier run.1 shows.1 keeps parts in
-      let has = of.may_show (shown_at last) (among_states limits log (shown_at last) shows.0.shown) in
+      let has = of.may_show (node_at_moment last) (among_states limits log (node_at_moment last) shows.0.shown) in
       (run.0.kept nodes has kept.0, run.0.parts nodes has kept.0 kept.1)
 
   -- and at each
@@ -221,7 +221,7 @@ module _ (limits : Limits) (log : Log) where
   module _ (begun : MirrorState) (first : Moment) (none_came : first.around.input ≡ Some nothing_came) (taking : IsTakingInput limits log begun [] first.live first.around.sockets) where
     -- what came so far
     abbrev TakesTo : Moment → Type 0
-    TakesTo moment = (came : Came) × (moment.around.input ≡ Some came) × IsTakingInput limits log begun came.bytes moment.live moment.around.sockets
+    TakesTo moment = (came : InputSoFar) × (moment.around.input ≡ Some came) × IsTakingInput limits log begun came.bytes moment.live moment.around.sockets
 
     taking_to : (last : Moment) (earlier : List Moment) → IsRun first earlier last → TakesTo last
     taking_to last [] run = subst TakesTo (sym run) (nothing_came, none_came, taking)
@@ -278,11 +278,11 @@ module _ (limits : Limits) (log : Log) where
 
 -- ---- its end
 
-ended_now : (came : Option Came) → IfSome (came_more End came) (λ c. c.has_ended ≡ true)
+ended_now : (came : Option InputSoFar) → IfSome (came_more End came) (λ c. c.has_ended ≡ true)
 ended_now None = tt
 ended_now (Some came) = refl
 
-ended_yet : (given : Input) (came : Option Came) → IfSome came (λ c. c.has_ended ≡ true) → IfSome (came_more given came) (λ c. c.has_ended ≡ true)
+ended_yet : (given : Input) (came : Option InputSoFar) → IfSome came (λ c. c.has_ended ≡ true) → IfSome (came_more given came) (λ c. c.has_ended ≡ true)
 ended_yet given None ended = tt
 ended_yet Nothing (Some came) ended = ended
 ended_yet (Bytes piece) (Some came) ended = ended
@@ -322,7 +322,7 @@ all_end setup first begins last (before ∷ earlier) run =
     (ends_on setup before last run.0 so_far.0, so_far)
 
 -- a run from such a start keeps to the log
-pub keeps_to_the_log : (setup : Setup) (found : Surroundings) (first last : Moment) (earlier : List Moment) → Begins setup found.files first.around.files first.live
+pub keeps_to_the_log : (setup : Setup) (found : Surroundings) (first last : Moment) (earlier : List Moment) → BeginsAsSetUp setup found.files first.around.files first.live
     → first.around.sockets ≡ found.sockets → first.around.input ≡ found.input → IsRun first earlier last → KeepsToTheLog setup found (last ∷ earlier)
 keeps_to_the_log setup found first last earlier begins sockets input run =
     record {
@@ -343,7 +343,7 @@ keeps_to_the_log setup found first last earlier begins sockets input run =
 
 -- so it is with turns that led from there to the end, whatever they came to
 pub runs_from : {A E : Type 0} (setup : Setup) (found : Surroundings) (first last : Moment) {calls calls_begun calls_now : HostCalls} {count : ℕ} (result : Result A E)
-    → Begins setup found.files first.around.files first.live → first.next ≡ at_once → first.around.sockets ≡ found.sockets → first.around.input ≡ found.input → calls_begun ≡ calls
+    → BeginsAsSetUp setup found.files first.around.files first.live → first.next ≡ at_once → first.around.sockets ≡ found.sockets → first.around.input ≡ found.input → calls_begun ≡ calls
     → HasRun first last calls_begun calls_now count → OnOk result ((last.next.is_over ≡ true) ⊎ (count ≡ 2 ^ 64 - 1)) → RunsFrom setup found last.around calls calls_now result
 runs_from setup found first last {count = count} result begins at_first sockets input same run ends =
     record {

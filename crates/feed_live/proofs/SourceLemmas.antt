@@ -13,13 +13,13 @@ use Rattle.feed_screens.specs.declared.screens.Screens.{Screens}
 use Rattle.feed_live.specs.declared.source.Reach.{Reach}
 use Rattle.feed_live.specs.declared.source.Reach.TheVariants.{Connects, Asks}
 use Rattle.feed_live.specs.declared.source.Source.{Source}
-use Rattle.feed_live.specs.Relaying.{pursuit, MayFollow, WasLeft, StillFollows}
+use Rattle.feed_live.specs.Relaying.{pursuit, MayFollow, WasLeft, StillFollows, within_turn}
 use Rattle.feed_live.specs.Upstream.{Servers, AreKnownHonest}
 use Rattle.feed_live.proofs.RelayLemmas.{with_left, opens_follows}
 
 -- the server was left
 pub left_still : {old new : Source} {before after : Exchanges} → WasLeft old new before after
-    → (screens : Screens) → StillFollows old new before after old.rest.items new.rest.items screens screens
+    → (screens : Screens) → StillFollows (within_turn before old old.rest.items screens) (within_turn after new new.rest.items screens)
 left_still {old} {new} left screens limits log servers contest sockets follows =
     (left.servers ∙ follows.0, with_left limits log servers left new.rest.items follows.1.0)
 

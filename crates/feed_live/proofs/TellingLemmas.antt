@@ -23,7 +23,7 @@ use Rattle.feed_hub.specs.Laws.{IsInLog}
 use Rattle.feed_device.specs.Links.{Exchange}
 use Rattle.feed_live.specs.Upstream.{AsksInLog}
 use Rattle.feed_live.proofs.StateLemmas.{honest_however}
-use Rattle.feed_live.specs.Telling.{AreMeant, TextTells, MeaningTells, MayBegin, ToldIsHonest, IsTold, TellingIsHonest, FeedIsHonest}
+use Rattle.feed_live.specs.Telling.{AreMeant, TextTells, MeaningTells, MayBegin, ToldIsHonest, CarriesTheLog, TellingIsHonest, FeedIsHonest}
 
 -- ---- the lines of a prefix
 
@@ -121,7 +121,7 @@ told_is_honest show limits log place fresh k begun input named is_place begins o
 
 -- ---- a response
 
-module _ (show : TellsShow) (limits : Limits) (log : Log) (named : IsNamed log) (exchange : Exchange) (begun : MirrorState) (asks : AsksInLog limits log begun) (told : IsTold limits log exchange begun asks) where
+module _ (show : TellsShow) (limits : Limits) (log : Log) (named : IsNamed log) (exchange : Exchange) (begun : MirrorState) (asks : AsksInLog limits log begun) (told : CarriesTheLog limits log exchange begun asks) where
   begun_in : IsInLog limits log begun.node
   begun_in = (asks.place, asks.is_place, ap (λ o. o.before) asks.asks.opening)
 

@@ -22,7 +22,7 @@ use Rattle.feed_live.specs.declared.turn.Input.{Input}
 use Rattle.feed_live.specs.declared.turn.Input.TheVariants.{End}
 use Rattle.feed_live.specs.declared.turn.Live.{Live}
 use Rattle.feed_live.specs.Answering.{has_heard}
-use Rattle.feed_live.specs.Relaying.{pursuit, pursuit_of, MayFollow, AnswersFromLog, FollowsServers, IsRelaying, SameSource, OnlyServes, followed_by}
+use Rattle.feed_live.specs.Relaying.{pursuit, pursuit_of, MayFollow, AnswersFromLog, FollowsServers, IsRelaying, SameSource, OnlyServes, followed_by, screen_side, within_turn}
 use Rattle.feed_screens.specs.Serving.{ServesScreens, StillServing}
 use Rattle.feed_live.specs.States.{states_of}
 use Rattle.feed_live.specs.Taking.{IsTakingInput, ShowsInput, BeginsInput}
@@ -103,7 +103,7 @@ module _ (limits : Limits) (log : Log) where
   pub input_begun : {contest : List ℕ} {hub : Hub} {conns : Slab Conn} {sockets : AllSockets} {old new : Source} (mirror blank : MirrorState)
       → BeginsInput old new → old.answers.shown.mirror ≡ mirror → old.answers.blank.mirror ≡ blank
       → mirror.limits ≡ limits → IsInLog limits log mirror.node → IsInLog limits log blank.node → ServesScreens (states_of limits log) contest hub conns sockets
-      → AnswersFromLog limits log contest new.answers.shown.mirror new.answers.blank.mirror hub conns sockets
+      → AnswersFromLog limits log contest (screen_side new.answers.shown.mirror new.answers.blank.mirror hub conns) sockets
   input_begun mirror blank begins shown blank_is bounds at blank_at serving =
       record {
         limits_are = begins.limits ∙ ap (λ m. m.limits) shown ∙ bounds;
@@ -136,7 +136,7 @@ module _ (limits : Limits) (log : Log) (servers : Servers) where
   pub with_begun : (exchanges : Exchanges) {contest : List ℕ} {hub : Hub} {conns : Slab Conn} {sockets : AllSockets} (source : Source) (mirror blank : MirrorState)
       → source.answers.shown.mirror ≡ mirror → source.answers.blank.mirror ≡ blank → source.upstream.follower ≡ None → source.reach ≡ Away
       → mirror.limits ≡ limits → IsInLog limits log mirror.node → IsInLog limits log blank.node → ServesScreens (states_of limits log) contest hub conns sockets
-      → (AreKnownHonest limits log servers exchanges → AnswersFromLog limits log contest source.answers.shown.mirror source.answers.blank.mirror hub conns sockets)
+      → (AreKnownHonest limits log servers exchanges → AnswersFromLog limits log contest (screen_side source.answers.shown.mirror source.answers.blank.mirror hub conns) sockets)
       × (IsSome exchanges → MayFollow limits log servers exchanges (pursuit_of source source.rest.items))
   with_begun exchanges source mirror blank shown blank_is follower away bounds at blank_at serving = (
     λ honest. record {
@@ -152,13 +152,13 @@ module _ (limits : Limits) (log : Log) (servers : Servers) where
   pub relays_on : {old new : Live} {before after : AllSockets} (exchanges : Exchanges) → OnlyServes old new before after
       → IsRelaying limits log servers exchanges old before → IsRelaying limits log servers exchanges new after
   relays_on {old} {new} {before} {after} exchanges only is =
-      let follows : FollowsServers limits log servers (string_bytes old.contest) exchanges new.source new.source.rest.items new.screens after = (
+      let follows : FollowsServers limits log servers (string_bytes old.contest) (within_turn exchanges new.source new.source.rest.items new.screens) after = (
         only.source.servers ∙ is.1.0,
         with_same limits log servers only.source exchanges old.source.rest.items new.source.rest.items only.source.rest
             (with_screens limits log servers exchanges (λ shows serving. only.serves (states_of limits log) (among_shown limits log shows) (λ _. among_blank limits log shows) serving) is.1.1),
       ) in (
         only.feeds ∙ is.0,
-        subst (λ c. FollowsServers limits log servers (string_bytes c) exchanges new.source new.source.rest.items new.screens after) (sym only.contest) follows,
+        subst (λ c. FollowsServers limits log servers (string_bytes c) (within_turn exchanges new.source new.source.rest.items new.screens) after) (sym only.contest) follows,
       )
 
 -- a list that is not empty is not found to be

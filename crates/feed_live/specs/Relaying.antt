@@ -90,33 +90,45 @@ FollowsIfAny limits log servers exchanges p (Some follower) =
 abbrev pub MayFollow : Limits → Log → Servers → Exchanges → Pursuit → Type 0
 MayFollow limits log servers exchanges p = FollowsIfAny limits log servers exchanges p p.follower
 
+-- The side of a relay where its screens are: the mirror that is shown to them, the one that has
+-- published nothing, and what the hub and the connections have.
+pub record ScreenSide : Type 0 where
+  pub shown : MirrorState
+  pub blank : MirrorState
+  pub hub : Hub
+  pub conns : Slab Conn
+
+abbrev pub screen_side : MirrorState → MirrorState → Hub → Slab Conn → ScreenSide
+screen_side shown blank hub conns =
+    record { shown = shown; blank = blank; hub = hub; conns = conns }
+
 -- What requests are answered with is at places of the log. So each socket was handed a prefix of
 -- what is due to an answer that a state of the log gave.
-pub record AnswersFromLog (limits : Limits) (log : Log) (contest : List ℕ)
-    (shown blank : MirrorState)
-    (hub : Hub) (conns : Slab Conn) (sockets : AllSockets) : Type 0 where
-  pub limits_are : shown.limits ≡ limits
-  pub shown_is : IsInLog limits log shown.node
-  pub blank_is : IsInLog limits log blank.node
-  pub serving : ServesScreens (states_of limits log) contest hub conns sockets
+pub record AnswersFromLog (limits : Limits) (log : Log) (contest : List ℕ) (side : ScreenSide)
+    (sockets : AllSockets) : Type 0 where
+  pub limits_are : side.shown.limits ≡ limits
+  pub shown_is : IsInLog limits log side.shown.node
+  pub blank_is : IsInLog limits log side.blank.node
+  pub serving : ServesScreens (states_of limits log) contest side.hub side.conns sockets
 
 -- so it is with what a relay answers with, and its screens
 abbrev pub ShowsFromLog : Limits → Log → List ℕ → Source → Screens → AllSockets → Type 0
 ShowsFromLog limits log contest source screens sockets =
-    AnswersFromLog limits log contest source.answers.shown.mirror source.answers.blank.mirror
-    screens.hub screens.conns sockets
+    AnswersFromLog limits log contest
+    (screen_side source.answers.shown.mirror source.answers.blank.mirror screens.hub screens.conns)
+    sockets
 
 -- the servers that are asked
 abbrev pub servers_of : Source → Servers
 servers_of source = record { places = source.places.items; identity = source.identity }
 
 -- the mirror that follows: one that began afresh, and nobody is shown yet, or the one that is shown
-abbrev pub followed : Option MirrorState → MirrorState → MirrorState
-followed None shown = shown
-followed (Some coming) shown = coming
+abbrev pub following_mirror : Option MirrorState → MirrorState → MirrorState
+following_mirror None shown = shown
+following_mirror (Some coming) shown = coming
 
 abbrev pub followed_by : Source → MirrorState
-followed_by source = followed source.coming source.answers.shown.mirror
+followed_by source = following_mirror source.coming source.answers.shown.mirror
 
 -- what it follows so, where this is unread
 abbrev pub pursuit_of : Source → List ℕ → Pursuit
@@ -124,32 +136,48 @@ pursuit_of source unread =
     pursuit (is_none source.coming) source.reach source.request.items unread
     source.upstream.follower (followed_by source)
 
+-- A relay within a turn: what went over its connections to servers, what it follows, what came of
+-- that and is unread, or how many bytes of it are, and its screens.
+pub record WithinTurn (Unread : Type 0) : Type 0 where
+  pub exchanges : Exchanges
+  pub source : Source
+  pub unread : Unread
+  pub screens : Screens
+
+abbrev pub within_turn : Exchanges → Source → List ℕ → Screens → WithinTurn (List ℕ)
+within_turn exchanges source unread screens =
+    record { exchanges = exchanges; source = source; unread = unread; screens = screens }
+
+abbrev pub counted_within_turn : Exchanges → Source → ℕ → Screens → WithinTurn ℕ
+counted_within_turn exchanges source unread screens =
+    record { exchanges = exchanges; source = source; unread = unread; screens = screens }
+
 -- A relay of this contest asks these servers. It shows the log where all of them were honest so
--- far. Whether they were or not, it follows one as it should, of whose response this is unread.
-abbrev pub FollowsServers : Limits → Log → Servers → List ℕ → Exchanges → Source → List ℕ → Screens
-    → AllSockets → Type 0
-FollowsServers limits log servers contest exchanges source unread screens sockets =
-    (servers_of source ≡ servers)
-    × ((AreKnownHonest limits log servers exchanges
-    → ShowsFromLog limits log contest source screens sockets)
-    × (IsSome exchanges → MayFollow limits log servers exchanges (pursuit_of source unread)))
+-- far. Whether they were or not, it follows one as it should, of whose response some is unread.
+abbrev pub FollowsServers : Limits → Log → Servers → List ℕ → WithinTurn (List ℕ) → AllSockets
+    → Type 0
+FollowsServers limits log servers contest relay sockets =
+    (servers_of relay.source ≡ servers)
+    × ((AreKnownHonest limits log servers relay.exchanges
+    → ShowsFromLog limits log contest relay.source relay.screens sockets)
+    × (IsSome relay.exchanges
+    → MayFollow limits log servers relay.exchanges (pursuit_of relay.source relay.unread)))
 
 -- THE PROMISE: so it is with a relay whose feed is not its input
 abbrev pub IsRelaying : Limits → Log → Servers → Exchanges → Live → AllSockets → Type 0
 IsRelaying limits log servers exchanges live sockets =
     (live.feeds ≡ false)
-    × FollowsServers limits log servers (string_bytes live.contest) exchanges live.source
-    live.source.rest.items live.screens sockets
+    × FollowsServers limits log servers (string_bytes live.contest)
+    (within_turn exchanges live.source live.source.rest.items live.screens) sockets
 
 -- ---- steps
 
 -- it was so, and still is
-abbrev pub StillFollows : Source → Source → Exchanges → Exchanges → List ℕ → List ℕ → Screens
-    → Screens → Type 0
-StillFollows old new before after unread left screens later =
+abbrev pub StillFollows : WithinTurn (List ℕ) → WithinTurn (List ℕ) → Type 0
+StillFollows old new =
     (limits : Limits) (log : Log) (servers : Servers) (contest : List ℕ) (sockets : AllSockets)
-    → FollowsServers limits log servers contest before old unread screens sockets
-    → FollowsServers limits log servers contest after new left later sockets
+    → FollowsServers limits log servers contest old sockets
+    → FollowsServers limits log servers contest new sockets
 
 -- What follows may be shown: where the servers are honest in that, too, it is of the log. So may be
 -- what it has published, at its token alone, or all of it. So many bytes that came are unread.
@@ -161,19 +189,18 @@ pub record MayShow (limits : Limits) (log : Log) (servers : Servers) (unread : �
       → (mirror.limits ≡ limits) × IsInLog limits log mirror.node
 
 -- what a relay of this contest shows is of the log, and so is what follows, once it may be shown
-abbrev pub IsToShow : Limits → Log → Servers → List ℕ → Exchanges → Source → ℕ → Screens
-    → AllSockets → Type 0
-IsToShow limits log servers contest exchanges source unread screens sockets =
-    (servers_of source ≡ servers)
-    × (AreKnownHonest limits log servers exchanges
-    → ShowsFromLog limits log contest source screens sockets)
-    × MayShow limits log servers unread exchanges (followed_by source)
+abbrev pub IsToShow : Limits → Log → Servers → List ℕ → WithinTurn ℕ → AllSockets → Type 0
+IsToShow limits log servers contest relay sockets =
+    (servers_of relay.source ≡ servers)
+    × (AreKnownHonest limits log servers relay.exchanges
+    → ShowsFromLog limits log contest relay.source relay.screens sockets)
+    × MayShow limits log servers relay.unread relay.exchanges (followed_by relay.source)
 
 -- What it shows is still of the log, whether what followed is shown now or not.
-abbrev pub StillShows : Source → Source → Exchanges → Exchanges → ℕ → Screens → Screens → Type 0
-StillShows old new before after unread screens later =
+abbrev pub StillShows : WithinTurn ℕ → Source → Exchanges → Screens → Type 0
+StillShows old new after later =
     (limits : Limits) (log : Log) (servers : Servers) (contest : List ℕ) (sockets : AllSockets)
-    → IsToShow limits log servers contest before old unread screens sockets
+    → IsToShow limits log servers contest old sockets
     → (servers_of new ≡ servers)
     × (AreKnownHonest limits log servers after
     → ShowsFromLog limits log contest new later sockets)

@@ -32,11 +32,11 @@ use Rattle.feed_files.specs.Input.{IsHonestInput}
 -- ---- what stands around a relay
 
 -- what an input gave: its bytes, and whether it has ended
-pub record Came : Type 0 where
+pub record InputSoFar : Type 0 where
   pub bytes : List ℕ
   pub has_ended : Bool
 
-abbrev pub nothing_came : Came
+abbrev pub nothing_came : InputSoFar
 nothing_came = record { bytes = []; has_ended = false }
 
 abbrev pub has_ended_by : Input → Bool → Bool
@@ -45,13 +45,13 @@ has_ended_by (Bytes piece) ended = ended
 has_ended_by End ended = true
 
 -- this came behind that
-abbrev pub came_on : Input → Came → Came
+abbrev pub came_on : Input → InputSoFar → InputSoFar
 came_on given came = record {
   bytes = came.bytes ++ bytes_in given;
   has_ended = has_ended_by given came.has_ended;
 }
 
-abbrev pub came_more : Input → Option Came → Option Came
+abbrev pub came_more : Input → Option InputSoFar → Option InputSoFar
 came_more given = option_map (came_on given)
 
 -- How a host was called, where that is counted: for what it was to wait, the latest first, and how
@@ -77,9 +77,9 @@ pub record Surroundings : Type 0 where
   pub exchanges : Exchanges
   pub sockets : AllSockets
   pub files : StateFiles
-  pub input : Option Came
+  pub input : Option InputSoFar
 
-abbrev pub surroundings : Exchanges → AllSockets → StateFiles → Option Came → Surroundings
+abbrev pub surroundings : Exchanges → AllSockets → StateFiles → Option InputSoFar → Surroundings
 surroundings exchanges sockets files input = record {
   exchanges = exchanges;
   sockets = sockets;
@@ -106,11 +106,11 @@ abbrev pub at_once : Turn
 at_once = record { due = 0; takes_input = true; is_over = false }
 
 -- what it shows
-abbrev pub mirror_at : Moment → MirrorState
-mirror_at moment = moment.live.source.answers.shown.mirror
+abbrev pub mirror_at_moment : Moment → MirrorState
+mirror_at_moment moment = moment.live.source.answers.shown.mirror
 
-abbrev pub shown_at : Moment → NodeState
-shown_at moment = (mirror_at moment).node
+abbrev pub node_at_moment : Moment → NodeState
+node_at_moment moment = (mirror_at_moment moment).node
 
 -- what its state files have is of these nodes
 abbrev pub KeepsFilesAt : List NodeState → Moment → Type 0
@@ -118,7 +118,7 @@ KeepsFilesAt nodes moment = KeepsFiles nodes moment.around.files moment.live.sav
 
 -- A relay that ends with its input is over: its time has come; or nobody is connected, and the
 -- state file has all that was published, as far as it can be written.
-pub record IsOver (live : Live) (now : ℕ) : Type 0 where
+pub record IsRelayOver (live : Live) (now : ℕ) : Type 0 where
   pub at : ℕ
   pub ends : live.ends_at ≡ Some at
   pub over : (at ≤ now) ⊎ ((slab_len live.screens.conns ≡ 0)
@@ -137,23 +137,23 @@ pub record IsTurn (old new : Moment) : Type 0 where
       old.around.sockets new.around.sockets
   pub taking : StillTaking old.live new.live (bytes_in given) old.around.sockets new.around.sockets
   pub stops : given ≢ End → StopsTaking old.live new.live (bytes_in given) old.around.sockets
-  pub kept : (nodes : List NodeState) → Contains nodes (shown_at new) → KeepsFilesAt nodes old
+  pub kept : (nodes : List NodeState) → Contains nodes (node_at_moment new) → KeepsFilesAt nodes old
       → KeepsFilesAt nodes new
-  pub parts : (nodes : List NodeState) → Contains nodes (shown_at new) → KeepsFilesAt nodes old
-      → ArePartsOfRecords nodes old.around.files.had
+  pub parts : (nodes : List NodeState) → Contains nodes (node_at_moment new)
+      → KeepsFilesAt nodes old → ArePartsOfRecords nodes old.around.files.had
       → ArePartsOfRecords nodes new.around.files.had
   pub anew : new.live.source.epoch ≢ old.live.epoch → (nodes : List NodeState)
-      → Contains nodes (shown_at new) → IsKnown old.around.files.next → KeepsFilesAt nodes new
+      → Contains nodes (node_at_moment new) → IsKnown old.around.files.next → KeepsFilesAt nodes new
   pub wakes : new.live.screens.has_more ≡ true → new.next.due ≤ now
   pub says : IfSome new.live.screens.saying.waits (λ at. now ≤ at → new.next.due ≤ at)
   pub awake : new.next.due ≤ min (new.live.reported + 60000) (2 ^ 64 - 1)
   pub ends : EndsWithInput old.live new.live given
   pub takes : new.next.takes_input
       ≡ (is_none new.live.ends_at && is_none new.live.screens.saying.waits)
-  pub over : new.next.is_over ≡ true → IsOver new.live now
+  pub over : new.next.is_over ≡ true → IsRelayOver new.live now
   pub in_time : IfSome new.live.ends_at (λ at. at ≤ now → new.next.is_over ≡ true)
 
--- all but what is told of a relay stays
+-- all but what is reported of a relay stays
 pub record IsSameRelay (old new : Live) : Type 0 where
   pub source : new.source ≡ old.source
   pub screens : new.screens ≡ old.screens
@@ -176,7 +176,7 @@ IsRun first (before ∷ earlier) last = IsTurn before last × IsRun first earlie
 abbrev pub waited_at : List Moment → List Turn
 waited_at moments = map (λ (moment : Moment). moment.next) moments
 
--- the host was to wait for just that, and it was to tell of each turn
+-- the host was to wait for just that, and it was to report each turn
 abbrev pub calls_in : List Moment → HostCalls → HostCalls
 calls_in earlier calls = record {
   waits = option_map (λ waits. waited_at earlier ++ waits) calls.waits;
@@ -229,7 +229,7 @@ pub record AreAllFilesOfLog (limits : Limits) (log : Log) (nodes : List NodeStat
   pub next : IsKnown files.next
 
 -- A relay of this setup begins so, where its state files were so before.
-pub record Begins (setup : Setup) (old new : StateFiles) (live : Live) : Type 0 where
+pub record BeginsAsSetUp (setup : Setup) (old new : StateFiles) (live : Live) : Type 0 where
   pub contest : live.contest ≡ setup.contest
   pub relaying : (log : Log) (exchanges : Exchanges) (sockets : AllSockets)
       → setup.places.items ≢ [] → BeginsInLog setup log old → AreUnused sockets
@@ -246,34 +246,34 @@ pub record Begins (setup : Setup) (old new : StateFiles) (live : Live) : Type 0 
 -- ---- the promise
 
 -- what the input gave is known, and honest to the mirror that the relay began with
-abbrev pub IsKnownHonestInput : Limits → Log → MirrorState → Option Came → Type 0
+abbrev pub IsKnownHonestInput : Limits → Log → MirrorState → Option InputSoFar → Type 0
 IsKnownHonestInput limits log begun None = ⊥
 IsKnownHonestInput limits log begun (Some came) = IsHonestInput limits log begun came.bytes
 
 -- the relay takes all that its input gave: each byte was followed once, in order, or is kept
 pub record TakesAllAt (begun : MirrorState) (moment : Moment) : Type 0 where
-  pub came : Came
+  pub came : InputSoFar
   pub known : moment.around.input ≡ Some came
   pub feeds : moment.live.feeds ≡ true
-  pub takes : TakesInput begun came.bytes moment.live.source.rest.items (mirror_at moment)
+  pub takes : TakesInput begun came.bytes moment.live.source.rest.items (mirror_at_moment moment)
 
 -- its input has ended
 pub record HasEndedAt (moment : Moment) : Type 0 where
-  pub came : Came
+  pub came : InputSoFar
   pub known : moment.around.input ≡ Some came
   pub ended : came.has_ended ≡ true
 
 -- it stopped in its input: at the first fault of that, or memory ran out
-pub record StopsAt (begun : MirrorState) (moment : Moment) : Type 0 where
-  pub came : Came
+pub record HasStoppedAt (begun : MirrorState) (moment : Moment) : Type 0 where
+  pub came : InputSoFar
   pub known : moment.around.input ≡ Some came
   pub fault : FeedFault
-  pub stops : StopsInput begun came.bytes fault (mirror_at moment)
+  pub stops : StopsInput begun came.bytes fault (mirror_at_moment moment)
 
 -- at one of these moments its input has ended, or it stops there
 abbrev pub EndsOrStops : MirrorState → List Moment → Type 0
 EndsOrStops begun moments =
-    (moment : Moment) × Contains moments moment × (HasEndedAt moment ⊎ StopsAt begun moment)
+    (moment : Moment) × Contains moments moment × (HasEndedAt moment ⊎ HasStoppedAt begun moment)
 
 -- at each of these moments, of which each comes before those behind it in the run, the relay takes
 -- all that its input gave, until that ends, or it stops
@@ -338,6 +338,6 @@ pub record IsNotBegun {A E : Type 0} (found left : Surroundings) (before after :
   pub calls : after ≡ before
 
 -- whether the host failed, which counts that, or memory ran out
-abbrev pub FailsBy : {E : Type 0} → RunFault E → Option ℕ → Option ℕ → Type 0
-FailsBy Memory old new = new ≡ old
-FailsBy (Host error) old new = CalledOnce old new
+abbrev pub CountsHostFault : {E : Type 0} → RunFault E → Option ℕ → Option ℕ → Type 0
+CountsHostFault Memory old new = new ≡ old
+CountsHostFault (Host error) old new = CalledOnce old new

@@ -56,7 +56,7 @@ ToldIsHonest =
 -- ---- responses
 
 -- what was read carries a text that tells the log to this mirror
-pub record IsTold (limits : Limits) (log : Log) (exchange : Exchange) (begun : MirrorState)
+pub record CarriesTheLog (limits : Limits) (log : Log) (exchange : Exchange) (begun : MirrorState)
     (asks : AsksInLog limits log begun) : Type 0 where
   pub k : ℕ
   pub text : List ℕ
@@ -70,11 +70,11 @@ TellingIsHonest =
     (limits : Limits) (log : Log) (servers : Servers) (exchange : Exchange) → IsNamed log
     → ((begun : MirrorState) (request more : List ℕ) (asks : AsksInLog limits log begun)
     → IsRequestOf servers exchange.server begun request → exchange.asked ≡ request ++ more
-    → IsTold limits log exchange begun asks) → IsHonest limits log servers exchange
+    → CarriesTheLog limits log exchange begun asks) → IsHonest limits log servers exchange
 
 -- the exchange was a response of whatever head and framing, whose body brings a text that tells the
 -- log to this mirror
-pub record IsToldFeed (limits : Limits) (log : Log) (exchange : Exchange) (begun : MirrorState)
+pub record IsFeedOfTheLog (limits : Limits) (log : Log) (exchange : Exchange) (begun : MirrorState)
     (asks : AsksInLog limits log begun) : Type 0 where
   pub k : ℕ
   pub text : List ℕ
@@ -88,7 +88,7 @@ FeedIsHonest =
     (limits : Limits) (log : Log) (servers : Servers) (exchange : Exchange) → IsNamed log
     → ((begun : MirrorState) (request more : List ℕ) (asks : AsksInLog limits log begun)
     → IsRequestOf servers exchange.server begun request → exchange.asked ≡ request ++ more
-    → IsToldFeed limits log exchange begun asks) → IsHonest limits log servers exchange
+    → IsFeedOfTheLog limits log exchange begun asks) → IsHonest limits log servers exchange
 
 -- ---- a server that replays
 

@@ -19,6 +19,7 @@ use std::alloc::{AllocError, Global};
 /// What was counted of the feed that is followed. Times are in milliseconds.
 #[derive(Clone, Copy, Debug)]
 pub struct FeedFigures {
+    /// How things stand with the server.
     pub following: Following,
     /// The number of the server that is asked, or was asked last.
     pub server: usize,
@@ -28,11 +29,14 @@ pub struct FeedFigures {
     pub heard: u64,
     /// How many servers were lost since one answered.
     pub failures: u64,
+    /// How many commits were published since the start.
     pub commits: u64,
+    /// How many bytes came since the start, those of heads with them.
     pub bytes: u64,
-    /// How many lines and bytes came on a connection of which nothing is shown until it has
-    /// settled; zero where none is to settle.
+    /// How many lines came on a connection of which nothing is shown until it has settled; zero
+    /// where none is to settle.
     pub coming_lines: u64,
+    /// How many bytes came on it; zero, too, where none is to settle.
     pub coming_bytes: u64,
     /// When the last commit was published, where one was since the start.
     pub committed: Option<u64>,
@@ -40,9 +44,9 @@ pub struct FeedFigures {
     pub failed: Option<(Failure, u64)>,
     /// How many attempts failed since the start, by their reasons.
     pub failed_by: [(Reason, u64); KINDS],
-    /// How many lines with a change came since the last one with a token, and when the first of
-    /// them did.
+    /// How many lines with a change came since the last one with a token.
     pub waiting: u64,
+    /// When the first of them came; no matter where there is none.
     pub waiting_since: u64,
     /// Whether it was reported of this connection that they wait for long.
     pub(crate) is_warned: bool,

@@ -3,7 +3,7 @@
 
 ghost use Rattle.std.specs.Prelude.{◌≡◌, ℕ, Option, None, IfSome, OnOk, OnErr};
 ghost use Rattle.feed_device.specs.Calls.{CalledOnce};
-ghost use Rattle.feed_live.specs.Running.{Came, came_more, HostCalls, nothing_counted, waited_for, reported_once};
+ghost use Rattle.feed_live.specs.Running.{InputSoFar, came_more, HostCalls, nothing_counted, waited_for, reported_once};
 
 use crate::turn::{Input, Live, Turn};
 use feed_device::{Devices, Ready};
@@ -14,6 +14,7 @@ use feed_files::Restored;
 pub struct Given<'a> {
     /// What became ready.
     pub events: &'a [Ready],
+    /// What came of the input.
     pub input: Input<'a>,
     /// The time, in milliseconds since the start.
     pub now: u64,
@@ -25,9 +26,9 @@ pub trait Host<S, L, D> {
     type Error;
 
     // What the input gave, where that is known; and the same but for what it gave last.
-    ghost input: { Self → Option Came } = { λ _. None };
+    ghost input: { Self → Option InputSoFar } = { λ _. None };
 
-    ghost input_before: { Self → Option Came } = { λ _. None };
+    ghost input_before: { Self → Option InputSoFar } = { λ _. None };
 
     // The time when it waited last, where that is known.
     ghost time: { Self → Option ℕ } = { λ _. None };
@@ -37,7 +38,7 @@ pub trait Host<S, L, D> {
 
     ghost failed: { Self → Option ℕ } = { λ _. None };
 
-    /// Tells what the relay begins with, before it does.
+    /// Reports what the relay begins with, before it does.
     fn begin(&mut self, restored: &Restored) -> Result<(), Self::Error>
         ensures input { input self.new ≡ input self.old }
         ensures calls { calls self.new ≡ calls self.old }

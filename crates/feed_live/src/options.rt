@@ -19,8 +19,8 @@ pub struct LiveLimits {
     pub is_fresh: bool,
     /// Whether that is so of several servers, which have tokens of their own.
     pub are_strange: bool,
-    /// After how many milliseconds without a publication the other servers are asked in turn. Zero:
-    /// only where the one that is followed fails.
+    /// After how many milliseconds without a publication the other servers are asked, one after
+    /// another. Zero: only where the one that is followed fails.
     pub return_after: u64,
     /// Whether each connection asks for the newest commit again, to see whether the server still
     /// has that.
@@ -40,6 +40,7 @@ pub struct LiveLimits {
 pub struct Setup {
     /// The contest whose feed is served.
     pub contest: String,
+    /// What the relay may do, and how long it waits.
     pub limits: LiveLimits,
     /// How much is kept of the feed.
     pub kept: Limits,

@@ -2,7 +2,7 @@
 
 ghost use Rattle.std.specs.Prelude.{◌≡◌, ◌⊎◌, ◌≤◌, ℕ, Option, IfOk, OnErr, MatchResult};
 ghost use Rattle.feed_device.specs.Calls.{CalledOnce};
-ghost use Rattle.feed_live.specs.Running.{surroundings, moment_of, at_once, IsTurn, HasRun, Ran, IsNotBegun, RunsFrom, FailsBy};
+ghost use Rattle.feed_live.specs.Running.{surroundings, moment_of, at_once, IsTurn, HasRun, Ran, IsNotBegun, RunsFrom, CountsHostFault};
 ghost use Rattle.feed_live.specs.declared.running.RunFault.TheVariants.{Memory};
 
 use crate::host::{Given, Host};
@@ -138,7 +138,7 @@ pub fn run<S: Sockets, L: Link, D: Store, H: Host<S, L, D>>(
         (H.calls host.old) (H.calls host.new) result }
     // it fails where the host did, or where memory ran out before it began, and then only
     ensures failed { MatchResult result (λ _. H.failed host.new ≡ H.failed host.old)
-        (λ fault. FailsBy fault (H.failed host.old) (H.failed host.new)) }
+        (λ fault. CountsHostFault fault (H.failed host.old) (H.failed host.new)) }
 {
     let mut live = begin(alloc, setup, host, &mut devices.store)?;
     match run_turns(alloc, host, devices, &mut live) {

@@ -36,35 +36,47 @@ enum Reach {
     Reads,
 }
 
+/// What a relay follows: servers, or its input, and the mirrors of that.
 #[derive(Drop)]
 pub(crate) struct Source {
+    /// The servers, each at its number; none where the feed is the input.
     places: Vec<Place>,
+    /// As whom they are asked.
     identity: Identity,
+    /// Which of them is asked, when, and how far its response was read.
     upstream: Upstream,
+    /// What screens are answered with: what is shown, or nothing.
     pub(crate) answers: Answers,
     /// What follows a connection that asked for everything, until that has settled: it is not
     /// shown.
     coming: Option<Mirror>,
+    /// When that has settled.
     settling: Settling,
     /// The last token of what came afresh when the connection ended before it had settled.
     ended: Option<Name>,
-    /// The first line of the body that came afresh last; and whether no line of this one came yet.
+    /// The first line of the body that came afresh last; empty where none did, or it was too long.
     replayed: Vec<u8>,
+    /// No line of this body came yet.
     is_at_start: bool,
     /// Where the head of the response says that the feed is.
     location: Option<Excerpt>,
+    /// How far the connection has come.
     reach: Reach,
+    /// The request that was made for it.
     request: Vec<u8>,
-    /// When the connection was begun.
+    /// When the connection was begun, in milliseconds.
     opened: u64,
-    /// Since when a response has a good head.
+    /// Since when a response has a good head; none where it has none yet.
     body_since: Option<u64>,
     /// It was reported that this connection gives one token to two states.
     has_reported_twice: bool,
+    /// When a server is left that has nothing new.
     returning: Returning,
+    /// Whether a server still has the newest commit.
     rechecking: Rechecking,
+    /// A server was heard, or there is nothing that a server has to say first.
     is_heard: bool,
-    /// Since when no server answers.
+    /// Since when no server answers, in milliseconds.
     away_since: u64,
     /// The connection asked for everything, and has published nothing yet.
     is_fresh: bool,
@@ -72,8 +84,9 @@ pub(crate) struct Source {
     epoch: u64,
     /// What came behind a commit after which nothing more could be said.
     rest: Vec<u8>,
-    /// There may be more to read, of which no event will tell.
+    /// There may be more to read, for which no event comes.
     has_more: bool,
+    /// What is counted of it.
     figures: FeedFigures,
 }
 
@@ -183,7 +196,7 @@ impl Source {
         self.has_more = self.reach != Reach::Away;
     }
 
-    /// When something is due that no event will tell of.
+    /// When something is due for which no event comes.
     pub(crate) fn due(&self, idle: u64) -> u64 {
         let due = self.upstream.due(idle);
         let dues = [

@@ -5,7 +5,7 @@ ghost use Rattle.feed_node.specs.Mirroring.{new_mirror};
 ghost use Rattle.feed_node.specs.States.{NodeState};
 ghost use Rattle.feed_world.specs.Log.{Log, IsLog};
 ghost use Rattle.feed_hub.specs.Laws.{IsInLog, AreInLog};
-ghost use Rattle.feed_live.specs.Running.{BeginsInLog, AreFilesOfLog, Begins, FailsBy};
+ghost use Rattle.feed_live.specs.Running.{BeginsInLog, AreFilesOfLog, BeginsAsSetUp, CountsHostFault};
 ghost use Rattle.feed_files.specs.Saved.{ArePartsOfRecords, EndsAsRecorded, OrNothing};
 
 use crate::host::Host;
@@ -87,20 +87,20 @@ fn restored_for<D: Store>(
     })
 }
 
-/// A relay of this setup, which begins with what its state files had. What that is, the host is
-/// told before.
+/// A relay of this setup, which begins with what its state files had. The host reports what that is
+/// before.
 pub(crate) fn begin<S, L, D: Store, H: Host<S, L, D>>(
     alloc: Global,
     setup: Setup,
     host: &mut H,
     store: &mut D,
 ) -> Result<Live, RunFault<H::Error>>
-    ensures begins { IfOk result (Begins setup (D.files store.old) (D.files store.new)) }
+    ensures begins { IfOk result (BeginsAsSetUp setup (D.files store.old) (D.files store.new)) }
     ensures err { OnErr result (D.files store.new ≡ D.files store.old) }
     ensures input { H.input host.new ≡ H.input host.old }
     ensures calls { H.calls host.new ≡ H.calls host.old }
     ensures failed { MatchResult result (λ _. H.failed host.new ≡ H.failed host.old)
-        (λ fault. FailsBy fault (H.failed host.old) (H.failed host.new)) }
+        (λ fault. CountsHostFault fault (H.failed host.old) (H.failed host.new)) }
 {
     let blank = Mirror::new(alloc, setup.kept)?;
     let restored = restored_for(alloc, &setup, store)?;

@@ -18,9 +18,9 @@ pub(crate) const LONGEST_REPLAY: u64 = 600_000;
 /// How often it is reported that it has not settled yet.
 pub(crate) const REPLAY_REPORT: u64 = 30_000;
 
-/// How long each of those has that are asked in turn, or as long as the one before them where that
-/// is less.
-pub(crate) const TURN_TIME: u64 = 10_000;
+/// How long each server of a round is followed, or as long as the one before them where that is
+/// less.
+pub(crate) const ROUND_TIME: u64 = 10_000;
 
 /// After so long in which changes waited for a token, there may be none.
 pub const LONG_WAIT: u64 = 10_000;

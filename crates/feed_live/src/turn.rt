@@ -47,20 +47,29 @@ pub struct Turn {
 /// A relay.
 #[derive(Drop)]
 pub struct Live {
+    /// The contest whose feed is served.
     contest: String,
+    /// What it may do, and how long it waits.
     limits: LiveLimits,
+    /// What it follows, and shows of that.
     pub(crate) source: Source,
+    /// Whom it serves.
     pub(crate) screens: Screens,
+    /// Its state files; none where nothing is kept.
     pub(crate) saved: Option<Saved>,
+    /// What its parts have at hand.
     desk: Desk,
+    /// When it looked last for who is late, in milliseconds.
     ticked: u64,
+    /// When the number of screens was reported last, in milliseconds.
     reported: u64,
     /// How often the feed was published afresh when the state file was looked after last.
     epoch: u64,
     /// Whether the input is the feed and goes on.
     feeds: bool,
-    /// When a relay that ends does so at the latest.
+    /// When a relay that ends does so at the latest, in milliseconds; none where it goes on.
     ends_at: Option<u64>,
+    /// It was reported that requests wait for a server.
     is_hold_reported: bool,
 }
 
@@ -69,7 +78,7 @@ impl Live {
     ghost use Rattle.feed_live.specs.Taking.{IsTakingInput, StillTaking, StopsTaking, bytes_in};
     ghost use Rattle.feed_live.specs.Ending.{SameSaved};
     ghost use Rattle.feed_screens.specs.Owed.{OwesWhatIsKept};
-    ghost use Rattle.feed_live.specs.Running.{IsOver, IsSameRelay};
+    ghost use Rattle.feed_live.specs.Running.{IsRelayOver, IsSameRelay};
     ghost use Rattle.feed_screens.specs.Waiting.{TakesNobody};
     ghost use Rattle.feed_live.specs.Ending.{EndsWithInput};
 
@@ -240,7 +249,7 @@ impl Live {
             ≡ (is_none self.new.ends_at && is_none self.new.screens.saying.waits) }
 
         // it is the last one only where the relay ends with its input, and that is over
-        ensures over { result.is_over ≡ true → IsOver self.new now }
+        ensures over { result.is_over ≡ true → IsRelayOver self.new now }
 
         // and it is where the time for that has come
         ensures in_time { IfSome self.new.ends_at (λ at. at ≤ now → result.is_over ≡ true) }
@@ -307,7 +316,7 @@ impl Live {
         ensures saved { SameSaved self.old self.new }
         ensures takes { result.takes_input
             ≡ (is_none self.new.ends_at && is_none self.new.screens.saying.waits) }
-        ensures over { result.is_over ≡ true → IsOver self.new now }
+        ensures over { result.is_over ≡ true → IsRelayOver self.new now }
         ensures in_time { IfSome self.new.ends_at (λ at. at ≤ now → result.is_over ≡ true) }
         ensures pauses { self.new.screens.accept_at ≡ self.old.screens.accept_at }
     {
@@ -326,7 +335,7 @@ impl Live {
     }
 
     fn is_over(&self, now: u64) -> bool
-        ensures over { result ≡ true → IsOver self.now now }
+        ensures over { result ≡ true → IsRelayOver self.now now }
         ensures in_time { IfSome self.now.ends_at (λ at. at ≤ now → result ≡ true) }
     {
         match self.ends_at {

@@ -28,8 +28,8 @@ pub record IsTextAt (texts : List Text) (text : Text) (at : ℕ) : Type 0 where
   pub is : HoldsAt (λ t. t ≡ text) texts at
 
 -- one of so many bytes, with so many readers
-abbrev pub text_of : TextId → ℕ → ℕ → Text
-text_of id bytes readers = record { id = id; length = bytes; readers = readers }
+abbrev pub text_with_readers : TextId → ℕ → ℕ → Text
+text_with_readers id bytes readers = record { id = id; length = bytes; readers = readers }
 
 -- one that is there has so many readers now, as many more than so many
 pub record Counts (id : TextId) (Becomes : ℕ → ℕ → Type 0) (old new : List Text) : Type 0 where
@@ -39,11 +39,11 @@ pub record Counts (id : TextId) (Becomes : ℕ → ℕ → Type 0) (old new : Li
   pub id_is : text.id ≡ id
   pub readers : ℕ
   pub becomes : Becomes text.readers readers
-  pub is : new ≡ slice_set old at (text_of id text.length readers)
+  pub is : new ≡ slice_set old at (text_with_readers id text.length readers)
 
 -- A screen has yet to take a text of so many bytes: it is new, or has one reader more.
 abbrev pub Adds : TextId → ℕ → List Text → List Text → Type 0
-Adds id bytes old new = (HasNone old id × (new ≡ old ++ text_of id bytes 1 ∷ []))
+Adds id bytes old new = (HasNone old id × (new ≡ old ++ text_with_readers id bytes 1 ∷ []))
     ⊎ Counts id (λ before after. after ≡ min (before + 1) (2 ^ 64 - 1)) old new
 
 -- the last reader of a text went, and so it did
@@ -63,21 +63,21 @@ Removes id old new = DropsText id old new
 -- ---- who has them
 
 -- whether two are the same
-unfoldable pub is_same : TextId → TextId → Bool
-is_same (Opening a) (Opening b) = a == b
-is_same (Opening a) (Own b) = false
-is_same (Opening a) (Commit b) = false
-is_same (Own a) (Own b) = a == b
-is_same (Own a) (Opening b) = false
-is_same (Own a) (Commit b) = false
-is_same (Commit a) (Commit b) = a == b
-is_same (Commit a) (Opening b) = false
-is_same (Commit a) (Own b) = false
+unfoldable pub is_same_text : TextId → TextId → Bool
+is_same_text (Opening a) (Opening b) = a == b
+is_same_text (Opening a) (Own b) = false
+is_same_text (Opening a) (Commit b) = false
+is_same_text (Own a) (Own b) = a == b
+is_same_text (Own a) (Opening b) = false
+is_same_text (Own a) (Commit b) = false
+is_same_text (Commit a) (Commit b) = a == b
+is_same_text (Commit a) (Opening b) = false
+is_same_text (Commit a) (Own b) = false
 
 -- whether this is what the screen at a place has yet to take
 abbrev pub is_taker : TextId → Option TextId → Bool
 is_taker id None = false
-is_taker id (Some held) = is_same held id
+is_taker id (Some held) = is_same_text held id
 
 -- at how many places a screen has yet to take it
 unfoldable pub takers : TextId → List (Option TextId) → ℕ
@@ -85,15 +85,15 @@ takers id places = count_by (is_taker id) places
 
 -- how many readers it has on the list
 unfoldable pub readers : TextId → List Text → ℕ
-readers id texts = sum_by (λ text. if is_same text.id id then text.readers else 0) texts
+readers id texts = sum_by (λ text. if is_same_text text.id id then text.readers else 0) texts
 
 -- each has just as many readers as there are places where a screen has yet to take it
 abbrev pub AreCounted : List Text → List (Option TextId) → Type 0
 AreCounted texts places = (id : TextId) → readers id texts ≡ takers id places
 
 -- the text that the screen at a place has yet to take
-abbrev pub text_at : List (Option TextId) → ℕ → Option TextId
-text_at places at = slice_index_or places at None
+abbrev pub owed_text_at : List (Option TextId) → ℕ → Option TextId
+owed_text_at places at = slice_index_or places at None
 
 -- so it is with the text that a screen has yet to take
 abbrev pub Pays : Option TextId → List Text → List Text → Type 0
@@ -102,4 +102,4 @@ Pays (Some id) old new = Removes id old new
 
 -- where there is no connection, none is pending
 abbrev pub AreConnected : List (Option TextId) → Slab Conn → Type 0
-AreConnected places conns = (at : ℕ) → get conns at ≡ None → text_at places at ≡ None
+AreConnected places conns = (at : ℕ) → get conns at ≡ None → owed_text_at places at ≡ None

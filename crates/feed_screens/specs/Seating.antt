@@ -21,13 +21,13 @@ abbrev pub comes_until : Screens → ℕ → ℕ
 comes_until screens now = min (min (now + 30000) (2 ^ 64 - 1) + screens.held) (2 ^ 64 - 1)
 
 -- it has this key, and sent its end
-abbrev pub IsEnded : Option Conn → Key → Type 0
-IsEnded None key = ⊥
-IsEnded (Some conn) key = (conn.key ≡ Some key) × (conn.ended ≢ None)
+abbrev pub SentEndWithKey : Option Conn → Key → Type 0
+SentEndWithKey None key = ⊥
+SentEndWithKey (Some conn) key = (conn.key ≡ Some key) × (conn.ended ≢ None)
 
 -- so it is with a connection
 abbrev pub HasSentEnd : Slab Conn → Key → Type 0
-HasSentEnd conns key = (at : ℕ) × IsEnded (get conns at) key
+HasSentEnd conns key = (at : ℕ) × SentEndWithKey (get conns at) key
 
 -- all was sent: what comes is read and forgotten
 abbrev pub Lingers : Stage → Type 0

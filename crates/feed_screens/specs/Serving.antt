@@ -1,4 +1,4 @@
--- THE PROMISE, up to each socket: what is written to it is what the hub was told at the key of its
+-- THE PROMISE, up to each socket: what is written to it is what the hub counts at the key of its
 -- connection, and so a prefix of what is due to the answer that one of the nodes gave.
 use Rattle.std.specs.Prelude.{◌≡◌, ℕ, zero, suc, ◌<◌, ◌≤◌, ◌+◌, ◌-◌, ◌^◌, min, List, [], ◌++◌, take, drop, Option, Some, None, Bool, true, false, Result, MatchResult, Contains, IfSome, ◌⊎◌}
 use Rattle.std.specs.List.{AllByRecursion}
@@ -80,7 +80,7 @@ pub record IsSent (nodes : List NodeState) (contest : List ℕ) (socket : Option
   pub faithful : IsFaithful nodes contest came bytes
 
 -- The socket of the connection with this key. All that came is its request so far, and nothing was
--- written; or it is served, and what was written is what the hub was told of; or the hub cut it.
+-- written; or it is served, and what was written is what the hub counts; or the hub cut it.
 pub data Sits (nodes : List NodeState) (contest : List ℕ) (hub : Hub) (key : Key)
     (socket : Option Socket) : Type 0 where
   asks : (asking : Asking) → seat_at hub.seats.slab key ≡ Some (Asks asking)
@@ -162,7 +162,7 @@ StillServes node old new =
     → StillServing nodes contest old new sockets sockets
 
 -- these bytes more came over the connection at a number, and nothing else happened
-pub record Came (old new : AllSockets) (at : ℕ) (bytes : List ℕ) : Type 0 where
+pub record BytesCame (old new : AllSockets) (at : ℕ) (bytes : List ℕ) : Type 0 where
   pub more : new at ≡ on_current (came_to bytes) (old at)
   pub others : OtherSockets old new at
 
@@ -170,7 +170,7 @@ pub record Came (old new : AllSockets) (at : ℕ) (bytes : List ℕ) : Type 0 wh
 pub record ServesBut (nodes : List NodeState) (contest : List ℕ) (hub : Hub) (conns : Slab Conn)
     (sockets : AllSockets) (at : ℕ) (unheard : List ℕ) : Type 0 where
   pub before : AllSockets
-  pub came : Came before sockets at unheard
+  pub came : BytesCame before sockets at unheard
   pub serving : ServesScreens nodes contest hub conns before
 
 -- it was so before these bytes came, and is so now

@@ -2,7 +2,7 @@
 
 ghost use Rattle.std.specs.Prelude.{◌≡◌, ◌⊎◌, None, Some, IsTrue, IfSome};
 ghost use Rattle.feed_screens.specs.Held.{HasLingered};
-ghost use Rattle.feed_screens.specs.Seating.{IsEnded, Lingers};
+ghost use Rattle.feed_screens.specs.Seating.{SentEndWithKey, Lingers};
 ghost use Rattle.feed_screens.specs.Waiting.{HasWaited, TakesSlowly};
 
 use crate::times::{LINGER, PATIENCE, ROOM_TIME, SHARE_TIME};
@@ -35,7 +35,9 @@ pub(crate) enum Wanted {
 /// That a connection waits for room: since when, and for what.
 #[derive(Clone, Copy, PartialEq, Eq)]
 pub(crate) struct Wait {
+    /// When it began to wait, in milliseconds.
     pub(crate) since: u64,
+    /// What it has no room for.
     pub(crate) wanted: Wanted,
 }
 
@@ -44,23 +46,31 @@ pub(crate) struct Wait {
 pub(crate) struct Conn {
     /// Its key in the hub; none where it has no seat there, or no longer.
     pub(crate) key: Option<Key>,
+    /// How far it has come.
     pub(crate) stage: Stage,
     /// The last write would have waited, or took a part alone.
     pub(crate) is_blocked: bool,
-    /// There may be more to read, and more to write, of which no event will tell.
+    /// There may be more to read, for which no event comes.
     pub(crate) has_input: bool,
+    /// There may be more to write, for which no event comes.
     pub(crate) has_more: bool,
-    /// How many bytes the text has that it has yet to take; since when it has that, and how much it
-    /// took since.
+    /// How many bytes the text has that it has yet to take; zero where there is none.
     pub(crate) owes: usize,
+    /// Since when it has that text to take, in milliseconds.
     pub(crate) owed_since: u64,
+    /// How many bytes it took since then.
     pub(crate) took: u64,
+    /// What it waits for; none where there is room for it.
     pub(crate) wait: Option<Wait>,
-    /// When a screen sent its end: mostly it went away.
+    /// When a screen sent its end, in milliseconds: mostly it went away.
     pub(crate) ended: Option<u64>,
+    /// Who connected.
     pub(crate) peer: SocketAddr,
+    /// When it was taken, in milliseconds.
     pub(crate) since: u64,
+    /// The status of its answer; zero until it has one.
     pub(crate) status: u16,
+    /// How many bytes it took in all.
     pub(crate) bytes: u64,
 }
 
@@ -265,7 +275,7 @@ impl Conn {
     /// The one of two screens that sent its end first, and when: another one, and this one.
     pub(crate) fn ended_before(&self, other: Option<(u64, Key)>) -> Option<(u64, Key)>
         ensures { (result ≡ other)
-            ⊎ IfSome result (λ found. IsEnded (Some self.now) found.1) }
+            ⊎ IfSome result (λ found. SentEndWithKey (Some self.now) found.1) }
     {
         let (Some(ended), Some(key)) = (self.ended, self.key) else {
             return other;

@@ -16,16 +16,19 @@ const STATUSES: [u16; REFUSALS] = [400, 404, 405, 431, 503];
 pub struct ScreenTotals {
     /// The most at once.
     pub most: usize,
+    /// How many connections were taken.
     pub opened: u64,
     /// How many were answered with a status other than 200.
     pub refused: u64,
     /// Each such status, and how many were answered with it.
     pub refused_by: [(u16, u64); REFUSALS],
+    /// How many connections were cut.
     pub cut: u64,
     /// How many bytes they were handed.
     pub bytes: u64,
-    /// How often what was shown was published afresh, and how many bodies were ended for that.
+    /// How often what was shown was published afresh.
     pub resets: u64,
+    /// How many bodies were ended for that.
     pub ended: u64,
 }
 
@@ -82,6 +85,7 @@ impl ScreenTotals {
 /// How many screens there are at the moment.
 #[derive(Clone, Copy, Debug)]
 pub struct ScreenFigures {
+    /// All connections, also those that were refused and are not closed yet.
     pub open: usize,
     /// Those whose request has not come or not been answered yet.
     pub asking: usize,
@@ -91,12 +95,14 @@ pub struct ScreenFigures {
     pub waiting: usize,
     /// Whether one more would be answered 503, since there are as many as there may be.
     pub are_full: bool,
+    /// What was counted since the start.
     pub totals: ScreenTotals,
 }
 
 /// One screen's connection, as it is at a moment. Times are in milliseconds.
 #[derive(Clone, Copy, Debug)]
 pub struct ScreenRow {
+    /// Who connected.
     pub peer: SocketAddr,
     /// When it was taken.
     pub since: u64,

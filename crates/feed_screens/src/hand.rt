@@ -12,8 +12,8 @@ ghost use Rattle.feed_device.specs.Sockets.{IsWrite, OtherSockets};
 use feed_device::{Sockets, Stop};
 use feed_hub::{Hub, Key};
 
-/// Writes once what the connection at a key is sent next, to the socket at a number, and tells the
-/// hub of just the bytes that the socket took. Answers how many these are.
+/// Writes once what the connection at a key is sent next, to the socket at a number, and counts in
+/// the hub just the bytes that the socket took. Answers how many these are.
 pub(crate) fn hand<S: Sockets>(
     hub: &mut Hub,
     sockets: &mut S,
@@ -21,7 +21,7 @@ pub(crate) fn hand<S: Sockets>(
     key: Key,
     now: u64,
 ) -> Result<usize, Stop>
-    // what the socket was given is what the hub was told of, at the same key
+    // what the socket was given is what the hub counts, at the same key
     ensures bytes { IsWrite (S.socket sockets.old at) (S.socket sockets.new at) result
         (prefix_at hub.old key) }
     ensures bound { IfOk result (λ count. count ≤ length (prefix_at hub.old key)) }

@@ -14,6 +14,7 @@ pub struct ScreenLimits {
     pub pending: usize,
     /// After how many milliseconds of silence a line feed is sent.
     pub idle: u64,
+    /// How the bodies of answers are framed.
     pub framing: Framing,
     /// Whether each screen is reported.
     pub is_verbose: bool,

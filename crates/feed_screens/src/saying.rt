@@ -81,7 +81,7 @@ impl Screens {
         false
     }
 
-    /// When there is something to do of which no event will tell.
+    /// When there is something to do for which no event comes.
     pub fn due(&self, now: u64) -> u64
         ensures more { self.now.has_more ≡ true → result ≡ now }
         ensures says { IfSome self.now.saying.waits (λ at. now ≤ at → result ≤ at) }

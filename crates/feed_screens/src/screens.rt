@@ -39,7 +39,9 @@ Content-Type: application/json\r\nContent-Length: 41\r\nConnection: close\r\n\r\
 /// A connection that has a key: its place, and its key in the hub.
 #[derive(Clone, Copy)]
 pub(crate) struct Keyed {
+    /// Its place, which is its socket's number, too.
     pub(crate) at: usize,
+    /// What its seat in the hub has.
     pub(crate) key: Key,
 }
 
@@ -57,8 +59,11 @@ pub(crate) enum Hearing {
 /// What came and went since that was reported last.
 #[derive(Clone, Copy)]
 pub(crate) struct Counts {
+    /// How many connections were taken.
     pub(crate) came: u64,
+    /// How many ended that were not cut.
     pub(crate) ended: u64,
+    /// How many were cut.
     pub(crate) cut: u64,
 }
 
@@ -88,9 +93,11 @@ pub struct Answers {
 /// What is asked for, and whether that can be answered.
 #[derive(Clone, Copy)]
 pub struct Shown<'a> {
-    /// Requests wait until a server was heard, and for so many milliseconds at most.
+    /// Whether requests wait, since no server was heard yet.
     pub is_held: bool,
+    /// For how many milliseconds they do so at most.
     pub hold: u64,
+    /// The contest whose feed is served.
     pub contest: &'a str,
 }
 
@@ -108,27 +115,35 @@ impl Shown<'_> {
 /// The screens of a relay.
 #[derive(Drop)]
 pub struct Screens {
+    /// What each of them is sent next.
     pub(crate) hub: Hub,
+    /// Each connection at its place.
     pub(crate) conns: Slab<Conn>,
+    /// What the screens may take.
     pub(crate) limits: ScreenLimits,
+    /// What was said to all, and what is still to be said.
     pub(crate) saying: Saying,
+    /// What came and went since that was reported last.
     pub(crate) counts: Counts,
+    /// What was counted since the start.
     pub(crate) totals: ScreenTotals,
     /// The long texts that screens have yet to take.
     pub(crate) pending: Pending,
     /// How many bytes were made in this turn for those who catch up.
     pub(crate) made: usize,
-    /// Some connection has more to read or to write, of which no event will tell.
+    /// Some connection has more to read or to write, for which no event comes.
     pub(crate) has_more: bool,
     /// Somebody may wait for room: where not, nobody does.
     pub(crate) is_waited: bool,
     /// For how long requests may have to wait until a server is heard, in milliseconds.
     pub(crate) held: u64,
-    /// Somebody waits to be taken; not before this time.
+    /// Somebody waits to be taken.
     pub(crate) is_waited_for: bool,
+    /// Before this time nobody is taken, in milliseconds; zero where that did not fail.
     pub(crate) accept_at: u64,
-    /// That was reported in this minute.
+    /// It was reported in this minute that there are as many as there may be.
     pub(crate) is_full: bool,
+    /// It was reported in this minute that nobody can be taken.
     pub(crate) is_stuck: bool,
     // where there is no connection, nothing is pending
     ghost connected: { AreConnected pending.places.items conns },

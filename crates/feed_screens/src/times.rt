@@ -7,7 +7,8 @@ pub(crate) const REQUEST_TIME: u64 = 30_000;
 /// For how long none is taken after that failed.
 pub(crate) const ACCEPT_PAUSE: u64 = 1_000;
 
-/// For how long a request for everything waits for room: then it is told that there are too many.
+/// For how long a request for everything waits for room: then the answer is that there are too
+/// many.
 pub(crate) const ROOM_TIME: u64 = 30_000;
 
 /// For how long what still comes is read after the last byte was sent. Closed with bytes unread, a

@@ -16,7 +16,7 @@ use feed_screens::Screens;
 use std::alloc::{AllocError, Global};
 
 impl Source {
-    ghost use Rattle.feed_live.specs.Relaying.{StillFollows, SameSource, WasLeft, GoesOnTo, IsToConnect, servers_of};
+    ghost use Rattle.feed_live.specs.Relaying.{StillFollows, SameSource, WasLeft, GoesOnTo, IsToConnect, servers_of, within_turn};
     ghost use Rattle.feed_live.specs.Upstream.{IsRequestOf, IsRequestWith, asked_with};
     ghost use Rattle.feed_live.specs.declared.source.Reach.TheVariants.{Away, Asks as Asked};
     ghost use Rattle.feed_screens.specs.declared.screens.Screens.{Screens};
@@ -44,7 +44,7 @@ impl Source {
     /// How long a server may take to take a connection: not long where another one was left for it
     /// that did not fail.
     fn connect_time(&self) -> u64 {
-        if self.returning.has_turned() {
+        if self.returning.has_left_quiet() {
             CONNECT_TIME / 5
         } else {
             CONNECT_TIME
@@ -54,9 +54,9 @@ impl Source {
     /// Leaves a server that is late, silent or has nothing new for long, and begins to connect
     /// where that is due.
     pub(crate) fn tick<L: Link>(&mut self, desk: &mut Desk, link: &mut L, idle: u64)
-        ensures follows { (screens : Screens) → StillFollows self.old self.new
-            (L.exchanges link.old) (L.exchanges link.new) self.old.rest.items
-            self.new.rest.items screens screens }
+        ensures follows { (screens : Screens) → StillFollows
+            (within_turn (L.exchanges link.old) self.old self.old.rest.items screens)
+            (within_turn (L.exchanges link.new) self.new self.new.rest.items screens) }
         // where there is no connection, and one is due, it is begun, once; or memory ran out, and
         // the next place is asked after that
         ensures begins { IsToConnect self.old desk.old.time
@@ -72,9 +72,9 @@ impl Source {
 
     /// Leaves a server that is late or silent, or has nothing new for long.
     fn leave_due<L: Link>(&mut self, desk: &mut Desk, link: &mut L, idle: u64)
-        ensures follows { (screens : Screens) → StillFollows self.old self.new
-            (L.exchanges link.old) (L.exchanges link.new) self.old.rest.items
-            self.new.rest.items screens screens }
+        ensures follows { (screens : Screens) → StillFollows
+            (within_turn (L.exchanges link.old) self.old self.old.rest.items screens)
+            (within_turn (L.exchanges link.new) self.new self.new.rest.items screens) }
         // none is left where there is none
         ensures away { self.old.reach ≡ Away → (self.new ≡ self.old)
             × (L.begun link.new ≡ L.begun link.old) × (desk.new.time ≡ desk.old.time) }
@@ -85,8 +85,8 @@ impl Source {
         match self.leaves(idle, desk.time) {
             Some(why) => self.lost(desk, link, why),
             None => {
-                if self.is_to_turn(desk.time) {
-                    self.turn(desk, link);
+                if self.is_to_leave_quiet(desk.time) {
+                    self.leave_quiet(desk, link);
                 } else if self.is_to_ask_newest(desk.time) {
                     self.ask_newest(link, desk.time);
                 }
@@ -123,9 +123,9 @@ impl Source {
 
     /// Begins to connect. From here on the silence of the server counts.
     fn connect<L: Link>(&mut self, desk: &mut Desk, link: &mut L)
-        ensures follows { (screens : Screens) → StillFollows self.old self.new
-            (L.exchanges link.old) (L.exchanges link.new) self.old.rest.items
-            self.new.rest.items screens screens }
+        ensures follows { (screens : Screens) → StillFollows
+            (within_turn (L.exchanges link.old) self.old self.old.rest.items screens)
+            (within_turn (L.exchanges link.new) self.new self.new.rest.items screens) }
         // A connection is begun, once; or memory ran out, and the next place is asked after that.
         ensures begins { self.old.upstream.place < length self.old.places.items
             → CalledOnce (L.begun link.old) (L.begun link.new)
@@ -232,8 +232,8 @@ impl Source {
             .add_if(is_reported, Report::Lost { server, why, pause });
     }
 
-    /// A server is lost. Whether that is to be reported: not where it only had its turn, and did
-    /// not answer.
+    /// A server is lost. Whether that is to be reported: not where it was only asked since another
+    /// one had nothing new, and did not answer.
     fn lose(&mut self) -> bool
         ensures same { SameSource self.old self.new }
         ensures upstream { self.new.upstream ≡ self.old.upstream }
@@ -241,7 +241,7 @@ impl Source {
         if self.body_since.is_some() {
             self.returning.lose();
         }
-        !self.returning.has_turned()
+        !self.returning.has_left_quiet()
     }
 
     /// A server that ended its answer has sent all that comes after our token.
@@ -276,8 +276,9 @@ impl Source {
 
     /// Goes on with the connection: an event came for it, or there was more.
     pub(crate) fn go_on<L: Link>(&mut self, desk: &mut Desk, link: &mut L, screens: &mut Screens)
-        ensures follows { StillFollows self.old self.new (L.exchanges link.old)
-            (L.exchanges link.new) self.old.rest.items self.new.rest.items screens.old screens.new }
+        ensures follows { StillFollows
+            (within_turn (L.exchanges link.old) self.old self.old.rest.items screens.old)
+            (within_turn (L.exchanges link.new) self.new self.new.rest.items screens.new) }
     {
         self.has_more = false;
         if let Reach::Connects(_) = self.reach {
@@ -298,9 +299,9 @@ impl Source {
 
     /// Writes the rest of the request, where that isn't written yet.
     fn ask<L: Link>(&mut self, desk: &mut Desk, link: &mut L)
-        ensures follows { (screens : Screens) → StillFollows self.old self.new
-            (L.exchanges link.old) (L.exchanges link.new) self.old.rest.items
-            self.new.rest.items screens screens }
+        ensures follows { (screens : Screens) → StillFollows
+            (within_turn (L.exchanges link.old) self.old self.old.rest.items screens)
+            (within_turn (L.exchanges link.new) self.new self.new.rest.items screens) }
     {
         for _ in 0..self.request.len().saturating_add(1) {
             let Reach::Asks(count) = self.reach else {
@@ -315,8 +316,9 @@ impl Source {
     /// One write, where so many bytes of the request were written. Whether another may come now.
     fn ask_once<L: Link>(&mut self, desk: &mut Desk, link: &mut L, count: usize) -> bool
         ensures follows { self.old.reach ≡ Asked count → (screens : Screens)
-            → StillFollows self.old self.new (L.exchanges link.old) (L.exchanges link.new)
-            self.old.rest.items self.new.rest.items screens screens }
+            → StillFollows
+            (within_turn (L.exchanges link.old) self.old self.old.rest.items screens)
+            (within_turn (L.exchanges link.new) self.new self.new.rest.items screens) }
     {
         let rest = behind(&self.request, count);
         if rest.is_empty() {

@@ -4,7 +4,7 @@ ghost use Rattle.std.specs.Prelude.{◌≡◌, ◌++◌, [], List, ℕ, OnOk, fa
 
 use crate::figures::Following;
 use crate::source::Source;
-use crate::source::reading::split_line;
+use crate::source::reading::line_or_part;
 use feed_device::{Desk, Report};
 use feed_node::FeedFault;
 use feed_screens::Screens;
@@ -131,7 +131,7 @@ impl Source {
             if rest.is_empty() || screens.says_at().is_some() {
                 break;
             }
-            let (line, next) = split_line(rest);
+            let (line, next) = line_or_part(rest);
             rest = next;
             self.feed_line(desk, screens, line)?;
         }

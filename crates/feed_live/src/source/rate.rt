@@ -17,6 +17,7 @@ pub(crate) struct Rate {
     slices: [u64; SLICES as usize],
     /// The number of the latest slice in which something came.
     latest: u64,
+    /// How many bytes came in all.
     total: u64,
     ghost some: { 0 < length },
 }

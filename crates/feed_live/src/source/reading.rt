@@ -17,7 +17,7 @@ use memchr::memchr;
 use std::alloc::{AllocError, Global};
 use std::mem;
 
-/// How many reads one turn makes before the screens have theirs, and how many bytes each takes.
+/// How many reads one turn makes before the screens are served, and how many bytes each takes.
 const READS: usize = 16;
 
 const PIECE: usize = 16_384;
@@ -26,7 +26,7 @@ const PIECE: usize = 16_384;
 const LOCATION: &[u8] = b"location:";
 
 impl Source {
-    ghost use Rattle.feed_live.specs.Relaying.{StillFollows, SameSource};
+    ghost use Rattle.feed_live.specs.Relaying.{StillFollows, SameSource, within_turn};
     ghost use Rattle.feed_live.specs.Relaying.{SameButUnread, WasLeft, PushesOnly, followed_by};
     ghost use Rattle.feed_screens.specs.Serving.{StillServes, StillStand, AllEnd, SaysAll};
     ghost use Rattle.feed_live.specs.declared.source.Reach.TheVariants.{Away, Reads as Read};
@@ -38,9 +38,9 @@ impl Source {
         link: &mut L,
         screens: &mut Screens,
     )
-        ensures follows { self.old.reach ≡ Read → StillFollows self.old self.new
-            (L.exchanges link.old) (L.exchanges link.new) self.old.rest.items
-            self.new.rest.items screens.old screens.new }
+        ensures follows { self.old.reach ≡ Read → StillFollows
+            (within_turn (L.exchanges link.old) self.old self.old.rest.items screens.old)
+            (within_turn (L.exchanges link.new) self.new self.new.rest.items screens.new) }
     {
         let rest = self.kept(desk.alloc);
         self.take(desk, link, screens, rest.as_slice());
@@ -59,8 +59,9 @@ impl Source {
     /// One read. Whether there may be more.
     fn read<L: Link>(&mut self, desk: &mut Desk, link: &mut L, screens: &mut Screens) -> bool
         ensures follows { self.old.reach ≡ Read → self.old.rest.items ≡ []
-            → StillFollows self.old self.new (L.exchanges link.old) (L.exchanges link.new) []
-            self.new.rest.items screens.old screens.new }
+            → StillFollows
+            (within_turn (L.exchanges link.old) self.old [] screens.old)
+            (within_turn (L.exchanges link.new) self.new self.new.rest.items screens.new) }
     {
         let mut buf = [0u8; PIECE];
         match link.read(&mut buf) {
@@ -88,8 +89,9 @@ impl Source {
     /// Bytes came: they are followed up to each line feed, so that one step publishes at most once.
     fn take<L: Link>(&mut self, desk: &mut Desk, link: &mut L, screens: &mut Screens, piece: &[u8])
         ensures follows { self.old.reach ≡ Read → self.old.rest.items ≡ []
-            → StillFollows self.old self.new (L.exchanges link.old) (L.exchanges link.new)
-            piece.now self.new.rest.items screens.old screens.new }
+            → StillFollows
+            (within_turn (L.exchanges link.old) self.old piece.now screens.old)
+            (within_turn (L.exchanges link.new) self.new self.new.rest.items screens.new) }
     {
         let mut rest = piece;
         for _ in 0..piece.len() {
@@ -135,11 +137,13 @@ impl Source {
     ) -> Option<&'a [u8]>
         ensures goes_on { IfSome result (λ next. (self.new.reach ≡ self.old.reach)
             × (self.new.rest.items ≡ self.old.rest.items)
-            × (self.old.reach ≡ Read → StillFollows self.old self.new (L.exchanges link.old)
-            (L.exchanges link.new) piece.entry.now next.now screens.old screens.new)) }
+            × (self.old.reach ≡ Read → StillFollows
+            (within_turn (L.exchanges link.old) self.old piece.entry.now screens.old)
+            (within_turn (L.exchanges link.new) self.new next.now screens.new))) }
         ensures stops { result ≡ None → (self.new.reach ≡ Away) × (self.old.reach ≡ Read
-            → (left : List ℕ) → StillFollows self.old self.new (L.exchanges link.old)
-            (L.exchanges link.new) piece.entry.now left screens.old screens.new) }
+            → (left : List ℕ) → StillFollows
+            (within_turn (L.exchanges link.old) self.old piece.entry.now screens.old)
+            (within_turn (L.exchanges link.new) self.new left screens.new)) }
     {
         if self.is_noted_replay(piece) {
             self.ignored(desk, link);
@@ -162,7 +166,7 @@ impl Source {
 
     /// Reports more of a fault: where the feed is said to be, or the line that can't be followed.
     fn report_fault(&self, desk: &mut Desk, fault: FollowFault, line: &[u8]) {
-        if self.returning.has_turned() {
+        if self.returning.has_left_quiet() {
             return;
         }
         let server = self.upstream.place();
@@ -189,13 +193,15 @@ impl Source {
     ) -> Option<&'a [u8]>
         ensures goes_on { IfSome result (λ next. (self.new.reach ≡ self.old.reach)
             × (self.new.rest.items ≡ self.old.rest.items)
-            × (self.old.reach ≡ Read → StillFollows self.old self.new (L.exchanges link.old)
-            (L.exchanges link.new) piece.entry.now next.now screens.old screens.new)) }
+            × (self.old.reach ≡ Read → StillFollows
+            (within_turn (L.exchanges link.old) self.old piece.entry.now screens.old)
+            (within_turn (L.exchanges link.new) self.new next.now screens.new))) }
         ensures stops { result ≡ None → (self.new.reach ≡ Away) × (self.old.reach ≡ Read
-            → (left : List ℕ) → StillFollows self.old self.new (L.exchanges link.old)
-            (L.exchanges link.new) piece.entry.now left screens.old screens.new) }
+            → (left : List ℕ) → StillFollows
+            (within_turn (L.exchanges link.old) self.old piece.entry.now screens.old)
+            (within_turn (L.exchanges link.new) self.new left screens.new)) }
     {
-        let (line, next) = split_line(piece);
+        let (line, next) = line_or_part(piece);
         match self.push(desk, line) {
             Ok(Progress::Head) => Some(next),
             Ok(Progress::Body) => {
@@ -264,7 +270,8 @@ impl Source {
         let refused = Report::Refused {
             server: self.upstream.place(),
         };
-        desk.reports.add_if(!self.returning.has_turned(), refused);
+        desk.reports
+            .add_if(!self.returning.has_left_quiet(), refused);
         self.without_token(link, desk.time);
     }
 
@@ -298,7 +305,7 @@ impl Source {
             server: self.upstream.place(),
             away: desk.time.saturating_sub(self.away_since),
         };
-        desk.reports.add_if(!self.returning.has_turned(), found);
+        desk.reports.add_if(!self.returning.has_left_quiet(), found);
     }
 
     /// Says what was published, where it is to be shown now. Where a connection published afresh,
@@ -412,8 +419,9 @@ fn location_of(line: &[u8]) -> Option<&[u8]> {
     Some(value.trim_ascii())
 }
 
-/// A piece up to and with its first line feed, or all of it; and what comes after that.
-pub(crate) fn split_line(piece: &[u8]) -> (&[u8], &[u8])
+/// The first line of a piece, with its line feed, or all of it, where it has none: a part of a
+/// line; and what comes after that.
+pub(crate) fn line_or_part(piece: &[u8]) -> (&[u8], &[u8])
     ensures { result.0.now ++ result.1.now ≡ piece.now }
 {
     match memchr(b'\n', piece) {

@@ -8,7 +8,7 @@ ghost use Rattle.feed_hub.specs.Follows.{MayAskWith};
 ghost use Rattle.feed_live.specs.Upstream.{asked_with};
 
 use crate::source::Source;
-use crate::source::reading::{given_twice, is_want_of_memory, split_line};
+use crate::source::reading::{given_twice, is_want_of_memory, line_or_part};
 use crate::times::QUIET;
 use feed_device::{Desk, Excerpt, Link, Report};
 use feed_follow::Follower;
@@ -20,6 +20,7 @@ use std::alloc::{AllocError, Global};
 /// token that isn't held.
 #[derive(Drop)]
 pub(crate) struct Again {
+    /// How far the response was read into the mirror.
     follower: Follower,
     /// It had nothing when the connection began, and is shown to nobody.
     mirror: Mirror,
@@ -95,7 +96,7 @@ impl Rechecking {
         self.has_come = false;
     }
 
-    /// It failed: the next server has its turn.
+    /// It failed: the next server is asked.
     pub(crate) fn lose(&mut self) {
         self.asks_newest = false;
     }
@@ -124,7 +125,7 @@ impl Rechecking {
 
 /// What a connection brought that asked for the newest commit again.
 #[derive(Clone, Copy)]
-enum Came {
+enum Brought {
     /// No token yet, or one from further back.
     Nothing,
     Newest,
@@ -132,16 +133,16 @@ enum Came {
 }
 
 /// What this token is to a node, where one came.
-fn what_came(token: Option<&str>, node: &Node) -> Came {
+fn what_came(token: Option<&str>, node: &Node) -> Brought {
     let (Some(came), Some(newest)) = (token, node.token()) else {
-        return Came::Nothing;
+        return Brought::Nothing;
     };
     if came == newest.text() {
-        Came::Newest
+        Brought::Newest
     } else if node.holds(came) {
-        Came::Nothing
+        Brought::Nothing
     } else {
-        Came::Another
+        Brought::Another
     }
 }
 
@@ -164,7 +165,7 @@ pub(crate) fn token_for<'a>(mirror: &'a Mirror, is_again: bool) -> Option<&'a st
 }
 
 impl Source {
-    ghost use Rattle.feed_live.specs.Relaying.{StillFollows, SameSource, WasLeft};
+    ghost use Rattle.feed_live.specs.Relaying.{StillFollows, SameSource, WasLeft, within_turn};
     ghost use Rattle.feed_live.specs.declared.source.Reach.TheVariants.{Away, Reads as Read};
 
     /// What the next connection is to bring, where it asks for the newest commit again.
@@ -190,20 +191,20 @@ impl Source {
         let Some(again) = &mut self.rechecking.again else {
             return false;
         };
-        let (line, _) = split_line(piece);
+        let (line, _) = line_or_part(piece);
         if !again.hears(alloc, line) {
             self.rechecking.again = None;
             return false;
         }
         let came = what_came(again.mirror.since(), self.answers.shown.node());
         match came {
-            Came::Nothing => false,
-            Came::Newest => {
+            Brought::Nothing => false,
+            Brought::Newest => {
                 self.rechecking.again = None;
                 self.rechecking.has_come = true;
                 false
             }
-            Came::Another => {
+            Brought::Another => {
                 self.rechecking.again = None;
                 true
             }
@@ -222,8 +223,8 @@ impl Source {
         if given_twice(self.answers.shown.mirror()).is_some() {
             return true;
         }
-        // Where another one was set back, servers keep their turns: else two relays would tell each
-        // other for ever that they still have what it had.
+        // Where another one was set back, refusals are counted on: else two relays that follow
+        // each other would keep for ever what it had.
         if !self.rechecking.is_doubted {
             self.upstream.held();
         }
@@ -282,11 +283,13 @@ impl Source {
     ) -> Option<&'a [u8]>
         ensures goes_on { IfSome result (λ next. (self.new.reach ≡ self.old.reach)
             × (self.new.rest.items ≡ self.old.rest.items)
-            × (self.old.reach ≡ Read → StillFollows self.old self.new (L.exchanges link.old)
-            (L.exchanges link.new) piece.entry.now next.now screens.old screens.new)) }
+            × (self.old.reach ≡ Read → StillFollows
+            (within_turn (L.exchanges link.old) self.old piece.entry.now screens.old)
+            (within_turn (L.exchanges link.new) self.new next.now screens.new))) }
         ensures stops { result ≡ None → (self.new.reach ≡ Away) × (self.old.reach ≡ Read
-            → (left : List ℕ) → StillFollows self.old self.new (L.exchanges link.old)
-            (L.exchanges link.new) piece.entry.now left screens.old screens.new) }
+            → (left : List ℕ) → StillFollows
+            (within_turn (L.exchanges link.old) self.old piece.entry.now screens.old)
+            (within_turn (L.exchanges link.new) self.new left screens.new)) }
     {
         if self.brings_another(desk.alloc, piece) {
             self.forgot(desk, link);

@@ -1,28 +1,31 @@
 //! A server that has nothing new for long may have lost its own way to the primary, or may be a
-//! relay that follows this one. So the others are asked in turn with our token: whoever has
-//! something new is followed then. That costs screens nothing. Where nobody has, the first one is
-//! followed for longer, until the next round.
+//! relay that follows this one. So it is left, and the others are asked one after another with our
+//! token: whoever has something new is followed then. That costs screens nothing. Where nobody has,
+//! the first one is followed for longer, until the next round.
 
 ghost use Rattle.std.specs.Prelude.{◌≡◌, ◌+◌, ◌%◌, min};
 
 use crate::figures::Following;
 use crate::source::{Reach, Source};
-use crate::times::TURN_TIME;
+use crate::times::ROUND_TIME;
 use feed_device::{Desk, Link, Report};
 use std::mem;
 
-/// For how many times as long the first one is followed, once each had its turn, until they have
-/// their turns again.
+/// For how many times as long the first one is followed, once each was asked, until they are asked
+/// again.
 const ROUNDS_APART: u64 = 5;
 
-/// When something was published last, and how often a server was left since then that had nothing.
+/// When something was published last, and how many servers were left since then for having nothing
+/// new.
 #[derive(Clone, Copy)]
 pub(crate) struct Returning {
     /// After so many milliseconds in which nothing was published another server is asked; never
     /// where it is zero.
     after: u64,
+    /// When something was published last, or the relay began, in milliseconds.
     published: u64,
-    turns: usize,
+    /// How many servers were left since then for having nothing new, in this round of them.
+    left_quiet: usize,
     /// Whether it was reported that one was left so.
     was_reported: bool,
 }
@@ -32,7 +35,7 @@ impl Returning {
         Returning {
             after,
             published: now,
-            turns: 0,
+            left_quiet: 0,
             was_reported: false,
         }
     }
@@ -40,14 +43,14 @@ impl Returning {
     /// Something was published.
     pub(crate) fn publish(&mut self, now: u64) {
         self.published = now;
-        self.turns = 0;
+        self.left_quiet = 0;
     }
 
-    /// Another one of so many servers has its turn: the first turn of a round, where each had one.
-    /// Whether that is to be reported: not where it was, and none was lost since then.
-    fn turn(&mut self, servers: usize) -> bool {
-        self.turns = if self.turns < servers {
-            self.turns.saturating_add(1)
+    /// One of so many servers is left for having nothing new: the first one of a round, where each
+    /// was. Whether that is to be reported: not where it was, and none was lost since then.
+    fn leave_quiet(&mut self, servers: usize) -> bool {
+        self.left_quiet = if self.left_quiet < servers {
+            self.left_quiet.saturating_add(1)
         } else {
             1
         };
@@ -55,17 +58,17 @@ impl Returning {
     }
 
     /// Whether a server was left for having nothing new.
-    pub(crate) fn has_turned(&self) -> bool {
-        self.turns > 0
+    pub(crate) fn has_left_quiet(&self) -> bool {
+        self.left_quiet > 0
     }
 
-    /// For how long a server is followed that has nothing new: the first one, or another; and
-    /// whether each had its turn since something was published.
-    fn time(&self, is_first: bool, had_turns: bool) -> u64 {
-        if had_turns && is_first {
+    /// For how many milliseconds a server is followed that has nothing new: the first one, or
+    /// another; and whether all were left for that since something was published.
+    fn time(&self, is_first: bool, were_all_left: bool) -> u64 {
+        if were_all_left && is_first {
             self.after.saturating_mul(ROUNDS_APART)
-        } else if self.has_turned() && !had_turns {
-            TURN_TIME.min(self.after)
+        } else if self.has_left_quiet() && !were_all_left {
+            ROUND_TIME.min(self.after)
         } else {
             self.after
         }
@@ -73,7 +76,7 @@ impl Returning {
 
     /// A server was lost that was followed: what becomes of the others is news again.
     pub(crate) fn lose(&mut self) {
-        self.turns = 0;
+        self.left_quiet = 0;
         self.was_reported = false;
     }
 }
@@ -81,12 +84,12 @@ impl Returning {
 impl Source {
     ghost use Rattle.feed_live.specs.Relaying.{WasLeft};
 
-    /// When a server is left that has nothing new, where there are others. Once each had its turn
-    /// since something was published, the first one stays for longer.
+    /// When a server is left that has nothing new, where there are others. Once all were left for
+    /// that since something was published, the first one stays for longer.
     pub(crate) fn returns_at(&self) -> Option<u64> {
         let since = self.body_since?;
         let is_first = self.upstream.place() == 0;
-        let had_turns = self.returning.turns >= self.places.len();
+        let were_all_left = self.returning.left_quiet >= self.places.len();
         if self.reach != Reach::Reads || self.coming.is_some() {
             return None;
         }
@@ -96,20 +99,21 @@ impl Source {
         if self.returning.after == 0 {
             return None;
         }
-        let time = self.returning.time(is_first, had_turns);
+        let time = self.returning.time(is_first, were_all_left);
         Some(since.max(self.returning.published).saturating_add(time))
     }
 
-    pub(crate) fn is_to_turn(&self, now: u64) -> bool {
+    /// Whether it is time for that.
+    pub(crate) fn is_to_leave_quiet(&self, now: u64) -> bool {
         match self.returns_at() {
             Some(at) => at <= now,
             None => false,
         }
     }
 
-    /// The server is left, and the next one is asked at once. It did not fail: the pauses stay as
-    /// they are, and so does what is counted of failures.
-    pub(crate) fn turn<L: Link>(&mut self, desk: &mut Desk, link: &mut L)
+    /// The server is left for having nothing new, and the next one is asked at once. It did not
+    /// fail: the pauses stay as they are, and so does what is counted of failures.
+    pub(crate) fn leave_quiet<L: Link>(&mut self, desk: &mut Desk, link: &mut L)
         ensures left { WasLeft self.old self.new (L.exchanges link.old) (L.exchanges link.new) }
         ensures next { self.new.upstream.place
             ≡ min (self.old.upstream.place + 1) u64.MAX % self.old.upstream.places }
@@ -119,7 +123,7 @@ impl Source {
             × (self.new.upstream.refused ≡ self.old.upstream.refused) }
     {
         let server = self.upstream.place();
-        let is_reported = self.returning.turn(self.places.len());
+        let is_reported = self.returning.leave_quiet(self.places.len());
         desk.reports.add_if(
             is_reported,
             Report::Quiet {

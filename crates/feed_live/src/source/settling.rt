@@ -5,14 +5,14 @@
 ghost use Rattle.std.specs.Prelude.{◌≡◌, ◌<◌, None, IfOk, IfSome, is_none, option_map, if◌then◌else◌, is_some};
 ghost use Rattle.feed_device.specs.Links.{shown_so, all_from};
 ghost use Rattle.feed_node.specs.Mirroring.{new_mirror};
-ghost use Rattle.feed_live.specs.Relaying.{followed};
+ghost use Rattle.feed_live.specs.Relaying.{following_mirror};
 
 mod showing;
 
 use crate::figures::Following;
 use crate::source::Source;
 use crate::source::rate::Rate;
-use crate::source::reading::split_line;
+use crate::source::reading::line_or_part;
 use crate::times::{LONGEST_REPLAY, REPLAY_REPORT};
 use feed_audit::{Difference, difference_of};
 use feed_device::{Desk, Excerpt, Link, Report};
@@ -34,19 +34,23 @@ pub(crate) struct Settling {
     is_always: bool,
     /// Whether that is so of several servers: they have tokens of their own.
     is_strange: bool,
-    /// When the first byte of the connection came, or it was begun.
+    /// When the first byte of the connection came, or it was begun, in milliseconds.
     began: u64,
+    /// Whether a byte of it came.
     is_begun: bool,
+    /// How much came of late.
     rate: Rate,
-    /// How many bytes and whole lines came on the connection.
+    /// How many bytes came on the connection.
     bytes: u64,
+    /// How many lines came on it.
     lines: u64,
     /// Whether the last line that was begun has not ended yet.
     is_within: bool,
-    /// When it was reported last how much has come.
+    /// When it was reported last how much has come, in milliseconds.
     reported: u64,
-    /// Whether it was at the token that is shown, and had the same state there.
+    /// Whether it was at the token that is shown.
     is_compared: bool,
+    /// Whether it had the same state there.
     is_same: bool,
     /// Whether what settled last was shown at its own token alone.
     was_alone: bool,
@@ -133,7 +137,7 @@ impl Settling {
 
 /// The mirror that a connection is to follow: one that begins afresh, or the one that is shown.
 pub(crate) fn followed_of<'a>(coming: &'a Option<Mirror>, shown: &'a Mirror) -> &'a Mirror
-    ensures { result.now ≡ followed coming.now shown.now }
+    ensures { result.now ≡ following_mirror coming.now shown.now }
 {
     match coming {
         Some(coming) => coming,
@@ -345,7 +349,7 @@ impl Source {
             return false;
         }
         self.is_at_start = false;
-        let (line, _) = split_line(piece);
+        let (line, _) = line_or_part(piece);
         if self.coming.is_none() {
             return self.replayed.as_slice() == line;
         }

@@ -18,7 +18,7 @@ impl Live {
     ghost use Rattle.feed_live.specs.Taking.{StillTaking, StopsTaking, bytes_in};
     ghost use Rattle.feed_files.specs.Saved.{ArePartsOfRecords, KeepsFiles};
     ghost use Rattle.feed_live.specs.Ending.{SameSaved};
-    ghost use Rattle.feed_files.specs.Writing.{HasFailed, IsToWrite};
+    ghost use Rattle.feed_files.specs.Writing.{WaitsToRetry, IsToWrite};
     ghost use Rattle.feed_files.specs.declared.saved.Saved.{Saved};
 
     /// Says what had to wait.
@@ -161,7 +161,7 @@ impl Live {
             → self.old.source.epoch ≡ self.old.epoch
             → IsToWrite self.old.source.answers.shown.mirror.node self.old.desk.time saved
             → CalledAtLeastOnce (D.appended store.old) (D.appended store.new)
-            ⊎ IfSome self.new.saved (HasFailed self.old.desk.time) }
+            ⊎ IfSome self.new.saved (WaitsToRetry self.old.desk.time) }
     {
         let Some(saved) = &mut self.saved else {
             return;

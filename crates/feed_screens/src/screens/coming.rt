@@ -19,7 +19,7 @@ use feed_device::{Desk, How, Report, Sockets, Stop};
 use feed_hub::Key;
 use std::net::SocketAddr;
 
-/// How many connections are taken in one turn: so screens have their turns, however many come.
+/// How many connections are taken in one turn: so screens are served, however many come.
 const ACCEPTS: usize = 64;
 
 /// How many connections there may be beside those that have a seat: refused, and lingering. With a
@@ -221,7 +221,7 @@ impl Screens {
         conn
     }
 
-    /// One more than there may be is told so.
+    /// One more than there may be is answered so.
     fn refuse<S: Sockets>(&mut self, desk: &mut Desk, sockets: &mut S, at: usize)
         ensures asks { S.asked sockets.new ≡ S.asked sockets.old }
         ensures sent { (nodes : List NodeState) (contest came : List ℕ)
@@ -242,8 +242,8 @@ impl Screens {
         self.is_full = true;
     }
 
-    /// A request for which there is no room is told that there are too many. Those who take their
-    /// texts too slowly are cut, so that who comes next finds room.
+    /// A request for which there is no room is answered that there are too many. Those who take
+    /// their texts too slowly are cut, so that who comes next finds room.
     pub(crate) fn turn_away<S: Sockets>(&mut self, desk: &mut Desk, sockets: &mut S, at: usize)
         ensures serving { (nodes : List NodeState) (contest unheard : List ℕ)
             → StillServingWith nodes contest at unheard self.old self.new
@@ -254,7 +254,7 @@ impl Screens {
         self.cut_slow(desk, sockets);
     }
 
-    /// The connection at a place, whose request comes, is told that there are too many.
+    /// The connection at a place, whose request comes, is answered that there are too many.
     pub(crate) fn refuse_at<S: Sockets>(&mut self, desk: &mut Desk, sockets: &mut S, at: usize)
         ensures serving { (nodes : List NodeState) (contest unheard : List ℕ)
             → StillServingWith nodes contest at unheard self.old self.new

@@ -2,7 +2,7 @@
 
 ghost use Rattle.std.specs.Prelude.{◌≡◌, ◌≢◌, ◌<◌, ◌^◌, ◌-◌, ℕ, [], None, Some, HoldsAt, IfSome, is_some, OnOk, OnErr, length, min};
 ghost use Rattle.feed_screens.specs.declared.screens.pending.TextId.{TextId};
-ghost use Rattle.feed_screens.specs.Pending.{total, takers, HasNone, Adds, Removes, HaveReaders, AreDistinct, AreCounted, text_at, Pays};
+ghost use Rattle.feed_screens.specs.Pending.{total, takers, HasNone, Adds, Removes, HaveReaders, AreDistinct, AreCounted, owed_text_at, Pays};
 
 use std::alloc::{AllocError, Global};
 
@@ -20,14 +20,18 @@ pub(crate) enum TextId {
 /// A text, of so many bytes, that so many screens have yet to take.
 #[derive(Clone, Copy)]
 pub(crate) struct Text {
+    // No other text of the list has it.
     id: TextId,
+    // How many bytes it has.
     length: usize,
+    // How many screens have yet to take it: one at least.
     readers: usize,
 }
 
 /// Long texts, each with a reader, and none of them twice.
 #[derive(Drop)]
 pub(crate) struct Texts {
+    // In the order in which they came.
     list: Vec<Text>,
     ghost read: { HaveReaders list.items },
     ghost once: { AreDistinct list.items },
@@ -107,6 +111,7 @@ impl Texts {
 /// whose screens have it.
 #[derive(Drop)]
 pub(crate) struct Pending {
+    /// Each once, for however many screens it is.
     texts: Texts,
     /// The text that the screen at each place has yet to take.
     places: Vec<Option<TextId>>,
@@ -116,7 +121,7 @@ pub(crate) struct Pending {
 impl Pending {
     /// No text yet.
     pub(crate) fn new(alloc: Global) -> Pending
-        ensures { (at : ℕ) → text_at result.places.items at ≡ None }
+        ensures { (at : ℕ) → owed_text_at result.places.items at ≡ None }
     {
         Pending {
             texts: Texts::new(alloc),
@@ -133,7 +138,7 @@ impl Pending {
 
     /// The text that the screen at a place has yet to take.
     fn text(&self, at: usize) -> Option<TextId>
-        ensures is { result ≡ text_at self.now.places.items at }
+        ensures is { result ≡ owed_text_at self.now.places.items at }
         ensures place { IfSome result (λ _. at < length self.now.places.items) }
     {
         if at < self.places.len() {
@@ -145,21 +150,21 @@ impl Pending {
 
     /// Whether the screen at a place has yet to take a text.
     pub(crate) fn has(&self, at: usize) -> bool
-        ensures { result ≡ is_some (text_at self.now.places.items at) }
+        ensures { result ≡ is_some (owed_text_at self.now.places.items at) }
     {
         self.text(at).is_some()
     }
 
     /// The screen at a place, which has none, has yet to take a text.
     pub(crate) fn add(&mut self, at: usize, id: TextId, length: usize) -> Result<(), AllocError>
-        requires { text_at self.old.places.items at ≡ None }
+        requires { owed_text_at self.old.places.items at ≡ None }
         ensures ok { OnOk result (Adds id length self.old.texts.list.items
             self.new.texts.list.items) }
         ensures err { OnErr result (self.new.texts.list.items ≡ self.old.texts.list.items) }
-        ensures has { OnOk result (text_at self.new.places.items at ≡ Some id) }
-        ensures none { OnErr result (text_at self.new.places.items at ≡ None) }
-        ensures others { (other : ℕ) → other ≢ at → text_at self.new.places.items other
-            ≡ text_at self.old.places.items other }
+        ensures has { OnOk result (owed_text_at self.new.places.items at ≡ Some id) }
+        ensures none { OnErr result (owed_text_at self.new.places.items at ≡ None) }
+        ensures others { (other : ℕ) → other ≢ at → owed_text_at self.new.places.items other
+            ≡ owed_text_at self.old.places.items other }
     {
         reach(&mut self.places, at)?;
         self.texts.add(id, length)?;
@@ -169,11 +174,11 @@ impl Pending {
 
     /// The screen at a place took its text, or left. Whether it had one.
     pub(crate) fn remove(&mut self, at: usize) -> bool
-        ensures paid { Pays (text_at self.old.places.items at) self.old.texts.list.items
+        ensures paid { Pays (owed_text_at self.old.places.items at) self.old.texts.list.items
             self.new.texts.list.items }
-        ensures none { text_at self.new.places.items at ≡ None }
-        ensures others { (other : ℕ) → other ≢ at → text_at self.new.places.items other
-            ≡ text_at self.old.places.items other }
+        ensures none { owed_text_at self.new.places.items at ≡ None }
+        ensures others { (other : ℕ) → other ≢ at → owed_text_at self.new.places.items other
+            ≡ owed_text_at self.old.places.items other }
     {
         let Some(id) = self.text(at) else {
             return false;
@@ -186,7 +191,8 @@ impl Pending {
 
 /// There are as many places as there have to be for this one.
 fn reach(places: &mut Vec<Option<TextId>>, at: usize) -> Result<(), AllocError>
-    ensures same { (other : ℕ) → text_at places.new.items other ≡ text_at places.old.items other }
+    ensures same { (other : ℕ) → owed_text_at places.new.items other
+        ≡ owed_text_at places.old.items other }
     ensures takers { (id : TextId) → takers id places.new.items ≡ takers id places.old.items }
     ensures ok { OnOk result (at < length places.new.items) }
 {

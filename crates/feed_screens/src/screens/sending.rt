@@ -1,4 +1,4 @@
-//! What screens are sent: each writes once when it has its turn.
+//! What screens are sent: each is written to once in a turn.
 
 ghost use Rattle.std.specs.Prelude.{◌≡◌, ◌≢◌, [], ℕ, List, None, Some, Contains, IsTrue, IfSome};
 ghost use Rattle.feed_node.specs.States.{NodeState};
@@ -47,7 +47,7 @@ impl Screens {
         conn.key
     }
 
-    /// Writes to the connection at a place, once: each has its turn.
+    /// Writes to the connection at a place, once: so one does not keep the others waiting.
     pub(crate) fn drain<S: Sockets>(
         &mut self,
         desk: &mut Desk,

@@ -5,7 +5,7 @@ ghost use Rattle.feed_node.specs.States.{NodeState};
 ghost use Rattle.feed_hub.specs.Seats.{seat_at};
 ghost use Rattle.feed_device.specs.Sockets.{AllSockets};
 ghost use Rattle.slab.specs.Slab.{get};
-ghost use Rattle.feed_screens.specs.Pending.{total, Pays, text_at};
+ghost use Rattle.feed_screens.specs.Pending.{total, Pays, owed_text_at};
 ghost use Rattle.feed_screens.specs.Serving.{StillServesAll, StillAnswers, StillStand, SameSeating};
 ghost use Rattle.feed_screens.specs.Serving.{ServesBut, HasKey, HearsAll};
 ghost use Rattle.feed_screens.specs.Held.{SameMirrors};
@@ -49,7 +49,7 @@ impl Screens {
     ) -> Result<(), AllocError>
         ensures same { SameSeating self.old self.new }
         ensures counts { OnOk result (65536 ≤ length → get self.old.conns at ≢ None
-            → text_at self.new.pending.places.items at ≡ Some id) }
+            → owed_text_at self.new.pending.places.items at ≡ Some id) }
     {
         self.pay(at);
         let Some(conn) = self.conns.get_mut(at) else {
@@ -66,9 +66,9 @@ impl Screens {
     /// then.
     pub(crate) fn pay(&mut self, at: usize)
         ensures same { SameSeating self.old self.new }
-        ensures paid { Pays (text_at self.old.pending.places.items at)
+        ensures paid { Pays (owed_text_at self.old.pending.places.items at)
             self.old.pending.texts.list.items self.new.pending.texts.list.items }
-        ensures once { text_at self.new.pending.places.items at ≡ None }
+        ensures once { owed_text_at self.new.pending.places.items at ≡ None }
         ensures others { (other : ℕ) → other ≢ at
             → get self.new.conns other ≡ get self.old.conns other }
     {
@@ -340,7 +340,7 @@ impl Screens {
         self.heed(desk, sockets, at, heard);
     }
 
-    /// Tells those that there are too many whose requests have waited for long enough.
+    /// Answers those that there are too many whose requests have waited for long enough.
     pub fn refuse_overdue<S: Sockets>(&mut self, desk: &mut Desk, sockets: &mut S)
         ensures serving { StillServesAll self.old self.new
             (S.socket sockets.old) (S.socket sockets.new) }
@@ -361,7 +361,7 @@ impl Screens {
         self.is_waited = self.somebody_waits();
     }
 
-    /// Tells the connection at a place that there are too many, where its request has waited for
+    /// Answers the connection at a place that there are too many, where its request has waited for
     /// long enough.
     fn refuse_waiting<S: Sockets>(&mut self, desk: &mut Desk, sockets: &mut S, at: usize)
         ensures serving { StillServesAll self.old self.new

@@ -210,7 +210,7 @@ struct Plan {
 fn of_state(alloc: Global, path: &str, fault: &StateFault) -> Failure {
     match fault {
         StateFault::Memory => Failure::from(Fault::Memory),
-        _ => Failure::refused_for(fault.told(alloc, path), fault.text()),
+        _ => Failure::refused_for(fault.report(alloc, path), fault.text()),
     }
 }
 

@@ -1,7 +1,7 @@
 use Rattle.std.proofs.Common.{refl, inl, inr}
 use Rattle.std.specs.Prelude.{Option}
 use Rattle.feed_device.specs.Files.{StateFiles}
-use Rattle.feed_live.specs.Running.{Surroundings, Came, moment_of, surroundings, at_once}
+use Rattle.feed_live.specs.Running.{Surroundings, InputSoFar, moment_of, surroundings, at_once}
 use Rattle.feed_live.proofs.RunLemmas.{runs_from, untouched}
 use Rattle.feed_live.proofs.running.run.Goals as goal
 
@@ -16,7 +16,7 @@ returns-in_err-live-clause-run g c =
 pub returns-in-Ok-clause-run : goal.returns-in-Ok-clause-run
 returns-in-Ok-clause-run g c =
     let ran = c.in-Ok.ensures.run in
-    let around = λ (files : StateFiles) (input : Option Came). surroundings (g.L.Link.exchanges c.args.devices.now.link) (g.S.Sockets.socket c.args.devices.now.sockets) files input in
+    let around = λ (files : StateFiles) (input : Option InputSoFar). surroundings (g.L.Link.exchanges c.args.devices.now.link) (g.S.Sockets.socket c.args.devices.now.sockets) files input in
     let found : Surroundings = around (g.D.Store.files c.args.devices.now.store) (g.H.Host.input c.args.host.now) in
     inl (runs_from c.args.setup found
     (moment_of c.in_ok-live.live at_once (g.H.Host.time c.begin.new.host) (around (g.D.Store.files c.begin.new.store) (g.H.Host.input c.begin.new.host)))
@@ -27,7 +27,7 @@ returns-in-Ok-clause-run g c =
 pub returns-clause-run : goal.returns-clause-run
 returns-clause-run g c =
     let ran = c.in-Err.ensures.run in
-    let around = λ (files : StateFiles) (input : Option Came). surroundings (g.L.Link.exchanges c.args.devices.now.link) (g.S.Sockets.socket c.args.devices.now.sockets) files input in
+    let around = λ (files : StateFiles) (input : Option InputSoFar). surroundings (g.L.Link.exchanges c.args.devices.now.link) (g.S.Sockets.socket c.args.devices.now.sockets) files input in
     let found : Surroundings = around (g.D.Store.files c.args.devices.now.store) (g.H.Host.input c.args.host.now) in
     inl (runs_from c.args.setup found
     (moment_of c.in_ok-live.live at_once (g.H.Host.time c.begin.new.host) (around (g.D.Store.files c.begin.new.store) (g.H.Host.input c.begin.new.host)))

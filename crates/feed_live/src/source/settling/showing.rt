@@ -32,7 +32,7 @@ fn alone(alloc: Global, mirror: &Mirror) -> Result<Mirror, AllocError>
 }
 
 impl Source {
-    ghost use Rattle.feed_live.specs.Relaying.{StillFollows, StillShows, SameSource, WasLeft, IsNowShown, ShowsAlone};
+    ghost use Rattle.feed_live.specs.Relaying.{StillFollows, StillShows, SameSource, WasLeft, IsNowShown, ShowsAlone, counted_within_turn, within_turn};
     ghost use Rattle.feed_live.specs.declared.source.Reach.TheVariants.{Reads as Read};
 
     /// Shows what came afresh, where that has settled by now.
@@ -42,8 +42,9 @@ impl Source {
         link: &mut L,
         screens: &mut Screens,
     )
-        ensures follows { StillFollows self.old self.new (L.exchanges link.old)
-            (L.exchanges link.new) self.old.rest.items self.new.rest.items screens.old screens.new }
+        ensures follows { StillFollows
+            (within_turn (L.exchanges link.old) self.old self.old.rest.items screens.old)
+            (within_turn (L.exchanges link.new) self.new self.new.rest.items screens.new) }
     {
         if self.reach != Reach::Reads {
             return;
@@ -78,8 +79,9 @@ impl Source {
         screens: &mut Screens,
         unread: usize,
     )
-        ensures shows { StillShows self.old self.new (L.exchanges link.old)
-            (L.exchanges link.new) unread screens.old screens.new }
+        ensures shows { StillShows
+            (counted_within_turn (L.exchanges link.old) self.old unread screens.old)
+            self.new (L.exchanges link.new) screens.new }
     {
         if self.ends_again() {
             self.settle(desk, link, screens, unread);
@@ -116,11 +118,13 @@ impl Source {
         screens: &mut Screens,
         unread: usize,
     ) -> Option<Leaves>
-        ensures shows { StillShows self.old self.new (L.exchanges link.old)
-            (L.exchanges link.new) unread screens.old screens.new }
+        ensures shows { StillShows
+            (counted_within_turn (L.exchanges link.old) self.old unread screens.old)
+            self.new (L.exchanges link.new) screens.new }
         ensures follows { result ≡ None → self.old.reach ≡ Read → (left : List ℕ)
-            → length left ≡ unread → StillFollows self.old self.new (L.exchanges link.old)
-            (L.exchanges link.new) left left screens.old screens.new }
+            → length left ≡ unread → StillFollows
+            (within_turn (L.exchanges link.old) self.old left screens.old)
+            (within_turn (L.exchanges link.new) self.new left screens.new) }
         ensures rest { result ≡ None → self.new.rest.items ≡ self.old.rest.items }
     {
         if !self.has_published() {
@@ -145,8 +149,9 @@ impl Source {
         screens: &mut Screens,
         unread: usize,
     ) -> Leaves
-        ensures shows { StillShows self.old self.new (L.exchanges link.old)
-            (L.exchanges link.new) unread screens.old screens.new }
+        ensures shows { StillShows
+            (counted_within_turn (L.exchanges link.old) self.old unread screens.old)
+            self.new (L.exchanges link.new) screens.new }
     {
         link.show_once(unread);
         if self.show_alone(desk.alloc).is_err() {

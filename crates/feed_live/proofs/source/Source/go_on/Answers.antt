@@ -1,6 +1,6 @@
 use Rattle.std.specs.Prelude.{is_none}
 use Rattle.std.proofs.Common.{rules, ◌≡◌}
-use Rattle.feed_live.specs.Relaying.{StillFollows, followed_by}
+use Rattle.feed_live.specs.Relaying.{StillFollows, followed_by, within_turn}
 use Rattle.feed_live.specs.declared.source.Reach.TheVariants.{Reads}
 use Rattle.feed_live.proofs.SourceLemmas.{with_open}
 use Rattle.feed_live.proofs.RelayLemmas.{within}
@@ -10,7 +10,7 @@ use Rattle.feed_live.proofs.source.Source.go_on.Goals.{in-Connects+in-Ok-true, i
 pub returns-then-eq : goal.returns-then-eq
 returns-then-eq g c =
     let reads : c.ask.new.self.reach ≡ Reads = search rules in
-    let opened : StillFollows c.args.self.now c.match-self.self (g.L.Link.exchanges c.args.link.now) (g.L.Link.exchanges c.match-self.link) c.args.self.now.rest.items c.match-self.self.rest.items c.args.screens.now c.args.screens.now =
+    let opened : StillFollows (within_turn (g.L.Link.exchanges c.args.link.now) c.args.self.now c.args.self.now.rest.items c.args.screens.now) (within_turn (g.L.Link.exchanges c.match-self.link) c.match-self.self c.match-self.self.rest.items c.args.screens.now) =
     elim c.match-self.branch [
       | in-Connects+in-Ok-true w ↦ rw (w.self-is, w.link-is) (λ limits log servers contest sockets follows. within (
           with_open limits log servers (is_none c.args.self.now.coming) c.args.self.now.reach c.args.self.now.request.items c.args.self.now.rest.items _ _ _ c.args.self.now.upstream.follower (followed_by c.args.self.now) w.in-Connects.is w.is_open.ensures.unchanged) follows)
@@ -23,7 +23,7 @@ returns-then-eq g c =
 
 pub returns-else-eq : goal.returns-else-eq
 returns-else-eq g c =
-    let opened : StillFollows c.args.self.now c.match-self.self (g.L.Link.exchanges c.args.link.now) (g.L.Link.exchanges c.match-self.link) c.args.self.now.rest.items c.match-self.self.rest.items c.args.screens.now c.args.screens.now =
+    let opened : StillFollows (within_turn (g.L.Link.exchanges c.args.link.now) c.args.self.now c.args.self.now.rest.items c.args.screens.now) (within_turn (g.L.Link.exchanges c.match-self.link) c.match-self.self c.match-self.self.rest.items c.args.screens.now) =
     elim c.match-self.branch [
       | in-Connects+in-Ok-true w ↦ rw (w.self-is, w.link-is) (λ limits log servers contest sockets follows. within (
           with_open limits log servers (is_none c.args.self.now.coming) c.args.self.now.reach c.args.self.now.request.items c.args.self.now.rest.items _ _ _ c.args.self.now.upstream.follower (followed_by c.args.self.now) w.in-Connects.is w.is_open.ensures.unchanged) follows)

@@ -4,5 +4,5 @@ use Rattle.feed_live.proofs.source.Source.leave_due.Goals as goal
 pub returns-in-Some-clause-follows : goal.returns-in-Some-clause-follows
 returns-in-Some-clause-follows g c = left_still c.lost.ensures.left
 
-pub returns-then-is_to_turn-clause-follows : goal.returns-then-is_to_turn-clause-follows
-returns-then-is_to_turn-clause-follows g c = left_still c.turn.ensures.left
+pub returns-then-is_to_leave_quiet-clause-follows : goal.returns-then-is_to_leave_quiet-clause-follows
+returns-then-is_to_leave_quiet-clause-follows g c = left_still c.leave_quiet.ensures.left

@@ -1,6 +1,6 @@
 use Rattle.std.specs.Prelude.{is_none}
 use Rattle.std.proofs.Common.{◌≡◌, ◌∙◌, sym, ap, subst, [], take, length}
-use Rattle.feed_live.specs.Relaying.{FollowsServers, followed_by}
+use Rattle.feed_live.specs.Relaying.{FollowsServers, followed_by, within_turn}
 use Rattle.feed_live.proofs.RelayLemmas.{with_left, received_more_honest, known_before, reads_follows, to_show, to_show_of}
 use Rattle.feed_live.proofs.source.Source.read.Goals as goal
 
@@ -40,6 +40,6 @@ returns-in-Err g c =
     record {
       follows = λ reads none limits log servers contest sockets follows.
           let shows = c.settle_ended-in-Err.ensures.shows limits log servers contest sockets (to_show limits log servers c.args.self.now c.args.screens.now _ [] reads
-          (subst (λ e. FollowsServers limits log servers contest e c.args.self.now [] c.args.screens.now sockets) (sym c.in-Err.ensures.bytes) follows)) in
+          (subst (λ e. FollowsServers limits log servers contest (within_turn e c.args.self.now [] c.args.screens.now) sockets) (sym c.in-Err.ensures.bytes) follows)) in
           (c.lost-in-Err.ensures.left.servers ∙ shows.0, with_left limits log servers c.lost-in-Err.ensures.left c.lost-in-Err.new.self.rest.items shows.1);
     }

@@ -1,5 +1,5 @@
 use Rattle.std.proofs.Common.{refl, sym, ap, ◌∙◌, subst, ◌++◌}
-use Rattle.feed_live.specs.Relaying.{AnswersFromLog}
+use Rattle.feed_live.specs.Relaying.{AnswersFromLog, screen_side}
 use Rattle.feed_live.proofs.RelayLemmas.{with_left, with_kept, where_ok}
 use Rattle.feed_live.proofs.source.Source.take.Goals as goal
 
@@ -26,7 +26,7 @@ returns-then-is_err g c =
       follows = λ reads none limits log servers contest sockets follows.
           let now = (c.loop.invariant reads none).2 limits log servers contest sockets follows in (
             c.lost.ensures.left.servers ∙ c.keep.ensures.same.servers ∙ now.0,
-            with_left limits log servers c.lost.ensures.left c.lost.new.self.rest.items (λ honest. subst (λ a. AnswersFromLog limits log contest a.shown.mirror a.blank.mirror c.loop.screens.hub c.loop.screens.conns sockets) (sym c.keep.ensures.same.answers) (now.1.0 honest)),
+            with_left limits log servers c.lost.ensures.left c.lost.new.self.rest.items (λ honest. subst (λ a. AnswersFromLog limits log contest (screen_side a.shown.mirror a.blank.mirror c.loop.screens.hub c.loop.screens.conns) sockets) (sym c.keep.ensures.same.answers) (now.1.0 honest)),
           );
     }
 

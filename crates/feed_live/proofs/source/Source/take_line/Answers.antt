@@ -13,8 +13,8 @@ returns-in-Ok-Head g c =
         c.push.ensures.only.rest,
         λ reads limits log servers contest sockets follows. (
           c.push.ensures.only.servers ∙ follows.0,
-          with_taken limits log servers _ c.split_line.result.0.now c.split_line.result.1.now _ reads c.push.ensures.only (head_goes_on c.in-Ok-Head.field-0-is) c.in-Ok-Head.ensures.ok
-              (with_unread limits log servers (is_none c.args.self.now.coming) _ _ _ _ _ c.split_line.ensures follows.1),
+          with_taken limits log servers _ c.line_or_part.result.0.now c.line_or_part.result.1.now _ reads c.push.ensures.only (head_goes_on c.in-Ok-Head.field-0-is) c.in-Ok-Head.ensures.ok
+              (with_unread limits log servers (is_none c.args.self.now.coming) _ _ _ _ _ c.line_or_part.ensures follows.1),
         ),
       );
       stops = λ none. absurd (cc);
@@ -28,11 +28,11 @@ returns-in-Ok-Body g c =
         c.say.ensures.same.rest ∙ c.found.ensures.rest ∙ c.push.ensures.only.rest,
         λ reads limits log servers contest sockets follows. (
           c.say.ensures.same.servers ∙ c.found.ensures.servers ∙ c.push.ensures.only.servers ∙ follows.0,
-          with_same limits log servers c.say.ensures.same _ c.split_line.result.1.now c.split_line.result.1.now refl
+          with_same limits log servers c.say.ensures.same _ c.line_or_part.result.1.now c.line_or_part.result.1.now refl
               (with_screens limits log servers _ (λ shows serving. c.say.ensures.serves (states_of limits log) contest sockets (among_shown limits log shows) serving)
-              (with_same limits log servers c.found.ensures _ c.split_line.result.1.now c.split_line.result.1.now refl
-              (with_taken limits log servers _ c.split_line.result.0.now c.split_line.result.1.now _ reads c.push.ensures.only (body_goes_on c.in-Ok-Body.field-0-is) c.in-Ok-Body.ensures.ok
-              (with_unread limits log servers (is_none c.args.self.now.coming) _ _ _ _ _ c.split_line.ensures follows.1)))),
+              (with_same limits log servers c.found.ensures _ c.line_or_part.result.1.now c.line_or_part.result.1.now refl
+              (with_taken limits log servers _ c.line_or_part.result.0.now c.line_or_part.result.1.now _ reads c.push.ensures.only (body_goes_on c.in-Ok-Body.field-0-is) c.in-Ok-Body.ensures.ok
+              (with_unread limits log servers (is_none c.args.self.now.coming) _ _ _ _ _ c.line_or_part.ensures follows.1)))),
         ),
       );
       stops = λ none. absurd (cc);
@@ -45,12 +45,12 @@ returns-in-Ok-Done g c =
       stops = λ none. (
         c.lost.ensures.left.reach,
         λ reads left limits log servers contest sockets follows.
-            let next = c.split_line.result.1.now in
+            let next = c.line_or_part.result.1.now in
             let said = with_same limits log servers c.say-in-Ok-Done.ensures.same _ next next refl
             (with_screens limits log servers _ (λ shows serving. c.say-in-Ok-Done.ensures.serves (states_of limits log) contest sockets (among_shown limits log shows) serving)
             (with_same limits log servers c.found-in-Ok-Done.ensures _ next next refl
-            (with_taken limits log servers _ c.split_line.result.0.now next _ reads c.push.ensures.only (done_goes_on c.in-Ok-Done.field-0-is) c.in-Ok-Done.ensures.ok
-            (with_unread limits log servers (is_none c.args.self.now.coming) _ _ _ _ _ c.split_line.ensures follows.1)))) in
+            (with_taken limits log servers _ c.line_or_part.result.0.now next _ reads c.push.ensures.only (done_goes_on c.in-Ok-Done.field-0-is) c.in-Ok-Done.ensures.ok
+            (with_unread limits log servers (is_none c.args.self.now.coming) _ _ _ _ _ c.line_or_part.ensures follows.1)))) in
             let settled = c.settle.ensures.shows limits log servers contest sockets
             (to_show limits log servers c.say-in-Ok-Done.new.self c.say-in-Ok-Done.new.screens _ next (c.say-in-Ok-Done.ensures.same.reach ∙ c.found-in-Ok-Done.ensures.reach ∙ c.push.ensures.only.reach ∙ reads)
             (c.say-in-Ok-Done.ensures.same.servers ∙ c.found-in-Ok-Done.ensures.servers ∙ c.push.ensures.only.servers ∙ follows.0, said)) in (
@@ -69,8 +69,8 @@ returns-in-Ok-TokenRefused g c =
         λ reads left limits log servers contest sockets follows. (
           c.refused.ensures.left.servers ∙ c.push.ensures.only.servers ∙ follows.0,
           with_left limits log servers c.refused.ensures.left left
-              (with_refused limits log servers _ c.split_line.result.0.now c.split_line.result.1.now _ reads c.push.ensures.only c.in-Ok-TokenRefused.field-0-is c.in-Ok-TokenRefused.ensures.ok
-              (with_unread limits log servers (is_none c.args.self.now.coming) _ _ _ _ _ c.split_line.ensures follows.1)),
+              (with_refused limits log servers _ c.line_or_part.result.0.now c.line_or_part.result.1.now _ reads c.push.ensures.only c.in-Ok-TokenRefused.field-0-is c.in-Ok-TokenRefused.ensures.ok
+              (with_unread limits log servers (is_none c.args.self.now.coming) _ _ _ _ _ c.line_or_part.ensures follows.1)),
         ),
       );
     }
@@ -84,8 +84,8 @@ returns-then-is_want_of_memory g c =
         λ reads left limits log servers contest sockets follows. (
           c.lost-then-is_want_of_memory.ensures.left.servers ∙ c.push.ensures.only.servers ∙ follows.0,
           with_left limits log servers c.lost-then-is_want_of_memory.ensures.left left
-              (with_failed limits log servers _ c.split_line.result.0.now c.split_line.result.1.now _ reads c.push.ensures.only c.in-Err.ensures.err
-              (with_unread limits log servers (is_none c.args.self.now.coming) _ _ _ _ _ c.split_line.ensures follows.1)),
+              (with_failed limits log servers _ c.line_or_part.result.0.now c.line_or_part.result.1.now _ reads c.push.ensures.only c.in-Err.ensures.err
+              (with_unread limits log servers (is_none c.args.self.now.coming) _ _ _ _ _ c.line_or_part.ensures follows.1)),
         ),
       );
     }
@@ -97,14 +97,14 @@ returns-else-is_want_of_memory g c =
       stops = λ none. (
         c.lost-in-Err.ensures.left.reach,
         λ reads left limits log servers contest sockets follows.
-            let next = c.split_line.result.1.now in
-            let here = with_unread limits log servers (is_none c.args.self.now.coming) _ _ _ _ _ c.split_line.ensures follows.1 in
-            let may = failed_may_show limits log servers (is_none c.args.self.now.coming) c.args.self.now.reach c.args.self.now.request.items c.split_line.result.0.now next _ c.args.self.now.upstream.follower
+            let next = c.line_or_part.result.1.now in
+            let here = with_unread limits log servers (is_none c.args.self.now.coming) _ _ _ _ _ c.line_or_part.ensures follows.1 in
+            let may = failed_may_show limits log servers (is_none c.args.self.now.coming) c.args.self.now.reach c.args.self.now.request.items c.line_or_part.result.0.now next _ c.args.self.now.upstream.follower
             (followed_by c.args.self.now) (followed_by c.push.new.self) c.in-Err.fault (sym c.is_want_of_memory.ensures ∙ c.if-is_want_of_memory.false) reads c.push.ensures.only.limits c.in-Err.ensures.err here.1 in
             let ended = c.settle_ended.ensures.shows limits log servers contest sockets (
               c.say-in-Err.ensures.same.servers ∙ c.push.ensures.only.servers ∙ follows.0,
               λ honest.
-                  let at = with_failed limits log servers _ c.split_line.result.0.now next c.in-Err.fault reads c.push.ensures.only c.in-Err.ensures.err here honest in
+                  let at = with_failed limits log servers _ c.line_or_part.result.0.now next c.in-Err.fault reads c.push.ensures.only c.in-Err.ensures.err here honest in
                   same_shows limits log c.say-in-Err.ensures.same (shows_still limits log (c.say-in-Err.ensures.serves (states_of limits log) contest sockets (among_shown limits log at)) at),
               subst (λ m. MayShow limits log servers (length next) (g.L.Link.exchanges c.args.link.now) m) (sym (same_followed c.say-in-Err.ensures.same.coming c.say-in-Err.ensures.same.shown)) may,
             ) in (
