@@ -1,6 +1,6 @@
 use Rattle.std.specs.Prelude.{codes}
 use Rattle.feed_verdicts.proofs.Appending.{on_ok_extended, parts5}
-use Rattle.feed_verdicts.proofs.told_json.print_agreement_json.Goals as goal
+use Rattle.feed_verdicts.proofs.json.print_agreement_json.Goals as goal
 
 pub returns : goal.returns
 returns c =

@@ -1,15 +1,15 @@
-//! What is told of a verdict, as lines.
+//! What is printed of a verdict, as lines.
 
 ghost use Rattle.std.specs.Prelude.{◌≡◌, ◌++◌, OnOk, decimal};
 ghost use Rattle.std.specs.Option.{option_copied};
-ghost use Rattle.feed_verdicts.specs.Told.{whole_characters as characters, object_text, side_text, place_text, difference_text, agreement_text, state_text, stray_text};
+ghost use Rattle.feed_verdicts.specs.Verdicts.{whole_characters as characters, object_text, side_text, place_text, difference_text, agreement_text, differs_text, stray_text};
 
 use feed_audit::{Difference, Side, Stray};
 use feed_tables::Name;
 use std::alloc::{AllocError, Global};
 
-/// How many bytes of an object are told at most, where it isn't to be told whole.
-const TOLD_BYTES: usize = 200;
+/// How many bytes of an object are printed at most, where it isn't to be printed whole.
+const PRINTED_BYTES: usize = 200;
 
 /// Appends a number in decimal digits.
 pub(crate) fn print_number(
@@ -58,10 +58,10 @@ fn print_object(object: &[u8], whole: bool, out: &mut Vec<u8>) -> Result<(), All
     if whole {
         return out.extend_from_slice(object);
     }
-    if object.len() <= TOLD_BYTES {
+    if object.len() <= PRINTED_BYTES {
         return out.extend_from_slice(object);
     }
-    let (front, _) = object.split_at(TOLD_BYTES);
+    let (front, _) = object.split_at(PRINTED_BYTES);
     out.extend_from_slice(whole_characters(front))?;
     out.extend_from_slice(b"...")
 }
@@ -123,7 +123,7 @@ fn print_difference(
 
 /// Appends the line that says which state is none of the primary's.
 fn print_state(alloc: Global, stray: &Stray, out: &mut Vec<u8>) -> Result<(), AllocError>
-    ensures { OnOk result (out.new.items ≡ out.old.items ++ state_text stray.now) }
+    ensures { OnOk result (out.new.items ≡ out.old.items ++ differs_text stray.now) }
 {
     out.extend_from_slice(b"differs: token ")?;
     out.extend_from_slice(stray.token.text().as_bytes())?;
@@ -134,9 +134,9 @@ fn print_state(alloc: Global, stray: &Stray, out: &mut Vec<u8>) -> Result<(), Al
     out.extend_from_slice(b" states\n")
 }
 
-/// Appends the lines that say which state is none of the primary's, and why. Objects are told whole
-/// where that is asked for, and else their first 200 bytes. Out of memory, a part of them may be
-/// appended.
+/// Appends the lines that say which state is none of the primary's, and why. Objects are printed
+/// whole where that is asked for, and else their first 200 bytes. Out of memory, a part of them may
+/// be appended.
 pub fn print_stray(
     alloc: Global,
     stray: &Stray,

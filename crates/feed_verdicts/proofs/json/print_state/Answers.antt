@@ -2,7 +2,7 @@ use Rattle.std.proofs.Common.{rules, ◌≡◌, ◌++◌}
 use Rattle.std.specs.Prelude.{codes}
 use Rattle.feed_text.specs.Strings.{written_string}
 use Rattle.feed_verdicts.proofs.Appending.{on_ok_extended, parts7}
-use Rattle.feed_verdicts.proofs.told_json.print_state.Goals as goal
+use Rattle.feed_verdicts.proofs.json.print_state.Goals as goal
 
 pub returns : goal.returns
 returns c =

@@ -2,7 +2,7 @@ use Rattle.std.proofs.Common.{rules, ◌∙◌, ◌≡◌, ◌++◌}
 use Rattle.std.proofs.lemmas.Result.{on_ok_weaker}
 use Rattle.feed_text.specs.Strings.{written_string}
 use Rattle.feed_verdicts.proofs.Appending.{parts4}
-use Rattle.feed_verdicts.proofs.told_json.print_place.Goals as goal
+use Rattle.feed_verdicts.proofs.json.print_place.Goals as goal
 
 pub returns : goal.returns
 returns c =

@@ -1,4 +1,4 @@
--- How the verdict of an audit is told: as lines, or as a line of JSON.
+-- How the verdict of an audit is printed: as lines, or as a line of JSON.
 use Rattle.std.specs.Prelude.{ℕ, Bool, true, false, List, ◌++◌, length, take, Option, Some, None, codes, decimal, nat_le, if◌then◌else◌}
 use Rattle.std.specs.Str.Lossy.{utf8_valid_len}
 use Rattle.feed_text.specs.Strings.{written_string}
@@ -11,9 +11,9 @@ use Rattle.feed_audit.specs.declared.verdict.Stray.{Stray}
 
 -- ---- as lines
 
--- how many bytes of an object are told at most, where it isn't to be told whole
-abbrev pub told_bytes : ℕ
-told_bytes = 200
+-- how many bytes of an object are printed at most, where it isn't to be printed whole
+abbrev pub printed_bytes : ℕ
+printed_bytes = 200
 
 -- the characters that are whole among these bytes
 abbrev pub whole_characters : List ℕ → List ℕ
@@ -23,8 +23,8 @@ whole_characters text = take (utf8_valid_len text) text
 abbrev pub object_text : Bool → List ℕ → List ℕ
 object_text true text = text
 object_text false text =
-    if nat_le (length text) told_bytes then text
-    else whole_characters (take told_bytes text) ++ codes "..."
+    if nat_le (length text) printed_bytes then text
+    else whole_characters (take printed_bytes text) ++ codes "..."
 
 -- what stands on one side; objects whole or not
 abbrev pub side_text : Bool → Side → List ℕ
@@ -50,14 +50,14 @@ agreement_text states primary =
     codes "agrees: " ++ decimal states ++ codes " states of " ++ decimal primary ++ codes "\n"
 
 -- which state is none of the primary's
-abbrev pub state_text : Stray → List ℕ
-state_text stray =
+abbrev pub differs_text : Stray → List ℕ
+differs_text stray =
     codes "differs: token " ++ stray.token ++ codes " at line " ++ decimal stray.line
     ++ codes ", after " ++ decimal stray.before ++ codes " states\n"
 
 -- and why
 abbrev pub stray_text : Bool → Stray → List ℕ
-stray_text whole stray = state_text stray ++ difference_text whole stray.difference
+stray_text whole stray = differs_text stray ++ difference_text whole stray.difference
 
 -- ---- as JSON
 
@@ -86,11 +86,11 @@ agreement_json states primary =
     codes "{\"verdict\":\"agrees\",\"states\":" ++ decimal states ++ codes ",\"of\":"
     ++ decimal primary ++ codes "}\n"
 
-abbrev pub state_json : Stray → List ℕ
-state_json stray =
+abbrev pub differs_json : Stray → List ℕ
+differs_json stray =
     codes "{\"verdict\":\"differs\",\"token\":" ++ written_string stray.token ++ codes ",\"line\":"
     ++ decimal stray.line
     ++ codes ",\"after\":" ++ decimal stray.before ++ codes ","
 
 abbrev pub stray_json : Stray → List ℕ
-stray_json stray = state_json stray ++ difference_json stray.difference ++ codes "}\n"
+stray_json stray = differs_json stray ++ difference_json stray.difference ++ codes "}\n"

@@ -1,7 +1,7 @@
 use Rattle.std.proofs.Common.{◌∙◌}
 use Rattle.std.proofs.lemmas.Result.{on_ok_weaker}
 use Rattle.feed_verdicts.proofs.Appending.{parts4}
-use Rattle.feed_verdicts.proofs.told_json.print_sides.Goals as goal
+use Rattle.feed_verdicts.proofs.json.print_sides.Goals as goal
 
 pub returns : goal.returns
 returns c =

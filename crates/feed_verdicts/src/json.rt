@@ -1,11 +1,11 @@
-//! What is told of a verdict, as a line of JSON (RFC 8259).
+//! What is printed of a verdict, as a line of JSON (RFC 8259).
 
 ghost use Rattle.std.specs.Prelude.{◌≡◌, ◌++◌, OnOk};
 ghost use Rattle.std.specs.Option.{option_copied};
 ghost use Rattle.feed_note.specs.Written.{written_name};
-ghost use Rattle.feed_verdicts.specs.Told.{side_json, place_json, sides_json, difference_json, agreement_json, state_json, stray_json};
+ghost use Rattle.feed_verdicts.specs.Verdicts.{side_json, place_json, sides_json, difference_json, agreement_json, differs_json, stray_json};
 
-use crate::told::print_number;
+use crate::lines::print_number;
 use feed_audit::{Difference, Side, Stray};
 use feed_tables::Name;
 use feed_text::encode_string;
@@ -102,7 +102,7 @@ fn print_difference(
 
 /// Appends the members that say which state is none of the primary's.
 fn print_state(alloc: Global, stray: &Stray, out: &mut Vec<u8>) -> Result<(), AllocError>
-    ensures { OnOk result (out.new.items ≡ out.old.items ++ state_json stray.now) }
+    ensures { OnOk result (out.new.items ≡ out.old.items ++ differs_json stray.now) }
 {
     out.extend_from_slice(b"{\"verdict\":\"differs\",\"token\":")?;
     encode_string(alloc, stray.token.text(), out)?;
@@ -113,7 +113,7 @@ fn print_state(alloc: Global, stray: &Stray, out: &mut Vec<u8>) -> Result<(), Al
     out.extend_from_slice(b",")
 }
 
-/// Appends the line that says which state is none of the primary's, and why. Objects are told
+/// Appends the line that says which state is none of the primary's, and why. Objects are printed
 /// whole. Out of memory, a part of it may be appended.
 pub fn print_stray_json(alloc: Global, stray: &Stray, out: &mut Vec<u8>) -> Result<(), AllocError>
     ensures { OnOk result (out.new.items ≡ out.old.items ++ stray_json stray.now) }
