@@ -10,13 +10,13 @@ use Rattle.feed_node.specs.declared.fault.FeedFault.TheVariants as feed
 use Rattle.feed_audit.specs.Answers.{FailsFrom, FailsToLocate}
 use Rattle.feed_audit.specs.States.{Start, afresh, published_from}
 use Rattle.feed_audit.specs.Stops.{primary_fault, IsUnreadPrimary}
-use Rattle.feed_audit.specs.Walks.{Walked, AllAre, StopsAt, StopsFirst}
+use Rattle.feed_audit.specs.Walks.{Walked, AllAre, StopsReading, StopsFirst}
 use Rattle.feed_audit.specs.declared.stop.Stop.{Stop}
 use Rattle.feed_audit.specs.declared.stop.Stop.TheVariants as stopped
 use Rattle.feed_records.specs.declared.reading.Unread.{Unread}
 use Rattle.feed_records.specs.declared.reading.Unread.TheVariants as unread
 use Rattle.feed_audit.specs.declared.verdict.AuditFault.{AuditFault}
-use Rattle.feed_audit.specs.declared.verdict.AuditFault.TheVariants as told
+use Rattle.feed_audit.specs.declared.verdict.AuditFault.TheVariants as failed
 use Rattle.feed_audit.proofs.Agreeing.{state_of}
 use Rattle.feed_audit.proofs.Walking.{all_none, all_behind}
 use Rattle.feed_audit.proofs.Tokens.{some_is}
@@ -28,22 +28,22 @@ unread_primary unread.TooLong lines = λ e. absurd (cc)
 unread_primary unread.Memory lines = tt
 
 pub locate_unread : (limits : Limits) (primary : List ℕ) (wanted : NodeState) (why : AuditFault) → IsUnreadPrimary why → FailsToLocate limits primary wanted why
-locate_unread limits primary wanted (told.Primary line why) f = absurd f
-locate_unread limits primary wanted (told.Screen line why) f = absurd f
-locate_unread limits primary wanted (told.Chunked line) f = absurd f
-locate_unread limits primary wanted (told.OtherToken line) f = absurd f
-locate_unread limits primary wanted (told.PrimaryUnread why) f = f
-locate_unread limits primary wanted (told.ScreenUnread why) f = absurd f
-locate_unread limits primary wanted told.Memory f = tt
+locate_unread limits primary wanted (failed.Primary line why) f = absurd f
+locate_unread limits primary wanted (failed.Screen line why) f = absurd f
+locate_unread limits primary wanted (failed.Chunked line) f = absurd f
+locate_unread limits primary wanted (failed.OtherToken line) f = absurd f
+locate_unread limits primary wanted (failed.PrimaryUnread why) f = f
+locate_unread limits primary wanted (failed.ScreenUnread why) f = absurd f
+locate_unread limits primary wanted failed.Memory f = tt
 
 pub unread_fails : (start : Start) (primary screen : List ℕ) (why : AuditFault) → IsUnreadPrimary why → FailsFrom start primary screen why
-unread_fails start primary screen (told.Primary line why) f = absurd f
-unread_fails start primary screen (told.Screen line why) f = absurd f
-unread_fails start primary screen (told.Chunked line) f = absurd f
-unread_fails start primary screen (told.OtherToken line) f = absurd f
-unread_fails start primary screen (told.PrimaryUnread why) f = f
-unread_fails start primary screen (told.ScreenUnread why) f = absurd f
-unread_fails start primary screen told.Memory f = tt
+unread_fails start primary screen (failed.Primary line why) f = absurd f
+unread_fails start primary screen (failed.Screen line why) f = absurd f
+unread_fails start primary screen (failed.Chunked line) f = absurd f
+unread_fails start primary screen (failed.OtherToken line) f = absurd f
+unread_fails start primary screen (failed.PrimaryUnread why) f = f
+unread_fails start primary screen (failed.ScreenUnread why) f = absurd f
+unread_fails start primary screen failed.Memory f = tt
 
 -- what stopped the search, as it is told
 pub locate_stops : (limits : Limits) (primary : List ℕ) (wanted : NodeState) (stop : Stop) (lines : ℕ)
@@ -64,7 +64,7 @@ if_other (Some s) state h = λ e. h (ap (λ (s : Published). s.token) e)
 
 lacking : (limits : Limits) (primary : List ℕ) (notes : List Line) (wanted : NodeState) (line : ℕ)
     → ((state : Published) → wanted.published ≡ Some state → AllAre (afresh limits) (λ (shown : Published). shown.token ≢ state.token) notes)
-    → (stop : Stop) → StopsAt (afresh limits) primary notes line stop → StopsFirst (afresh limits) primary [] wanted line stop
+    → (stop : Stop) → StopsReading (afresh limits) primary notes line stop → StopsFirst (afresh limits) primary [] wanted line stop
 lacking limits primary notes wanted line lacks (stopped.Feed why) f = λ n.
     let b = f n in
     record {
@@ -76,7 +76,7 @@ lacking limits primary notes wanted line lacks (stopped.Unread why) f = tt
 
 pub explain_stops : (limits : Limits) (primary : List ℕ) (notes : List Line) (wanted : NodeState)
     → ((state : Published) → wanted.published ≡ Some state → AllAre (afresh limits) (λ (shown : Published). shown.token ≢ state.token) notes)
-    → (stop : Stop) (lines : ℕ) → StopsAt (afresh limits) primary notes (min (lines + 1) 18446744073709551615) stop
+    → (stop : Stop) (lines : ℕ) → StopsReading (afresh limits) primary notes (min (lines + 1) 18446744073709551615) stop
     → FailsToLocate limits primary wanted (primary_fault stop lines)
 explain_stops limits primary notes wanted lacks stop lines f = locate_stops limits primary wanted stop lines (lacking limits primary notes wanted _ lacks stop f)
 
@@ -85,7 +85,7 @@ explain_stops limits primary notes wanted lacks stop lines f = locate_stops limi
 pub locate_fails : (start : Start) (primary screen behind : List ℕ) (notes : List Line) (count : ℕ) (new : MirrorState) (wanted : NodeState) (why : AuditFault)
     → Walked start screen behind notes count new → IsSome new.node.published → wanted ≡ new.node → FailsToLocate start.limits primary wanted why
     → FailsFrom start primary screen why
-locate_fails start primary screen behind notes count new wanted (told.Primary line why) w some is f =
+locate_fails start primary screen behind notes count new wanted (failed.Primary line why) w some is f =
     let its = some_is new.node.published some in
     record {
       faults = f.faults;
@@ -93,9 +93,9 @@ locate_fails start primary screen behind notes count new wanted (told.Primary li
       is = state_of start screen behind notes count new its.0 w its.1;
       lacks = f.missed its.0 (ap (λ (n : NodeState). n.published) is ∙ its.1) (all_none start.limits (λ shown. shown ≢ its.0));
     }
-locate_fails start primary screen behind notes count new wanted (told.Screen line why) w some is f = absurd f
-locate_fails start primary screen behind notes count new wanted (told.Chunked line) w some is f = absurd f
-locate_fails start primary screen behind notes count new wanted (told.OtherToken line) w some is f = absurd f
-locate_fails start primary screen behind notes count new wanted (told.PrimaryUnread why) w some is f = f
-locate_fails start primary screen behind notes count new wanted (told.ScreenUnread why) w some is f = absurd f
-locate_fails start primary screen behind notes count new wanted told.Memory w some is f = tt
+locate_fails start primary screen behind notes count new wanted (failed.Screen line why) w some is f = absurd f
+locate_fails start primary screen behind notes count new wanted (failed.Chunked line) w some is f = absurd f
+locate_fails start primary screen behind notes count new wanted (failed.OtherToken line) w some is f = absurd f
+locate_fails start primary screen behind notes count new wanted (failed.PrimaryUnread why) w some is f = f
+locate_fails start primary screen behind notes count new wanted (failed.ScreenUnread why) w some is f = absurd f
+locate_fails start primary screen behind notes count new wanted failed.Memory w some is f = tt

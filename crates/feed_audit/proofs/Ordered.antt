@@ -23,7 +23,7 @@ use Rattle.feed_tables.proofs.Entries.{first, second, less, equal, earlier, find
 use Rattle.feed_tables.proofs.Order.{total}
 use Rattle.feed_tables.proofs.Maps.{byte_order_antisymmetric}
 use Rattle.feed_audit.specs.Differences.{object_side, type_side, side_at, DifferFirst}
-use Rattle.feed_audit.specs.Places.{PlaceAt, place_order, place_of, put_by, BeginsFirst, IsFirstOf, PartAt}
+use Rattle.feed_audit.specs.Places.{PlaceAt, place_order, place_changed, put_by, BeginsFirst, IsFirstOf, PartAt}
 use Rattle.feed_audit.specs.declared.difference.Side.{Side}
 use Rattle.feed_audit.specs.declared.difference.Side.TheVariants.{Nothing, Object, Collection}
 
@@ -45,7 +45,7 @@ same_id (Some i) None e = absurd (cc)
 same_id (Some i) (Some j) e = ap Some (byte_order_antisymmetric i j e)
 
 -- two changes at one place that put the same are the same
-same_there : (x y : Change) → (place_of x).0 ≡ (place_of y).0 → (place_of x).1 ≡ (place_of y).1 → put_by x ≡ put_by y → x ≡ y
+same_there : (x y : Change) → (place_changed x).0 ≡ (place_changed y).0 → (place_changed x).1 ≡ (place_changed y).1 → put_by x ≡ put_by y → x ≡ y
 same_there (Set k i o) (Set l j p) e f g = cc
 same_there (Set k i o) (Remove l j) e f g = cc
 same_there (Set k i o) (Empty l) e f g = cc
@@ -72,7 +72,7 @@ same_there (Clear k) (Empty l) e f g = cc
 same_there (Clear k) (Single l p) e f g = cc
 same_there (Clear k) (Clear l) e f g = cc
 
-pub same_change : (x y : Change) → place_order (place_of x) (place_of y) ≡ Equal → put_by x ≡ put_by y → x ≡ y
+pub same_change : (x y : Change) → place_order (place_changed x) (place_changed y) ≡ Equal → put_by x ≡ put_by y → x ≡ y
 same_change x y e g =
     let parts = then_equal _ _ e in
     same_there x y (byte_order_antisymmetric _ _ parts.0) (same_id _ _ parts.1) g
@@ -83,11 +83,11 @@ abbrev pub Puts : Type 0
 Puts = List (PlaceAt × Side)
 
 abbrev pub puts_of : List Change → Puts
-puts_of changes = map (λ c. (place_of c, put_by c)) changes
+puts_of changes = map (λ c. (place_changed c, put_by c)) changes
 
 puts_of-append : (cs ds : List Change) → puts_of (cs ++ ds) ≡ puts_of cs ++ puts_of ds
 puts_of-append [] ds = refl
-puts_of-append (c ∷ cs) ds = ap (λ t. (place_of c, put_by c) ∷ t) (puts_of-append cs ds)
+puts_of-append (c ∷ cs) ds = ap (λ t. (place_changed c, put_by c) ∷ t) (puts_of-append cs ds)
 
 abbrev pub said : Option Side → Side
 said None = Nothing
@@ -306,35 +306,35 @@ put_within [] c cs h = h.0
 put_within (s ∷ same) c cs h = put_within same c cs h.1
 
 puts_at : (contents : Contents) (same : List Change) (c : Change) (cs : List Change) → flat_map listed (entries contents) ≡ same ++ c ∷ cs
-    → puts_of (flat_map listed (entries contents)) ≡ puts_of same ++ (place_of c, put_by c) ∷ puts_of cs
+    → puts_of (flat_map listed (entries contents)) ≡ puts_of same ++ (place_changed c, put_by c) ∷ puts_of cs
 puts_at contents same c cs e = ap puts_of e ∙ puts_of-append same (c ∷ cs)
 
 module _ (contents others : Contents) (same : List Change) (x : Change) (xs : List Change)
     (ours : flat_map listed (entries contents) ≡ same ++ x ∷ xs) where
-  ours_sorted : T (is_sorted place_order (puts_of same ++ (place_of x, put_by x) ∷ puts_of xs))
+  ours_sorted : T (is_sorted place_order (puts_of same ++ (place_changed x, put_by x) ∷ puts_of xs))
   ours_sorted = subst (λ es. T (is_sorted place_order es)) (puts_at contents same x xs ours) (sorted_listing contents)
 
-  our_side : (q : PlaceAt) → side_at contents q.0 q.1 ≡ said (find place_order q (puts_of same ++ (place_of x, put_by x) ∷ puts_of xs))
+  our_side : (q : PlaceAt) → side_at contents q.0 q.1 ≡ said (find place_order q (puts_of same ++ (place_changed x, put_by x) ∷ puts_of xs))
   our_side q = side_is_put contents q ∙ ap (λ es. said (find place_order q es)) (puts_at contents same x xs ours)
 
-  our_put : side_at contents (place_of x).0 (place_of x).1 ≡ put_by x
-  our_put = our_side (place_of x) ∙ ap said (find_its (puts_of same) (puts_of xs) [] (place_of x, put_by x) ours_sorted)
+  our_put : side_at contents (place_changed x).0 (place_changed x).1 ≡ put_by x
+  our_put = our_side (place_changed x) ∙ ap said (find_its (puts_of same) (puts_of xs) [] (place_changed x, put_by x) ours_sorted)
 
-  our_before : (q : PlaceAt) → place_order q (place_of x) ≡ Less → side_at contents q.0 q.1 ≡ said (find place_order q (puts_of same))
-  our_before q h = our_side q ∙ ap said (find_same (puts_of same) (puts_of xs) [] (place_of x, put_by x) ours_sorted q h)
+  our_before : (q : PlaceAt) → place_order q (place_changed x) ≡ Less → side_at contents q.0 q.1 ≡ said (find place_order q (puts_of same))
+  our_before q h = our_side q ∙ ap said (find_same (puts_of same) (puts_of xs) [] (place_changed x, put_by x) ours_sorted q h)
 
   -- the other list goes on behind this place
-  ahead : (ys : List Change) → flat_map listed (entries others) ≡ same ++ ys → T (below_all place_order (place_of x) (puts_of ys))
-      → DifferFirst contents others (place_of x)
+  ahead : (ys : List Change) → flat_map listed (entries others) ≡ same ++ ys → T (below_all place_order (place_changed x) (puts_of ys))
+      → DifferFirst contents others (place_changed x)
   unfolding IsPut
   ahead ys theirs behind =
       let side = λ (q : PlaceAt). side_is_put others q ∙ ap (λ cs. said (find place_order q (puts_of cs))) theirs
       ∙ ap (λ es. said (find place_order q es)) (puts_of-append same ys) in
-      let none = side (place_of x) ∙ ap said (find_missing (puts_of same) (puts_of xs) (puts_of ys) (place_of x, put_by x) ours_sorted behind) in
+      let none = side (place_changed x) ∙ ap said (find_missing (puts_of same) (puts_of xs) (puts_of ys) (place_changed x, put_by x) ours_sorted behind) in
       record {
         differ = λ e. put_within same x xs (subst AllPut ours (put_listed (entries contents))) (sym our_put ∙ e ∙ none);
         first = λ q h. our_before q h
-            ∙ sym (side q ∙ ap said (find_other (puts_of same) (puts_of xs) (puts_of ys) (place_of x, put_by x) ours_sorted behind q h));
+            ∙ sym (side q ∙ ap said (find_other (puts_of same) (puts_of xs) (puts_of ys) (place_changed x, put_by x) ours_sorted behind q h));
       }
 
 same_place : (p q : PlaceAt) → place_order p q ≡ Equal → p ≡ q
@@ -347,7 +347,7 @@ same_place p q e =
 -- both go on at one place, with different things
 at_once : (contents others : Contents) (same : List Change) (x y : Change) (xs ys : List Change)
     → flat_map listed (entries contents) ≡ same ++ x ∷ xs → flat_map listed (entries others) ≡ same ++ y ∷ ys
-    → place_order (place_of x) (place_of y) ≡ Equal → put_by x ≢ put_by y → DifferFirst contents others (place_of x)
+    → place_order (place_changed x) (place_changed y) ≡ Equal → put_by x ≢ put_by y → DifferFirst contents others (place_changed x)
 at_once contents others same x y xs ys ours theirs tied apart =
     let e = same_place _ _ tied in
     record {
@@ -361,38 +361,38 @@ differ_back : (contents others : Contents) (p : PlaceAt) → DifferFirst content
 differ_back contents others p d = record { differ = λ e. d.differ (sym e); first = λ q h. sym (d.first q h) }
 
 behind_all : (contents : Contents) (same : List Change) (q : PlaceAt) (y : Change) (ys : List Change) → flat_map listed (entries contents) ≡ same ++ y ∷ ys
-    → place_order q (place_of y) ≡ Less → T (below_all place_order q (puts_of (y ∷ ys)))
+    → place_order q (place_changed y) ≡ Less → T (below_all place_order q (puts_of (y ∷ ys)))
 behind_all contents same q y ys e h =
-    entry_below (puts_of same) (puts_of ys) [] (place_of y, put_by y) (ours_sorted contents contents same y ys e) q h
+    entry_below (puts_of same) (puts_of ys) [] (place_changed y, put_by y) (ours_sorted contents contents same y ys e) q h
 
 both_go : (contents others : Contents) (same : List Change) (x y : Change) (xs ys : List Change) (c : Change)
     → flat_map listed (entries contents) ≡ same ++ x ∷ xs → flat_map listed (entries others) ≡ same ++ y ∷ ys
-    → (r : Ordering) → place_order (place_of x) (place_of y) ≡ r → IsFirstOf r x y c → DifferFirst contents others (place_of c)
+    → (r : Ordering) → place_order (place_changed x) (place_changed y) ≡ r → IsFirstOf r x y c → DifferFirst contents others (place_changed c)
 both_go contents others same x y xs ys c ours theirs Less is f =
-    subst (λ d. DifferFirst contents others (place_of d)) (sym f)
-    (ahead contents others same x xs ours (y ∷ ys) theirs (behind_all others same (place_of x) y ys theirs is))
+    subst (λ d. DifferFirst contents others (place_changed d)) (sym f)
+    (ahead contents others same x xs ours (y ∷ ys) theirs (behind_all others same (place_changed x) y ys theirs is))
 both_go contents others same x y xs ys c ours theirs Equal is f =
-    subst (λ d. DifferFirst contents others (place_of d)) (sym f.0) (at_once contents others same x y xs ys ours theirs is f.1)
+    subst (λ d. DifferFirst contents others (place_changed d)) (sym f.0) (at_once contents others same x y xs ys ours theirs is f.1)
 both_go contents others same x y xs ys c ours theirs Greater is f =
-    subst (λ d. DifferFirst contents others (place_of d)) (sym f)
-    (differ_back others contents (place_of y)
-    (ahead others contents same y ys theirs (x ∷ xs) ours (behind_all contents same (place_of y) x xs ours (earlier places_total (place_of x) (place_of y) is))))
+    subst (λ d. DifferFirst contents others (place_changed d)) (sym f)
+    (differ_back others contents (place_changed y)
+    (ahead others contents same y ys theirs (x ∷ xs) ours (behind_all contents same (place_changed y) x xs ours (earlier places_total (place_changed x) (place_changed y) is))))
 
 -- two snapshots part where their tables differ first
 pub parts_first : (contents others : Contents) (same xs ys : List Change) (first : Change)
     → flat_map listed (entries contents) ≡ same ++ xs → flat_map listed (entries others) ≡ same ++ ys → BeginsFirst xs ys first
-    → DifferFirst contents others (place_of first)
+    → DifferFirst contents others (place_changed first)
 parts_first contents others same [] [] c ours theirs h = absurd h
 parts_first contents others same (x ∷ xs) [] c ours theirs h =
-    subst (λ d. DifferFirst contents others (place_of d)) (sym h) (ahead contents others same x xs ours [] theirs tt)
+    subst (λ d. DifferFirst contents others (place_changed d)) (sym h) (ahead contents others same x xs ours [] theirs tt)
 parts_first contents others same [] (y ∷ ys) c ours theirs h =
-    subst (λ d. DifferFirst contents others (place_of d)) (sym h)
-    (differ_back others contents (place_of y) (ahead others contents same y ys theirs [] ours tt))
+    subst (λ d. DifferFirst contents others (place_changed d)) (sym h)
+    (differ_back others contents (place_changed y) (ahead others contents same y ys theirs [] ours tt))
 parts_first contents others same (x ∷ xs) (y ∷ ys) c ours theirs h =
-    both_go contents others same x y xs ys c ours theirs (place_order (place_of x) (place_of y)) refl h
+    both_go contents others same x y xs ys c ours theirs (place_order (place_changed x) (place_changed y)) refl h
 
 pub part_first : (contents others : Contents) (ours theirs : List Change) (first : Change) → ours ≡ flat_map listed (entries contents)
-    → theirs ≡ flat_map listed (entries others) → PartAt ours theirs first → DifferFirst contents others (place_of first)
+    → theirs ≡ flat_map listed (entries others) → PartAt ours theirs first → DifferFirst contents others (place_changed first)
 part_first contents others ours theirs first is also p =
     parts_first contents others p.same p.rest p.other_rest first (sym is ∙ p.ours) (sym also ∙ p.theirs) p.begins
 
@@ -428,7 +428,7 @@ module _ (ours theirs : List Change) (i : ℕ) (same : take i ours ≡ take i th
   theirs_from cs e = e ∙ ap (λ t. t ++ cs) (sym same)
 
   pub part_both : (x y f : Change) → i < length ours → i < length theirs → x ≡ get_or ours i x → y ≡ get_or theirs i y
-      → IsFirstOf (place_order (place_of x) (place_of y)) x y f → PartAt ours theirs f
+      → IsFirstOf (place_order (place_changed x) (place_changed y)) x y f → PartAt ours theirs f
   part_both x y f h k e g is = record {
     same = take i ours;
     rest = x ∷ drop (suc i) ours;

@@ -7,11 +7,11 @@ use Rattle.feed_node.specs.Mirroring.{MirrorState, first_opening, publications}
 use Rattle.feed_node.specs.Reading.{AllGood}
 use Rattle.feed_node.specs.declared.fault.FeedFault.TheVariants as feed
 use Rattle.feed_audit.specs.declared.verdict.AuditFault.{AuditFault}
-use Rattle.feed_audit.specs.declared.verdict.AuditFault.TheVariants as told
+use Rattle.feed_audit.specs.declared.verdict.AuditFault.TheVariants as failed
 use Rattle.feed_audit.specs.Answers.{HasStates, FailsToCount}
 use Rattle.feed_audit.specs.States.{afresh}
 use Rattle.feed_audit.specs.Stops.{primary_fault, IsUnreadPrimary}
-use Rattle.feed_audit.specs.Walks.{Walked, ReadsMore, GoesToEnd, StopsAt}
+use Rattle.feed_audit.specs.Walks.{Walked, ReadsMore, GoesToEnd, StopsReading}
 use Rattle.feed_audit.specs.declared.stop.Stop.{Stop}
 use Rattle.feed_audit.specs.declared.stop.Stop.TheVariants as stopped
 use Rattle.feed_records.specs.declared.reading.Unread.TheVariants as unread
@@ -50,7 +50,7 @@ counts_all limits text left count new_count states old new a g =
 
 -- what stopped the reading, as it is told
 pub count_stops : (limits : Limits) (primary : List ℕ) (notes : List Line) (stop : Stop) (lines : ℕ)
-    → StopsAt (afresh limits) primary notes (min (lines + 1) 18446744073709551615) stop → FailsToCount limits primary (primary_fault stop lines)
+    → StopsReading (afresh limits) primary notes (min (lines + 1) 18446744073709551615) stop → FailsToCount limits primary (primary_fault stop lines)
 count_stops limits primary notes (stopped.Feed feed.NotOpen) lines f = (f (λ e. absurd (cc))).faults
 count_stops limits primary notes (stopped.Feed feed.LongLine) lines f = (f (λ e. absurd (cc))).faults
 count_stops limits primary notes (stopped.Feed (feed.Line why)) lines f = (f (λ e. absurd (cc))).faults
@@ -62,10 +62,10 @@ count_stops limits primary notes (stopped.Unread unread.Memory) lines f = tt
 
 -- and that it can't be opened again
 pub count_unread : (limits : Limits) (primary : List ℕ) (why : AuditFault) → IsUnreadPrimary why → FailsToCount limits primary why
-count_unread limits primary (told.Primary line why) f = absurd f
-count_unread limits primary (told.Screen line why) f = absurd f
-count_unread limits primary (told.Chunked line) f = absurd f
-count_unread limits primary (told.OtherToken line) f = absurd f
-count_unread limits primary (told.PrimaryUnread why) f = f
-count_unread limits primary (told.ScreenUnread why) f = absurd f
-count_unread limits primary told.Memory f = tt
+count_unread limits primary (failed.Primary line why) f = absurd f
+count_unread limits primary (failed.Screen line why) f = absurd f
+count_unread limits primary (failed.Chunked line) f = absurd f
+count_unread limits primary (failed.OtherToken line) f = absurd f
+count_unread limits primary (failed.PrimaryUnread why) f = f
+count_unread limits primary (failed.ScreenUnread why) f = absurd f
+count_unread limits primary failed.Memory f = tt

@@ -7,7 +7,7 @@ use Rattle.feed_audit.specs.declared.stop.Stop.TheVariants as stopped
 use Rattle.feed_records.specs.declared.reading.Unread.{Unread}
 use Rattle.feed_records.specs.declared.reading.Unread.TheVariants as unread
 use Rattle.feed_audit.specs.declared.verdict.AuditFault.{AuditFault}
-use Rattle.feed_audit.specs.declared.verdict.AuditFault.TheVariants as told
+use Rattle.feed_audit.specs.declared.verdict.AuditFault.TheVariants as failed
 
 module _ (P Q : Unread → Type 0) where
   pub primary_unread : (stop : Stop) (lines : ℕ) → ((why : Unread) → stop ≡ stopped.Unread why → P why) → IsUnread P Q (primary_fault stop lines)
@@ -32,23 +32,23 @@ module _ (P Q : Unread → Type 0) where
 
   -- of two records' faults, one is the primary's
   pub unread_of_primary : (why : AuditFault) → IsUnread P (λ _. ⊥) why → IsUnread P Q why
-  unread_of_primary (told.PrimaryUnread w) h = h
-  unread_of_primary (told.ScreenUnread w) h = absurd h
-  unread_of_primary (told.Primary line w) h = tt
-  unread_of_primary (told.Screen line w) h = tt
-  unread_of_primary (told.Chunked line) h = tt
-  unread_of_primary (told.OtherToken line) h = tt
-  unread_of_primary told.Memory h = tt
+  unread_of_primary (failed.PrimaryUnread w) h = h
+  unread_of_primary (failed.ScreenUnread w) h = absurd h
+  unread_of_primary (failed.Primary line w) h = tt
+  unread_of_primary (failed.Screen line w) h = tt
+  unread_of_primary (failed.Chunked line) h = tt
+  unread_of_primary (failed.OtherToken line) h = tt
+  unread_of_primary failed.Memory h = tt
 
   -- and one the screen's
   pub unread_of_screen : (why : AuditFault) → IsUnread (λ _. ⊥) Q why → IsUnread P Q why
-  unread_of_screen (told.PrimaryUnread w) h = absurd h
-  unread_of_screen (told.ScreenUnread w) h = h
-  unread_of_screen (told.Primary line w) h = tt
-  unread_of_screen (told.Screen line w) h = tt
-  unread_of_screen (told.Chunked line) h = tt
-  unread_of_screen (told.OtherToken line) h = tt
-  unread_of_screen told.Memory h = tt
+  unread_of_screen (failed.PrimaryUnread w) h = absurd h
+  unread_of_screen (failed.ScreenUnread w) h = h
+  unread_of_screen (failed.Primary line w) h = tt
+  unread_of_screen (failed.Screen line w) h = tt
+  unread_of_screen (failed.Chunked line) h = tt
+  unread_of_screen (failed.OtherToken line) h = tt
+  unread_of_screen failed.Memory h = tt
 
 pub unread_screen : (why : Unread) (lines : ℕ) → IsUnreadScreen (screen_fault (stopped.Unread why) lines)
 unread_screen unread.Failed lines = λ e. absurd (cc)

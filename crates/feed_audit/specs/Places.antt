@@ -21,12 +21,12 @@ place_order place other =
     ordering_then (byte_order place.0 other.0) (option_cmp byte_order place.1 other.1)
 
 -- the place that a change is about
-abbrev pub place_of : Change → PlaceAt
-place_of (Set kind id object) = (kind, Some id)
-place_of (Remove kind id) = (kind, Some id)
-place_of (Empty kind) = (kind, None)
-place_of (Single kind object) = (kind, None)
-place_of (Clear kind) = (kind, None)
+abbrev pub place_changed : Change → PlaceAt
+place_changed (Set kind id object) = (kind, Some id)
+place_changed (Remove kind id) = (kind, Some id)
+place_changed (Empty kind) = (kind, None)
+place_changed (Single kind object) = (kind, None)
+place_changed (Clear kind) = (kind, None)
 
 -- what stands there then
 abbrev pub put_by : Change → Side
@@ -49,7 +49,7 @@ BeginsFirst [] [] first = ⊥
 BeginsFirst (change ∷ changes) [] first = first ≡ change
 BeginsFirst [] (other ∷ others) first = first ≡ other
 BeginsFirst (change ∷ changes) (other ∷ others) first =
-    IsFirstOf (place_order (place_of change) (place_of other)) change other first
+    IsFirstOf (place_order (place_changed change) (place_changed other)) change other first
 
 -- two lists of changes are the same up to where they part, and there this change comes first
 pub record PartAt (changes others : List Change) (first : Change) : Type 0 where

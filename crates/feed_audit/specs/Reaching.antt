@@ -15,8 +15,8 @@ use Rattle.feed_audit.specs.declared.verdict.Verdict.{Verdict}
 use Rattle.feed_audit.specs.declared.verdict.Verdict.TheVariants as verdict
 
 -- a connection that carries this, behind so many lines
-abbrev pub part_of : ℕ → Opened → List ℕ → Recorded
-part_of before opened body = part before opened.is_feed (since_of opened) body
+abbrev pub recorded_of : ℕ → Opened → List ℕ → Recorded
+recorded_of before opened body = part before opened.is_feed (since_of opened) body
 
 -- what is answered of a feed, and what is left of the mirror
 abbrev pub IsFeedVerdict : Limits → List ℕ → MirrorState → Recorded → Verdict → MirrorState → Type 0

@@ -8,7 +8,7 @@ ghost use Rattle.feed_audit.specs.States.{Start, afresh, IsStateOf};
 ghost use Rattle.feed_audit.specs.Walks.{Walked, Finds, IsSince};
 ghost use Rattle.feed_audit.specs.Stops.{IsUnread, IsUnreadPrimary};
 ghost use Rattle.feed_note.specs.declared.line.Line.{Line as Note};
-ghost use Rattle.feed_audit.specs.declared.verdict.AuditFault.TheVariants as told;
+ghost use Rattle.feed_audit.specs.declared.verdict.AuditFault.TheVariants as failed;
 
 use crate::again::read_again;
 use crate::explaining::explain;
@@ -25,7 +25,7 @@ use std::alloc::Global;
 // The token that a node publishes.
 fn token_of(node: &Node) -> Result<Name, AuditFault>
     ensures ok { IfOk result (λ token. Some token ≡ published_token node.now.shown) }
-    ensures err { IfErr result (λ fault. fault ≡ told.Memory) }
+    ensures err { IfErr result (λ fault. fault ≡ failed.Memory) }
 {
     let Some(token) = node.token() else {
         return Err(AuditFault::Memory);
@@ -33,29 +33,45 @@ fn token_of(node: &Node) -> Result<Name, AuditFault>
     Ok(token.copy()?)
 }
 
+/// How far the primary's record was read.
+#[derive(Drop)]
+struct Ours {
+    /// What its lines are fed to.
+    mirror: Mirror,
+    /// How many they are.
+    lines: usize,
+}
+
 /// Looks for what a node shows among the primary's states behind those that were read. It is not
 /// there where a line on the way can't be fed.
 fn find_behind<P: Lines>(
     alloc: Global,
     primary: &mut P,
-    mirror: &mut Mirror,
-    lines: &mut usize,
+    ours: &mut Ours,
     wanted: &Node,
     since: &mut Since,
 ) -> Result<bool, AuditFault>
     ensures some { (start : Start) (all behind : List ℕ) (notes : List Note)
-        → P.left primary.old ≡ Some behind → Walked start all behind notes lines.old mirror.old
-        → IsSince since.old mirror.old.node wanted.now.shown
+        → P.left primary.old ≡ Some behind
+        → Walked start all behind notes ours.old.lines ours.old.mirror
+        → IsSince since.old ours.old.mirror.node wanted.now.shown
         → IfOk result (λ found. found ≡ true → IsLeft (P.left primary.new)
-        (λ behind. Finds start all behind lines.new mirror.new wanted.now.shown)) }
+        (λ behind. Finds start all behind ours.new.lines ours.new.mirror wanted.now.shown)) }
     ensures err { IfErr result IsUnreadPrimary }
     ensures whole { P.whole primary.new ≡ P.whole primary.old }
     ensures unread { IfErr result (IsUnread (P.unread primary.new) (λ _. ⊥)) }
 {
-    match find(alloc, mirror, primary, lines, wanted, since) {
+    match find(
+        alloc,
+        &mut ours.mirror,
+        primary,
+        &mut ours.lines,
+        wanted,
+        since,
+    ) {
         Ok(found) => Ok(found),
         Err(Stop::Feed(_)) => Ok(false),
-        Err(Stop::Unread(why)) => Err(of_primary(Stop::Unread(why), *lines)),
+        Err(Stop::Unread(why)) => Err(of_primary(Stop::Unread(why), ours.lines)),
     }
 }
 
@@ -65,16 +81,15 @@ fn locate<P: Replayed>(
     alloc: Global,
     limits: Limits,
     primary: &mut P,
-    mirror: &mut Mirror,
-    lines: &mut usize,
+    ours: &mut Ours,
     wanted: &Node,
     since: &mut Since,
 ) -> Result<bool, AuditFault>
     ensures some { (text : List ℕ) → P.whole primary.old ≡ Some text
-        → HasReadLines limits text (P.left primary.old) lines.old mirror.old
-        → IsSince since.old mirror.old.node wanted.now.shown
+        → HasReadLines limits text (P.left primary.old) ours.old.lines ours.old.mirror
+        → IsSince since.old ours.old.mirror.node wanted.now.shown
         → IfOk result (λ found. found ≡ true → IsLeft (P.left primary.new) (λ behind.
-        Finds (afresh limits) text behind lines.new mirror.new wanted.now.shown)) }
+        Finds (afresh limits) text behind ours.new.lines ours.new.mirror wanted.now.shown)) }
     ensures none { (text : List ℕ) → P.whole primary.old ≡ Some text
         → IfOk result (λ found. found ≡ false → IsStrange limits text wanted.now.shown) }
     ensures err { (text : List ℕ) → P.whole primary.old ≡ Some text
@@ -84,15 +99,25 @@ fn locate<P: Replayed>(
 {
     // What `none` rests on.
     line_laws();
-    if find_behind(alloc, primary, mirror, lines, wanted, since)? {
+    if find_behind(alloc, primary, ours, wanted, since)? {
         return Ok(true);
     }
-    *mirror = read_again(alloc, limits, primary)?;
-    *lines = 0;
+    let again = read_again(alloc, limits, primary)?;
+    *ours = Ours {
+        mirror: again,
+        lines: 0,
+    };
     *since = Since::unknown(alloc);
-    match find(alloc, mirror, primary, lines, wanted, since) {
+    match find(
+        alloc,
+        &mut ours.mirror,
+        primary,
+        &mut ours.lines,
+        wanted,
+        since,
+    ) {
         Ok(found) => Ok(found),
-        Err(stop) => Err(of_primary(stop, *lines)),
+        Err(stop) => Err(of_primary(stop, ours.lines)),
     }
 }
 
@@ -129,8 +154,8 @@ pub(crate) fn audit_on<P: Replayed, L: Lines>(
     // What `ok` rests on.
     line_laws();
     theirs.begin();
-    let mut ours = read_again(alloc, limits, primary)?;
-    let mut our_lines = 0;
+    let mirror = read_again(alloc, limits, primary)?;
+    let mut ours = Ours { mirror, lines: 0 };
     let mut lines = 0;
     let mut since = Since::unknown(alloc);
     let mut states: usize = 0;
@@ -141,15 +166,7 @@ pub(crate) fn audit_on<P: Replayed, L: Lines>(
             Ok(true) => {
                 let wanted = theirs.node();
                 since.note_theirs(wanted)?;
-                if !locate(
-                    alloc,
-                    limits,
-                    primary,
-                    &mut ours,
-                    &mut our_lines,
-                    wanted,
-                    &mut since,
-                )? {
+                if !locate(alloc, limits, primary, &mut ours, wanted, &mut since)? {
                     let difference = explain(alloc, limits, primary, wanted)?;
                     return Ok(Verdict::Strays(Stray {
                         token: token_of(wanted)?,

@@ -6,7 +6,7 @@ ghost use Rattle.std.specs.FinMap.{entries};
 ghost use Rattle.feed_tables.specs.Bytes.{byte_order};
 ghost use Rattle.feed_tables.specs.Tables.{Contents, listed, listing};
 ghost use Rattle.feed_audit.specs.Differences.{side_at, DifferFirst, TellsDifference};
-ghost use Rattle.feed_audit.specs.Places.{place_of as place, put_by, place_order, PartAt};
+ghost use Rattle.feed_audit.specs.Places.{place_changed as place, put_by, place_order, PartAt};
 
 use feed_tables::{Change, Name, Tables, table_laws};
 use feed_text::ObjectText;
@@ -196,7 +196,7 @@ pub fn difference_of(
     primary: &Tables,
     screen: &Tables,
 ) -> Result<Difference, AllocError>
-    ensures { IfOk result (λ told. TellsDifference primary.now.contents screen.now.contents told) }
+    ensures { IfOk result (λ found. TellsDifference primary.now.contents screen.now.contents found) }
 {
     let Some(place) = first_place(alloc, primary, screen)? else {
         return Ok(Difference::Same);

@@ -32,10 +32,10 @@ fn has_token(node: &Node, wanted: &Node) -> bool
 }
 
 /// Where the tables that two nodes publish differ.
-fn tell(alloc: Global, node: &Node, wanted: &Node) -> Result<Difference, AllocError>
-    ensures { IfOk result (λ told. (shown state : Published)
+fn difference_between(alloc: Global, node: &Node, wanted: &Node) -> Result<Difference, AllocError>
+    ensures { IfOk result (λ difference. (shown state : Published)
         → node.now.shown.published ≡ Some shown → wanted.now.shown.published ≡ Some state
-        → TellsDifference shown.tables state.tables told) }
+        → TellsDifference shown.tables state.tables difference) }
 {
     let Some(tables) = node.published() else {
         return Ok(Difference::Same);
@@ -55,8 +55,8 @@ pub(crate) fn explain<P: Replayed>(
     wanted: &Node,
 ) -> Result<Difference, AuditFault>
     ensures ok { (text : List ℕ) → P.whole primary.old ≡ Some text
-        → IsStrange limits text wanted.now.shown → IfOk result (λ told. (state : Published)
-        → wanted.now.shown.published ≡ Some state → Explains limits text state told) }
+        → IsStrange limits text wanted.now.shown → IfOk result (λ difference. (state : Published)
+        → wanted.now.shown.published ≡ Some state → Explains limits text state difference) }
     ensures err { (text : List ℕ) → P.whole primary.old ≡ Some text
         → IfErr result (FailsToLocate limits text wanted.now.shown) }
     ensures whole { P.whole primary.new ≡ P.whole primary.old }
@@ -72,7 +72,7 @@ pub(crate) fn explain<P: Replayed>(
             Ok(false) => return Ok(Difference::NoToken),
             Ok(true) => {
                 if has_token(mirror.node(), wanted) {
-                    return Ok(tell(alloc, mirror.node(), wanted)?);
+                    return Ok(difference_between(alloc, mirror.node(), wanted)?);
                 }
             }
         }

@@ -3,7 +3,7 @@
 ghost use Rattle.std.specs.Prelude.{◌≡◌, ◌≢◌, ◌⊎◌, ◌+◌, ◌≤◌, ℕ, List, true, false, min, IfOk, IfErr, OnOk, IsTrue, IfSome, Some};
 ghost use Rattle.feed_node.specs.Mirroring.{new_mirror, present_opening};
 ghost use Rattle.feed_records.specs.Connections.{is_chunked};
-ghost use Rattle.feed_audit.specs.Reaching.{IsPartVerdict, FailsInBody, faults_behind, part_of};
+ghost use Rattle.feed_audit.specs.Reaching.{IsPartVerdict, FailsInBody, faults_behind, recorded_of};
 ghost use Rattle.feed_records.specs.Parting.{most, since_of};
 ghost use Rattle.feed_audit.specs.States.{IsStateOf};
 ghost use Rattle.feed_audit.specs.Records.{IsRecordVerdict, FailsToAuditRecord, MayGoOn, opening_of};
@@ -94,12 +94,12 @@ fn audit_connection<P: Replayed, L: Lines>(
         → L.left screen.old ≡ Some body
         → IfSome mirror.old.node.published (IsStateOf limits text) → (before : ℕ)
         → IfOk result (λ verdict. IsPartVerdict limits text opened.now.is_feed mirror.old
-        (part_of before opened.now body) verdict mirror.new) }
+        (recorded_of before opened.now body) verdict mirror.new) }
     ensures err { (text body : List ℕ) → P.whole primary.old ≡ Some text
         → L.left screen.old ≡ Some body
         → IfSome mirror.old.node.published (IsStateOf limits text) → (before : ℕ)
         → IfErr result (λ fault.
-        FailsInBody limits text mirror.old (part_of before opened.now body) fault) }
+        FailsInBody limits text mirror.old (recorded_of before opened.now body) fault) }
     ensures feed { IfErr result (λ _. opened.now.is_feed ≡ true) }
     ensures limits { OnOk result (mirror.new.limits ≡ limits) }
     ensures whole { P.whole primary.new ≡ P.whole primary.old }

@@ -9,7 +9,7 @@ use Rattle.feed_audit.specs.declared.verdict.Verdict.{Verdict}
 use Rattle.feed_audit.specs.declared.verdict.Verdict.TheVariants as verdict
 use Rattle.feed_http.specs.Device.{AppendsPrefix}
 use Rattle.feed_arguments.specs.declared.request.AuditOptions.{AuditOptions}
-use Rattle.feed_commands.specs.Audit.{stray_told, AuditFails, FailsToCompare, PrintsAgreement, TellsAgreement}
+use Rattle.feed_commands.specs.Audit.{stray_printed, AuditFails, FailsToCompare, PrintsAgreement, TellsAgreement}
 use Rattle.feed_commands.specs.Fault.{fault_of_audit}
 use Rattle.feed_commands.specs.declared.fault.Fault.{Fault}
 use Rattle.feed_commands.specs.declared.fault.Fault.TheVariants as fault
@@ -30,22 +30,22 @@ compare_fails options primary screen out (audit.PrimaryUnread why) fails = (fail
 compare_fails options primary screen out (audit.ScreenUnread why) fails = (fails, keeps_itself out)
 
 module _ (options : AuditOptions) (primary screen : List ℕ) (old new : Option (List ℕ)) where
-  -- a stray state was told, and a prefix of that was printed
+  -- a prefix was printed of what is said of a stray state
   pub stray_prefix : (why : Fault) (found : Verdict) (stray : Stray) (text : List ℕ) → why ≡ fault.Write
       → found ≡ verdict.Strays stray → IsRecordVerdict options.limits primary screen found
-      → text ≡ stray_told options.json options.verbose stray → AppendsPrefix old new text
+      → text ≡ stray_printed options.json options.verbose stray → AppendsPrefix old new text
       → AuditFails options primary screen why old new
   stray_prefix why found stray text failed is found_is told printed =
       subst (λ w. AuditFails options primary screen w old new) (sym failed)
-      (text, inr (record { stray = stray; strays = subst (IsRecordVerdict options.limits primary screen) is found_is; told = told }), printed)
+      (text, inr (record { stray = stray; strays = subst (IsRecordVerdict options.limits primary screen) is found_is; text_is = told }), printed)
 
-  -- an agreement was told, and printed
+  -- an agreement was printed
   pub agreement_printed : {A E : Type 0} (result : Result A E) (text : List ℕ) → TellsAgreement options primary screen text
       → OnOk result (Appends old new text) → OnOk result (PrintsAgreement options primary screen old new)
   agreement_printed (Ok done) text tells printed = (text, tells, printed)
   agreement_printed (Err why) text tells printed = tt
 
-  -- it was told, and a prefix of that was printed
+  -- a prefix of it was printed
   pub agreement_prefix : {A : Type 0} (result : Result A Fault) (text : List ℕ) → TellsAgreement options primary screen text
       → IfErr result (λ why. why ≡ fault.Write) → OnErr result (AppendsPrefix old new text)
       → IfErr result (λ why. AuditFails options primary screen why old new)

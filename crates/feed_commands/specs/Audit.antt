@@ -4,7 +4,7 @@ use Rattle.std.specs.Io.KnownBytes.{Appends, Keeps}
 use Rattle.feed_audit.specs.Answers.{HasStates, FailsToCount}
 use Rattle.feed_audit.specs.Records.{RecordAgrees, RecordStrays, FailsToAuditRecord}
 use Rattle.feed_audit.specs.Stops.{IsUnread}
-use Rattle.feed_verdicts.specs.Told.{agreement_text, agreement_json, stray_text, stray_json}
+use Rattle.feed_verdicts.specs.Verdicts.{agreement_text, agreement_json, stray_text, stray_json}
 use Rattle.feed_records.specs.declared.reading.Unread.{Unread}
 use Rattle.feed_audit.specs.declared.verdict.AuditFault.{AuditFault}
 use Rattle.feed_audit.specs.declared.verdict.Stray.{Stray}
@@ -17,15 +17,15 @@ use Rattle.feed_commands.specs.declared.fault.Fault.TheVariants as fault
 abbrev pub record_bytes : ℕ
 record_bytes = 536870912
 
--- how an agreement is told: as JSON, or as a line
-abbrev pub agreement_told : Bool → ℕ → ℕ → List ℕ
-agreement_told true states primary = agreement_json states primary
-agreement_told false states primary = agreement_text states primary
+-- how an agreement is printed: as JSON, or as a line
+abbrev pub agreement_printed : Bool → ℕ → ℕ → List ℕ
+agreement_printed true states primary = agreement_json states primary
+agreement_printed false states primary = agreement_text states primary
 
 -- and a stray state: as JSON, or as lines with objects whole or not
-abbrev pub stray_told : Bool → Bool → Stray → List ℕ
-stray_told true whole stray = stray_json stray
-stray_told false whole stray = stray_text whole stray
+abbrev pub stray_printed : Bool → Bool → Stray → List ℕ
+stray_printed true whole stray = stray_json stray
+stray_printed false whole stray = stray_text whole stray
 
 -- a record can't be read on, and this is so of it; of another fault nothing is said
 abbrev pub IsUnreadRecord : (Unread → Type 0) → (Unread → Type 0) → Fault → Type 0
@@ -41,13 +41,13 @@ module _ (options : AuditOptions) (primary screen : List ℕ) where
     pub agrees : RecordAgrees options.limits primary screen states
     pub all : ℕ
     pub has : HasStates options.limits primary all
-    pub told : text ≡ agreement_told options.json states all
+    pub text_is : text ≡ agreement_printed options.json states all
 
   -- this state of the screen's is the first that is none of the primary's, and the text tells it
   pub record TellsStray (text : List ℕ) : Type 0 where
     pub stray : Stray
     pub strays : RecordStrays options.limits primary screen stray
-    pub told : text ≡ stray_told options.json options.verbose stray
+    pub text_is : text ≡ stray_printed options.json options.verbose stray
 
   -- the records agree, and that was printed
   abbrev pub PrintsAgreement : Option (List ℕ) → Option (List ℕ) → Type 0

@@ -6,7 +6,7 @@ use Rattle.feed_text.specs.Limits.{line_bytes}
 use Rattle.feed_note.specs.Lines.{HasNoLineFeed, lines, rest, ended}
 use Rattle.feed_note.proofs.LinesCut.{lines_cut, no_lines, one_line, no_rest, rest_behind}
 use Rattle.feed_records.specs.Connections.{OpensNone, is_marked, is_short, token_on, status_on, since_in, status_in}
-use Rattle.feed_records.specs.Parting.{opens, body_by, count_by, next_by, body_of, count_of, next_of, first_opens, is_at_next}
+use Rattle.feed_records.specs.Parting.{opens_connection, body_by, count_by, next_by, body_of, body_lines, behind_body, first_opens, is_at_next}
 
 -- ---- whether a connection begins on a line
 
@@ -26,23 +26,23 @@ none_by : (o : Option (List ℕ)) → is_some o ≡ false → o ≡ None
 none_by None e = refl
 none_by (Some x) e = absurd (true≢false e)
 
-pub marked_opens : (line : List ℕ) → is_marked line ≡ true → opens line ≡ true
+pub marked_opens : (line : List ℕ) → is_marked line ≡ true → opens_connection line ≡ true
 marked_opens line e = ap (λ b. b || (is_some (token_on line) || is_some (status_on line))) e
 
-pub named_opens : (line token : List ℕ) → token_on line ≡ Some token → opens line ≡ true
+pub named_opens : (line token : List ℕ) → token_on line ≡ Some token → opens_connection line ≡ true
 named_opens line token e = or_right (is_marked line) _ (ap (λ o. is_some o || is_some (status_on line)) e)
 
-pub answered_opens : (line status : List ℕ) → status_on line ≡ Some status → opens line ≡ true
+pub answered_opens : (line status : List ℕ) → status_on line ≡ Some status → opens_connection line ≡ true
 answered_opens line status e = or_right (is_marked line) _ (or_right (is_some (token_on line)) _ (ap is_some e))
 
-pub opens_none : (line : List ℕ) → opens line ≡ false → OpensNone line
+pub opens_none : (line : List ℕ) → opens_connection line ≡ false → OpensNone line
 opens_none line e = record {
   unmarked = neither_left (is_marked line) _ e;
   unnamed = none_by (token_on line) (neither_left (is_some (token_on line)) _ (neither_right (is_marked line) _ e));
   headless = none_by (status_on line) (neither_right (is_some (token_on line)) _ (neither_right (is_marked line) _ e));
 }
 
-pub none_opens : (line : List ℕ) → OpensNone line → opens line ≡ false
+pub none_opens : (line : List ℕ) → OpensNone line → opens_connection line ≡ false
 none_opens line n =
     ap (λ b. b || (is_some (token_on line) || is_some (status_on line))) n.unmarked ∙ ap (λ o. is_some o || is_some (status_on line)) n.unnamed ∙ ap is_some n.headless
 
@@ -53,7 +53,7 @@ long_unmarked line long = by (is_short line) refl
     by true e = let short = leb-true (length line) line_bytes e in absurd (omega (arith, short, long))
     by false e = e
 
-pub opens_long : (line : List ℕ) → line_bytes < length line → opens line ≡ false
+pub opens_long : (line : List ℕ) → line_bytes < length line → opens_connection line ≡ false
 opens_long line long =
     let e = long_unmarked line long in
     none_opens line (record {
@@ -65,27 +65,27 @@ opens_long line long =
 -- ---- a line more
 
 module _ (line : List ℕ) (later : List (List ℕ)) (end : List ℕ) where
-  body_hit : opens line ≡ true → body_by (line ∷ later) end ≡ []
+  body_hit : opens_connection line ≡ true → body_by (line ∷ later) end ≡ []
   unfolding body_by
   body_hit e = ap (λ t. cond t [] (line ++ 10 ∷ body_by later end)) e
 
-  pub body_miss : opens line ≡ false → body_by (line ∷ later) end ≡ line ++ 10 ∷ body_by later end
+  pub body_miss : opens_connection line ≡ false → body_by (line ∷ later) end ≡ line ++ 10 ∷ body_by later end
   unfolding body_by
   body_miss e = ap (λ t. cond t [] (line ++ 10 ∷ body_by later end)) e
 
-  count_hit : opens line ≡ true → count_by (line ∷ later) ≡ 0
+  count_hit : opens_connection line ≡ true → count_by (line ∷ later) ≡ 0
   unfolding count_by
   count_hit e = ap (λ t. cond t 0 (count_by later + 1)) e
 
-  count_miss : opens line ≡ false → count_by (line ∷ later) ≡ count_by later + 1
+  count_miss : opens_connection line ≡ false → count_by (line ∷ later) ≡ count_by later + 1
   unfolding count_by
   count_miss e = ap (λ t. cond t 0 (count_by later + 1)) e
 
-  next_hit : opens line ≡ true → next_by (line ∷ later) end ≡ ended (line ∷ later) ++ end
+  next_hit : opens_connection line ≡ true → next_by (line ∷ later) end ≡ ended (line ∷ later) ++ end
   unfolding next_by
   next_hit e = ap (λ t. cond t (ended (line ∷ later) ++ end) (next_by later end)) e
 
-  next_miss : opens line ≡ false → next_by (line ∷ later) end ≡ next_by later end
+  next_miss : opens_connection line ≡ false → next_by (line ∷ later) end ≡ next_by later end
   unfolding next_by
   next_miss e = ap (λ t. cond t (ended (line ∷ later) ++ end) (next_by later end)) e
 
@@ -106,19 +106,19 @@ next_nil end = refl
 
 -- a text that begins with a line
 module _ (line behind : List ℕ) (unbroken : HasNoLineFeed line) where
-  pub at_line : is_at_next (line ++ 10 ∷ behind) ≡ opens line
+  pub at_line : is_at_next (line ++ 10 ∷ behind) ≡ opens_connection line
   at_line = ap first_opens (one_line line behind unbroken)
 
-  pub body_at : opens line ≡ true → body_of (line ++ 10 ∷ behind) ≡ []
+  pub body_at : opens_connection line ≡ true → body_of (line ++ 10 ∷ behind) ≡ []
   body_at e = ap₂ body_by (one_line line behind unbroken) (rest_behind line behind unbroken) ∙ body_hit line (lines behind) (rest behind) e
 
-  pub body_behind : opens line ≡ false → body_of (line ++ 10 ∷ behind) ≡ line ++ 10 ∷ body_of behind
+  pub body_behind : opens_connection line ≡ false → body_of (line ++ 10 ∷ behind) ≡ line ++ 10 ∷ body_of behind
   body_behind e = ap₂ body_by (one_line line behind unbroken) (rest_behind line behind unbroken) ∙ body_miss line (lines behind) (rest behind) e
 
-  pub count_behind : opens line ≡ false → count_of (line ++ 10 ∷ behind) ≡ count_of behind + 1
+  pub count_behind : opens_connection line ≡ false → body_lines (line ++ 10 ∷ behind) ≡ body_lines behind + 1
   count_behind e = ap count_by (one_line line behind unbroken) ∙ count_miss line (lines behind) (rest behind) e
 
-  pub next_behind : opens line ≡ false → next_of (line ++ 10 ∷ behind) ≡ next_of behind
+  pub next_behind : opens_connection line ≡ false → behind_body (line ++ 10 ∷ behind) ≡ behind_body behind
   next_behind e = ap₂ next_by (one_line line behind unbroken) (rest_behind line behind unbroken) ∙ next_miss line (lines behind) (rest behind) e
 
 -- one that has no line
@@ -129,7 +129,7 @@ module _ (text : List ℕ) (unbroken : HasNoLineFeed text) where
   pub body_rest : body_of text ≡ text
   body_rest = ap₂ body_by (no_lines text unbroken) (no_rest text unbroken) ∙ body_nil text
 
-  pub next_rest : next_of text ≡ []
+  pub next_rest : behind_body text ≡ []
   next_rest = ap₂ next_by (no_lines text unbroken) (no_rest text unbroken) ∙ next_nil text
 
 -- one where another connection begins
@@ -145,10 +145,10 @@ at_next_by (l ∷ ls) end e = record { body_is = body_hit l ls end e; next_is = 
 pub body_next : (text : List ℕ) → is_at_next text ≡ true → body_of text ≡ []
 body_next text e = (at_next_by (lines text) (rest text) e).body_is
 
-pub next_next : (text : List ℕ) → is_at_next text ≡ true → next_of text ≡ text
+pub next_next : (text : List ℕ) → is_at_next text ≡ true → behind_body text ≡ text
 next_next text e = (at_next_by (lines text) (rest text) e).next_is ∙ sym (lines_cut text).text
 
-pub count_next : (text : List ℕ) → is_at_next text ≡ true → count_of text ≡ 0
+pub count_next : (text : List ℕ) → is_at_next text ≡ true → body_lines text ≡ 0
 count_next text e = (at_next_by (lines text) (rest text) e).count_is
 
 -- ---- all of it
@@ -160,9 +160,9 @@ data SplitBy (ls : List (List ℕ)) (end : List ℕ) : Type 0 where
 
 split_by : (ls : List (List ℕ)) (end : List ℕ) → SplitBy ls end
 split_by [] end = alone_by tt (body_nil end) (next_nil end) count_nil
-split_by (l ∷ ls) end = by (opens l) refl (split_by ls end)
+split_by (l ∷ ls) end = by (opens_connection l) refl (split_by ls end)
   where
-    more : opens l ≡ false → SplitBy ls end → SplitBy (l ∷ ls) end
+    more : opens_connection l ≡ false → SplitBy ls end → SplitBy (l ∷ ls) end
     more e (alone_by none body_is next_is count_is) =
         alone_by (opens_none l e, none) (body_miss l ls end e ∙ ap (λ t. l ++ 10 ∷ t) body_is ∙ regroup l ls end) (next_miss l ls end e ∙ next_is)
         (let c = count_miss l ls end e in omega (arith, c, count_is))
@@ -173,15 +173,15 @@ split_by (l ∷ ls) end = by (opens l) refl (split_by ls end)
         (append_assoc (l ++ 10 ∷ []) (ended ls) end ∙ ap (λ t. (l ++ 10 ∷ []) ++ t) text_is ∙ sym (append_assoc (l ++ 10 ∷ []) (ended seen) (next_by ls end))
         ∙ ap (λ t. ended (l ∷ seen) ++ t) (sym (next_miss l ls end e)))
 
-    by : (b : Bool) → opens l ≡ b → SplitBy ls end → SplitBy (l ∷ ls) end
+    by : (b : Bool) → opens_connection l ≡ b → SplitBy ls end → SplitBy (l ∷ ls) end
     by true e h = before_by [] (l ∷ ls) tt refl (body_hit l ls end e) (count_hit l ls end e) (sym (next_hit l ls end e))
     by false e h = more e h
 
 -- a text is what the connection carries, alone, or before another one
 pub data SplitOf (text : List ℕ) : Type 0 where
-  alone : AllByRecursion OpensNone (lines text) → body_of text ≡ text → next_of text ≡ [] → count_of text ≡ length (lines text) → SplitOf text
-  before_next : (seen : List (List ℕ)) → AllByRecursion OpensNone seen → AllByRecursion HasNoLineFeed seen → body_of text ≡ ended seen → count_of text ≡ length seen
-      → text ≡ ended seen ++ next_of text → SplitOf text
+  alone : AllByRecursion OpensNone (lines text) → body_of text ≡ text → behind_body text ≡ [] → body_lines text ≡ length (lines text) → SplitOf text
+  before_next : (seen : List (List ℕ)) → AllByRecursion OpensNone seen → AllByRecursion HasNoLineFeed seen → body_of text ≡ ended seen → body_lines text ≡ length seen
+      → text ≡ ended seen ++ behind_body text → SplitOf text
 
 front_of : (xs ys : List (List ℕ)) → AllByRecursion HasNoLineFeed (xs ++ ys) → AllByRecursion HasNoLineFeed xs
 front_of [] ys h = tt
@@ -195,12 +195,12 @@ split_of text = by (split_by (lines text) (rest text))
     by (before_by seen later none is body_is count_is text_is) =
         before_next seen none (front_of seen later (subst (AllByRecursion HasNoLineFeed) is (lines_cut text).whole)) body_is count_is ((lines_cut text).text ∙ text_is)
 
-pub whole_again : (text : List ℕ) → body_of text ++ next_of text ≡ text
+pub whole_again : (text : List ℕ) → body_of text ++ behind_body text ≡ text
 whole_again text = by (split_of text)
   where
-    by : SplitOf text → body_of text ++ next_of text ≡ text
+    by : SplitOf text → body_of text ++ behind_body text ≡ text
     by (alone none body_is next_is count_is) = ap₂ (λ a b. a ++ b) body_is next_is ∙ append-nil text
-    by (before_next seen none whole body_is count_is text_is) = ap (λ t. t ++ next_of text) body_is ∙ sym text_is
+    by (before_next seen none whole body_is count_is text_is) = ap (λ t. t ++ behind_body text) body_is ∙ sym text_is
 
 pub body_alone : (text : List ℕ) → AllByRecursion OpensNone (lines text) → body_of text ≡ text
 body_alone text none = all_of (lines text) (rest text) none ∙ sym (lines_cut text).text
@@ -210,7 +210,7 @@ body_alone text none = all_of (lines text) (rest text) none ∙ sym (lines_cut t
     all_of (l ∷ ls) end none = body_miss l ls end (none_opens l none.0) ∙ ap (λ t. l ++ 10 ∷ t) (all_of ls end none.1) ∙ regroup l ls end
 
 pub body_before : (body : List (List ℕ)) (line : List ℕ) (later : List (List ℕ)) (behind : List ℕ) → AllByRecursion HasNoLineFeed (body ++ line ∷ later) → AllByRecursion OpensNone body
-    → opens line ≡ true → body_of (ended body ++ (ended (line ∷ later) ++ behind)) ≡ ended body
+    → opens_connection line ≡ true → body_of (ended body ++ (ended (line ∷ later) ++ behind)) ≡ ended body
 body_before [] line later behind whole none e = ap body_of (sym (regroup line later behind)) ∙ body_at line (ended later ++ behind) whole.0 e
 body_before (l ∷ body) line later behind whole none e =
     ap body_of (sym (regroup l body (ended (line ∷ later) ++ behind))) ∙ body_behind l (ended body ++ (ended (line ∷ later) ++ behind)) whole.0 (none_opens l none.0)

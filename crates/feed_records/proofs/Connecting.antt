@@ -3,7 +3,7 @@ use Rattle.std.proofs.Common.{◌≡◌, sym, ap, ◌∙◌, subst, ℕ, ◌+◌
 use Rattle.std.specs.List.{AllByRecursion}
 use Rattle.feed_note.specs.Lines.{HasNoLineFeed, lines, ended}
 use Rattle.feed_records.specs.Connections.{Cut, Recorded, part, OpensFeed, OpensNone, announced_by, last, opened, headless, marked, named, answered}
-use Rattle.feed_records.specs.Parting.{body_of, count_of, next_of, GoesOn, EndsIn, nothing, in_head, since_of, most}
+use Rattle.feed_records.specs.Parting.{body_of, body_lines, behind_body, OpensNext, EndsIn, nothing, in_head, since_of, most}
 use Rattle.feed_records.specs.declared.connections.Opened.{Opened}
 use Rattle.feed_records.proofs.Bodies.{SplitOf, alone, before_next, split_of, body_alone, body_before, ends_none, regroup, marked_opens, named_opens, answered_opens}
 use Rattle.feed_records.proofs.Cutting.{each_cuts, whole_both}
@@ -32,14 +32,14 @@ no_head head feed before token behind (marked line e) is = ends_none line [] beh
 no_head head feed before token behind (named line t e h) is = ends_none line [] behind is
 no_head head feed before token behind (answered line fields blank status e n h filled ends) is = ends_none line (fields ++ blank ∷ []) behind is
 
-pub goes_on : (text behind : List ℕ) (end : ℕ × List ℕ) (old new : Opened) (count : ℕ) → (min (0 + count_of text) most, next_of text) ≡ end → GoesOn end old new count behind
+pub goes_on : (text behind : List ℕ) (end : ℕ × List ℕ) (old new : Opened) (count : ℕ) → (min (0 + body_lines text) most, behind_body text) ≡ end → OpensNext end old new count behind
     → GoesOnWith (since_of old) text count new.is_feed (since_of new) behind
 goes_on text behind end old new count is g = by (split_of text)
   where
-    lines_are : min (0 + count_of text) most ≡ end.0
+    lines_are : min (0 + body_lines text) most ≡ end.0
     lines_are = ap (λ (e : ℕ × List ℕ). e.0) is
 
-    next_is : next_of text ≡ ended g.head ++ behind
+    next_is : behind_body text ≡ ended g.head ++ behind
     next_is = ap (λ (e : ℕ × List ℕ). e.1) is ∙ g.text_is
 
     opens_here : (body : List (List ℕ)) → end.0 ≡ min (length body) most → OpensFeed (announced_by (since_of old) body) g.head new.is_feed (since_of new)
@@ -57,10 +57,10 @@ goes_on text behind end old new count is g = by (split_of text)
           (opens_here seen (let l = lines_are in omega (arith, l, count_is))) c);
     }
 
-pub ends_with : (text : List ℕ) (end : ℕ × List ℕ) → next_of text ≡ end.1 → EndsIn end.1 → EndsWith text
+pub ends_with : (text : List ℕ) (end : ℕ × List ℕ) → behind_body text ≡ end.1 → EndsIn end.1 → EndsWith text
 ends_with text end is h = by (split_of text) end.1 is h
   where
-    by : SplitOf text → (next : List ℕ) → next_of text ≡ next → EndsIn next → EndsWith text
+    by : SplitOf text → (next : List ℕ) → behind_body text ≡ next → EndsIn next → EndsWith text
     by (alone none body_is bare count_is) next e h before is_feed since = by_body text text [] body_is (last none)
     by (before_next seen none whole body_is count_is text_is) next e nothing before is_feed since =
         by_body text (ended seen) [] body_is (subst (λ t. Cut before is_feed since t (part before is_feed since (ended seen) ∷ [])) (sym (text_is ∙ ap (λ t. ended seen ++ t) e ∙ append-nil (ended seen)))

@@ -4,7 +4,7 @@ use Rattle.std.specs.List.{AllByRecursion}
 use Rattle.feed_note.specs.Lines.{HasNoLineFeed, lines, rest, ended}
 use Rattle.feed_note.proofs.LinesCut.{lines_cut, lines_are_the_only_cut}
 use Rattle.feed_note.proofs.LinesInRow.{ended-append}
-use Rattle.feed_records.specs.Connections.{Cut, Recorded, part, OpensFeed, OpensNone, IsFilled, is_blank, is_marked, is_success, token_on, status_on, announced_by, last, opened, headless, marked, named, answered}
+use Rattle.feed_records.specs.Connections.{Cut, Recorded, part, OpensFeed, OpensNone, IsFilled, is_blank_line, is_marked, is_success, token_on, status_on, announced_by, last, opened, headless, marked, named, answered}
 
 -- how a connection begins on a line
 pub data Begins (line : List ℕ) : Type 0 where
@@ -55,17 +55,17 @@ record BlankIn (ls : List (List ℕ)) : Type 0 where
   later : List (List ℕ)
   is : ls ≡ fields ++ blank ∷ later
   filled : AllByRecursion IsFilled fields
-  ends : is_blank blank ≡ true
+  ends : is_blank_line blank ≡ true
 
 blank_in : (ls : List (List ℕ)) → AllByRecursion IsFilled ls ⊎ BlankIn ls
 blank_in [] = inl tt
-blank_in (l ∷ ls) = by (is_blank l) refl (blank_in ls)
+blank_in (l ∷ ls) = by (is_blank_line l) refl (blank_in ls)
   where
-    on : is_blank l ≡ false → AllByRecursion IsFilled ls ⊎ BlankIn ls → AllByRecursion IsFilled (l ∷ ls) ⊎ BlankIn (l ∷ ls)
+    on : is_blank_line l ≡ false → AllByRecursion IsFilled ls ⊎ BlankIn ls → AllByRecursion IsFilled (l ∷ ls) ⊎ BlankIn (l ∷ ls)
     on e (inl none) = inl (e, none)
     on e (inr f) = inr (record { fields = l ∷ f.fields; blank = f.blank; later = f.later; is = ap (λ t. l ∷ t) f.is; filled = (e, f.filled); ends = f.ends })
 
-    by : (b : Bool) → is_blank l ≡ b → AllByRecursion IsFilled ls ⊎ BlankIn ls → AllByRecursion IsFilled (l ∷ ls) ⊎ BlankIn (l ∷ ls)
+    by : (b : Bool) → is_blank_line l ≡ b → AllByRecursion IsFilled ls ⊎ BlankIn ls → AllByRecursion IsFilled (l ∷ ls) ⊎ BlankIn (l ∷ ls)
     by true e more = inr (record { fields = []; blank = l; later = ls; is = refl; filled = tt; ends = e })
     by false e more = on e more
 

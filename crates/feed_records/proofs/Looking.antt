@@ -4,9 +4,9 @@ use Rattle.std.specs.Prelude.{◌==◌, option_map, slice_index_or}
 use Rattle.feed_text.specs.Limits.{line_bytes}
 use Rattle.feed_note.specs.Lines.{HasNoLineFeed, is_line_feed, onto_first, lines, rest, ended}
 use Rattle.feed_note.proofs.LinesCut.{first_true, second_true, negated, lines_cut, one_line, no_lines}
-use Rattle.feed_records.specs.Connections.{is_blank, is_chunked}
+use Rattle.feed_records.specs.Connections.{is_blank_line, is_chunked}
 use Rattle.feed_records.specs.Fronts.{IsFront, IsLineAtFront, IsLineBefore}
-use Rattle.feed_records.specs.Parting.{opens, body_by, body_of, count_of, next_of, first_opens, is_at_next, first_is_blank, is_at_blank, most}
+use Rattle.feed_records.specs.Parting.{opens_connection, body_by, body_of, body_lines, behind_body, first_opens, is_at_next, first_is_blank, is_at_blank, most}
 use Rattle.feed_records.specs.ScreenLines.{front_by}
 use Rattle.feed_records.specs.declared.reading.Front.{Front}
 use Rattle.feed_records.specs.declared.reading.Front.TheVariants.{Line, Rest, Long}
@@ -47,7 +47,7 @@ not_so_many n m h = by (n == m) refl
     by true e = let same = eqb-true n m e in absurd (omega (arith, same, h))
     by false e = e
 
-long_filled : (line : List ℕ) → 1 < length line → is_blank line ≡ false
+long_filled : (line : List ℕ) → 1 < length line → is_blank_line line ≡ false
 long_filled line h =
     ap (λ b. b || (length line == 1 && slice_index_or line 0 0 == 13)) (not_so_many (length line) 0 (omega (arith, h)))
     ∙ ap (λ b. b && slice_index_or line 0 0 == 13) (not_so_many (length line) 1 h)
@@ -88,13 +88,13 @@ module _ (front : List ℕ) (long : line_bytes < length front) where
 
 -- ---- what is at the front
 
-pub line_at : (front text : List ℕ) (h : IsLineAtFront front text) → is_at_next text ≡ opens h.line
+pub line_at : (front text : List ℕ) (h : IsLineAtFront front text) → is_at_next text ≡ opens_connection h.line
 line_at front text h = ap is_at_next h.text_is ∙ at_line h.line h.behind h.unbroken
 
-pub blank_line : (line behind : List ℕ) → HasNoLineFeed line → is_at_blank (line ++ 10 ∷ behind) ≡ is_blank line
+pub blank_line : (line behind : List ℕ) → HasNoLineFeed line → is_at_blank (line ++ 10 ∷ behind) ≡ is_blank_line line
 blank_line line behind h = ap first_is_blank (one_line line behind h)
 
-pub blank_at : (front text : List ℕ) (h : IsLineAtFront front text) → is_at_blank text ≡ is_blank h.line
+pub blank_at : (front text : List ℕ) (h : IsLineAtFront front text) → is_at_blank text ≡ is_blank_line h.line
 blank_at front text h = ap is_at_blank h.text_is ∙ ap first_is_blank (one_line h.line h.behind h.unbroken)
 
 -- on what is no line nothing begins
@@ -147,7 +147,7 @@ pub look_left : (old new : Option (List ℕ)) (body : List ℕ) → option_map b
 look_left old new body e k = let t = known body_of old body e in ap (option_map body_of) (k t.0 t.1) ∙ ap Some t.2
 
 abbrev pub end_of : ℕ → List ℕ → ℕ × List ℕ
-end_of count text = (min (count + count_of text) most, next_of text)
+end_of count text = (min (count + body_lines text) most, behind_body text)
 
 pub look_beyond : (old new : Option (List ℕ)) (count more : ℕ) (end : ℕ × List ℕ) → option_map (end_of count) old ≡ Some end → more ≡ count → ((t : List ℕ) → old ≡ Some t → new ≡ Some t)
     → option_map (end_of more) new ≡ Some end
@@ -182,15 +182,15 @@ record PassedIn (text behind front : List ℕ) : Type 0 where
   later : List ℕ
   before : IsLineBefore later front (Some text)
   body_is : body_of later ≡ behind
-  count_is : count_of text ≡ count_of later + 1
-  next_is : next_of text ≡ next_of later
+  count_is : body_lines text ≡ body_lines later + 1
+  next_is : behind_body text ≡ behind_body later
 
-not_begun : (text line behind : List ℕ) → HasNoLineFeed line → body_of text ≡ line ++ 10 ∷ behind → text ≡ line ++ 10 ∷ (behind ++ next_of text) → opens line ≡ false
-not_begun text line behind unbroken e is = by (opens line) refl
+not_begun : (text line behind : List ℕ) → HasNoLineFeed line → body_of text ≡ line ++ 10 ∷ behind → text ≡ line ++ 10 ∷ (behind ++ behind_body text) → opens_connection line ≡ false
+not_begun text line behind unbroken e is = by (opens_connection line) refl
   where
-    by : (b : Bool) → opens line ≡ b → opens line ≡ false
+    by : (b : Bool) → opens_connection line ≡ b → opens_connection line ≡ false
     by true o =
-        let n = ap length (sym e ∙ ap body_of is ∙ body_at line (behind ++ next_of text) unbroken o) in
+        let n = ap length (sym e ∙ ap body_of is ∙ body_at line (behind ++ behind_body text) unbroken o) in
         let m = length-append line (10 ∷ behind) in
         absurd (omega (arith, n, m))
     by false o = o
@@ -199,15 +199,15 @@ passed_in : (text behind front : List ℕ) → IsLineBefore behind front (Some (
 passed_in text behind front f =
     let both : Some (body_of text) ≡ Some (f.line ++ 10 ∷ behind) = f.left_is in
     let e : body_of text ≡ f.line ++ 10 ∷ behind = cc in
-    let later = behind ++ next_of text in
-    let is : text ≡ f.line ++ 10 ∷ later = sym (whole_again text) ∙ ap (λ t. t ++ next_of text) e ∙ append_assoc f.line (10 ∷ behind) (next_of text) in
+    let later = behind ++ behind_body text in
+    let is : text ≡ f.line ++ 10 ∷ later = sym (whole_again text) ∙ ap (λ t. t ++ behind_body text) e ∙ append_assoc f.line (10 ∷ behind) (behind_body text) in
     let o = not_begun text f.line behind f.unbroken e is in
     record {
       later = later;
       before = record { line = f.line; unbroken = f.unbroken; front_is = f.front_is; left_is = ap Some is };
       body_is = sym (ap (drop 1) (cancel f.line (10 ∷ behind) (10 ∷ body_of later) (sym e ∙ ap body_of is ∙ body_behind f.line later f.unbroken o)));
-      count_is = ap count_of is ∙ count_behind f.line later f.unbroken o;
-      next_is = ap next_of is ∙ next_behind f.line later f.unbroken o;
+      count_is = ap body_lines is ∙ count_behind f.line later f.unbroken o;
+      next_is = ap behind_body is ∙ next_behind f.line later f.unbroken o;
     }
 
 module _ (old new : Option (List ℕ)) (front behind : List ℕ) (over : Bool) (pass : (b : List ℕ) → IsLineBefore b front old → new ≡ Some b)
@@ -231,7 +231,7 @@ module _ (old new : Option (List ℕ)) (front behind : List ℕ) (over : Bool) (
       let both : Some (end_of count p.0) ≡ Some end = sym (ap (option_map (end_of count)) p.1) ∙ e in
       let same : end_of count p.0 ≡ end = cc in
       let n = p.2.count_is in
-      let counts : min (more + count_of p.2.later) most ≡ min (count + count_of p.0) most = omega (arith, n, more_is) in
+      let counts : min (more + body_lines p.2.later) most ≡ min (count + body_lines p.0) most = omega (arith, n, more_is) in
       ap (option_map (end_of more)) (new_is is) ∙ ap Some (ap₂ (λ (a : ℕ) (b : List ℕ). (a, b)) counts (sym p.2.next_is) ∙ same)
 
 -- nothing is at the front

@@ -3,9 +3,9 @@ use Rattle.std.proofs.Common.{◌≡◌, refl, sym, ap, ap₂, ◌∙◌, subst,
 use Rattle.feed_note.specs.Lines.{HasNoLineFeed, is_line_feed, lines}
 use Rattle.feed_note.proofs.LinesCut.{both, first_true, second_true}
 use Rattle.std.specs.Prelude.{◌==◌, option_map}
-use Rattle.feed_records.specs.Connections.{IsFilled, OpensFeed, announced_by, answered, is_blank, is_success}
+use Rattle.feed_records.specs.Connections.{IsFilled, OpensFeed, announced_by, answered, is_blank_line, is_success}
 use Rattle.feed_records.specs.Fronts.{IsFront, IsLeft, IsLineAtFront, IsLineBefore, IsRestAtFront, IsLongAtFront}
-use Rattle.feed_records.specs.Parting.{PassesLine, PassesBody, PassesHead, PassedFields, GoesOn, EndsIn, nothing, in_head, SaysOpening, announced, since_of, opens, count_of, next_of, is_at_next, is_at_blank, most}
+use Rattle.feed_records.specs.Parting.{PassesLine, PassesBody, PassesHead, PassedFields, OpensNext, EndsIn, nothing, in_head, SaysOpening, token_announced, since_of, opens_connection, body_lines, behind_body, is_at_next, is_at_blank, most}
 use Rattle.feed_records.specs.declared.connections.Opened.{Opened}
 use Rattle.feed_records.specs.declared.reading.Front.{Front}
 use Rattle.feed_records.proofs.Bodies.{at_line, count_behind, next_behind, next_rest, count_next, next_next, regroup}
@@ -65,7 +65,7 @@ module _ (old mid : Option (List ℕ)) (count : ℕ) (end : ℕ × List ℕ) (is
   body_found front found more same e h =
       let begins : is_at_next text.0 ≡ true = sym (at text.0 text.1) ∙ e in
       let here : text.0 ≡ end.1 = sym (next_next text.0 begins) ∙ ap (λ (p : ℕ × List ℕ). p.1) text.2 in
-      let counts : min (count + count_of text.0) most ≡ end.0 = ap (λ (p : ℕ × List ℕ). p.0) text.2 in
+      let counts : min (count + body_lines text.0) most ≡ end.0 = ap (λ (p : ℕ × List ℕ). p.0) text.2 in
       let none = count_next text.0 begins in (
         k text.0 text.1 ∙ ap Some here,
         subst (IsLineAtFront front) here (next_is_line found front text.0 (h text.0 text.1) begins),
@@ -79,11 +79,11 @@ module _ (old mid : Option (List ℕ)) (count : ℕ) (end : ℕ × List ℕ) (is
   body_more new looked more same more_is e skip =
       let s = skip text.0 (k text.0 text.1) in
       let is_at : text.0 ≡ s.2.0 ++ 10 ∷ s.0 = s.2.2 in
-      let o : opens s.2.0 ≡ false = sym (ap is_at_next is_at ∙ at_line s.2.0 s.0 s.2.1) ∙ sym (at text.0 text.1) ∙ e in
-      let n = ap count_of is_at ∙ count_behind s.2.0 s.0 s.2.1 o in
-      let counts : min (more + count_of s.0) most ≡ min (count + count_of text.0) most = omega (arith, n, more_is, same) in
+      let o : opens_connection s.2.0 ≡ false = sym (ap is_at_next is_at ∙ at_line s.2.0 s.0 s.2.1) ∙ sym (at text.0 text.1) ∙ e in
+      let n = ap body_lines is_at ∙ count_behind s.2.0 s.0 s.2.1 o in
+      let counts : min (more + body_lines s.0) most ≡ min (count + body_lines text.0) most = omega (arith, n, more_is, same) in
       ap (option_map (end_of more)) s.1
-      ∙ ap Some (ap₂ (λ (a : ℕ) (b : List ℕ). (a, b)) counts (sym (ap next_of is_at ∙ next_behind s.2.0 s.0 s.2.1 o)) ∙ text.2)
+      ∙ ap Some (ap₂ (λ (a : ℕ) (b : List ℕ). (a, b)) counts (sym (ap behind_body is_at ∙ next_behind s.2.0 s.0 s.2.1 o)) ∙ text.2)
 
   -- no line more
   pub body_ends : (new : Option (List ℕ)) → ((t : List ℕ) → mid ≡ Some t → PassesLine false t new) → end.1 ≡ []
@@ -100,7 +100,7 @@ module _ (text : List ℕ) (old mid new : Option (List ℕ)) (start count more :
     s : PassesLine true h.0 new
     s = skip h.0 (k h.0 h.1)
 
-    blank_is : last ≡ is_blank s.2.0
+    blank_is : last ≡ is_blank_line s.2.0
     blank_is = at h.0 h.1 ∙ ap is_at_blank s.2.2 ∙ blank_line s.2.0 s.0 s.2.1
 
     pub fields_more : last ≡ false → IsLeft new (λ behind. PassedFields text behind start more)
@@ -137,12 +137,12 @@ module _ (text : List ℕ) (old mid new : Option (List ℕ)) (start count more :
 -- ---- how the next connection was opened
 
 announced_is : (direct : Bool) (old : Opened) (count lines : ℕ) (body : List (List ℕ)) → direct ≡ (count == 0) → min count most ≡ lines → lines ≡ min (length body) most
-    → announced direct old ≡ announced_by (since_of old) body
-announced_is direct old count lines [] d c n = let none : count ≡ 0 = omega (arith, c, n) in ap (λ b. announced b old) (d ∙ ap (λ m. m == 0) none)
-announced_is direct old count lines (l ∷ body) d c n = let some : 0 < count = omega (arith, c, n) in ap (λ b. announced b old) (d ∙ not_so_many count 0 some)
+    → token_announced direct old ≡ announced_by (since_of old) body
+announced_is direct old count lines [] d c n = let none : count ≡ 0 = omega (arith, c, n) in ap (λ b. token_announced b old) (d ∙ ap (λ m. m == 0) none)
+announced_is direct old count lines (l ∷ body) d c n = let some : 0 < count = omega (arith, c, n) in ap (λ b. token_announced b old) (d ∙ not_so_many count 0 some)
 
 module _ (end : ℕ × List ℕ) (front : List ℕ) (count : ℕ) (h : IsLineAtFront front end.1) (begins : is_at_next end.1 ≡ true) (counted : min count most ≡ end.0) where
-  pub opens_here : opens h.line ≡ true
+  pub opens_here : opens_connection h.line ≡ true
   opens_here = sym (line_at front end.1 h) ∙ begins
 
   pub passed_opening : (left new : Option (List ℕ)) → left ≡ Some end.1 → ((b : List ℕ) → IsLineBefore b front left → new ≡ Some b) → new ≡ Some h.behind
@@ -150,7 +150,7 @@ module _ (end : ℕ × List ℕ) (front : List ℕ) (count : ℕ) (h : IsLineAtF
 
   module _ (line : List ℕ) (line_is : line ≡ h.line) (direct : Bool) (old new : Opened) where
     -- by a line alone
-    pub goes_alone : (left : Option (List ℕ)) (more : ℕ) → left ≡ Some h.behind → more ≡ min (count + 1) most → SaysOpening false line direct old new → IsLeft left (GoesOn end old new more)
+    pub goes_alone : (left : Option (List ℕ)) (more : ℕ) → left ≡ Some h.behind → more ≡ min (count + 1) most → SaysOpening false line direct old new → IsLeft left (OpensNext end old new more)
     goes_alone left more left_is more_is says = (
       h.behind,
       left_is,
@@ -165,7 +165,7 @@ module _ (end : ℕ × List ℕ) (front : List ℕ) (count : ℕ) (h : IsLineAtF
 
     -- by a head
     pub goes_headed : (left : Option (List ℕ)) (between more : ℕ) → between ≡ min (count + 1) most → direct ≡ (count == 0) → SaysOpening true line direct old new
-        → PassesHead true h.behind left between more → IsLeft left (GoesOn end old new more)
+        → PassesHead true h.behind left between more → IsLeft left (OpensNext end old new more)
     goes_headed left between more between_is direct_is says r =
         let says_it : SaysOpening true h.line direct old new = subst (λ l. SaysOpening true l direct old new) line_is says in (
           r.0,

@@ -3,6 +3,7 @@
 use Rattle.std.specs.Prelude.{◌≡◌, ℕ, ◌+◌, ◌&&◌, ◌||◌, ◌==◌, Bool, true, false, not, List, [], ◌∷◌, ◌++◌, length, drop, nat_le, slice_index_or, codes, Option, None, Some, if◌then◌else◌}
 use Rattle.std.specs.Char.{is_ascii_hexdigit}
 use Rattle.std.specs.List.{AllByRecursion, list_any, starts_with, ends_with}
+use Rattle.feed_text.specs.Ascii.{carriage_return}
 use Rattle.feed_text.specs.Limits.{line_bytes}
 use Rattle.feed_note.specs.Lines.{HasNoLineFeed, lines, ended}
 
@@ -61,16 +62,13 @@ pub record OpensNone (line : List ℕ) : Type 0 where
   pub unnamed : token_on line ≡ None
   pub headless : status_on line ≡ None
 
-abbrev pub carriage_return : ℕ
-carriage_return = 13
-
 -- whether the line is empty, as the last of a head is, but for a carriage return
-abbrev pub is_blank : List ℕ → Bool
-is_blank line =
+abbrev pub is_blank_line : List ℕ → Bool
+is_blank_line line =
     length line == 0 || (length line == 1 && slice_index_or line 0 0 == carriage_return)
 
 abbrev pub IsFilled : List ℕ → Type 0
-IsFilled line = is_blank line ≡ false
+IsFilled line = is_blank_line line ≡ false
 
 -- These lines stand between two connections. A feed follows behind a line `# connection`, behind
 -- one with the token that it was asked for with, and behind a head with the status 200, which may
@@ -83,7 +81,7 @@ pub data OpensFeed (announced : Option (List ℕ)) : List (List ℕ) → Bool �
   answered : (line : List ℕ) (fields : List (List ℕ)) (blank status : List ℕ)
       → is_marked line ≡ false
       → token_on line ≡ None → status_on line ≡ Some status → AllByRecursion IsFilled fields
-      → is_blank blank ≡ true
+      → is_blank_line blank ≡ true
       → OpensFeed announced (line ∷ (fields ++ blank ∷ [])) (is_success status) announced
 
 -- ---- the connections

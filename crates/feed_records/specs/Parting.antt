@@ -4,7 +4,7 @@ use Rattle.std.specs.List.{AllByRecursion}
 use Rattle.std.specs.declared.alloc.Global.{Global}
 use Rattle.feed_text.specs.Ascii.{line_feed}
 use Rattle.feed_note.specs.Lines.{HasNoLineFeed, lines, rest, ended}
-use Rattle.feed_records.specs.Connections.{OpensFeed, IsFilled, announced_by, is_blank, is_marked, is_success, token_on, status_on}
+use Rattle.feed_records.specs.Connections.{OpensFeed, IsFilled, announced_by, is_blank_line, is_marked, is_success, token_on, status_on}
 use Rattle.feed_records.specs.Fronts.{IsLeft, IsLineAtFront}
 use Rattle.feed_records.specs.declared.connections.Opened.{Opened}
 use Rattle.feed_records.specs.declared.connections.Opening.{Opening}
@@ -22,48 +22,48 @@ IsOpening line (Head is_feed) =
     × ((status : List ℕ) × (status_on line ≡ Some status) × (is_feed ≡ is_success status))
 
 -- whether one does
-abbrev pub opens : List ℕ → Bool
-opens line = is_marked line || (is_some (token_on line) || is_some (status_on line))
+abbrev pub opens_connection : List ℕ → Bool
+opens_connection line = is_marked line || (is_some (token_on line) || is_some (status_on line))
 
 -- ---- what a connection carries
 
 -- of lines, and of what follows the last: the first, up to the one on which a connection begins
 unfoldable pub body_by : List (List ℕ) → List ℕ → List ℕ
 body_by [] end = end
-body_by (line ∷ later) end = if opens line then [] else line ++ line_feed ∷ body_by later end
+body_by (line ∷ later) end = if opens_connection line then [] else line ++ line_feed ∷ body_by later end
 
 -- how many lines these are
 unfoldable pub count_by : List (List ℕ) → ℕ
 count_by [] = 0
-count_by (line ∷ later) = if opens line then 0 else count_by later + 1
+count_by (line ∷ later) = if opens_connection line then 0 else count_by later + 1
 
 -- that one, and what follows it
 unfoldable pub next_by : List (List ℕ) → List ℕ → List ℕ
 next_by [] end = []
-next_by (line ∷ later) end = if opens line then ended (line ∷ later) ++ end else next_by later end
+next_by (line ∷ later) end = if opens_connection line then ended (line ∷ later) ++ end else next_by later end
 
 -- what the connection carries that begins at the beginning of a text, how many lines that has, and
 -- what stands behind it
 abbrev pub body_of : List ℕ → List ℕ
 body_of text = body_by (lines text) (rest text)
 
-abbrev pub count_of : List ℕ → ℕ
-count_of text = count_by (lines text)
+abbrev pub body_lines : List ℕ → ℕ
+body_lines text = count_by (lines text)
 
-abbrev pub next_of : List ℕ → List ℕ
-next_of text = next_by (lines text) (rest text)
+abbrev pub behind_body : List ℕ → List ℕ
+behind_body text = next_by (lines text) (rest text)
 
 -- whether a connection begins on the first line of a text, and whether that is empty
 abbrev pub first_opens : List (List ℕ) → Bool
 first_opens [] = false
-first_opens (line ∷ later) = opens line
+first_opens (line ∷ later) = opens_connection line
 
 abbrev pub is_at_next : List ℕ → Bool
 is_at_next text = first_opens (lines text)
 
 abbrev pub first_is_blank : List (List ℕ) → Bool
 first_is_blank [] = false
-first_is_blank (line ∷ later) = is_blank line
+first_is_blank (line ∷ later) = is_blank_line line
 
 abbrev pub is_at_blank : List ℕ → Bool
 is_at_blank text = first_is_blank (lines text)
@@ -100,7 +100,7 @@ pub record IsHeadRest (text behind : List ℕ) (old new : ℕ) : Type 0 where
   pub whole : AllByRecursion HasNoLineFeed (fields ++ blank ∷ [])
   pub text_is : text ≡ ended (fields ++ blank ∷ []) ++ behind
   pub filled : AllByRecursion IsFilled fields
-  pub ends : is_blank blank ≡ true
+  pub ends : is_blank_line blank ≡ true
   pub counted : min new most ≡ min (old + length (fields ++ blank ∷ [])) most
 
 -- it has no last
@@ -118,29 +118,29 @@ PassesHead false text left old new = IsHeadCutOff text
 
 -- ---- how a connection was opened
 
-abbrev pub token_of : Option (Vec ℕ Global) → Option (List ℕ)
-token_of since = option_map (λ token. token.items) since
+abbrev pub token_bytes : Option (Vec ℕ Global) → Option (List ℕ)
+token_bytes since = option_map (λ token. token.items) since
 
 abbrev pub since_of : Opened → Option (List ℕ)
-since_of opened = token_of opened.since
+since_of opened = token_bytes opened.since
 
 -- the token that a head was asked for with
-abbrev pub announced : Bool → Opened → Option (List ℕ)
-announced true old = since_of old
-announced false old = None
+abbrev pub token_announced : Bool → Opened → Option (List ℕ)
+token_announced true old = since_of old
+token_announced false old = None
 
 -- a line says so alone, or is the first of a head
 abbrev pub SaysOpening : Bool → List ℕ → Bool → Opened → Opened → Type 0
 SaysOpening true line is_direct old new =
     (is_marked line ≡ false) × (token_on line ≡ None)
     × ((status : List ℕ) × (status_on line ≡ Some status)
-    × (new.is_feed ≡ is_success status)) × (since_of new ≡ announced is_direct old)
+    × (new.is_feed ≡ is_success status)) × (since_of new ≡ token_announced is_direct old)
 SaysOpening false line is_direct old new =
     (before : Option (List ℕ)) → OpensFeed before (line ∷ []) new.is_feed (since_of new)
 
 -- Behind a connection of so many lines this is left of a record, and another one begins behind
 -- these lines, and was opened like this. The lines are counted with those before.
-pub record GoesOn (end : ℕ × List ℕ) (old new : Opened) (count : ℕ) (behind : List ℕ) : Type 0 where
+pub record OpensNext (end : ℕ × List ℕ) (old new : Opened) (count : ℕ) (behind : List ℕ) : Type 0 where
   pub head : List (List ℕ)
   pub whole : AllByRecursion HasNoLineFeed head
   pub text_is : end.1 ≡ ended head ++ behind

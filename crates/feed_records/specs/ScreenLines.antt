@@ -1,6 +1,6 @@
 -- What contracts see of a record that is read connection by connection.
 use Rattle.std.specs.Prelude.{ℕ, ◌+◌, min, Bool, true, false, List, [], Option, option_map}
-use Rattle.feed_records.specs.Parting.{body_of, count_of, next_of, most}
+use Rattle.feed_records.specs.Parting.{body_of, body_lines, behind_body, most}
 use Rattle.feed_records.specs.declared.screen_lines.ScreenLines.{ScreenLines}
 
 -- what was looked at of a connection: where another one begins at the front, nothing
@@ -24,7 +24,7 @@ module _ {L : Type 0} where
   -- how many lines the connection has, and what is left of the record behind it
   abbrev pub beyond_in : (L → Option (List ℕ)) → ScreenLines L → Option (ℕ × List ℕ)
   beyond_in left it =
-      option_map (λ text. (min (it.lines + count_of text) most, next_of text)) (left it.source)
+      option_map (λ text. (min (it.lines + body_lines text) most, behind_body text)) (left it.source)
 
   abbrev pub front_in : (L → List ℕ) → ScreenLines L → List ℕ
   front_in front it = front_by it.is_over (front it.source)

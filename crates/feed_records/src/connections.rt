@@ -2,8 +2,8 @@
 
 ghost use Rattle.std.specs.Prelude.{◌≡◌, ◌<◌, ◌≤◌, ◌||◌, ◌==◌, true, None, Some, IfOk, IfSome, IfNone};
 ghost use Rattle.std.specs.List.{list_any};
-ghost use Rattle.feed_records.specs.Connections.{is_since, is_status_line, is_success, is_blank, is_chunked, since_in, status_in, OpensNone};
-ghost use Rattle.feed_records.specs.Parting.{IsOpening, SaysOpening, opens, since_of, token_of};
+ghost use Rattle.feed_records.specs.Connections.{is_since, is_status_line, is_success, is_blank_line, is_chunked, since_in, status_in, OpensNone};
+ghost use Rattle.feed_records.specs.Parting.{IsOpening, SaysOpening, opens_connection, since_of, token_bytes};
 
 use feed_note::LINE_BYTES;
 use std::alloc::{AllocError, Global};
@@ -32,7 +32,7 @@ impl Opened {
     /// One that carries a feed.
     pub fn feed(since: Option<Vec<u8>>) -> Opened
         ensures feed { result.is_feed ≡ true }
-        ensures since { since_of result ≡ token_of since }
+        ensures since { since_of result ≡ token_bytes since }
     {
         Opened {
             is_feed: true,
@@ -142,8 +142,8 @@ fn opening_of<'a>(line: &'a [u8]) -> Option<Opening<'a>>
 }
 
 /// Whether a connection begins on the line.
-pub(crate) fn opens(line: &[u8]) -> bool
-    ensures { result ≡ opens line.now }
+pub(crate) fn opens_connection(line: &[u8]) -> bool
+    ensures { result ≡ opens_connection line.now }
 {
     opening_of(line).is_some()
 }
@@ -156,7 +156,7 @@ pub(crate) fn read_opening(
     is_direct: bool,
     opened: &mut Opened,
 ) -> Result<bool, AllocError>
-    ensures { opens line.now ≡ true → IfOk result (λ is_head.
+    ensures { opens_connection line.now ≡ true → IfOk result (λ is_head.
         SaysOpening is_head line.now is_direct opened.old opened.new) }
 {
     match opening_of(line) {
@@ -181,7 +181,7 @@ pub(crate) fn read_opening(
 
 /// Whether the line is empty, as the last of a head is.
 pub(crate) fn is_empty_line(line: &[u8]) -> bool
-    ensures { result ≡ is_blank line.now }
+    ensures { result ≡ is_blank_line line.now }
 {
     line.len() == 0 || (line.len() == 1 && line[0] == b'\r')
 }

@@ -5,7 +5,7 @@ ghost use Rattle.feed_text.specs.Ascii.{line_feed};
 ghost use Rattle.feed_records.specs.Fronts.{IsFront, IsLeft};
 ghost use Rattle.feed_records.specs.Parting.{is_at_blank, is_at_next, PassesLine};
 
-use crate::connections::{Opened, is_empty_line, opens, read_opening};
+use crate::connections::{Opened, is_empty_line, opens_connection, read_opening};
 use crate::reading::{Front, Lines, Skipped, Unread};
 use std::alloc::Global;
 
@@ -55,7 +55,7 @@ fn is_opening(found: Front, front: &[u8]) -> bool
     ensures line { IsTrue result → found ≡ Front.Line }
 {
     match found {
-        Front::Line => opens(without_end(front)),
+        Front::Line => opens_connection(without_end(front)),
         _ => false,
     }
 }
@@ -175,7 +175,7 @@ impl<L: Lines> Lines for ScreenLines<L> {
 impl<L: Skipped> ScreenLines<L> {
     ghost use Rattle.std.specs.Prelude.{◌≢◌};
     ghost use Rattle.feed_records.specs.ScreenLines.{beyond_in, lines_in, source_of};
-    ghost use Rattle.feed_records.specs.Parting.{EndsIn, GoesOn, PassesBody, PassesHead};
+    ghost use Rattle.feed_records.specs.Parting.{EndsIn, OpensNext, PassesBody, PassesHead};
 
     /// Passes what is left of the connection, and answers whether another one begins there.
     fn pass_body(&mut self) -> Result<bool, Unread>
@@ -225,7 +225,7 @@ impl<L: Skipped> ScreenLines<L> {
     pub fn go_on(&mut self, alloc: Global, opened: &mut Opened) -> Result<bool, Unread>
         ensures next { (end : ℕ × List ℕ) → beyond_in L.left self.old ≡ Some end
             → IfOk result (λ found. found ≡ true → IsLeft (L.left (source_of self.new))
-            (GoesOn end opened.old opened.new (lines_in self.new))) }
+            (OpensNext end opened.old opened.new (lines_in self.new))) }
         ensures last { (end : ℕ × List ℕ) → beyond_in L.left self.old ≡ Some end
             → IfOk result (λ found. found ≡ false → EndsIn end.1) }
         ensures shorter { IfOk result (λ found. found ≡ true

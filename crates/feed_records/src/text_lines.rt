@@ -15,12 +15,12 @@ pub struct TextLines<'a> {
 }
 
 impl<'a> TextLines<'a> {
-    ghost use Rattle.feed_records.specs.InMemory.{text_of, rest_of};
+    ghost use Rattle.feed_records.specs.InMemory.{whole_text, text_left};
 
     /// Nothing of it was read.
     pub fn new(text: &'a [u8]) -> TextLines<'a>
-        ensures left { rest_of result ≡ text.now }
-        ensures whole { text_of result ≡ text.now }
+        ensures left { text_left result ≡ text.now }
+        ensures whole { whole_text result ≡ text.now }
     {
         TextLines {
             text,

@@ -1,7 +1,7 @@
 //! Two records, compared.
 ghost use Rattle.std.specs.Prelude.{◌≡◌, ℕ, List, IfOk, IfErr, OnOk, OnErr, IsErrOf, Some};
 ghost use Rattle.std.specs.Io.KnownBytes.{Appends};
-ghost use Rattle.feed_commands.specs.Audit.{record_bytes, agreement_told, stray_told, PrintsAgreement, AuditFails, IsUnreadRecord};
+ghost use Rattle.feed_commands.specs.Audit.{record_bytes, agreement_printed, stray_printed, PrintsAgreement, AuditFails, IsUnreadRecord};
 ghost use Rattle.feed_records.specs.ScreenLines.{source_of};
 ghost use Rattle.feed_commands.specs.Check.{IsWholeWithin, FailsWithin};
 ghost use Rattle.feed_http.specs.Device.{AppendsPrefix, HasFailed};
@@ -32,14 +32,14 @@ pub fn read_record<R: FeedRead>(alloc: Global, input: &mut R) -> Result<Vec<u8>,
     read_within(alloc, RECORD_BYTES, input)
 }
 
-/// What is told of records that agree.
+/// What is printed of records that agree.
 fn agreement(
     alloc: Global,
     json: bool,
     states: usize,
     primary: usize,
 ) -> Result<Vec<u8>, AllocError>
-    ensures { IfOk result (λ text. text.items ≡ agreement_told json states primary) }
+    ensures { IfOk result (λ text. text.items ≡ agreement_printed json states primary) }
 {
     let mut text = Vec::new(alloc);
     if json {
@@ -50,9 +50,9 @@ fn agreement(
     Ok(text)
 }
 
-/// What is told of the first state that is none of the primary's.
+/// What is printed of the first state that is none of the primary's.
 fn strayed(alloc: Global, json: bool, verbose: bool, stray: &Stray) -> Result<Vec<u8>, AllocError>
-    ensures { IfOk result (λ text. text.items ≡ stray_told json verbose stray.now) }
+    ensures { IfOk result (λ text. text.items ≡ stray_printed json verbose stray.now) }
 {
     let mut text = Vec::new(alloc);
     if json {

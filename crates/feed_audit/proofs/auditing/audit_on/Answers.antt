@@ -13,7 +13,7 @@ use Rattle.feed_audit.proofs.auditing.audit_on.Goals as goal
 
 pub states-init : goal.states-init
 states-init g c = record {
-  ours = λ text body is at shown. let s = c.in_ok-ours.ensures.ok text is in (text, s.whole, ([], s.walked));
+  ours = λ text body is at shown. let s = c.in_ok-mirror.ensures.ok text is in (text, s.whole, ([], s.walked));
   theirs = λ text body is at shown. (
     body,
     at,
@@ -26,10 +26,10 @@ states-init g c = record {
   whole = c.read_again.ensures.whole;
 }
 
-pub returns-in_err-ours-clause-err : goal.returns-in_err-ours-clause-err
-returns-in_err-ours-clause-err g c text body is at shown =
+pub returns-in_err-mirror-clause-err : goal.returns-in_err-mirror-clause-err
+returns-in_err-mirror-clause-err g c text body is at shown =
     let e = err_from_is_err_and c.from_residual.result c.from_residual.ensures.1 in
-    rw (e.1, e.2) (unread_fails (begun_by c.args.limits c.args.theirs.now) text body _ c.in_err-ours.ensures.err)
+    rw (e.1, e.2) (unread_fails (begun_by c.args.limits c.args.theirs.now) text body _ c.in_err-mirror.ensures.err)
 
 pub returns-then-not-branch-clause-ok : goal.returns-then-not-branch-clause-ok
 returns-then-not-branch-clause-ok g c text body is at shown =
@@ -95,7 +95,7 @@ states-preserved g c = record {
   theirs = theirs;
   since = λ text body is at shown.
       let f = found text body is at shown in
-      meets_now c.meet.new.self c.locate.new.mirror.node c.next_state.new.mirror.node c.meet.ensures.ours c.meet.ensures.theirs
+      meets_now c.meet.new.self c.locate.new.ours.mirror.node c.next_state.new.mirror.node c.meet.ensures.ours c.meet.ensures.theirs
       (f.2.same ∙ ap (λ (n : NodeState). n.published) c.node-wanted.ensures.node);
   beyond = λ text body is at shown end e.
       let a = c.states.invariant.theirs text body is at shown in
@@ -119,10 +119,10 @@ states-preserved g c = record {
         )
 
     found : (text body : List ℕ) → g.P.Lines.whole c.args.primary.now ≡ Some text → g.L.Lines.left c.args.screen.now ≡ Some body → IfSome c.args.theirs.now.node.published (IsStateOf c.args.limits text)
-        → IsLeft (g.P.Lines.left c.locate.new.primary) (λ behind. Finds (afresh c.args.limits) text behind c.locate.new.lines c.locate.new.mirror c.node-wanted.result.now.shown)
+        → IsLeft (g.P.Lines.left c.locate.new.primary) (λ behind. Finds (afresh c.args.limits) text behind c.locate.new.ours.lines c.locate.new.ours.mirror c.node-wanted.result.now.shown)
     found text body is at shown =
         let n = next text body is at shown in
-        let known = c.in_ok-note_theirs-in-Ok-true.ensures c.states.ours.node c.states.theirs.node (c.states.invariant.since text body is at shown)
+        let known = c.in_ok-note_theirs-in-Ok-true.ensures c.states.ours.mirror.node c.states.theirs.node (c.states.invariant.since text body is at shown)
         (subst (λ n. CommitsOn c.states.theirs.node n) (sym c.node-wanted.ensures.node) n.1.1) in
         c.in_ok-locate-in-Ok-true.ensures.some text (c.states.invariant.whole ∙ is) (c.states.invariant.ours text body is at shown) known c.if-not-branch.false
 

@@ -14,11 +14,11 @@ invariant-states g l =
     let screen = g.L.Lines in
     record {
       ours : (text body : List ℕ) → primary.whole l.fn.primary ≡ Some text → screen.left l.fn.screen ≡ Some body → IfSome l.fn.theirs.node.published (IsStateOf l.fn.limits text)
-          → HasReadLines l.fn.limits text (primary.left l.primary) l.our_lines l.ours;
+          → HasReadLines l.fn.limits text (primary.left l.primary) l.ours.lines l.ours.mirror;
       theirs : (text body : List ℕ) → primary.whole l.fn.primary ≡ Some text → screen.left l.fn.screen ≡ Some body → IfSome l.fn.theirs.node.published (IsStateOf l.fn.limits text)
           → IsLeft (screen.left l.screen) (λ rest. Agrees (begun_by l.fn.limits l.fn.theirs) text body rest l.lines l.states l.theirs);
       since : (text body : List ℕ) → primary.whole l.fn.primary ≡ Some text → screen.left l.fn.screen ≡ Some body → IfSome l.fn.theirs.node.published (IsStateOf l.fn.limits text)
-          → IsSince l.since l.ours.node l.theirs.node;
+          → IsSince l.since l.ours.mirror.node l.theirs.node;
       beyond : (text body : List ℕ) → primary.whole l.fn.primary ≡ Some text → screen.left l.fn.screen ≡ Some body → IfSome l.fn.theirs.node.published (IsStateOf l.fn.limits text)
           → (end : ℕ × List ℕ) → screen.beyond l.fn.screen ≡ Some end → screen.beyond l.screen ≡ Some end;
       within : screen.room l.screen ≤ screen.room l.fn.screen;

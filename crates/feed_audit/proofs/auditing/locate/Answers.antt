@@ -11,10 +11,10 @@ returns-in_err-find_behind-clause-err g c text is =
     let e = err_from_is_err_and c.from_residual.result c.from_residual.ensures.1 in
     rw (e.1, e.2) (locate_unread c.args.limits text c.args.wanted.now.shown _ c.in_err-find_behind.ensures.err)
 
-pub returns-in_err-mirror-clause-err : goal.returns-in_err-mirror-clause-err
-returns-in_err-mirror-clause-err g c text is =
-    let e = err_from_is_err_and c.from_residual-in_err-mirror.result c.from_residual-in_err-mirror.ensures.1 in
-    rw (e.1, e.2) (locate_unread c.args.limits text c.args.wanted.now.shown _ c.in_err-mirror.ensures.err)
+pub returns-in_err-again-clause-err : goal.returns-in_err-again-clause-err
+returns-in_err-again-clause-err g c text is =
+    let e = err_from_is_err_and c.from_residual-in_err-again.result c.from_residual-in_err-again.ensures.1 in
+    rw (e.1, e.2) (locate_unread c.args.limits text c.args.wanted.now.shown _ c.in_err-again.ensures.err)
 
 pub returns-then-branch-clause-some : goal.returns-then-branch-clause-some
 returns-then-branch-clause-some g c text is read since found =
@@ -22,16 +22,16 @@ returns-then-branch-clause-some g c text is read since found =
 
 pub returns-in-Ok-clause-some : goal.returns-in-Ok-clause-some
 returns-in-Ok-clause-some g c text is read since found =
-    let s = c.in_ok-mirror.ensures.ok text (c.find_behind.ensures.whole ∙ is) in
+    let s = c.in_ok-again.ensures.ok text (c.find_behind.ensures.whole ∙ is) in
     c.in-Ok.ensures.some (afresh c.args.limits) text text [] s.whole s.walked (since_unknown _ _ _ c.unknown.ensures) found
 
 pub returns-in-Ok-clause-none : goal.returns-in-Ok-clause-none
 returns-in-Ok-clause-none g c text is none =
-    let s = c.in_ok-mirror.ensures.ok text (c.find_behind.ensures.whole ∙ is) in
+    let s = c.in_ok-again.ensures.ok text (c.find_behind.ensures.whole ∙ is) in
     strange c.line_laws.ensures.one_meaning c.args.limits text _ _ _ (c.in-Ok.ensures.none (afresh c.args.limits) text text [] s.whole s.walked none)
 
 pub returns-in-Err-clause-err : goal.returns-in-Err-clause-err
 returns-in-Err-clause-err g c text is =
-    let s = c.in_ok-mirror.ensures.ok text (c.find_behind.ensures.whole ∙ is) in
+    let s = c.in_ok-again.ensures.ok text (c.find_behind.ensures.whole ∙ is) in
     subst (FailsToLocate c.args.limits text c.args.wanted.now.shown) (sym c.of_primary.ensures)
     (locate_stops c.args.limits text c.args.wanted.now.shown c.in-Err.stop c.find.new.lines (c.in-Err.ensures.err (afresh c.args.limits) text text [] s.whole s.walked))

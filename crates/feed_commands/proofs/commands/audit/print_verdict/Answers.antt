@@ -25,7 +25,7 @@ returns-in_ok-text-in-Agrees-clause-ok g c text all is at =
       agrees = subst (IsRecordVerdict c.args.options.now.limits text all) c.in-Agrees.is (c.in_ok-audit_record.ensures.ok text all is at);
       all = c.in_ok-all-in-Agrees.all;
       has = c.in_ok-all-in-Agrees.ensures.ok text (c.in_ok-audit_record.ensures.whole ∙ is);
-      told = c.as_slice.ensures.value ∙ c.in_ok-text-in-Agrees.ensures;
+      text_is = c.as_slice.ensures.value ∙ c.in_ok-text-in-Agrees.ensures;
     })
     c.print_text.ensures.ok
 
@@ -38,7 +38,7 @@ returns-in_ok-text-in-Agrees-clause-err g c text all is at =
       agrees = subst (IsRecordVerdict c.args.options.now.limits text all) c.in-Agrees.is (c.in_ok-audit_record.ensures.ok text all is at);
       all = c.in_ok-all-in-Agrees.all;
       has = c.in_ok-all-in-Agrees.ensures.ok text (c.in_ok-audit_record.ensures.whole ∙ is);
-      told = c.as_slice.ensures.value ∙ c.in_ok-text-in-Agrees.ensures;
+      text_is = c.as_slice.ensures.value ∙ c.in_ok-text-in-Agrees.ensures;
     })
     c.print_text.ensures.write c.print_text.ensures.err
 
@@ -48,7 +48,7 @@ returns-in_ok-print_text-in-Strays-clause-err g c text all is at = (
   record {
     stray = c.in-Strays.stray;
     strays = subst (IsRecordVerdict c.args.options.now.limits text all) c.in-Strays.is (c.in_ok-audit_record.ensures.ok text all is at);
-    told = c.as_slice-in-Strays.ensures.value ∙ c.in_ok-text-in-Strays.ensures;
+    text_is = c.as_slice-in-Strays.ensures.value ∙ c.in_ok-text-in-Strays.ensures;
   },
   c.in_ok-print_text-in-Strays.ensures.ok,
 )
