@@ -12,24 +12,24 @@ pub joined : (a b c d e f g h i j k l m : List ℕ)
     → a ++ ((b ++ (c ++ (d ++ (e ++ (f ++ (g ++ (h ++ (i ++ (j ++ (k ++ l)))))))))) ++ m) ≡ a ++ b ++ c ++ d ++ e ++ f ++ g ++ h ++ i ++ j ++ k ++ l ++ m
 joined a b c d e f g h i j k l m = simp append_assoc
 
--- the counts alone are told
+-- the counts alone are printed
 pub tells_counts : (options : CheckOptions) (bytes text : List ℕ) (counts : Counts) → options.verbose ≡ false → Counted bytes counts
     → text ≡ counts_text counts → TellsCounts options bytes text
 tells_counts options bytes text counts quiet counted is = record {
   counts = counts;
   counted = counted;
   more = [];
-  told = subst (λ v. TellsMore v bytes []) (sym quiet) refl;
+  says = subst (λ v. TellsMore v bytes []) (sym quiet) refl;
   is = is ∙ sym (append-nil (counts_text counts));
 }
 
--- what is found is told, too
+-- what is found is printed, too
 pub tells_findings : (options : CheckOptions) (bytes text : List ℕ) (counts : Counts) (findings : Findings) → options.verbose ≡ true
     → Counted bytes counts → AreFound bytes findings → text ≡ counts_text counts ++ findings_text findings → TellsCounts options bytes text
 tells_findings options bytes text counts findings verbose counted found is = record {
   counts = counts;
   counted = counted;
   more = findings_text findings;
-  told = subst (λ v. TellsMore v bytes (findings_text findings)) (sym verbose) (findings, found, refl);
+  says = subst (λ v. TellsMore v bytes (findings_text findings)) (sym verbose) (findings, found, refl);
   is = is;
 }

@@ -19,7 +19,7 @@ use Rattle.feed_note.specs.Notes.{token_in}
 use Rattle.feed_note.specs.Steps.{TakesNote}
 use Rattle.feed_note.specs.declared.line.Line.{Line}
 use Rattle.feed_note.specs.declared.stop.LineStop.{LineStop}
-use Rattle.feed_commands.specs.Findings.{has_this, comes_again, is_tokenless, of_each, is_true, is_in, is_with, first_or, IsOlder, IsMisnamed, OwnsId, IsFound, AreFound, TellsNothing, FindsOn, ReadsOneLine, finding_text}
+use Rattle.feed_commands.specs.Findings.{has_this, comes_again, is_tokenless, of_each, is_true, is_in, is_with, first_line_found, IsOlder, IsMisnamed, OwnsId, IsFound, AreFound, TellsNothing, FindsOn, ReadsOneLine, finding_text}
 use Rattle.feed_commands.specs.declared.commands.findings.Finding.{Finding}
 use Rattle.feed_commands.specs.declared.commands.findings.Reader.{Reader}
 
@@ -44,12 +44,12 @@ count_push marks b = sum_by_push (λ m. cond (is_true m) 1 0) marks b
 
 -- the first that is true, with one more
 first_push : (number : ℕ) (marks : List Bool) (b : Bool)
-    → position_from is_true number (marks ++ b ∷ []) ≡ first_or (position_from is_true number marks) b (number + length marks)
+    → position_from is_true number (marks ++ b ∷ []) ≡ first_line_found (position_from is_true number marks) b (number + length marks)
 first_push number [] true = ap (λ n. Some n) (omega arith)
 first_push number [] false = refl
 first_push number (true ∷ marks) b = refl
 first_push number (false ∷ marks) b =
-    first_push (number + 1) marks b ∙ ap (first_or (position_from is_true (number + 1) marks) b) (omega arith)
+    first_push (number + 1) marks b ∙ ap (first_line_found (position_from is_true (number + 1) marks) b) (omega arith)
 
 -- the lines' tokens are in the set, and no other texts
 unfoldable pub HasAll : (List ℕ → Bool) → List Line → Type 0
@@ -108,7 +108,7 @@ pub found_push : (marks : List Bool) (b : Bool) (line : ℕ) (old new : Finding)
     → IsFound (marks ++ b ∷ []) new
 found_push marks b line old new h on is = record {
   count = on.count ∙ ap (λ n. n + cond b 1 0) h.count ∙ sym (count_push marks b);
-  first = on.first ∙ ap₂ (λ f n. first_or f b n) h.first (is ∙ omega arith) ∙ sym (first_push 1 marks b);
+  first = on.first ∙ ap₂ (λ f n. first_line_found f b n) h.first (is ∙ omega arith) ∙ sym (first_push 1 marks b);
 }
 
 pub found_on : (is_so : List Line → Line → Bool) (notes : List Line) (note : Line) (b : Bool) (line : ℕ) (old new : Finding)

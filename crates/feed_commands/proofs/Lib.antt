@@ -12,8 +12,8 @@ mod PlayLemmas
 pub mod PrintingLemmas
 mod PullLemmas
 pub mod RelayLemmas
+mod ReportingLemmas
 pub mod ServeLemmas
 mod StateAtLemmas
 mod StreamedLemmas
 mod TablesLemmas
-mod TellingLemmas

@@ -1,6 +1,6 @@
 -- Lemmas on what the command `play` prints.
 use Rattle.std.proofs.Common.{◌≡◌, [], sym, ap, ◌∙◌, subst, List, ℕ, ◌++◌}
-use Rattle.feed_play.specs.Told.{Prints}
+use Rattle.feed_play.specs.Printed.{Prints}
 
 -- what was printed where nothing was
 pub told_by : (P : List ℕ → Type 0) (old now text : List ℕ) → old ≡ [] → text ≡ now → Prints old now P → P text

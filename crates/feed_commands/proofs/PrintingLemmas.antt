@@ -1,4 +1,4 @@
--- Lemmas on texts that are told to a device one after the other.
+-- Lemmas on texts that are written to a device one after the other.
 use Rattle.std.proofs.Common.{Result, Ok, Err, OnErr, ◌≡◌, refl, sym, ap, ◌∙◌, ℕ, ◌+◌, ◌<◌, Bool, true, false, List, [], ◌∷◌, ◌++◌, length, take, get_or, MutBor, append_assoc, append-nil, Option, Some, None, subst, codes, flat_map}
 use Rattle.std.specs.FinMap.{entries}
 use Rattle.std.specs.Io.KnownBytes.{Appends}
@@ -16,7 +16,7 @@ use Rattle.feed_tables.specs.declared.change.Change.TheVariants.{Clear}
 use Rattle.feed_tables.specs.Listers.{FailsIn}
 use Rattle.feed_tables.specs.Tables.{Contents, or_clear, listed, listing}
 use Rattle.feed_commands.specs.Openings.{beginning}
-use Rattle.feed_commands.specs.Printing.{FlushesSome, TellsText, PrintsText, PrintsChange, end_before, end_with}
+use Rattle.feed_commands.specs.Printing.{FlushesSome, WritesText, PrintsText, PrintsChange, end_before, end_with}
 use Rattle.feed_commands.specs.declared.printing.Printer.{Printer}
 use Rattle.feed_commands.specs.declared.printing.Waiting.{Waiting}
 
@@ -28,7 +28,7 @@ regrouped p s t x q e = sym (append_assoc p s t) ∙ ap (λ l. l ++ t) e ∙ app
 carried : (p s t x q y r : List ℕ) → p ++ s ≡ x ++ q → q ++ t ≡ y ++ r → p ++ (s ++ t) ≡ (x ++ y) ++ r
 carried p s t x q y r e f = regrouped p s t x q e ∙ ap (λ l. x ++ l) f ∙ sym (append_assoc x y r)
 
--- what is told after something else
+-- what is written after something else
 sends_trans : (a b c : Option (List ℕ)) (p q r s t : List ℕ) → FlushesSome a b p q s → FlushesSome b c q r t
     → FlushesSome a c p r (s ++ t)
 sends_trans a b c p q r s t (x, e, h) (y, f, k) =
@@ -47,7 +47,7 @@ prefix_behind a b p s t (prefix, rest, e, h) = (prefix, rest ++ t, regrouped p s
 
 fails_then : (a b c : Option (List ℕ)) (f g h : ℕ) (p q r : Waiting) (s t : List ℕ) (failed : Bool)
     → q.has_failed ≡ failed
-    → TellsText a b f g p q s → TellsText b c g h q r t → p.has_failed ≡ false → r.has_failed ≡ true
+    → WritesText a b f g p q s → WritesText b c g h q r t → p.has_failed ≡ false → r.has_failed ≡ true
     → AppendsPrefix a c (p.bytes ++ (s ++ t)) × HasFailed f h
 fails_then a b c f g h p q r s t true m first second begun ended =
     let (prefix, risen) = first.fails begun m in
@@ -61,7 +61,7 @@ fails_then a b c f g h p q r s t false m first second begun ended =
 
 -- a text and then another one
 pub tells_then : (a b c : Option (List ℕ)) (f g h : ℕ) (p q r : Waiting) (s t : List ℕ)
-    → TellsText a b f g p q s → TellsText b c g h q r t → TellsText a c f h p r (s ++ t)
+    → WritesText a b f g p q s → WritesText b c g h q r t → WritesText a c f h p r (s ++ t)
 tells_then a b c f g h p q r s t first second =
     record {
       sends = λ ended.
@@ -76,9 +76,9 @@ tells_then a b c f g h p q r s t first second =
     }
 
 -- a text that waits
-pub waits_told : (a : Option (List ℕ)) (f : ℕ) (p q : Waiting) (text : List ℕ)
-    → q.has_failed ≡ p.has_failed → q.bytes ≡ p.bytes ++ text → TellsText a a f f p q text
-waits_told a f p q text same more =
+pub waits_written : (a : Option (List ℕ)) (f : ℕ) (p q : Waiting) (text : List ℕ)
+    → q.has_failed ≡ p.has_failed → q.bytes ≡ p.bytes ++ text → WritesText a a f f p q text
+waits_written a f p q text same more =
     record {
       sends = λ ended. (sym same ∙ ended, refl, ([], sym more, Appends-nil a));
       fails = λ begun ended. absurd (cc (same, begun, ended));
@@ -87,8 +87,8 @@ waits_told a f p q text same more =
 
 -- the same text in other words
 pub tells_as : (a b : Option (List ℕ)) (f g : ℕ) (p q : Waiting) (s t : List ℕ) → s ≡ t
-    → TellsText a b f g p q s → TellsText a b f g p q t
-tells_as a b f g p q s t e told = subst (TellsText a b f g p q) e told
+    → WritesText a b f g p q s → WritesText a b f g p q t
+tells_as a b f g p q s t e written = subst (WritesText a b f g p q) e written
 
 -- one more part
 pub flat_map_more : {X : Type 0} (f : X → List ℕ) (xs : List X) (i : ℕ) (d : X) → i < length xs
@@ -99,11 +99,11 @@ flat_map_more f xs i d h =
     ∙ ap (λ l. flat_map f (take i xs) ++ l) (append-nil (f (get_or xs i d))))
 
 -- what stands between quotation marks, with more behind it
-quoted_told : (x y text : List ℕ)
+quoted_written : (x y text : List ℕ)
     → (x ++ quotation_mark ∷ []) ++ flat_map written_byte text ++ (quotation_mark ∷ []) ++ y
     ≡ x ++ written_string text ++ y
 unfolding written_string
-quoted_told x y text =
+quoted_written x y text =
     let t : List ℕ = flat_map written_byte text in
     ap (λ l. l ++ (quotation_mark ∷ []) ++ y) (append_assoc x (quotation_mark ∷ []) t)
     ∙ ap (λ l. l ++ y) (append_assoc x (quotation_mark ∷ t) (quotation_mark ∷ []))
@@ -113,23 +113,23 @@ abbrev pub around : List ℕ → List ℕ
 around id = codes "\",\"id\":" ++ id ++ codes ",\"data\":"
 
 -- the id and what stands around it
-pub id_told : (id : List ℕ)
+pub id_written : (id : List ℕ)
     → codes "\",\"id\":\"" ++ flat_map written_byte id ++ codes "\",\"data\":"
     ≡ around (written_string id)
-id_told id =
+id_written id =
     let x : List ℕ = codes "\",\"id\":\"" ++ flat_map written_byte id in
     sym (append_assoc x (quotation_mark ∷ []) (codes ",\"data\":"))
-    ∙ quoted_told (codes "\",\"id\":") (codes ",\"data\":") id
+    ∙ quoted_written (codes "\",\"id\":") (codes ",\"data\":") id
 
 -- the members of a line
-pub members_told : (kind id content : List ℕ)
+pub members_written : (kind id content : List ℕ)
     → codes "{\"type\":\"" ++ flat_map written_byte kind ++ around id ++ content
     ≡ written_members (written_string kind) id content
-members_told kind id content =
+members_written kind id content =
     let x : List ℕ = codes "{\"type\":\"" ++ flat_map written_byte kind in
     let b : List ℕ = codes ",\"id\":" in
     let c : List ℕ = codes ",\"data\":" in
-    let begun = sym (append_assoc x (quotation_mark ∷ []) b) ∙ quoted_told (codes "{\"type\":") b kind in
+    let begun = sym (append_assoc x (quotation_mark ∷ []) b) ∙ quoted_written (codes "{\"type\":") b kind in
     ap (λ l. l ++ content)
     (sym (append_assoc x (quotation_mark ∷ b ++ id) c)
     ∙ ap (λ l. l ++ c) (sym (append_assoc x (quotation_mark ∷ b) id) ∙ ap (λ l. l ++ id) begun))
@@ -140,48 +140,48 @@ on_any_err (Ok a) P p = tt
 on_any_err (Err e) P p = p
 
 -- a line behind what stands before it
-pub line_told : (before kind id content : List ℕ)
+pub line_written : (before kind id content : List ℕ)
     → before ++ codes "{\"type\":\"" ++ flat_map written_byte kind ++ around id ++ content
     ≡ before ++ written_members (written_string kind) id content
-line_told before kind id content =
+line_written before kind id content =
     let x : List ℕ = codes "{\"type\":\"" in
     let k : List ℕ = flat_map written_byte kind in
     ap (λ l. l ++ around id ++ content) (append_assoc before x k)
     ∙ ap (λ l. l ++ content) (append_assoc before (x ++ k) (around id))
     ∙ append_assoc before (x ++ k ++ around id) content
-    ∙ ap (λ l. before ++ l) (members_told kind id content)
+    ∙ ap (λ l. before ++ l) (members_written kind id content)
 
 -- what begins a line behind what stands before it
-pub beginning_told : (before kind : List ℕ)
+pub beginning_written : (before kind : List ℕ)
     → before ++ codes "{\"type\":\"" ++ flat_map written_byte kind ++ codes "\",\"id\":\""
     ≡ before ++ beginning kind
-beginning_told before kind =
+beginning_written before kind =
     let x : List ℕ = codes "{\"type\":\"" in
     let k : List ℕ = flat_map written_byte kind in
     let i : List ℕ = codes "\",\"id\":\"" in
     ap (λ l. l ++ i) (append_assoc before x k) ∙ append_assoc before (x ++ k) i
 
 -- a line of an object behind what stands before it
-pub object_told : (before kind id content : List ℕ)
+pub object_written : (before kind id content : List ℕ)
     → before ++ beginning kind ++ flat_map written_byte id ++ codes "\",\"data\":" ++ content
     ≡ before ++ written_members (written_string kind) (written_string id) content
-object_told before kind id content =
+object_written before kind id content =
     let x : List ℕ = before ++ codes "{\"type\":\"" ++ flat_map written_byte kind in
     let i : List ℕ = codes "\",\"id\":\"" in
     let name : List ℕ = flat_map written_byte id in
     let d : List ℕ = codes "\",\"data\":" in
-    ap (λ l. l ++ name ++ d ++ content) (sym (beginning_told before kind))
+    ap (λ l. l ++ name ++ d ++ content) (sym (beginning_written before kind))
     ∙ ap (λ l. l ++ content)
-    (ap (λ l. l ++ d) (append_assoc x i name) ∙ append_assoc x (i ++ name) d ∙ ap (λ l. x ++ l) (id_told id))
-    ∙ line_told before kind (written_string id) content
+    (ap (λ l. l ++ d) (append_assoc x i name) ∙ append_assoc x (i ++ name) d ∙ ap (λ l. x ++ l) (id_written id))
+    ∙ line_written before kind (written_string id) content
 
 -- the token and what stands around it
-pub token_told : (token : List ℕ)
+pub token_written : (token : List ℕ)
     → codes ",\"token\":\"" ++ flat_map written_byte token ++ codes "\"}\n" ≡ end_with token
-token_told token =
+token_written token =
     let x : List ℕ = codes ",\"token\":\"" ++ flat_map written_byte token in
     sym (append_assoc x (quotation_mark ∷ []) (codes "}\n"))
-    ∙ quoted_told (codes ",\"token\":") (codes "}\n") token
+    ∙ quoted_written (codes ",\"token\":") (codes "}\n") token
 
 -- lines of which the last one isn't ended, behind others or not
 abbrev pub open_lines : Bool → List Change → List ℕ
@@ -226,12 +226,12 @@ module _ {W : Type 0} (contents : W → Option (List ℕ)) (failures : W → ℕ
   prints_then a b c s t first second =
       record {
         same_device = second.same_device ∙ first.same_device;
-        told = tells_then _ _ _ _ _ _ _ _ _ s t first.told second.told;
+        written = tells_then _ _ _ _ _ _ _ _ _ s t first.written second.written;
       }
 
   pub prints_as : (a b : Printer W) (s t : List ℕ) → s ≡ t → PrintsText contents failures a b s
       → PrintsText contents failures a b t
-  prints_as a b s t e told = subst (PrintsText contents failures a b) e told
+  prints_as a b s t e written = subst (PrintsText contents failures a b) e written
 
   -- what changes print one after the other
   printed : (a b : Printer W) (c : Change) (cs : List Change)
@@ -266,31 +266,31 @@ module _ {W : Type 0} (contents : W → Option (List ℕ)) (failures : W → ℕ
       (sym same)
       (end_before between.is_begun ++ written_change c, open_lines true left, refl, line, failed)
   printed_prefix a between b (t ∷ ts) c left (j, (line, begun, ok), more) last =
-      let (text, rest, is, told, failed) = printed_prefix j between b ts c left more last in
+      let (text, rest, is, written, failed) = printed_prefix j between b ts c left more last in
       let first = end_before a.is_begun ++ written_change t in
       let whole = ap (λ f. open_lines f (ts ++ c ∷ left)) (sym begun) ∙ is in (
         first ++ text,
         rest,
         ap (λ l. first ++ l) whole ∙ sym (append_assoc first text rest),
-        prints_then a j b first text line told,
+        prints_then a j b first text line written,
         failed,
       )
 
 -- all of a text was written where nothing waited before and nothing waits after
 pub all_sent : (a b : Option (List ℕ)) (f g : ℕ) (p q : Waiting) (text : List ℕ) → p.bytes ≡ []
-    → q.bytes ≡ [] → q.has_failed ≡ false → TellsText a b f g p q text → Appends a b text
-all_sent a b f g p q text none left ended told =
-    let (begun, kept, (sent, is, h)) = told.sends ended in
+    → q.bytes ≡ [] → q.has_failed ≡ false → WritesText a b f g p q text → Appends a b text
+all_sent a b f g p q text none left ended written =
+    let (begun, kept, (sent, is, h)) = written.sends ended in
     let same : text ≡ sent =
     ap (λ l. l ++ text) (sym none) ∙ is ∙ ap (λ l. sent ++ l) left ∙ append-nil sent in
     subst (Appends a b) (sym same) h
 
 -- a prefix of it was written where nothing waited before and a write failed
 pub prefix_sent : (a b : Option (List ℕ)) (f g : ℕ) (p q : Waiting) (text rest : List ℕ)
-    → p.bytes ≡ [] → p.has_failed ≡ false → q.has_failed ≡ true → TellsText a b f g p q text
+    → p.bytes ≡ [] → p.has_failed ≡ false → q.has_failed ≡ true → WritesText a b f g p q text
     → AppendsPrefix a b (text ++ rest) × HasFailed f g
-prefix_sent a b f g p q text rest none begun failed told =
-    let (prefix, risen) = told.fails begun failed in
+prefix_sent a b f g p q text rest none begun failed written =
+    let (prefix, risen) = written.fails begun failed in
     (subst (λ l. AppendsPrefix a b (l ++ (text ++ rest))) none (prefix_behind a b p.bytes text rest prefix), risen)
 
 -- what came of the lines of a snapshot
@@ -322,14 +322,14 @@ module _ {W : Type 0} (contents : W → Option (List ℕ)) (failures : W → ℕ
         (λ x. Appends (contents device.now) (contents x) (snapshot_text tables token)
         × (failures x ≡ failures device.now))
         (sym final_is)
-        (all_sent _ _ _ _ waiting ended.waiting _ none left ok whole.told, (whole.told.sends ok).1)
+        (all_sent _ _ _ _ waiting ended.waiting _ none left ok whole.written, (whole.written.sends ok).1)
 
     pub ended_err : ended.waiting.has_failed ≡ true
         → AppendsPrefix (contents device.now) (contents final) (snapshot_text tables token)
         × HasFailed (failures device.now) (failures final)
     ended_err failed =
         let text = snapshot_text tables token in
-        let (prefix, risen) = prefix_sent _ _ _ _ waiting ended.waiting text [] none begun failed whole.told in
+        let (prefix, risen) = prefix_sent _ _ _ _ waiting ended.waiting text [] none begun failed whole.written in
         subst
         (λ x. AppendsPrefix (contents device.now) (contents x) text
         × HasFailed (failures device.now) (failures x))
@@ -344,16 +344,16 @@ module _ {W : Type 0} (contents : W → Option (List ℕ)) (failures : W → ℕ
       → AppendsPrefix (contents device.now) (contents final) (snapshot_text tables token)
       × HasFailed (failures device.now) (failures final)
   listed_err stopped final (taken, at, behind, is, between, before, last) back =
-      let (text, rest, whole, told, failed) =
+      let (text, rest, whole, written, failed) =
       printed_prefix contents failures new_printer between stopped taken at behind before last in
       let all : text ++ (rest ++ end_with token) ≡ snapshot_text tables token =
       sym (append_assoc text rest (end_with token))
       ∙ ap (λ l. l ++ end_with token) (sym (ap (open_lines false) is ∙ whole))
       ∙ open_snapshot tables token in
       let (prefix, risen) =
-      prefix_sent _ _ _ _ waiting stopped.waiting text (rest ++ end_with token) none begun failed told.told in
+      prefix_sent _ _ _ _ waiting stopped.waiting text (rest ++ end_with token) none begun failed written.written in
       subst
       (λ x. AppendsPrefix (contents device.now) (contents x) (snapshot_text tables token)
       × HasFailed (failures device.now) (failures x))
-      (sym (back (sym told.same_device)))
+      (sym (back (sym written.same_device)))
       (subst (AppendsPrefix _ _) all prefix, risen)

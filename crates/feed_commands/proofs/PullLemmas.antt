@@ -10,8 +10,8 @@ use Rattle.feed_node.specs.States.{token_of}
 use Rattle.feed_node.specs.Mirroring.{MirrorState}
 use Rattle.feed_http.specs.declared.fault.Followed.TheVariants as followed
 use Rattle.feed_relay.specs.Dialing.{Dialer}
-use Rattle.feed_relay.specs.Fault.{is_memory, is_engine_memory}
-use Rattle.feed_relay.specs.First.{Position, position, FollowsFirst, last_outcome, is_want_of_memory}
+use Rattle.feed_relay.specs.Fault.{is_network_memory, is_engine_memory}
+use Rattle.feed_relay.specs.First.{DialingMirror, dialing, FollowsFirst, last_outcome, is_want_of_memory}
 use Rattle.feed_relay.specs.declared.server.Server.{Server}
 use Rattle.feed_relay.specs.declared.first.Attempt.{Attempt}
 use Rattle.feed_relay.specs.declared.first.AttemptEnd.{AttemptEnd}
@@ -21,17 +21,17 @@ use Rattle.feed_relay.specs.declared.fault.NetworkFault.TheVariants as network
 use Rattle.feed_http.specs.declared.fault.EngineFault.TheVariants as engine
 use Rattle.feed_follow.specs.declared.fault.FollowFault.TheVariants.{BadHead}
 use Rattle.feed_commands.specs.Fault.{fault_of_network}
-use Rattle.feed_commands.specs.Pull.{PrintedPulled, PullFails, IsCutShort, outcome_of_attempt, outcome_of_pull}
+use Rattle.feed_commands.specs.Pull.{PrintedPulled, PullFails, FailsToPrint, outcome_of_attempt, outcome_of_pull}
 use Rattle.feed_commands.specs.Tables.{outcome_of}
 use Rattle.feed_commands.specs.declared.fault.Fault.{Fault}
 use Rattle.feed_commands.specs.declared.fault.Fault.TheVariants as fault
 
--- the fault of a connection is a want of memory, or is told as it is
+-- the fault of a connection is a want of memory, or is reported as it is
 abbrev IsOfNetwork : Fault → Type 0
 IsOfNetwork why = (why ≡ fault.Memory) ⊎ ((w : NetworkFault) × (why ≡ fault.Network w))
 
 of_network : (w : NetworkFault) → IsOfNetwork (fault_of_network w)
-of_network w = go (is_memory w)
+of_network w = go (is_network_memory w)
   where
     go : (b : Bool) → IsOfNetwork (if b then fault.Memory else fault.Network w)
     go true = inl refl
@@ -59,7 +59,7 @@ nothing_where None e = refl
 nothing_where (Some pair) e = absurd (cc)
 
 pub same_position : {D : Type 0} (mirror now : MirrorState) (dial later : D) → now ≡ mirror → later ≡ dial
-    → position now later ≡ position mirror dial
+    → dialing now later ≡ dialing mirror dial
 same_position mirror now dial later e f = cc
 
 -- where a pull came to a want of memory, that ran out at its last attempt
@@ -82,9 +82,9 @@ last_out None e = absurd (cc)
 last_out (Some end) e = attempt_out end e
 
 module _ {D R W : Type 0} (dialer : Dialer D R W) (servers : List Server) (most_reads : ℕ)
-    (start end : Position D) (out : Wrote) (untold_old untold_new : ℕ) where
+    (start end : DialingMirror D) (out : Wrote) (unreported_old unreported_new : ℕ) where
   abbrev FailsBy : Fault → Type 0
-  FailsBy why = PullFails dialer servers most_reads why start end out untold_old untold_new
+  FailsBy why = PullFails dialer servers most_reads why start end out unreported_old unreported_new
 
   fails : (why : Fault) → IsOfNetwork why → why ≢ fault.Memory
       → PrintedPulled dialer servers most_reads start (Err why) end out → FailsBy why
@@ -105,13 +105,13 @@ module _ {D R W : Type 0} (dialer : Dialer D R W) (servers : List Server) (most_
       → ended ≢ Err fault.Memory → Appends out.old out.new (published_text end.mirror.node.published)
       → is_published ≡ is_some (token_of end.mirror.node.published) → result ≡ outcome_of ended is_published
       → IfErr result FailsBy
-  pull_err attempts (Ok all) result is_published follows e other printed told is =
+  pull_err attempts (Ok all) result is_published follows e other printed reported is =
       subst (λ r. IfErr r FailsBy) (sym is) (by is_published refl)
     where
       by : (t : Bool) → is_published ≡ t → IfErr (outcome_of (Ok all) t) FailsBy
       by true e2 = tt
-      by false e2 = (printed_pulled attempts (Ok tt) follows e printed, nothing_where end.mirror.node.published (sym told ∙ e2))
-  pull_err attempts (Err why) result is_published follows e other printed told is =
+      by false e2 = (printed_pulled attempts (Ok tt) follows e printed, nothing_where end.mirror.node.published (sym reported ∙ e2))
+  pull_err attempts (Err why) result is_published follows e other printed reported is =
       subst (λ r. IfErr r FailsBy) (sym is)
       (fails why (of_last (last_outcome attempts) why (sym e)) (λ m. other (cc))
       (printed_pulled attempts (Err why) follows e printed))
@@ -124,21 +124,21 @@ module _ {D R W : Type 0} (dialer : Dialer D R W) (servers : List Server) (most_
       subst (λ r. IfErr r FailsBy) (sym is)
       (inr (attempts, follows, last_out (last_outcome attempts) (sym e ∙ is)), kept)
 
-  -- only a prefix of the snapshot was printed, or a fault could not be told
+  -- only a prefix of the snapshot was printed, or a fault could not be reported
   pub cut_short : (attempts : List Attempt) → FollowsFirst dialer servers most_reads start attempts end
-      → IsCutShort (published_text end.mirror.node.published) out untold_old untold_new
+      → FailsToPrint (published_text end.mirror.node.published) out unreported_old unreported_new
       → (why : Fault) → why ≡ fault.Write → FailsBy why
   cut_short attempts follows cut why is = subst FailsBy (sym is) (
     (outcome_of_pull attempts, record { attempts = attempts; follows = follows; came = refl }),
     cut,
   )
 
-  -- all was printed, but a fault could not be told
-  pub untold : (attempts : List Attempt) → FollowsFirst dialer servers most_reads start attempts end
-      → (has_failed : Bool) → (has_failed ≡ true → HasFailed untold_old untold_new)
+  -- all was printed, but a fault could not be reported
+  pub unreported : (attempts : List Attempt) → FollowsFirst dialer servers most_reads start attempts end
+      → (has_failed : Bool) → (has_failed ≡ true → HasFailed unreported_old unreported_new)
       → Appends out.old out.new (published_text end.mirror.node.published)
       → (r : Result (Unit {0}) Fault) → IfErr r (λ why. (why ≡ fault.Write) × (has_failed ≡ true))
       → IfErr r FailsBy
-  untold attempts follows has_failed told printed (Ok all) is = tt
-  untold attempts follows has_failed told printed (Err why) (is, failed) =
-      cut_short attempts follows (inr (told failed, printed)) why is
+  unreported attempts follows has_failed reported printed (Ok all) is = tt
+  unreported attempts follows has_failed reported printed (Err why) (is, failed) =
+      cut_short attempts follows (inr (reported failed, printed)) why is

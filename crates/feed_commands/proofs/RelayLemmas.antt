@@ -8,16 +8,16 @@ use Rattle.feed_http.specs.Serving.{ServesOnce}
 use Rattle.feed_http.specs.declared.fault.Served.{Served}
 use Rattle.feed_http.specs.declared.service.Service.{Service}
 use Rattle.feed_relay.specs.Dialing.{Dialer, Links}
-use Rattle.feed_relay.specs.First.{Position, position, FollowsFirst, ran_out}
+use Rattle.feed_relay.specs.First.{DialingMirror, dialing, FollowsFirst, ran_out}
 use Rattle.feed_relay.specs.Serving.{ServesNext}
 use Rattle.feed_relay.specs.declared.first.Attempt.{Attempt}
 use Rattle.feed_relay.specs.declared.fault.NetworkFault.{NetworkFault}
 use Rattle.feed_relay.specs.declared.server.Server.{Server}
 use Rattle.feed_commands.specs.Fault.{goes_on}
-use Rattle.feed_commands.specs.Pull.{IsCutShort}
+use Rattle.feed_commands.specs.Pull.{FailsToPrint}
 use Rattle.feed_commands.specs.Relay.{Relaying, relaying, MakesRound, MakesRoundOn, MakesRounds, EndsRounds, has_no_room, has_not_served, RelayFails}
 use Rattle.feed_http.specs.Exchange.{Wrote}
-use Rattle.feed_commands.specs.Telling.{FailsAs}
+use Rattle.feed_commands.specs.Reporting.{FailsAs}
 use Rattle.feed_commands.specs.declared.fault.Fault.{Fault}
 use Rattle.feed_commands.specs.declared.fault.Fault.TheVariants as fault
 
@@ -30,15 +30,15 @@ module _ {D R W A S T : Type 0} (dialer : Dialer D R W) (links : Links A S T)
     (servers : List Server) (most_reads : ℕ) (service : Service) where
   -- where there is no room for the attempts, nothing has changed
   pub no_room : (mirror now : MirrorState) (dial later : D) (listener : A) → now ≡ mirror → later ≡ dial
-      → EndsRounds dialer links servers most_reads service (relaying (position mirror dial) listener)
-      fault.Memory (relaying (position now later) listener)
+      → EndsRounds dialer links servers most_reads service (relaying (dialing mirror dial) listener)
+      fault.Memory (relaying (dialing now later) listener)
   no_room mirror now dial later listener e f =
-      let same : relaying (position now later) listener ≡ relaying (position mirror dial) listener = cc in
-      subst (EndsRounds dialer links servers most_reads service (relaying (position mirror dial) listener) fault.Memory)
+      let same : relaying (dialing now later) listener ≡ relaying (dialing mirror dial) listener = cc in
+      subst (EndsRounds dialer links servers most_reads service (relaying (dialing mirror dial) listener) fault.Memory)
       (sym same) has_no_room
 
   -- a follower was served so by what the mirror shows
-  pub makes_round : (start end : Position D) (attempts : List Attempt) (called : Service)
+  pub makes_round : (start end : DialingMirror D) (attempts : List Attempt) (called : Service)
       (node : NodeState) (old new : A) (served : Result Served NetworkFault)
       → FollowsFirst dialer servers most_reads start attempts end → ran_out attempts ≡ false
       → called ≡ service → node ≡ end.mirror.node
@@ -69,14 +69,14 @@ module _ {D R W A S T : Type 0} (dialer : Dialer D R W) (links : Links A S T)
       → IfErr r (λ why. (goes_on served ≡ false) × FailsAs served why)
       → IfErr r (λ why. EndsRounds dialer links servers most_reads service start why end)
   round_ends (Ok all) start served end makes ends = tt
-  round_ends (Err why) start served end makes (off, told) = has_not_served served why end makes off told
+  round_ends (Err why) start served end makes (off, reported) = has_not_served served why end makes off reported
 
-  module _ (count : ℕ) (start end : Relaying D A) (out : Wrote) (untold_old untold_new : ℕ) where
+  module _ (count : ℕ) (start end : Relaying D A) (out : Wrote) (unreported_old unreported_new : ℕ) where
     -- the rounds broke off
     pub broke_off : (made : ℕ) (middle : Relaying D A) (why : Fault) → made < count
         → MakesRounds dialer links servers most_reads service made start middle
         → EndsRounds dialer links servers most_reads service middle why end → Keeps out.old out.new
-        → RelayFails dialer links servers most_reads service count why start end out untold_old untold_new
+        → RelayFails dialer links servers most_reads service count why start end out unreported_old unreported_new
     broke_off made middle why fewer rounds ends kept =
         inr (record { made = made; fewer = fewer; middle = middle; rounds = rounds; ends = ends }, kept)
 
@@ -84,7 +84,7 @@ module _ {D R W A S T : Type 0} (dialer : Dialer D R W) (links : Links A S T)
     pub came_short : (r : Result (Unit {0}) Fault)
         → MakesRounds dialer links servers most_reads service count start end
         → IfErr r (λ why. why ≡ fault.Write)
-        → IfErr r (λ why. IsCutShort (published_text end.follower.mirror.node.published) out untold_old untold_new)
-        → IfErr r (λ why. RelayFails dialer links servers most_reads service count why start end out untold_old untold_new)
+        → IfErr r (λ why. FailsToPrint (published_text end.follower.mirror.node.published) out unreported_old unreported_new)
+        → IfErr r (λ why. RelayFails dialer links servers most_reads service count why start end out unreported_old unreported_new)
     came_short (Ok all) rounds is cut = tt
     came_short (Err why) rounds is cut = inl (is, rounds, cut)

@@ -23,7 +23,7 @@ use Rattle.feed_note.specs.declared.line.Line.{Line}
 use Rattle.feed_commands.specs.Check.{IsWhole}
 use Rattle.feed_commands.specs.Fault.{fault_of_network, fault_of_commit, is_one_connections, goes_on}
 use Rattle.feed_commands.specs.InTurn.{InTurn, none_done, one_done}
-use Rattle.feed_commands.specs.Telling.{FailsAs}
+use Rattle.feed_commands.specs.Reporting.{FailsAs}
 use Rattle.feed_commands.specs.Serve.{new_source, RefusedAtStart, StartFails, TakesBatches, TakesAndDrops, EndsTaking, ServingPrimary, ServesOne, ServesOn, ServesAll, EndsServing, StopsServing}
 use Rattle.feed_commands.specs.declared.fault.Fault.{Fault}
 use Rattle.feed_commands.specs.declared.fault.Fault.TheVariants as fault
@@ -264,19 +264,19 @@ module _ {A R W : Type 0} (links : Links A R W) (turn : ℕ) (service : Service)
   takes_last : (start : ServingPrimary A) (why : Fault) (served : Result Served NetworkFault)
       (end : ServingPrimary A) → ServesOne links turn service start served end → goes_on served ≡ false
       → FailsAs served why → EndsTaking why start.intake end.intake
-  takes_last start why (Ok served) end one off told = absurd (true≢false off)
-  takes_last start why (Err fault) end one off told =
-      subst (λ w. EndsTaking w start.intake end.intake) (sym told)
+  takes_last start why (Ok served) end one off reported = absurd (true≢false off)
+  takes_last start why (Err fault) end one off reported =
+      subst (λ w. EndsTaking w start.intake end.intake) (sym reported)
       (ends_it fault start.intake end.intake off (takes_one start (Err fault) end one))
 
   pub takes_some : (count : ℕ) (start : ServingPrimary A) (why : Fault) (end : ServingPrimary A)
       → StopsServing links turn service count start why end
       → EndsTaking why start.intake end.intake
   takes_some count start why end stops =
-      let (served, one, off, told) = stops.last in
+      let (served, one, off, reported) = stops.last in
       ends_later why start.intake stops.middle.intake end.intake
       (takes_all stops.served start stops.middle stops.before)
-      (takes_last stops.middle why served end one off told)
+      (takes_last stops.middle why served end one off reported)
 
   -- fewer connections were served, and then the last one
   pub stopped_at : (count made : ℕ) (start middle : ServingPrimary A) (why : Fault) (end : ServingPrimary A)
@@ -290,7 +290,7 @@ pub on_ok : {X E : Type 0} (r : Result X E) (P : Type 0) → P → OnOk r P
 on_ok (Ok x) P h = h
 on_ok (Err e) P h = tt
 
--- all were served, but a fault was not told
+-- all were served, but a fault was not reported
 pub taken_untold : (r : Result (Unit {0}) Fault) (X : Type 0) (start now : Intake)
     → IfErr r (λ why. (why ≡ fault.Write) × X) → TakesBatches start now
     → IfErr r (λ why. EndsTaking why start now)
@@ -308,7 +308,7 @@ module _ {A : Type 0} where
       → RefusesInTurn many (intake_of primary waiting) why now
       → StartFails turn limits (fault_of_commit why) old new
   refused_at_start turn limits old new bytes notes primary waiting many why now none whole read is all refuses =
-      told why (record {
+      reported why (record {
         bytes = bytes;
         notes = notes;
         now = now;
@@ -321,9 +321,9 @@ module _ {A : Type 0} where
             (drops_at_once many (intake_of primary waiting) why now refuses));
       })
     where
-      told : (w : CommitFault) → RefusedAtStart turn limits old new w
+      reported : (w : CommitFault) → RefusedAtStart turn limits old new w
           → StartFails turn limits (fault_of_commit w) old new
-      told commit.EmptyBatch r = r
-      told commit.LastToken r = r
-      told commit.TooLarge r = r
-      told commit.Memory r = tt
+      reported commit.EmptyBatch r = r
+      reported commit.LastToken r = r
+      reported commit.TooLarge r = r
+      reported commit.Memory r = tt

@@ -12,11 +12,11 @@ use Rattle.feed_node.specs.States.{token_of}
 use Rattle.feed_http.specs.Device.{AppendsPrefix}
 use Rattle.feed_node.specs.declared.fault.FeedFault.{FeedFault}
 use Rattle.feed_node.specs.declared.fault.FeedFault.TheVariants as feed
-use Rattle.feed_node.specs.Mirroring.{MirrorState, StandsAt, Fed, HasStopped, Faulted}
+use Rattle.feed_node.specs.Mirroring.{MirrorState, StandsAt, Fed, HasStopped, Faulted, first_opening}
 use Rattle.feed_node.specs.Reading.{Reads, FaultsAt, reads}
 use Rattle.feed_relay.specs.Serving.{most_reads}
 use Rattle.feed_commands.specs.Fault.{fault_of_feed}
-use Rattle.feed_commands.specs.Tables.{first_opening, FedSoFar, HasRead, HasReadOn, WasFed, HasFaulted, IsFed, Printed, PrintedSome, PrintedPrefix, outcome_of, TablesFail}
+use Rattle.feed_commands.specs.Tables.{FedSoFar, HasRead, HasReadOn, WasFed, HasFaulted, IsFed, Printed, PrintedSome, PrintedPrefix, outcome_of, TablesFail}
 use Rattle.feed_commands.specs.Streams.{Streams}
 use Rattle.feed_commands.specs.declared.fault.Fault.{Fault}
 use Rattle.feed_commands.specs.declared.fault.Fault.TheVariants as fault

@@ -52,7 +52,7 @@ pub record TellsCounts (options : CheckOptions) (bytes text : List ℕ) : Type 0
   pub counts : Counts
   pub counted : Counted bytes counts
   pub more : List ℕ
-  pub told : TellsMore options.verbose bytes more
+  pub says : TellsMore options.verbose bytes more
   pub is : text ≡ counts_text counts ++ more
 
 -- the whole input was read, and this tells what its lines are
@@ -70,7 +70,7 @@ pub record IsLineAt (text : List ℕ) (number : ℕ) (line : List ℕ) : Type 0 
   pub whole : lines text ++ rest text ∷ [] ≡ before ++ line ∷ later
   pub is : number ≡ length before + 1
 
--- the place, if one is told, is a byte of the line of this number, or the one behind its last
+-- the place, if one is reported, is a byte of the line of this number, or the one behind its last
 abbrev pub IsPlaced : List ℕ → ℕ → Option Spot → Type 0
 IsPlaced text number None = Unit {0}
 IsPlaced text number (Some spot) =
@@ -82,7 +82,7 @@ pub record InputStops (old new : Option (List ℕ)) (why : SurveyFault) : Type 0
   pub whole : IsWhole old new bytes
   pub stops : StopsAt bytes why.line why.stop
 
--- the same, and the place that is told is one in that line
+-- the same, and the place that is reported is one in that line
 pub record InputStopsWithin (old new : Option (List ℕ)) (why : SurveyStop) : Type 0 where
   pub bytes : List ℕ
   pub whole : IsWhole old new bytes
@@ -106,7 +106,7 @@ FailsWithin most why old new = ⊥
 abbrev pub InputFails : Fault → Option (List ℕ) → Option (List ℕ) → Type 0
 InputFails why old new = FailsWithin input_bytes why old new
 
--- the feed stops at this line, and the place that is told is one in it; unless memory ran out
+-- the feed stops at this line, and the place that is reported is one in it; unless memory ran out
 abbrev pub SurveyFails : Fault → List ℕ → Type 0
 SurveyFails (fault.Survey why) bytes =
     StopsAt bytes why.fault.line why.fault.stop × IsPlaced bytes why.fault.line why.spot

@@ -10,7 +10,7 @@ use Rattle.feed_commands.specs.Streamed.{StreamPrinted, StreamCheckFails}
 use Rattle.feed_commands.specs.Streams.{Streams}
 use Rattle.feed_http.specs.Exchange.{Wrote}
 use Rattle.feed_commands.specs.Tables.{PrintedSome, TablesFail}
-use Rattle.feed_commands.specs.Telling.{IsToldStatus, TellsLines}
+use Rattle.feed_commands.specs.Reporting.{IsReportedStatus, ReportsLines}
 use Rattle.feed_commands.specs.declared.fault.Fault.{Fault}
 use Rattle.feed_commands.specs.declared.fault.Fault.TheVariants as fault
 use Rattle.feed_arguments.specs.declared.request.CheckOptions.{CheckOptions}
@@ -64,12 +64,12 @@ IsDeviceFault fault.Memory s =
     (s.failed_reads_new ≡ s.failed_reads_old) × (s.failed_writes_new ≡ s.failed_writes_old)
 IsDeviceFault why s = Unit {0}
 
--- the command failed, and this is the status that tells it, behind what was told of it
+-- the command failed, and this is the status for it, behind what was reported of it
 pub record EndsWithStatus (asked : Local) (status : ℕ) (s : Streams) (err : Wrote) : Type 0 where
   pub why : Fault
   pub failed : CommandFails asked why s
   pub device : IsDeviceFault why s
-  pub told : IsToldStatus why err status
+  pub reported : IsReportedStatus why err status
 
 -- all of the text was written, or the device failed, and a prefix of it was
 abbrev pub IsWritten : List ℕ → Wrote → Type 0
@@ -86,12 +86,12 @@ RepliesToWords (reply.Shown text) status wrote =
     ⊎ ((status ≡ 4) × HasDeviceFailed wrote.failed_old wrote.failed_new
     × AppendsPrefix wrote.old wrote.new (string_bytes text))
 
--- why they are refused was told, and that memory ran out, unless the device failed
-abbrev pub TellsRefusal : NoCommand → Wrote → Type 0
-TellsRefusal (reply.Refused text) wrote = IsWritten (string_bytes text) wrote
-TellsRefusal reply.Memory wrote =
-    TellsLines wrote.old wrote.new ⊎ HasDeviceFailed wrote.failed_old wrote.failed_new
-TellsRefusal (reply.Shown text) wrote = Unit {0}
+-- why they are refused was reported, and that memory ran out, unless the device failed
+abbrev pub ReportsRefusal : NoCommand → Wrote → Type 0
+ReportsRefusal (reply.Refused text) wrote = IsWritten (string_bytes text) wrote
+ReportsRefusal reply.Memory wrote =
+    ReportsLines wrote.old wrote.new ⊎ HasDeviceFailed wrote.failed_old wrote.failed_new
+ReportsRefusal (reply.Shown text) wrote = Unit {0}
 
 -- ---- by the words
 
@@ -118,14 +118,14 @@ printed_by s = record {
   failed_new = s.failed_writes_new;
 }
 
-module _ {R W E : Type 0} (words : List (List ℕ)) (status : ℕ) (s : Streams) (told : Wrote)
+module _ {R W E : Type 0} (words : List (List ℕ)) (status : ℕ) (s : Streams) (reported : Wrote)
     (old new : Standard R W E) where
   -- the words ask for such a command, it was run, and this is its status
   pub record RunsLocal : Type 0 where
     pub asked : Local
     pub asks : Asks words (request.Local asked)
     pub done : status ≡ 0 → CommandSucceeds asked s × (new.err ≡ old.err)
-    pub failed : status ≢ 0 → EndsWithStatus asked status s told
+    pub failed : status ≢ 0 → EndsWithStatus asked status s reported
     pub unrefused : status ≢ 1
     pub greatest : status ≤ 5
 
@@ -143,7 +143,7 @@ module _ {R W E : Type 0} (words : List (List ℕ)) (status : ℕ) (s : Streams)
     pub asks : AsksNothing words reply
     pub unread : new.input ≡ old.input
     pub replied : RepliesToWords reply status (printed_by s)
-    pub tells : TellsRefusal reply told
+    pub reports : ReportsRefusal reply reported
 
   -- what the words of a command line come to
   abbrev pub RunsBy : Type 0

@@ -15,8 +15,8 @@ use Rattle.feed_node.specs.declared.fault.FeedFault.TheVariants as feed
 use Rattle.feed_note.specs.declared.counts.SurveyFault.{SurveyFault}
 use Rattle.feed_note.specs.declared.stop.LineStop.{LineStop}
 use Rattle.feed_note.specs.declared.stop.LineStop.TheVariants as stop
-use Rattle.feed_play.specs.Fault.{is_memory}
-use Rattle.feed_relay.specs.Fault.{is_memory as is_network_memory}
+use Rattle.feed_play.specs.Fault.{is_play_memory}
+use Rattle.feed_relay.specs.Fault.{is_network_memory}
 use Rattle.feed_relay.specs.declared.fault.NetworkFault.{NetworkFault}
 use Rattle.feed_relay.specs.declared.fault.NetworkFault.TheVariants as network
 use Rattle.feed_arguments.specs.declared.address.AddressFault.{AddressFault}
@@ -26,7 +26,7 @@ use Rattle.feed_commands.specs.declared.fault.SurveyStop.{SurveyStop}
 use Rattle.feed_commands.specs.declared.fault.Fault.{Fault}
 use Rattle.feed_commands.specs.declared.fault.Fault.TheVariants as fault
 
--- at this line, where it is to be told
+-- at this line, where it is to be reported
 abbrev pub fault_of_feed : FeedFault → Option ℕ → Fault
 fault_of_feed feed.Memory line = fault.Memory
 fault_of_feed why line = fault.Feed (record { fault = why; line = line })
@@ -110,7 +110,7 @@ status_of fault.TooLong = 2
 status_of (fault.Feed why) = 2
 status_of (fault.Survey why) = 2
 status_of (fault.Batches why) = 2
-status_of (fault.Play why) = if is_memory why.cause then 5 else 2
+status_of (fault.Play why) = if is_play_memory why.cause then 5 else 2
 status_of (fault.Audit why) = status_of_audit why
 status_of fault.Differs = 2
 status_of fault.Unpublished = 3
@@ -127,7 +127,7 @@ StandsInLine line (Some spot) = (1 ≤ spot.byte) × (spot.byte ≤ length line 
 
 -- the same fault; or that of a line, which says where in the line it is, or doesn't
 abbrev pub SaysMore : List ℕ → Fault → Fault → Type 0
-SaysMore line why told =
-    (told ≡ why)
+SaysMore line why reported =
+    (reported ≡ why)
     ⊎ ((stop : SurveyStop) × (spot : Option Spot) × (why ≡ fault.Survey stop)
-    × (told ≡ fault.Survey (record { fault = stop.fault; spot = spot })) × StandsInLine line spot)
+    × (reported ≡ fault.Survey (record { fault = stop.fault; spot = spot })) × StandsInLine line spot)

@@ -141,9 +141,9 @@ abbrev pub is_with : Option (List ℕ) → List ℕ → Bool → Bool
 is_with token other before = option_map_or (λ t. cond (bytes_eq t other) true before) token before
 
 -- the first line, where it is so on this line or was on one before
-abbrev pub first_or : Option ℕ → Bool → ℕ → Option ℕ
-first_or (Some line) found number = Some line
-first_or None found number = cond found (Some number) None
+abbrev pub first_line_found : Option ℕ → Bool → ℕ → Option ℕ
+first_line_found (Some line) found number = Some line
+first_line_found None found number = cond found (Some number) None
 
 -- the line is read, and this is what it says
 pub record IsSaid (line : List ℕ) (said : Said) : Type 0 where
@@ -157,7 +157,7 @@ pub record IsSaid (line : List ℕ) (said : Said) : Type 0 where
 -- it is so on the line of this number, or not
 pub record FindsOn (is_so : Bool) (line : ℕ) (old new : Finding) : Type 0 where
   pub count : new.count ≡ old.count + cond is_so 1 0
-  pub first : new.first ≡ first_or old.first is_so line
+  pub first : new.first ≡ first_line_found old.first is_so line
 
 -- what one line more says is taken
 pub record TakesSaid (said : Said) (old new : Reader) : Type 0 where

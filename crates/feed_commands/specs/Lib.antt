@@ -11,9 +11,9 @@ pub mod Printing
 pub mod Pull
 pub mod RecordLines
 pub mod Relay
+pub mod Reporting
 pub mod Serve
 pub mod StateAt
 pub mod Streamed
 pub mod Streams
 pub mod Tables
-pub mod Telling

@@ -3,9 +3,9 @@ use Rattle.std.specs.Prelude.{◌≡◌, ◌⊎◌, ℕ, ◌+◌, true, false, L
 use Rattle.std.specs.Io.KnownBytes.{Appends, Keeps}
 use Rattle.feed_note.specs.Lines.{lines}
 use Rattle.feed_http.specs.Device.{AppendsPrefix, HasFailed}
-use Rattle.feed_play.specs.Fault.{is_memory}
+use Rattle.feed_play.specs.Fault.{is_play_memory}
 use Rattle.feed_play.specs.Lines.{IsLineFrom}
-use Rattle.feed_play.specs.Player.{Plays, Stops}
+use Rattle.feed_play.specs.Player.{Plays, StopsScript}
 use Rattle.feed_play.specs.declared.fault.PlayFault.{PlayFault}
 use Rattle.feed_commands.specs.Check.{IsWhole, InputFails}
 use Rattle.feed_commands.specs.Streams.{Streams}
@@ -23,8 +23,8 @@ pub record Played (s : Streams) : Type 0 where
 -- the script stops at a fault, and not for want of memory; this is told before
 pub record StopsByFault (script told : List ℕ) : Type 0 where
   pub why : PlayFault
-  pub stops : Stops script told why
-  pub no_memory : is_memory why.cause ≡ false
+  pub stops : StopsScript script told why
+  pub no_memory : is_play_memory why.cause ≡ false
 
 -- the same, up to the first fault if there is one, but that only a prefix was printed
 pub record PlayedPrefix (s : Streams) : Type 0 where
@@ -35,14 +35,14 @@ pub record PlayedPrefix (s : Streams) : Type 0 where
   pub printed : AppendsPrefix s.out_old s.out_new told
 
 -- a write failed, and a prefix of the text was printed
-pub record IsCutShort (s : Streams) (told : List ℕ) : Type 0 where
+pub record IsPlayedInPart (s : Streams) (told : List ℕ) : Type 0 where
   pub failed : HasFailed s.failed_writes_old s.failed_writes_new
   pub printed : AppendsPrefix s.out_old s.out_new told
 
 -- the text was printed; or, where memory ran out and a write failed too, a prefix of it
 abbrev pub IsPrinted : PlayFault → Streams → List ℕ → Type 0
 IsPrinted why s told =
-    Appends s.out_old s.out_new told ⊎ ((is_memory why.cause ≡ true) × IsCutShort s told)
+    Appends s.out_old s.out_new told ⊎ ((is_play_memory why.cause ≡ true) × IsPlayedInPart s told)
 
 -- the whole input was read, and stops at one of its lines, or at the one that is missing; what the
 -- lines before it ask for was printed
@@ -50,7 +50,7 @@ pub record Stopped (why : PlayFault) (s : Streams) : Type 0 where
   pub script : List ℕ
   pub told : List ℕ
   pub whole : IsWhole s.input_old s.input_new script
-  pub stops : Stops script told why
+  pub stops : StopsScript script told why
   pub line : IsLineFrom 1 (length (lines script) + 1) why.line
   pub printed : IsPrinted why s told
 

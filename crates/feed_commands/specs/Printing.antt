@@ -13,9 +13,9 @@ abbrev pub FlushesSome : Option (List ℕ) → Option (List ℕ) → List ℕ �
 FlushesSome old new before after text =
     (sent : List ℕ) × (before ++ text ≡ sent ++ after) × Appends old new sent
 
--- a text was told to a device between these contents and counts of failures, by way of what waited
--- before and waits after
-pub record TellsText (old new : Option (List ℕ)) (failures failures_after : ℕ)
+-- a text was written to a device between these contents and counts of failures, by way of what
+-- waited before and waits after
+pub record WritesText (old new : Option (List ℕ)) (failures failures_after : ℕ)
     (before after : Waiting) (text : List ℕ) : Type 0 where
   -- where no write has failed up to here, none of the text is lost
   pub sends : after.has_failed ≡ false → (before.has_failed ≡ false) × (failures_after ≡ failures)
@@ -37,14 +37,14 @@ abbrev pub end_with : List ℕ → List ℕ
 end_with token = written_token (Some token) ++ codes "}\n"
 
 module _ {W : Type 0} (contents : W → Option (List ℕ)) (failures : W → ℕ) where
-  -- a text was told to the device of a printer between these two
+  -- a text was written to the device of a printer between these two
   pub record PrintsText (old new : Printer W) (text : List ℕ) : Type 0 where
     pub same_device : new.device.ghost_name ≡ old.device.ghost_name
-    pub told : TellsText (contents old.device.now) (contents new.device.now)
+    pub written : WritesText (contents old.device.now) (contents new.device.now)
         (failures old.device.now) (failures new.device.now) old.waiting new.waiting text
 
-  -- the line of a change was told to it between these two but for its end, and a write has failed
-  -- by now or not
+  -- the line of a change was written to it between these two but for its end, and a write has
+  -- failed by now or not
   abbrev pub PrintsChange : Bool → Printer W → Change → Printer W → Type 0
   PrintsChange has_failed old change new =
       PrintsText old new (end_before old.is_begun ++ written_change change)

@@ -14,7 +14,7 @@ use Rattle.feed_http.specs.Device.{HasFailed, AppendsPrefix}
 use Rattle.feed_http.specs.declared.fault.EngineFault.TheVariants.{Follow}
 use Rattle.feed_http.specs.declared.fault.Followed.TheVariants as followed
 use Rattle.feed_relay.specs.Dialing.{Dialer}
-use Rattle.feed_relay.specs.First.{Position, FollowsFirst, last_outcome, ran_out}
+use Rattle.feed_relay.specs.First.{DialingMirror, FollowsFirst, last_outcome, ran_out}
 use Rattle.feed_relay.specs.declared.fault.NetworkFault.TheVariants.{Connect, Engine}
 use Rattle.feed_relay.specs.declared.first.Attempt.{Attempt}
 use Rattle.feed_relay.specs.declared.first.AttemptEnd.{AttemptEnd}
@@ -35,8 +35,8 @@ abbrev pub server_text : List ℕ × ℕ → List ℕ
 server_text address = address.0 ++ codes ":" ++ decimal address.1
 
 -- the place that is asked for the feed at this address
-abbrev pub place_at : UpstreamOptions → List ℕ → List ℕ × ℕ → Result Place PlaceFault
-place_at upstream contest address = place_of (server_text address) upstream.base.now contest
+abbrev pub place_asked : UpstreamOptions → List ℕ → List ℕ × ℕ → Result Place PlaceFault
+place_asked upstream contest address = place_of (server_text address) upstream.base.now contest
 
 -- why there is none
 abbrev pub RefusesServer : UpstreamOptions → List ℕ → List ℕ × ℕ → Fault → Type 0
@@ -67,10 +67,10 @@ AskedServer = (List ℕ × ℕ) × (Result Place PlaceFault × Identity)
 
 abbrev pub asked_at : UpstreamOptions → List ℕ → Identity → List ℕ × ℕ → AskedServer
 asked_at upstream contest identity address =
-    (address, (place_at upstream contest address, identity))
+    (address, (place_asked upstream contest address, identity))
 
-abbrev pub asked_of : Server → AskedServer
-asked_of server = ((string_bytes server.host, server.port), (Ok server.place, server.identity.now))
+abbrev pub server_asked : Server → AskedServer
+server_asked server = ((string_bytes server.host, server.port), (Ok server.place, server.identity.now))
 
 -- the servers are those at the first address and the further ones, each with the place there, and
 -- are asked as this identity
@@ -78,7 +78,7 @@ pub record AreServers (upstream : UpstreamOptions) (contest : List ℕ) (identit
     (servers : List Server) : Type 0 where
   pub further : List (List ℕ × ℕ)
   pub listed : AreFurther upstream.from further
-  pub asked : map asked_of servers
+  pub asked : map server_asked servers
       ≡ map (asked_at upstream contest identity) (first_address upstream ∷ further)
 
 -- one of these addresses is refused
@@ -92,7 +92,7 @@ RefusesOneOf upstream contest addresses why =
 abbrev pub HasNoServers : UpstreamOptions → List ℕ → Fault → Type 0
 HasNoServers upstream contest why =
     RefusesServer upstream contest (first_address upstream) why
-    ⊎ ((place : Place) × (place_at upstream contest (first_address upstream) ≡ Ok place)
+    ⊎ ((place : Place) × (place_asked upstream contest (first_address upstream) ≡ Ok place)
     × (RefusesFurther upstream.from why
     ⊎ ((further : List (List ℕ × ℕ)) × AreFurther upstream.from further
     × RefusesOneOf upstream contest further why)))
@@ -126,47 +126,47 @@ outcome_of_pull attempts =
     unwrap_or (option_map outcome_of_attempt (last_outcome attempts)) (Ok tt)
 
 -- the output failed, and a prefix of the text was printed; or all of it, and a fault could not be
--- told, so that another device failed
-abbrev pub IsCutShort : List ℕ → Wrote → ℕ → ℕ → Type 0
-IsCutShort text out untold_old untold_new =
+-- reported, so that another device failed
+abbrev pub FailsToPrint : List ℕ → Wrote → ℕ → ℕ → Type 0
+FailsToPrint text out unreported_old unreported_new =
     (HasFailed out.failed_old out.failed_new × AppendsPrefix out.old out.new text)
-    ⊎ (HasFailed untold_old untold_new × Appends out.old out.new text)
+    ⊎ (HasFailed unreported_old unreported_new × Appends out.old out.new text)
 
 module _ {D R W : Type 0} where
   -- which servers were asked, what that came to, and what the mirror is then
   pub record HasPulled (dialer : Dialer D R W) (servers : List Server) (most_reads : ℕ)
-      (start : Position D) (ended : Result (Unit {0}) Fault) (end : Position D) : Type 0 where
+      (start : DialingMirror D) (ended : Result (Unit {0}) Fault) (end : DialingMirror D) : Type 0 where
     pub attempts : List Attempt
     pub follows : FollowsFirst dialer servers most_reads start attempts end
     pub came : outcome_of_pull attempts ≡ ended
 
   -- the same, and the snapshot of what the mirror shows was printed
   pub record PrintedPulled (dialer : Dialer D R W) (servers : List Server) (most_reads : ℕ)
-      (start : Position D) (ended : Result (Unit {0}) Fault) (end : Position D) (out : Wrote)
+      (start : DialingMirror D) (ended : Result (Unit {0}) Fault) (end : DialingMirror D) (out : Wrote)
       : Type 0 where
     pub has : HasPulled dialer servers most_reads start ended end
     pub printed : Appends out.old out.new (published_text end.mirror.node.published)
 
   -- why memory ran out: there was no room for the attempts, and nobody was asked; or it ran out at
   -- the last of them
-  abbrev pub RunsOut : Dialer D R W → List Server → ℕ → Position D → Position D → Type 0
+  abbrev pub RunsOut : Dialer D R W → List Server → ℕ → DialingMirror D → DialingMirror D → Type 0
   RunsOut dialer servers most_reads start end =
       (end ≡ start)
       ⊎ ((attempts : List Attempt) × FollowsFirst dialer servers most_reads start attempts end
       × (ran_out attempts ≡ true))
 
-  -- What was pulled and printed where the command fails. What could not be told is counted between
-  -- two counts.
-  abbrev pub PullFails : Dialer D R W → List Server → ℕ → Fault → Position D → Position D → Wrote
+  -- What was pulled and printed where the command fails. What could not be reported is counted
+  -- between two counts.
+  abbrev pub PullFails : Dialer D R W → List Server → ℕ → Fault → DialingMirror D → DialingMirror D → Wrote
       → ℕ → ℕ → Type 0
-  PullFails dialer servers most_reads fault.Memory start end out untold_old untold_new =
+  PullFails dialer servers most_reads fault.Memory start end out unreported_old unreported_new =
       RunsOut dialer servers most_reads start end × Keeps out.old out.new
-  PullFails dialer servers most_reads fault.Write start end out untold_old untold_new =
+  PullFails dialer servers most_reads fault.Write start end out unreported_old unreported_new =
       ((ended : Result (Unit {0}) Fault) × HasPulled dialer servers most_reads start ended end)
-      × IsCutShort (published_text end.mirror.node.published) out untold_old untold_new
-  PullFails dialer servers most_reads fault.Unpublished start end out untold_old untold_new =
+      × FailsToPrint (published_text end.mirror.node.published) out unreported_old unreported_new
+  PullFails dialer servers most_reads fault.Unpublished start end out unreported_old unreported_new =
       PrintedPulled dialer servers most_reads start (Ok tt) end out
       × (end.mirror.node.published ≡ None)
-  PullFails dialer servers most_reads (fault.Network why) start end out untold_old untold_new =
+  PullFails dialer servers most_reads (fault.Network why) start end out unreported_old unreported_new =
       PrintedPulled dialer servers most_reads start (Err (fault.Network why)) end out
-  PullFails dialer servers most_reads why start end out untold_old untold_new = ⊥
+  PullFails dialer servers most_reads why start end out unreported_old unreported_new = ⊥

@@ -6,7 +6,7 @@ use Rattle.feed_http.specs.Serving.{ServesOnce}
 use Rattle.feed_http.specs.declared.fault.Served.{Served}
 use Rattle.feed_http.specs.declared.service.Service.{Service}
 use Rattle.feed_relay.specs.Dialing.{Dialer, Links}
-use Rattle.feed_relay.specs.First.{Position, FollowsFirst, ran_out}
+use Rattle.feed_relay.specs.First.{DialingMirror, FollowsFirst, ran_out}
 use Rattle.feed_relay.specs.Serving.{ServesNext, most_reads}
 use Rattle.feed_relay.specs.declared.fault.NetworkFault.{NetworkFault}
 use Rattle.feed_relay.specs.declared.first.Attempt.{Attempt}
@@ -14,9 +14,9 @@ use Rattle.feed_relay.specs.declared.server.Server.{Server}
 use Rattle.feed_arguments.specs.declared.request.RelayOptions.{RelayOptions}
 use Rattle.feed_commands.specs.Fault.{goes_on}
 use Rattle.feed_commands.specs.InTurn.{InTurn}
-use Rattle.feed_commands.specs.Pull.{IsCutShort}
+use Rattle.feed_commands.specs.Pull.{FailsToPrint}
 use Rattle.feed_http.specs.Exchange.{Wrote}
-use Rattle.feed_commands.specs.Telling.{FailsAs}
+use Rattle.feed_commands.specs.Reporting.{FailsAs}
 use Rattle.feed_commands.specs.declared.fault.Fault.{Fault}
 use Rattle.feed_commands.specs.declared.fault.Fault.TheVariants as fault
 
@@ -32,10 +32,10 @@ relay_service options =
 
 -- a mirror with what it connects to servers with, and what followers connect to
 pub record Relaying (D A : Type 0) : Type 0 where
-  pub follower : Position D
+  pub follower : DialingMirror D
   pub listener : A
 
-abbrev pub relaying : {D A : Type 0} → Position D → A → Relaying D A
+abbrev pub relaying : {D A : Type 0} → DialingMirror D → A → Relaying D A
 relaying follower listener = record { follower = follower; listener = listener }
 
 module _ {D R W A S T : Type 0} (dialer : Dialer D R W) (links : Links A S T)
@@ -59,7 +59,7 @@ module _ {D R W A S T : Type 0} (dialer : Dialer D R W) (links : Links A S T)
   -- them; or it is more than one connection's fault that the follower was not served
   pub data EndsRounds (start : Relaying D A) : Fault → Relaying D A → Type 0 where
     has_no_room : EndsRounds start fault.Memory start
-    has_run_out : (attempts : List Attempt) (end : Position D)
+    has_run_out : (attempts : List Attempt) (end : DialingMirror D)
         → FollowsFirst dialer servers most_reads start.follower attempts end
         → ran_out attempts ≡ true
         → EndsRounds start fault.Memory (relaying end start.listener)
@@ -88,10 +88,10 @@ module _ {D R W A S T : Type 0} (dialer : Dialer D R W) (links : Links A S T)
       MakesRounds count start end
       × Appends out.old out.new (published_text end.follower.mirror.node.published)
 
-  -- where the command fails: all rounds were made, but something was not printed or told; or it
+  -- where the command fails: all rounds were made, but something was not printed or reported; or it
   -- broke off, and nothing was printed
   abbrev pub RelayFails : ℕ → Fault → Relaying D A → Relaying D A → Wrote → ℕ → ℕ → Type 0
-  RelayFails count why start end out untold_old untold_new =
+  RelayFails count why start end out unreported_old unreported_new =
       ((why ≡ fault.Write) × MakesRounds count start end
-      × IsCutShort (published_text end.follower.mirror.node.published) out untold_old untold_new)
+      × FailsToPrint (published_text end.follower.mirror.node.published) out unreported_old unreported_new)
       ⊎ (RelayBreaksOff count start why end × Keeps out.old out.new)

@@ -21,7 +21,7 @@ use Rattle.feed_arguments.specs.declared.request.ServeOptions.{ServeOptions}
 use Rattle.feed_commands.specs.Check.{IsWhole, InputStops, InputFails}
 use Rattle.feed_commands.specs.Fault.{goes_on}
 use Rattle.feed_commands.specs.InTurn.{InTurn}
-use Rattle.feed_commands.specs.Telling.{FailsAs}
+use Rattle.feed_commands.specs.Reporting.{FailsAs}
 use Rattle.feed_commands.specs.declared.fault.Fault.{Fault}
 use Rattle.feed_commands.specs.declared.fault.Fault.TheVariants as fault
 
@@ -126,10 +126,11 @@ module _ {A R W : Type 0} (links : Links A R W) (turn : ℕ) (service : Service)
     pub before : ServesAll served start middle
     pub last : EndsServing middle why end
 
-  -- where the command fails: all connections were served, but a fault was not told; or it stopped
+  -- where the command fails: all connections were served, but a fault was not reported; or it
+  -- stopped
   abbrev pub ServingFails : ℕ → Fault → ServingPrimary A → ServingPrimary A → ℕ → ℕ → Type 0
-  ServingFails count why start end untold_old untold_new =
-      ((why ≡ fault.Write) × ServesAll count start end × HasFailed untold_old untold_new)
+  ServingFails count why start end unreported_old unreported_new =
+      ((why ≡ fault.Write) × ServesAll count start end × HasFailed unreported_old unreported_new)
       ⊎ StopsServing count start why end
 
 -- ---- where it can't start

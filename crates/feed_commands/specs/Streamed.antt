@@ -22,8 +22,8 @@ use Rattle.feed_commands.specs.declared.fault.Fault.{Fault}
 use Rattle.feed_commands.specs.declared.fault.Fault.TheVariants as fault
 
 -- how many reads are made at most
-abbrev pub stream_reads : ℕ
-stream_reads = 1099511627776
+abbrev pub most_stream_reads : ℕ
+most_stream_reads = 1099511627776
 
 -- the line of this number stops the reading of the text, whatever comes behind the text
 abbrev pub StopsForGood : List ℕ → ℕ → LineStop → Type 0
@@ -49,7 +49,7 @@ pub record StreamStops (old new : Option (List ℕ)) (why : SurveyFault) : Type 
 pub record StreamReadOn (old new : Option (List ℕ)) : Type 0 where
   pub bytes : List ℕ
   pub read : Consumes old new bytes
-  pub many : stream_reads ≤ length bytes
+  pub many : most_stream_reads ≤ length bytes
 
 -- what was read where the input can't be counted
 abbrev pub StreamFails : Fault → Option (List ℕ) → Option (List ℕ) → Type 0

@@ -5,19 +5,14 @@ use Rattle.feed_settings.specs.Limits.{Limits}
 use Rattle.feed_note.specs.declared.line.Line.{Line}
 use Rattle.feed_note.specs.Publishing.{Published}
 use Rattle.feed_note.specs.Texts.{published_text}
-use Rattle.feed_node.specs.States.{nothing_published}
-use Rattle.feed_node.specs.Mirroring.{MirrorState, StandsAt}
-use Rattle.feed_node.specs.Reading.{Opening, Reads, FaultsAt, reads}
+use Rattle.feed_node.specs.Mirroring.{MirrorState, StandsAt, first_opening}
+use Rattle.feed_node.specs.Reading.{Reads, FaultsAt, reads}
 use Rattle.feed_http.specs.Device.{AppendsPrefix}
 use Rattle.feed_relay.specs.Serving.{most_reads}
 use Rattle.feed_commands.specs.Streams.{Streams}
 use Rattle.feed_commands.specs.declared.fault.Fault.{Fault}
 use Rattle.feed_commands.specs.declared.fault.FeedStop.{FeedStop}
 use Rattle.feed_commands.specs.declared.fault.Fault.TheVariants as fault
-
--- a first connection: nothing is published, and it asks for everything
-abbrev pub first_opening : Opening
-first_opening = record { before = nothing_published; fresh = true }
 
 -- At least so many bytes were read. But for those behind, they were fed to a mirror on its first
 -- connection, and nothing is wrong with them.
@@ -45,7 +40,7 @@ pub record HasReadOn (limits : Limits) (old new : Option (List ℕ)) (shown : Op
   pub whole : HasRead limits old new shown
   pub many : most_reads ≤ length whole.bytes
 
--- all that was read was fed; or, where the fault's line is told, what was read up to that line
+-- all that was read was fed; or, where the fault's line is reported, what was read up to that line
 abbrev pub WasFed : Option ℕ → List ℕ → Type 0
 WasFed None behind = behind ≡ []
 WasFed (Some line) behind = Unit {0}

@@ -1,6 +1,6 @@
 //! The commands, as a command line asks for them.
 ghost use Rattle.std.specs.Prelude.{◌≡◌, ◌≢◌, ◌≤◌, None, false, map, IfErr, IfSome, IsErrOf, OnOk};
-ghost use Rattle.feed_commands.specs.Commands.{CheckPrinted, CheckNotPrinted, CommandSucceeds, CommandFails, IsDeviceFault, EndsWithStatus, RepliesToWords, TellsRefusal};
+ghost use Rattle.feed_commands.specs.Commands.{CheckPrinted, CheckNotPrinted, CommandSucceeds, CommandFails, IsDeviceFault, EndsWithStatus, RepliesToWords, ReportsRefusal};
 ghost use Rattle.feed_commands.specs.Commands.{is_local, standard, RunsBy};
 ghost use Rattle.feed_arguments.specs.declared.request.Request.TheVariants as asked;
 ghost use Rattle.feed_commands.specs.Streams.{streams_of};
@@ -19,7 +19,7 @@ mod streamed;
 mod tables;
 
 use crate::fault::{Fault, REFUSED};
-use crate::telling::tell;
+use crate::reporting::report;
 use check::print_counts;
 use feed_arguments::{CheckOptions, Local, NoCommand, PROGRAM, Request, parse_words};
 use feed_http::device::{Failed, FeedRead, FeedWrite, write_all};
@@ -36,13 +36,13 @@ fn answer_words<W: FeedWrite, E: FeedWrite>(reply: &NoCommand, out: &mut W, err:
     ensures out { let wrote = wrote_by W.contents W.failures out.old out.new in
         RepliesToWords reply.now result wrote }
     ensures err { let wrote = wrote_by E.contents E.failures err.old err.new in
-        TellsRefusal reply.now wrote }
+        ReportsRefusal reply.now wrote }
 {
     match reply {
-        NoCommand::Memory => tell(PROGRAM, Fault::Memory, err),
+        NoCommand::Memory => report(PROGRAM, Fault::Memory, err),
         NoCommand::Shown(text) => match write_all(out, text.as_bytes()) {
             Ok(()) => 0,
-            Err(Failed) => tell(PROGRAM, Fault::Write, err),
+            Err(Failed) => report(PROGRAM, Fault::Write, err),
         },
         NoCommand::Refused(text) => {
             let _ = write_all(err, text.as_bytes());
@@ -109,7 +109,7 @@ pub fn perform<R: FeedRead, W: FeedWrite>(
     }
 }
 
-/// Does that, tells its fault, and answers the status for it.
+/// Does that, reports its fault, and answers the status for it.
 fn run_local<R: FeedRead, W: FeedWrite, E: FeedWrite>(
     alloc: Global,
     request: &Local<'_>,
@@ -122,14 +122,14 @@ fn run_local<R: FeedRead, W: FeedWrite, E: FeedWrite>(
         result ≡ 0 → CommandSucceeds request.now streams }
     ensures err { let streams = streams_of R.remaining R.failures W.contents W.failures
         input.old input.new out.old out.new in
-        let told = wrote_by E.contents E.failures err.old err.new in
-        result ≢ 0 → EndsWithStatus request.now result streams told }
-    ensures untold { result ≡ 0 → err.new ≡ err.old }
+        let reported = wrote_by E.contents E.failures err.old err.new in
+        result ≢ 0 → EndsWithStatus request.now result streams reported }
+    ensures unreported { result ≡ 0 → err.new ≡ err.old }
     ensures statuses { (result ≢ 1) × (result ≤ 5) }
 {
     match perform(alloc, request, input, out) {
         Ok(()) => 0,
-        Err(fault) => tell(request.name(), fault, err),
+        Err(fault) => report(request.name(), fault, err),
     }
 }
 
@@ -159,8 +159,8 @@ pub fn run<'a, R: FeedRead, W: FeedWrite, E: FeedWrite>(
 ) -> u8
     ensures { let streams = streams_of R.remaining R.failures W.contents W.failures
         input.old input.new out.old out.new in
-        let told = wrote_by E.contents E.failures err.old err.new in
-        RunsBy (map (λ word. word.now) words.entry.now) result streams told
+        let reported = wrote_by E.contents E.failures err.old err.new in
+        RunsBy (map (λ word. word.now) words.entry.now) result streams reported
         (standard input.old out.old err.old) (standard input.new out.new err.new) }
 {
     match parse_words(alloc, words) {

@@ -1,4 +1,4 @@
-//! Why a command fails: the texts that tell it, and the statuses that it ends with.
+//! Why a command fails: the texts that report it, and the statuses that it ends with.
 ghost use Rattle.std.specs.Prelude.{◌≡◌};
 
 use crate::placing::{Spot, spot_of};
@@ -130,7 +130,8 @@ impl Fault {
         }
     }
 
-    /// The fault of a command whose mirror stopped feeding, at this line where it is to be told.
+    /// The fault of a command whose mirror stopped feeding, at this line where it is to be
+    /// reported.
     pub fn of_feed(fault: FeedFault, line: Option<u64>) -> Fault
         ensures { result ≡ fault_of_feed fault line }
     {

@@ -274,7 +274,7 @@ fn place_of(
     })
 }
 
-/// A place in a line, or behind its last byte, as it is told.
+/// A place in a line, or behind its last byte, as it is reported.
 fn spot_at(line: &[u8], place: usize, member: Option<Counting>) -> Option<Spot>
     ensures { StandsInLine line.now result }
 {

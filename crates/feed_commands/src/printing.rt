@@ -6,7 +6,7 @@ ghost use Rattle.feed_http.specs.Device.{AppendsPrefix, HasFailed};
 ghost use Rattle.feed_note.specs.Texts.{snapshot_text};
 ghost use Rattle.feed_note.specs.Written.{written_members};
 ghost use Rattle.feed_commands.specs.Openings.{beginning};
-ghost use Rattle.feed_commands.specs.Printing.{TellsText, PrintsText, PrintsChange, end_before, end_with};
+ghost use Rattle.feed_commands.specs.Printing.{WritesText, PrintsText, PrintsChange, end_before, end_with};
 
 use crate::buffer::Buffer;
 use crate::opening::Opening;
@@ -25,7 +25,7 @@ struct Waiting {
 impl Waiting {
     /// Writes what waits.
     fn flush<W: FeedWrite>(&mut self, device: &mut W)
-        ensures told { TellsText (W.contents device.old) (W.contents device.new)
+        ensures written { WritesText (W.contents device.old) (W.contents device.new)
             (W.failures device.old) (W.failures device.new) self.old self.new [] }
         ensures none { self.new.bytes ≡ [] }
     {
@@ -38,7 +38,7 @@ impl Waiting {
     /// Writes a text where nothing waits.
     fn send<W: FeedWrite>(&mut self, device: &mut W, text: &[u8])
         requires { self.old.bytes ≡ [] }
-        ensures { TellsText (W.contents device.old) (W.contents device.new)
+        ensures { WritesText (W.contents device.old) (W.contents device.new)
             (W.failures device.old) (W.failures device.new) self.old self.new text.now }
     {
         if !self.has_failed {
@@ -49,7 +49,7 @@ impl Waiting {
     /// Has a text wait, and writes it where it is too long.
     #[inline(always)]
     fn put<W: FeedWrite>(&mut self, device: &mut W, text: &[u8])
-        ensures { TellsText (W.contents device.old) (W.contents device.new)
+        ensures { WritesText (W.contents device.old) (W.contents device.new)
             (W.failures device.old) (W.failures device.new) self.old self.new text.now }
     {
         if !self.bytes.append(text) {
@@ -63,7 +63,7 @@ impl Waiting {
     #[inline(never)]
     #[tactic(auto, using(crate::proofs::PrintingLemmas::tells_then))]
     fn put_behind<W: FeedWrite>(&mut self, device: &mut W, text: &[u8])
-        ensures { TellsText (W.contents device.old) (W.contents device.new)
+        ensures { WritesText (W.contents device.old) (W.contents device.new)
             (W.failures device.old) (W.failures device.new) self.old self.new text.now }
     {
         self.flush(device);
@@ -87,7 +87,7 @@ impl Waiting {
     #[cold]
     #[inline(never)]
     fn put_escaped<W: FeedWrite>(&mut self, device: &mut W, text: &[u8])
-        ensures { TellsText (W.contents device.old) (W.contents device.new)
+        ensures { WritesText (W.contents device.old) (W.contents device.new)
             (W.failures device.old) (W.failures device.new) self.old self.new
             (flat_map byte_text text.now) }
     {
@@ -99,7 +99,7 @@ impl Waiting {
     /// Puts what stands between the quotation marks of the JSON string of a text.
     #[inline(always)]
     fn put_string<W: FeedWrite>(&mut self, device: &mut W, text: &str)
-        ensures { TellsText (W.contents device.old) (W.contents device.new)
+        ensures { WritesText (W.contents device.old) (W.contents device.new)
             (W.failures device.old) (W.failures device.new) self.old self.new
             (flat_map byte_text text.now) }
     {

@@ -2,13 +2,14 @@
 
 ghost use Rattle.std.specs.Prelude.{◌≡◌, IfOk, IfErr};
 ghost use Rattle.feed_commands.specs.Fault.{status_of};
-ghost use Rattle.feed_commands.specs.Telling.{IsTold};
+ghost use Rattle.feed_commands.specs.Reporting.{IsReported};
 ghost use Rattle.feed_http.specs.Exchange.{wrote_by};
 ghost use Rattle.feed_host.specs.Ending.{status_for};
 
 use feed_commands::device::FeedWrite;
 use feed_commands::{
-    Fault, NetworkFault, REFUSED, Server, tell, tell_about, tell_more, tell_text, tell_with,
+    Fault, NetworkFault, REFUSED, Server, report, report_about, report_more, report_text,
+    report_with,
 };
 use std::alloc::AllocError;
 use std::net::Ipv4Addr;
@@ -26,14 +27,14 @@ enum Why {
     /// For a fault, with what it is about.
     About(Fault, String),
     /// For a fault, which this text tells.
-    ToldAs(Fault, &'static str),
+    ReportedAs(Fault, &'static str),
     /// Its options can't be taken: this text says which.
     Refused(&'static str),
     /// The same, where the text names what is in the way.
     RefusedFor(String),
 }
 
-/// Why a command failed, and what is told of that.
+/// Why a command failed, and what is reported of that.
 #[derive(Drop)]
 pub struct Failure {
     why: Why,
@@ -88,7 +89,7 @@ impl Failure {
         ensures { status_for result.why ≡ status_of fault }
     {
         Failure {
-            why: Why::ToldAs(fault, text),
+            why: Why::ReportedAs(fault, text),
         }
     }
 
@@ -153,19 +154,19 @@ impl Failure {
 pub fn ended<E: FeedWrite>(name: &str, outcome: Result<(), Failure>, err: &mut E) -> u8
     ensures ok { IfOk outcome (λ _. result ≡ 0) }
     ensures quiet { IfOk outcome (λ _. err.new ≡ err.old) }
-    ensures err { IfErr outcome (λ failure. IsTold (status_for failure.why)
+    ensures err { IfErr outcome (λ failure. IsReported (status_for failure.why)
         (wrote_by E.contents E.failures err.old err.new) result) }
 {
     let Err(failure) = outcome else {
         return 0;
     };
     match failure.why {
-        Why::Fault(fault, None) => tell(name, fault, err),
-        Why::Fault(fault, Some(more)) => tell_more(name, fault, more, err),
-        Why::At(fault, host, port) => tell_about(name, fault, Some((host.as_str(), port)), err),
-        Why::About(fault, what) => tell_with(name, fault, what.as_str(), err),
-        Why::ToldAs(fault, text) => tell_text(name, text, fault.status(), err),
-        Why::Refused(text) => tell_text(name, text, REFUSED, err),
-        Why::RefusedFor(text) => tell_text(name, text.as_str(), REFUSED, err),
+        Why::Fault(fault, None) => report(name, fault, err),
+        Why::Fault(fault, Some(more)) => report_more(name, fault, more, err),
+        Why::At(fault, host, port) => report_about(name, fault, Some((host.as_str(), port)), err),
+        Why::About(fault, what) => report_with(name, fault, what.as_str(), err),
+        Why::ReportedAs(fault, text) => report_text(name, text, fault.status(), err),
+        Why::Refused(text) => report_text(name, text, REFUSED, err),
+        Why::RefusedFor(text) => report_text(name, text.as_str(), REFUSED, err),
     }
 }

@@ -6,7 +6,7 @@ use crate::hosts::Hosts;
 use crate::identity::identity_for;
 use crate::sockets::Dialer;
 use feed_commands::stream::Stream;
-use feed_commands::{PullOptions, print_pulled, servers_of, start_mirror};
+use feed_commands::{Pull, PullOptions, print_pulled, servers_of, start_mirror};
 use std::mem;
 
 /// Follows the feed of the first server that serves to the end of a connection, and prints the
@@ -37,8 +37,10 @@ fn pull_named(rt: &HostRuntime, options: &PullOptions<'_>) -> Result<(), Failure
     let mut dialer = Dialer::new(rt, reporter, options, &servers);
     let pulled = print_pulled(
         rt.alloc(),
-        options,
-        &servers,
+        &Pull {
+            options,
+            servers: &servers,
+        },
         &mut mirror,
         &mut dialer,
         &mut Stream::new(rt.stdout()),

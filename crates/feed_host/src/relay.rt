@@ -6,7 +6,9 @@ use crate::hosts::Hosts;
 use crate::identity::identity_for;
 use crate::sockets::{Dialer, Listener};
 use feed_commands::stream::Stream;
-use feed_commands::{PullOptions, RelayOptions, print_relayed, servers_of, start_mirror};
+use feed_commands::{
+    Network, PullOptions, Relay, RelayOptions, print_relayed, servers_of, start_mirror,
+};
 use std::mem;
 
 /// Follows the feed of the first server that serves, and serves it, in turns, and prints the tables
@@ -35,18 +37,22 @@ fn relay_named(rt: &HostRuntime, options: &RelayOptions<'_>) -> Result<(), Failu
         Err(fault) => return Err(Failure::of_saved_tables(fault)),
     };
     let reporter = Reporter::new(rt, "relay", options.pull.verbose);
-    let mut port = match Listener::bind(rt, reporter, options.listen) {
-        Ok(port) => port,
+    let listener = match Listener::bind(rt, reporter, options.listen) {
+        Ok(listener) => listener,
         Err(fault) => return Err(Failure::at_port(rt, fault, options.listen)),
     };
-    let mut dialer = Dialer::new(rt, reporter, &options.pull, &servers);
+    let mut network = Network {
+        dial: Dialer::new(rt, reporter, &options.pull, &servers),
+        listener,
+    };
     let relayed = print_relayed(
         rt.alloc(),
-        options,
-        &servers,
+        &Relay {
+            options,
+            servers: &servers,
+        },
         &mut mirror,
-        &mut dialer,
-        &mut port,
+        &mut network,
         &mut Stream::new(rt.stdout()),
         &mut Errors::new(rt),
     );

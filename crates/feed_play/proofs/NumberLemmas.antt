@@ -9,7 +9,7 @@ use Rattle.std.proofs.lemmas.Str.Parse.{IsNumeralModel, numerals_by_value, tells
 use Rattle.std.proofs.lemmas.Str.{digit_value_digit}
 use Rattle.std.proofs.lemmas.Int.Digits.{digits_value_more}
 use Rattle.feed_note.specs.Lines.{onto_first}
-use Rattle.feed_play.specs.Script.{is_space, is_number, number_in, numbers_in, one_of, nodes_in, words}
+use Rattle.feed_play.specs.Script.{is_space, is_script_number, script_number, numbers_in, one_of, nodes_in, words}
 use Rattle.feed_play.proofs.WordLemmas.{stays, one_word}
 use Rattle.feed_note.proofs.LinesCut.{both, second_true, first_true}
 
@@ -26,14 +26,14 @@ all_digits : (ds : List ℕ) → list_all is_ascii_digit ds ≡ all_ascii_digits
 all_digits [] = refl
 all_digits (d ∷ ds) = ap (λ t. is_ascii_digit d && t) (all_digits ds)
 
-are_digits : (ds : List ℕ) → is_number ds ≡ true → all_ascii_digits ds ≡ true
+are_digits : (ds : List ℕ) → is_script_number ds ≡ true → all_ascii_digits ds ≡ true
 are_digits ds e = sym (all_digits ds) ∙ second_true (nat_le 1 (length ds) && nat_le (length ds) 9) (list_all is_ascii_digit ds) e
 
-few : (ds : List ℕ) → is_number ds ≡ true → length ds ≤ 9
+few : (ds : List ℕ) → is_script_number ds ≡ true → length ds ≤ 9
 few ds e = leb-true _ _ (second_true (nat_le 1 (length ds)) (nat_le (length ds) 9) (first_true (nat_le 1 (length ds) && nat_le (length ds) 9) (list_all is_ascii_digit ds) e))
 
 -- a digit's byte
-pub digit : (ds : List ℕ) (i : ℕ) → is_number ds ≡ true → i < length ds → digit_value (get_or ds i 0) + 48 ≡ get_or ds i 0
+pub digit : (ds : List ℕ) (i : ℕ) → is_script_number ds ≡ true → i < length ds → digit_value (get_or ds i 0) + 48 ≡ get_or ds i 0
 digit ds i e h = digit_value_digit (get_or ds i 0) (digit_at ds i (own.to ds (are_digits ds e)) h)
 
 -- one digit more
@@ -41,7 +41,7 @@ pub value_more : (ds : List ℕ) (i : ℕ) → i < length ds → digits_value 10
 value_more ds i h = digits_value_more 10 ds i h
 
 -- it stays small
-pub value_small : (ds : List ℕ) (i : ℕ) → is_number ds ≡ true → i < length ds → digits_value 10 (take i ds) * 10 + digit_value (get_or ds i 0) < 1000000000
+pub value_small : (ds : List ℕ) (i : ℕ) → is_script_number ds ≡ true → i < length ds → digits_value 10 (take i ds) * 10 + digit_value (get_or ds i 0) < 1000000000
 value_small ds i e h =
     let whole : digits_value 10 ds < 10 ^ 9 = digits_value_short own ds 9 (are_digits ds e) (few ds e) in
     let part : digits_value 10 (take (i + 1) ds) ≤ digits_value 10 ds = digits_value-take-le 10 ds (i + 1) (omega arith) in
@@ -64,20 +64,20 @@ joins ns n (Some ms) = ap Some (sym (append_assoc ns (n ∷ []) ms))
 
 -- one word more
 pub numbers_more : (all : Option (List ℕ)) (ns left word more : List ℕ) (n : ℕ) → all ≡ behind ns (numbers_in (words left))
-    → words left ≡ word ∷ words more → number_in word ≡ Some n → all ≡ behind (ns ++ n ∷ []) (numbers_in (words more))
+    → words left ≡ word ∷ words more → script_number word ≡ Some n → all ≡ behind (ns ++ n ∷ []) (numbers_in (words more))
 numbers_more all ns left word more n e cut is =
     e ∙ ap (λ ws. behind ns (numbers_in ws)) cut ∙ ap (λ o. behind ns (option_and_then (λ k. option_map (λ ms. k ∷ ms) (numbers_in (words more))) o)) is
     ∙ joins ns n (numbers_in (words more))
 
 -- the last word
 pub numbers_last : (all : Option (List ℕ)) (ns left word : List ℕ) (n : ℕ) → all ≡ behind ns (numbers_in (words left))
-    → words left ≡ word ∷ [] → number_in word ≡ Some n → all ≡ Some (ns ++ n ∷ [])
+    → words left ≡ word ∷ [] → script_number word ≡ Some n → all ≡ Some (ns ++ n ∷ [])
 numbers_last all ns left word n e cut is =
     e ∙ ap (λ ws. behind ns (numbers_in ws)) cut ∙ ap (λ o. behind ns (option_and_then (λ k. option_map (λ ms. k ∷ ms) (Some [])) o)) is
 
 -- a word that says no number
 pub numbers_none : (all : Option (List ℕ)) (ns left word : List ℕ) (more : List (List ℕ)) → all ≡ behind ns (numbers_in (words left))
-    → words left ≡ word ∷ more → number_in word ≡ None → all ≡ None
+    → words left ≡ word ∷ more → script_number word ≡ None → all ≡ None
 numbers_none all ns left word more e cut is =
     e ∙ ap (λ ws. behind ns (numbers_in ws)) cut ∙ ap (λ o. behind ns (option_and_then (λ k. option_map (λ ms. k ∷ ms) (numbers_in more)) o)) is
 
@@ -96,10 +96,10 @@ digits_stay (d ∷ ds) e =
     both (stays d) _ (digit_stays d (first_true (is_ascii_digit d) _ e)) (digits_stay ds (second_true (is_ascii_digit d) _ e))
 
 -- a text with a space says no number
-no_number : (t : List ℕ) → list_all stays t ≡ false → number_in t ≡ None
+no_number : (t : List ℕ) → list_all stays t ≡ false → script_number t ≡ None
 no_number t e = by (list_all is_ascii_digit t) refl
   where
-    by : (d : Bool) → list_all is_ascii_digit t ≡ d → number_in t ≡ None
+    by : (d : Bool) → list_all is_ascii_digit t ≡ d → script_number t ≡ None
     by true is = absurd (true≢false (sym (digits_stay t is) ∙ e))
     by false is = rw is (rw (and_false (nat_le 1 (length t) && nat_le (length t) 9)) refl)
 
@@ -131,7 +131,7 @@ two_words (b ∷ t) e = by (is_space b) refl e (λ h. two_words t h)
     by false is e two = let (w, v, more, some) = two e in (b ∷ w, v, more, ap (onto_first b) some)
 
 none_of_two : (w v : List ℕ) (more : List (List ℕ)) → option_and_then one_of (numbers_in (w ∷ v ∷ more)) ≡ None
-none_of_two w v more = by (number_in w) (number_in v) (numbers_in more)
+none_of_two w v more = by (script_number w) (script_number v) (numbers_in more)
   where
     by : (o p : Option ℕ) (ns : Option (List ℕ))
         → option_and_then one_of (option_and_then (λ n. option_map (λ ms. n ∷ ms) (option_and_then (λ m. option_map (λ ms. m ∷ ms) ns) p)) o) ≡ None
@@ -145,11 +145,11 @@ alone None = refl
 alone (Some n) = refl
 
 -- what a text says that is one word, where its words say one number
-pub one_number : (t : List ℕ) → number_in t ≡ option_and_then one_of (numbers_in (words t))
+pub one_number : (t : List ℕ) → script_number t ≡ option_and_then one_of (numbers_in (words t))
 one_number t = by (list_all stays t) refl
   where
-    by : (s : Bool) → list_all stays t ≡ s → number_in t ≡ option_and_then one_of (numbers_in (words t))
-    by true is = alone (number_in t) ∙ sym (ap (λ ws. option_and_then one_of (numbers_in ws)) (one_word t is))
+    by : (s : Bool) → list_all stays t ≡ s → script_number t ≡ option_and_then one_of (numbers_in (words t))
+    by true is = alone (script_number t) ∙ sym (ap (λ ws. option_and_then one_of (numbers_in ws)) (one_word t is))
     by false is =
         let (w, v, more, some) = two_words t is in
         no_number t is ∙ sym (ap (λ ws. option_and_then one_of (numbers_in ws)) some ∙ none_of_two w v more)

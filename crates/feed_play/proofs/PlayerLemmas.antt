@@ -16,9 +16,9 @@ use Rattle.feed_world.specs.declared.event.Event.{Event}
 use Rattle.feed_world.specs.declared.event.Event.TheVariants as event
 use Rattle.feed_play.specs.FeedLines.{TakesFeed}
 use Rattle.feed_play.specs.Lines.{LinesLeft}
-use Rattle.feed_play.specs.Player.{token_at, Makes, DoesAsked, Replies, Shows, LineDone, LineStops, StopsAsked, StopsShow, StopsShowing, PlaysNext, PlaysOn, PlaysUpTo}
-use Rattle.feed_play.specs.Script.{Asked, action_in, words}
-use Rattle.feed_play.specs.Told.{Prints, shown_text}
+use Rattle.feed_play.specs.Player.{node_token, Makes, DoesAsked, Replies, Shows, LineDone, LineStops, StopsAsked, StopsShow, StopsShowing, PlaysNext, PlaysOn, PlaysUpTo}
+use Rattle.feed_play.specs.Script.{AskedWorld, action_in, words}
+use Rattle.feed_play.specs.Printed.{Prints, shown_text}
 use Rattle.feed_play.specs.declared.fault.PlayCause.{PlayCause}
 use Rattle.feed_play.specs.declared.fault.PlayCause.TheVariants as cause
 use Rattle.feed_play.specs.declared.fault.PlayFault.{PlayFault}
@@ -64,10 +64,10 @@ module _ (w : World) (state : WorldState) (stands : IsWorld w state) where
   shown_nowhere (suc i) e = let less = shows_none w.limits (numbered w.log) w.mirrors state.followers stands.nodes.mirrors i e in omega arith
 
   -- the token that a node of the world in memory has published
-  pub token_of_node : (i : ℕ) (node : NodeState) → shown_at state i ≡ Some node → published_token node ≡ token_at w (Some i)
+  pub token_of_node : (i : ℕ) (node : NodeState) → shown_at state i ≡ Some node → published_token node ≡ node_token w (Some i)
   token_of_node i node e = ap published_token (shown_where i node e).1
 
-  pub token_of_none : (i : ℕ) → shown_at state i ≡ None → None ≡ token_at w (Some i)
+  pub token_of_none : (i : ℕ) → shown_at state i ≡ None → None ≡ node_token w (Some i)
   token_of_none zero e = absurd (cc)
   token_of_none (suc i) e =
       let past = slice_get_past w.mirrors i (let less = shown_nowhere (suc i) e in omega arith) in
@@ -122,10 +122,10 @@ module _ (asks : Option Action) (lines : LinesLeft) where
 -- ---- a whole script
 
 -- printed from here on, of a run that leads to the world of this state
-abbrev pub HasPlayed : List ℕ → Asked → WorldState → LinesLeft → List ℕ → List ℕ → Type 0
+abbrev pub HasPlayed : List ℕ → AskedWorld → WorldState → LinesLeft → List ℕ → List ℕ → Type 0
 HasPlayed script asked state lines initial now = (w : World) × IsWorld w state × Prints initial now (λ told. PlaysUpTo script asked told w lines)
 
-pub played_more : (script : List ℕ) (asked : Asked) (old new : WorldState) (initial before now line : List ℕ) (lines behind left : LinesLeft) → HasPlayed script asked old lines initial before
+pub played_more : (script : List ℕ) (asked : AskedWorld) (old new : WorldState) (initial before now line : List ℕ) (lines behind left : LinesLeft) → HasPlayed script asked old lines initial before
     → lines.left ≡ line ∷ behind.left → behind.read ≡ lines.read + 1 → LineDone (action_in asked line) old new behind left before now → HasPlayed script asked new left initial now
 played_more script asked old new initial before now line lines behind left (w, stands, (told, up, grown)) is read done =
     let (then, state, (text, does, more)) = done w stands in
@@ -140,15 +140,15 @@ played_more script asked old new initial before now line lines behind left (w, s
     )
 
 -- no line says a world in no bytes
-no_world : (asked : Asked) (w : World) → Makes [] asked w → ⊥
+no_world : (asked : AskedWorld) (w : World) → Makes [] asked w → ⊥
 unfolding words
 no_world asked w makes = absurd (none_some makes.says)
   where
-    none_some : {a : Asked} → None ≡ Some a → ⊥
+    none_some : {a : AskedWorld} → None ≡ Some a → ⊥
     none_some e = absurd (cc)
 
 -- nothing was played yet
-pub begun : (script : List ℕ) (first empty : Bor (List ℕ)) (o : Option (Bor (List ℕ))) (begin behind : LinesLeft) (asked : Asked) (state : WorldState) (initial : List ℕ) → begin ≡ record { left = lines_of script; read = 0 }
+pub begun : (script : List ℕ) (first empty : Bor (List ℕ)) (o : Option (Bor (List ℕ))) (begin behind : LinesLeft) (asked : AskedWorld) (state : WorldState) (initial : List ℕ) → begin ≡ record { left = lines_of script; read = 0 }
     → IfSome o (λ line. (begin.left ≡ line.now ∷ behind.left) × (behind.read ≡ begin.read + 1)) → first ≡ unwrap_or o empty → empty.now ≡ []
     → (w : World) × IsWorld w state × Makes first.now asked w → HasPlayed script asked state behind initial initial
 begun script first empty None begin behind asked state initial is some e nothing (w, stands, makes) = absurd (no_world asked w (subst (λ l. Makes l asked w) (ap (λ l. l.now) e ∙ nothing) makes))

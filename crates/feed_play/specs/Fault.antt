@@ -26,6 +26,6 @@ abbrev pub cause_of_shape : ShapeFault → PlayCause
 cause_of_shape shape.BadShape = Shape
 cause_of_shape shape.Memory = Memory
 
-abbrev pub is_memory : PlayCause → Bool
-is_memory Memory = true
-is_memory cause = false
+abbrev pub is_play_memory : PlayCause → Bool
+is_play_memory Memory = true
+is_play_memory cause = false

@@ -3,4 +3,4 @@ pub mod FeedLines
 pub mod Lines
 pub mod Player
 pub mod Script
-pub mod Told
+pub mod Printed

@@ -15,8 +15,8 @@ use Rattle.feed_world.specs.declared.event.WorldFault.TheVariants.{NoNode}
 use Rattle.feed_play.specs.Fault.{cause_of_world}
 use Rattle.feed_play.specs.FeedLines.{TakesFeed, StopsCommit}
 use Rattle.feed_play.specs.Lines.{LinesLeft, IsLineFrom}
-use Rattle.feed_play.specs.Script.{Asked, action_in, shape_in}
-use Rattle.feed_play.specs.Told.{Tells, Prints, shown_text}
+use Rattle.feed_play.specs.Script.{AskedWorld, action_in, shape_in}
+use Rattle.feed_play.specs.Printed.{PrintsReply, Prints, shown_text}
 use Rattle.feed_play.specs.declared.fault.PlayCause.{PlayCause}
 use Rattle.feed_play.specs.declared.fault.PlayCause.TheVariants as cause
 use Rattle.feed_play.specs.declared.fault.PlayFault.{PlayFault}
@@ -33,13 +33,13 @@ IsOrdered (Some upstreams) =
 IsOrdered None = Unit {0}
 
 -- a world may have so many nodes, and mirrors that connect so
-pub record IsShaped (asked : Asked) : Type 0 where
+pub record IsShaped (asked : AskedWorld) : Type 0 where
   pub nodes : HasShape asked.nodes
   pub ordered : IsOrdered asked.upstreams
 
 -- the line says this of a world that there is: its limits are in range, bytes are not limited, and
 -- it has a shape
-pub record Makes (line : List ℕ) (asked : Asked) (w : World) : Type 0 where
+pub record Makes (line : List ℕ) (asked : AskedWorld) (w : World) : Type 0 where
   pub says : shape_in line ≡ Some asked
   pub limits : IsInRange asked.history asked.staged
   pub shape : IsShaped asked
@@ -49,13 +49,13 @@ pub record Makes (line : List ℕ) (asked : Asked) (w : World) : Type 0 where
 
 -- the line says limits that are out of range
 pub record HasBadLimits (line : List ℕ) : Type 0 where
-  pub asked : Asked
+  pub asked : AskedWorld
   pub says : shape_in line ≡ Some asked
   pub limits : ¬ (IsInRange asked.history asked.staged)
 
 -- the limits are in range, but no world has this shape
 pub record HasBadShape (line : List ℕ) : Type 0 where
-  pub asked : Asked
+  pub asked : AskedWorld
   pub says : shape_in line ≡ Some asked
   pub limits : IsInRange asked.history asked.staged
   pub shape : ¬ (IsShaped asked)
@@ -77,14 +77,14 @@ restarted_by (event.Restart i n) = Some i
 restarted_by what = None
 
 -- the token that the node of this number has published, where one is named
-abbrev pub token_at : World → Option ℕ → Option (List ℕ)
-token_at w None = None
-token_at w (Some i) = published_token (node_of w i)
+abbrev pub node_token : World → Option ℕ → Option (List ℕ)
+node_token w None = None
+node_token w (Some i) = published_token (node_of w i)
 
 -- the world replies to the event, and that is told
 abbrev pub IsReplied : World → Event → List ℕ → World → Type 0
 IsReplied old what text new =
-    (reply : Reply) × Step old what reply new × Tells (token_at new (restarted_by what)) reply text
+    (reply : Reply) × Step old what reply new × PrintsReply (node_token new (restarted_by what)) reply text
 
 -- what the node of this number shows is printed
 pub record IsShown (w : World) (number : ℕ) (text : List ℕ) : Type 0 where
@@ -205,7 +205,7 @@ pub record IsNext (lines : LinesLeft) (line : List ℕ) (behind : LinesLeft) : T
   pub read : behind.read ≡ lines.read + 1
 
 -- what the next line asks for is done
-pub record PlaysNext (asked : Asked) (old : World) (lines : LinesLeft) (text : List ℕ) (new : World)
+pub record PlaysNext (asked : AskedWorld) (old : World) (lines : LinesLeft) (text : List ℕ) (new : World)
     (left : LinesLeft) : Type 0 where
   pub line : List ℕ
   pub behind : LinesLeft
@@ -213,7 +213,7 @@ pub record PlaysNext (asked : Asked) (old : World) (lines : LinesLeft) (text : L
   pub does : DoesAsked (action_in asked line) old behind text new left
 
 -- what the next lines ask for is done, one after another, and this is printed in all
-pub data PlaysOn (asked : Asked) (start : World) (lines : LinesLeft)
+pub data PlaysOn (asked : AskedWorld) (start : World) (lines : LinesLeft)
     : List ℕ → World → LinesLeft → Type 0 where
   none : PlaysOn asked start lines [] start lines
   one_more : (told text : List ℕ) (old new : World) (at left : LinesLeft)
@@ -221,23 +221,23 @@ pub data PlaysOn (asked : Asked) (start : World) (lines : LinesLeft)
       → PlaysOn asked start lines (told ++ text) new left
 
 -- the lines of a script behind the first one
-abbrev pub behind_first : List (List ℕ) → LinesLeft
-behind_first more = record { left = more; read = 1 }
+abbrev pub behind_first_line : List (List ℕ) → LinesLeft
+behind_first_line more = record { left = more; read = 1 }
 
 -- The first line of the script says this of a world, and makes it. What the next ones ask for is
 -- done in it, and this is printed: then the world is this one, and these lines are left.
-pub record PlaysUpTo (script : List ℕ) (asked : Asked) (told : List ℕ) (world : World)
+pub record PlaysUpTo (script : List ℕ) (asked : AskedWorld) (told : List ℕ) (world : World)
     (left : LinesLeft) : Type 0 where
   pub first : List ℕ
   pub more : List (List ℕ)
   pub lines : lines_of script ≡ first ∷ more
   pub start : World
   pub makes : Makes first asked start
-  pub plays : PlaysOn asked start (behind_first more) told world left
+  pub plays : PlaysOn asked start (behind_first_line more) told world left
 
 -- what all lines of the script ask for is done, and this is printed
 pub record Plays (script told : List ℕ) : Type 0 where
-  pub asked : Asked
+  pub asked : AskedWorld
   pub world : World
   pub end : LinesLeft
   pub up_to : PlaysUpTo script asked told world end
@@ -249,20 +249,20 @@ first_line [] = []
 first_line (line ∷ more) = line
 
 -- the first line makes no world, and nothing is printed
-pub record StopsAtFirst (script told : List ℕ) (why : PlayFault) : Type 0 where
+pub record StopsAtFirstLine (script told : List ℕ) (why : PlayFault) : Type 0 where
   pub nothing : told ≡ []
   pub line : why.line ≡ 1
   pub makes_none : MakesNone (first_line (lines_of script)) why.cause
 
 -- how many feed lines a line announces
-abbrev pub announced : Option Action → ℕ
-announced (Some (action.Commit count)) = count
-announced other = 0
+abbrev pub lines_announced : Option Action → ℕ
+lines_announced (Some (action.Commit count)) = count
+lines_announced other = 0
 
 -- A further line stops the script: it, or one of the feed lines that it announces. What the lines
 -- before it ask for is done, and this is printed. For want of memory nothing else is said of it.
 pub record StopsLater (script told : List ℕ) (why : PlayFault) : Type 0 where
-  pub asked : Asked
+  pub asked : AskedWorld
   pub world : World
   pub at : LinesLeft
   pub before : PlaysUpTo script asked told world at
@@ -270,8 +270,8 @@ pub record StopsLater (script told : List ℕ) (why : PlayFault) : Type 0 where
   pub behind : LinesLeft
   pub next : IsNext at line behind
   pub stops : why.cause ≢ cause.Memory → StopsAsked (action_in asked line) world behind why
-  pub line_is : IsLineFrom behind.read (behind.read + announced (action_in asked line)) why.line
+  pub line_is : IsLineFrom behind.read (behind.read + lines_announced (action_in asked line)) why.line
 
 -- the script stops there, and this is printed before
-abbrev pub Stops : List ℕ → List ℕ → PlayFault → Type 0
-Stops script told why = StopsAtFirst script told why ⊎ StopsLater script told why
+abbrev pub StopsScript : List ℕ → List ℕ → PlayFault → Type 0
+StopsScript script told why = StopsAtFirstLine script told why ⊎ StopsLater script told why

@@ -23,20 +23,20 @@ words [] = [] ∷ []
 words (b ∷ bs) = if is_space b then [] ∷ words bs else onto_first b (words bs)
 
 -- 1 to 9 decimal digits
-abbrev pub is_number : List ℕ → Bool
-is_number word = nat_le 1 (length word) && nat_le (length word) 9 && list_all is_ascii_digit word
+abbrev pub is_script_number : List ℕ → Bool
+is_script_number word = nat_le 1 (length word) && nat_le (length word) 9 && list_all is_ascii_digit word
 
 -- the number that a word says
-abbrev pub number_in : List ℕ → Option ℕ
-number_in word = if is_number word then Some (digits_value 10 word) else None
+abbrev pub script_number : List ℕ → Option ℕ
+script_number word = if is_script_number word then Some (digits_value 10 word) else None
 
-abbrev pub onto : ℕ → Option (List ℕ) → Option (List ℕ)
-onto n numbers = option_map (λ ns. n ∷ ns) numbers
+abbrev pub onto_numbers : ℕ → Option (List ℕ) → Option (List ℕ)
+onto_numbers n numbers = option_map (λ ns. n ∷ ns) numbers
 
 -- the numbers that the words say, where each of them says one
 abbrev pub numbers_in : List (List ℕ) → Option (List ℕ)
 numbers_in [] = Some []
-numbers_in (word ∷ more) = option_and_then (λ n. onto n (numbers_in more)) (number_in word)
+numbers_in (word ∷ more) = option_and_then (λ n. onto_numbers n (numbers_in more)) (script_number word)
 
 -- ---- a line is a name with numbers behind it
 
@@ -103,7 +103,7 @@ other_by name numbers =
 -- what the first line says of the world: how many commits a node keeps, how many changes may wait
 -- for a token, how many nodes there are, and how the bodies of responses are framed; and the node
 -- that each mirror connects to, where they are listed
-pub record Asked : Type 0 where
+pub record AskedWorld : Type 0 where
   pub history : ℕ
   pub staged : ℕ
   pub nodes : ℕ
@@ -111,23 +111,23 @@ pub record Asked : Type 0 where
   pub upstreams : Option (List ℕ)
 
 -- what a name asks for, with these numbers
-abbrev pub asked_by : Asked → List ℕ → List ℕ → Option Action
+abbrev pub asked_by : AskedWorld → List ℕ → List ℕ → Option Action
 asked_by asked name numbers =
     if bytes_eq name (codes "connect") then connect_of asked.upstreams numbers
     else other_by name numbers
 
-abbrev pub asked_in : Asked → List (List ℕ) → Option Action
+abbrev pub asked_in : AskedWorld → List (List ℕ) → Option Action
 asked_in asked [] = None
 asked_in asked (name ∷ more) = option_and_then (asked_by asked name) (numbers_in more)
 
 -- what a line asks for that is not the first
-abbrev pub action_in : Asked → List ℕ → Option Action
+abbrev pub action_in : AskedWorld → List ℕ → Option Action
 action_in asked line = asked_in asked (words line)
 
 -- ---- the first line
 
 -- the numbers of a world in which the nodes that mirrors connect to are listed
-abbrev pub world_of : Framing → List ℕ → Option Asked
+abbrev pub world_of : Framing → List ℕ → Option AskedWorld
 world_of framing (history ∷ staged ∷ upstreams) =
     Some (record {
       history = history;
@@ -139,7 +139,7 @@ world_of framing (history ∷ staged ∷ upstreams) =
 world_of framing numbers = None
 
 -- the numbers of one in which a connect names the node
-abbrev pub nodes_of : Framing → List ℕ → Option Asked
+abbrev pub nodes_of : Framing → List ℕ → Option AskedWorld
 nodes_of framing (history ∷ staged ∷ nodes ∷ []) =
     Some (record {
       history = history;
@@ -156,16 +156,16 @@ framing_in word =
     if bytes_eq word (codes "close") then Some Close
     else (if bytes_eq word (codes "chunked") then Some Chunked else None)
 
-abbrev pub nodes_framed : List (List ℕ) → Framing → Option Asked
+abbrev pub nodes_framed : List (List ℕ) → Framing → Option AskedWorld
 nodes_framed numbers framing = option_and_then (nodes_of framing) (numbers_in numbers)
 
 -- three numbers, and how bodies are framed
-abbrev pub nodes_in : List (List ℕ) → Option Asked
+abbrev pub nodes_in : List (List ℕ) → Option AskedWorld
 nodes_in (history ∷ staged ∷ nodes ∷ framing ∷ []) =
     option_and_then (nodes_framed (history ∷ staged ∷ nodes ∷ [])) (framing_in framing)
 nodes_in more = None
 
-abbrev pub world_in : List (List ℕ) → Option Asked
+abbrev pub world_in : List (List ℕ) → Option AskedWorld
 world_in [] = None
 world_in (name ∷ more) =
     if bytes_eq name (codes "world") then option_and_then (world_of Close) (numbers_in more)
@@ -174,5 +174,5 @@ world_in (name ∷ more) =
     else (if bytes_eq name (codes "nodes") then nodes_in more else None))
 
 -- what a first line says
-abbrev pub shape_in : List ℕ → Option Asked
+abbrev pub shape_in : List ℕ → Option AskedWorld
 shape_in line = world_in (words line)

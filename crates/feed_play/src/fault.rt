@@ -1,7 +1,7 @@
 //! Why a script is not played to its end.
 
 ghost use Rattle.std.specs.Prelude.{◌≡◌};
-ghost use Rattle.feed_play.specs.Fault.{cause_of_line, cause_of_world, cause_of_shape, is_memory};
+ghost use Rattle.feed_play.specs.Fault.{cause_of_line, cause_of_world, cause_of_shape, is_play_memory};
 ghost use Rattle.feed_play.specs.declared.fault.PlayCause.TheVariants.{Memory};
 
 use feed_node::CommitFault;
@@ -22,7 +22,7 @@ pub struct PlayFault {
 impl PlayFault {
     /// Whether memory ran out.
     pub fn is_want_of_memory(&self) -> bool
-        ensures { result ≡ is_memory self.now.cause }
+        ensures { result ≡ is_play_memory self.now.cause }
     {
         matches!(self.cause, PlayCause::Memory)
     }

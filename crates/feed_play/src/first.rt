@@ -25,9 +25,9 @@ pub struct Asked {
 
 impl Model for Asked {
     ghost use Rattle.std.specs.Prelude.{option_map};
-    ghost use Rattle.feed_play.specs.Script.{Asked as WorldAsked};
+    ghost use Rattle.feed_play.specs.Script.{AskedWorld};
 
-    ghost Value = { WorldAsked };
+    ghost Value = { AskedWorld };
 
     ghost view = { λ a. record {
       history = a.history;

@@ -6,8 +6,8 @@ mod feed_lines;
 mod first;
 mod lines;
 mod player;
+mod printed;
 mod script;
-mod told;
 
 pub use fault::{PlayCause, PlayFault};
 pub use player::play;

@@ -4,9 +4,9 @@ ghost use Rattle.std.specs.Prelude.{◌≡◌, ◌≤◌, ◌+◌, length, Ok, E
 ghost use Rattle.feed_note.specs.Lines.{lines as lines_of};
 ghost use Rattle.feed_play.specs.Lines.{all_lines, IsLineFrom};
 ghost use Rattle.std.specs.Option.{option_copied};
-ghost use Rattle.feed_play.specs.Player.{announced, restarted_by, token_at, Makes, MakesNone, Replies, Shows, LineDone, StopsEvent, StopsShow, LineStops, Plays, Stops};
+ghost use Rattle.feed_play.specs.Player.{lines_announced, restarted_by, node_token, Makes, MakesNone, Replies, Shows, LineDone, StopsEvent, StopsShow, LineStops, Plays, StopsScript};
 ghost use Rattle.feed_play.specs.Script.{action_in};
-ghost use Rattle.feed_play.specs.Told.{Prints};
+ghost use Rattle.feed_play.specs.Printed.{Prints};
 ghost use Rattle.feed_world.specs.States.{IsWorld};
 ghost use Rattle.feed_world.specs.World.{World as Numbers};
 
@@ -14,8 +14,8 @@ use crate::fault::{PlayCause, PlayFault};
 use crate::feed_lines::read_changes;
 use crate::first::{Asked, read_first};
 use crate::lines::Lines;
+use crate::printed::{print_reply, print_shown};
 use crate::script::{Action, read_action};
-use crate::told::{print_reply, print_shown};
 use feed_node::Limits;
 use feed_world::{Event, World, WorldFault};
 use std::alloc::Global;
@@ -50,7 +50,7 @@ fn restarted(event: &Event) -> Option<usize>
 
 /// The token that the node of this number has published, where one is named.
 fn token_of(world: &World, number: Option<usize>) -> Option<&str>
-    ensures { (w : Numbers) → IsWorld w world.now → option_copied result ≡ token_at w number }
+    ensures { (w : Numbers) → IsWorld w world.now → option_copied result ≡ node_token w number }
 {
     Some(world.node(number?)?.token()?.text())
 }
@@ -110,7 +110,7 @@ fn play_line(
     ensures later { lines.old.read ≤ lines.new.read }
     ensures fewer { length lines.new.left ≤ length lines.old.left }
     ensures line { IfErr result (λ fault. IsLineFrom lines.old.read
-        (lines.old.read + announced (action_in asked.now line.now)) fault.line) }
+        (lines.old.read + lines_announced (action_in asked.now line.now)) fault.line) }
     ensures within { IfErr result (λ fault. fault.line ≤ all_lines lines.old) }
 {
     let number = lines.number();
@@ -134,7 +134,7 @@ fn play_line(
 pub fn play(alloc: Global, script: &[u8], out: &mut Vec<u8>) -> Result<(), PlayFault>
     ensures ok { OnOk result (Prints out.old.items out.new.items (λ told. Plays script.now told)) }
     ensures err { IfErr result (λ fault.
-        Prints out.old.items out.new.items (λ told. Stops script.now told fault)) }
+        Prints out.old.items out.new.items (λ told. StopsScript script.now told fault)) }
 
     ensures line { IfErr result (λ fault.
         IsLineFrom 1 (length (lines_of script.now) + 1) fault.line) }

@@ -6,7 +6,7 @@ ghost use Rattle.std.specs.Char.{is_ascii_digit};
 ghost use Rattle.std.specs.List.{list_all};
 ghost use Rattle.std.specs.Str.{bytes_eq};
 ghost use Rattle.std.specs.Str.Parse.{digits_value};
-ghost use Rattle.feed_play.specs.Script.{is_space, words, is_number as says_number, number_in, numbers_in, one_of, two_of, three_of, listed_for, connect_listed, connect_named, connect_of, other_by, action_in};
+ghost use Rattle.feed_play.specs.Script.{is_space, words, is_script_number as says_number, script_number, numbers_in, one_of, two_of, three_of, listed_for, connect_listed, connect_named, connect_of, other_by, action_in};
 ghost use Rattle.feed_play.specs.declared.fault.PlayCause.TheVariants.{Script, Memory};
 
 use crate::fault::PlayCause;
@@ -72,7 +72,7 @@ fn value_of(digits: &[u8]) -> usize
 
 /// The number that a word says: 1 to 9 decimal digits.
 pub fn read_number(word: &[u8]) -> Option<usize>
-    ensures { result ≡ number_in word.now }
+    ensures { result ≡ script_number word.now }
 {
     if is_number(word) {
         Some(value_of(word))

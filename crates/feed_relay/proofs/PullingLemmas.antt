@@ -8,13 +8,13 @@ use Rattle.feed_http.specs.declared.fault.EngineFault.TheVariants as fault
 use Rattle.feed_http.specs.declared.fault.Followed.{Followed}
 use Rattle.feed_http.specs.Exchange.{Exchange, gave_on, FailuresAreTold, failed_reads_after}
 use Rattle.feed_http.specs.Following.{Follows}
-use Rattle.feed_relay.specs.Pulling.{HasAsked, IsFollowed}
+use Rattle.feed_relay.specs.Pulling.{WritesRequest, FollowsReply}
 
 pub answered : (request : List ℕ) (most_reads : ℕ) (spoken : Exchange) (start mirror : MirrorState)
     (pulled : Result Followed EngineFault)
     → Appends spoken.written_old spoken.written_new request
     → Follows most_reads (gave_on spoken) start pulled mirror
-    → HasAsked request spoken pulled × IsFollowed most_reads spoken start pulled mirror
+    → WritesRequest request spoken pulled × FollowsReply most_reads spoken start pulled mirror
 answered request most_reads spoken start mirror (Ok followed) wrote came = (wrote, came)
 answered request most_reads spoken start mirror (Err fault.Read) wrote came = (wrote, came)
 answered request most_reads spoken start mirror (Err fault.Turns) wrote came = (wrote, came)

@@ -1,12 +1,11 @@
 -- What a contract says of what opens connections.
 use Rattle.std.specs.Prelude.{◌≡◌, ℕ, Option, None, Some}
 use Rattle.feed_http.specs.Device.{counted}
-use Rattle.feed_http.specs.Exchange.{Devices, Exchange, exchange}
-
--- the count of misses after a call: one more where the call opened no connection
-abbrev pub misses_after : {A : Type 0} → ℕ → Option A → ℕ
-misses_after count (Some _) = count
-misses_after count None = counted count 1
+use Rattle.feed_http.specs.Exchange.{Devices, Exchange, devices_of, exchange}
+use Rattle.feed_http.specs.declared.device.FeedRead as feed_read
+use Rattle.feed_http.specs.declared.device.FeedWrite as feed_write
+use Rattle.feed_relay.specs.declared.dial.Accept as accept
+use Rattle.feed_relay.specs.declared.dial.Dial as dial
 
 -- What a program says of what opens connections, of such a type, and of what it connects with: how
 -- often no connection was opened; what a call makes of it, and which connection that opens; and
@@ -21,20 +20,31 @@ pub record Links (D R W : Type 0) : Type 1 where
 abbrev pub Dialer : Type 0 → Type 0 → Type 0 → Type 1
 Dialer D R W = ℕ → Links D R W
 
+-- what a reader and a writer of one connection tell
+abbrev devices_by : {R W : Type 0} → feed_read.Ghosts R → feed_write.Ghosts W → Devices R W
+devices_by reader writer =
+    devices_of reader.remaining reader.reads reader.failures writer.contents writer.failures
+
 module _ {D R W : Type 0} where
-  abbrev pub links_of : Devices R W → (D → ℕ) → (D → D → Option (R × W) → Type 0)
-      → (D → R → W → D → Type 0) → Links D R W
-  links_of devices misses opens closes = record {
-    devices = devices;
-    misses = misses;
-    opens = opens;
-    closes = closes;
+  -- what a program says of what accepts connections, and of their readers and writers
+  abbrev pub links_of : accept.Ghosts D R W → feed_read.Ghosts R → feed_write.Ghosts W
+      → Links D R W
+  links_of listener reader writer = record {
+    devices = devices_by reader writer;
+    misses = listener.misses;
+    opens = listener.accepts;
+    closes = listener.closes;
   }
 
-  abbrev pub dialer_of : Devices R W → (D → ℕ) → (D → ℕ → D → Option (R × W) → Type 0)
-      → (D → R → W → D → Type 0) → Dialer D R W
-  dialer_of devices misses dials closes number =
-      links_of devices misses (λ old new opened. dials old number new opened) closes
+  -- the same of what dials servers
+  abbrev pub dialer_of : dial.Ghosts D R W → feed_read.Ghosts R → feed_write.Ghosts W
+      → Dialer D R W
+  dialer_of dial reader writer number = record {
+    devices = devices_by reader writer;
+    misses = dial.misses;
+    opens = λ old new opened. dial.dials old number new opened;
+    closes = dial.closes;
+  }
 
   -- A connection was opened; this is what was read and written on it, and nothing else; and it was
   -- given back.

@@ -16,6 +16,6 @@ is_engine_memory (engine_fault.Follow (follow_fault.Feed feed_fault.Memory)) = t
 is_engine_memory _ = false
 
 -- memory ran out
-abbrev pub is_memory : NetworkFault → Bool
-is_memory (Engine fault) = is_engine_memory fault
-is_memory _ = false
+abbrev pub is_network_memory : NetworkFault → Bool
+is_network_memory (Engine fault) = is_engine_memory fault
+is_network_memory _ = false

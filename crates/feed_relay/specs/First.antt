@@ -14,12 +14,12 @@ use Rattle.feed_relay.specs.Fault.{is_engine_memory}
 use Rattle.feed_relay.specs.Pulling.{PullsOnce}
 
 -- a mirror, and what it connects to servers with
-pub record Position (D : Type 0) : Type 0 where
+pub record DialingMirror (D : Type 0) : Type 0 where
   pub mirror : MirrorState
   pub dial : D
 
-abbrev pub position : {D : Type 0} → MirrorState → D → Position D
-position mirror dial = record { mirror = mirror; dial = dial }
+abbrev pub dialing : {D : Type 0} → MirrorState → D → DialingMirror D
+dialing mirror dial = record { mirror = mirror; dial = dial }
 
 -- memory ran out
 abbrev pub is_want_of_memory : AttemptEnd → Bool
@@ -47,15 +47,15 @@ attempt_at server outcome = record { server = server; outcome = outcome }
 module _ {D R W : Type 0} where
   -- a connection to the server of this number was opened, it was asked on that and its response
   -- followed, in at most so many reads, and the connection was given back
-  abbrev pub Pulls : Dialer D R W → ℕ → Server → ℕ → Position D → Result End EngineFault
-      → Position D → Type 0
+  abbrev pub Pulls : Dialer D R W → ℕ → Server → ℕ → DialingMirror D → Result End EngineFault
+      → DialingMirror D → Type 0
   Pulls dialer number server most_reads start pulled end =
       OnLink (dialer number) start.dial
       (λ spoken. PullsOnce server most_reads spoken start.mirror pulled end.mirror) end.dial
 
   -- one attempt at the server of this number; without a connection the mirror is what it was, and a
   -- miss is counted
-  abbrev pub Attempts : Dialer D R W → ℕ → Server → ℕ → Position D → AttemptEnd → Position D
+  abbrev pub Attempts : Dialer D R W → ℕ → Server → ℕ → DialingMirror D → AttemptEnd → DialingMirror D
       → Type 0
   Attempts dialer number server most_reads start NoLink end =
       (end.mirror ≡ start.mirror) × HasMissed (dialer number) start.dial end.dial
@@ -66,33 +66,33 @@ module _ {D R W : Type 0} where
 
   -- all attempts at the server of this number, and what the last one came to: there is one, or,
   -- where the token was refused, another one
-  abbrev pub AsksServer : Dialer D R W → ℕ → Server → ℕ → Position D → List Attempt → AttemptEnd
-      → Position D → Type 0
+  abbrev pub AsksServer : Dialer D R W → ℕ → Server → ℕ → DialingMirror D → List Attempt → AttemptEnd
+      → DialingMirror D → Type 0
   AsksServer dialer number server most_reads start attempts outcome end =
       (outcome ≢ Followed followed.TokenRefused)
       × (((attempts ≡ attempt_at number outcome ∷ [])
       × Attempts dialer number server most_reads start outcome end)
-      ⊎ ((refused : Position D)
+      ⊎ ((refused : DialingMirror D)
       × (attempts ≡ attempt_at number (Followed followed.TokenRefused)
       ∷ attempt_at number outcome ∷ [])
       × Attempts dialer number server most_reads start (Followed followed.TokenRefused) refused
       × Attempts dialer number server most_reads refused outcome end))
 
   -- these servers were asked, one after another, and behind each the next one is
-  pub data GoesOn (dialer : Dialer D R W) (most_reads : ℕ) (start : Position D)
-      : List Server → List Attempt → Position D → Type 0 where
-    none_asked : GoesOn dialer most_reads start [] [] start
+  pub data AsksEach (dialer : Dialer D R W) (most_reads : ℕ) (start : DialingMirror D)
+      : List Server → List Attempt → DialingMirror D → Type 0 where
+    none_asked : AsksEach dialer most_reads start [] [] start
     one_asked : (before : List Server) (server : Server) (earlier attempts : List Attempt)
-        (outcome : AttemptEnd) (middle end : Position D)
-        → GoesOn dialer most_reads start before earlier middle
+        (outcome : AttemptEnd) (middle end : DialingMirror D)
+        → AsksEach dialer most_reads start before earlier middle
         → AsksServer dialer (length before) server most_reads middle attempts outcome end
         → is_last outcome ≡ false
-        → GoesOn dialer most_reads start (before ++ server ∷ []) (earlier ++ attempts) end
+        → AsksEach dialer most_reads start (before ++ server ∷ []) (earlier ++ attempts) end
 
   -- servers were asked up to the one that comes behind these, and there it ended
-  pub record StopsAt (dialer : Dialer D R W) (most_reads : ℕ) (start : Position D)
+  pub record AsksUpTo (dialer : Dialer D R W) (most_reads : ℕ) (start : DialingMirror D)
       (servers : List Server)
-      (attempts : List Attempt) (end : Position D) : Type 0 where
+      (attempts : List Attempt) (end : DialingMirror D) : Type 0 where
     pub before : List Server
     pub server : Server
     pub behind : List Server
@@ -100,15 +100,15 @@ module _ {D R W : Type 0} where
     pub earlier : List Attempt
     pub last : List Attempt
     pub outcome : AttemptEnd
-    pub middle : Position D
-    pub went : GoesOn dialer most_reads start before earlier middle
+    pub middle : DialingMirror D
+    pub went : AsksEach dialer most_reads start before earlier middle
     pub asked : AsksServer dialer (length before) server most_reads middle last outcome end
     pub stops : is_last outcome ≡ true
     pub all : attempts ≡ earlier ++ last
 
   -- these servers were asked in their order, up to the first behind which no further one is, or all
-  abbrev pub FollowsFirst : Dialer D R W → List Server → ℕ → Position D → List Attempt
-      → Position D → Type 0
+  abbrev pub FollowsFirst : Dialer D R W → List Server → ℕ → DialingMirror D → List Attempt
+      → DialingMirror D → Type 0
   FollowsFirst dialer servers most_reads start attempts end =
-      GoesOn dialer most_reads start servers attempts end
-      ⊎ StopsAt dialer most_reads start servers attempts end
+      AsksEach dialer most_reads start servers attempts end
+      ⊎ AsksUpTo dialer most_reads start servers attempts end

@@ -1,5 +1,6 @@
 pub mod Dialing
 pub mod Fault
 pub mod First
+pub mod Misses
 pub mod Pulling
 pub mod Serving

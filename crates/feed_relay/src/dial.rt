@@ -1,6 +1,6 @@
 //! Where connections come from: only a program opens sockets.
 ghost use Rattle.std.specs.Prelude.{◌≡◌, ℕ, Option};
-ghost use Rattle.feed_relay.specs.Dialing.{misses_after};
+ghost use Rattle.feed_relay.specs.Misses.{misses_after};
 
 use feed_http::{FeedRead, FeedWrite};
 

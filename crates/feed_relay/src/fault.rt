@@ -23,11 +23,11 @@ pub enum NetworkFault {
 }
 
 impl NetworkFault {
-    ghost use Rattle.feed_relay.specs.Fault.{is_memory};
+    ghost use Rattle.feed_relay.specs.Fault.{is_network_memory};
 
     /// Whether memory ran out.
     pub fn is_want_of_memory(self) -> bool
-        ensures { result ≡ is_memory self }
+        ensures { result ≡ is_network_memory self }
     {
         match self {
             NetworkFault::Engine(fault) => match fault {

@@ -2,11 +2,9 @@
 ghost use Rattle.std.specs.Prelude.{◌≡◌, ◌≢◌, ◌+◌, ◌≤◌, ◌++◌, List, length, None, IfOk, OnErr};
 ghost use Rattle.std.specs.Vec.{vec_capacity};
 ghost use Rattle.feed_relay.specs.declared.first.Attempt.{Attempt as Tried};
-ghost use Rattle.feed_http.specs.Exchange.{devices_of};
 ghost use Rattle.feed_relay.specs.Dialing.{dialer_of};
-ghost use Rattle.feed_relay.specs.First.{position, is_last, is_want_of_memory, ran_out};
-ghost use Rattle.feed_relay.specs.First.{Attempts, AsksServer};
-ghost use Rattle.feed_relay.specs.First.{FollowsFirst};
+ghost use Rattle.feed_relay.specs.First.{dialing, is_last, is_want_of_memory, ran_out};
+ghost use Rattle.feed_relay.specs.First.{Attempts, AsksServer, FollowsFirst};
 
 use crate::dial::Dial;
 use crate::fault::NetworkFault;
@@ -68,26 +66,38 @@ pub fn has_run_out(attempts: &[Attempt]) -> bool
     }
 }
 
-/// One attempt at the server of this number: a connection to it is opened, asked and followed on,
-/// and given back.
+/// One server of several.
+#[derive(Drop)]
+struct Numbered<'s> {
+    /// Its number, counted from 0.
+    number: usize,
+    server: &'s Server<'s>,
+}
+
+/// One attempt at a server: a connection to it is opened, asked and followed on, and given back.
 fn try_server<D: Dial>(
     alloc: Global,
     dial: &mut D,
-    number: usize,
-    server: &Server<'_>,
+    asked: &Numbered<'_>,
     mirror: &mut Mirror,
     most_reads: u64,
 ) -> AttemptEnd
-    ensures tried { let dialer = dialer_of (devices_of D.Reader.remaining D.Reader.reads
-        D.Reader.failures D.Writer.contents D.Writer.failures) D.misses D.dials D.closes in
-        Attempts dialer number server.now most_reads (position mirror.old dial.old) result
-        (position mirror.new dial.new) }
+    ensures tried { let dialer = dialer_of D.Dial D.Reader.FeedRead D.Writer.FeedWrite in
+        Attempts dialer asked.now.number asked.now.server.now most_reads
+        (dialing mirror.old dial.old) result (dialing mirror.new dial.new) }
     ensures cut { mirror.old.connection ≡ None → mirror.new.connection ≡ None }
 {
-    let Some((mut reader, mut writer)) = dial.dial(number) else {
+    let Some((mut reader, mut writer)) = dial.dial(asked.number) else {
         return AttemptEnd::NoLink;
     };
-    let pulled = pull_once(alloc, server, mirror, most_reads, &mut reader, &mut writer);
+    let pulled = pull_once(
+        alloc,
+        asked.server,
+        mirror,
+        most_reads,
+        &mut reader,
+        &mut writer,
+    );
     dial.close(reader, writer);
     match pulled {
         Ok(followed) => AttemptEnd::Followed(followed),
@@ -95,39 +105,37 @@ fn try_server<D: Dial>(
     }
 }
 
-/// All attempts at the server of this number, which are told after the earlier ones: one, or, where
-/// the token was refused, another one. Answers what the last one came to.
+/// All attempts at a server, behind the earlier ones: one, or, where the token was refused, another
+/// one. Answers what the last one came to.
 fn ask_server<D: Dial>(
     alloc: Global,
     dial: &mut D,
-    number: usize,
-    server: &Server<'_>,
+    asked: &Numbered<'_>,
     mirror: &mut Mirror,
     most_reads: u64,
     attempts: &mut Vec<Attempt>,
 ) -> AttemptEnd
     requires { length attempts.old.items + 2 ≤ vec_capacity attempts.old }
-    ensures asked { let dialer = dialer_of (devices_of D.Reader.remaining D.Reader.reads
-        D.Reader.failures D.Writer.contents D.Writer.failures) D.misses D.dials D.closes in
+    ensures asked { let dialer = dialer_of D.Dial D.Reader.FeedRead D.Writer.FeedWrite in
         (tried : List Tried) × (attempts.new.items ≡ attempts.old.items ++ tried)
         × (length tried ≤ 2)
-        × AsksServer dialer number server.now most_reads (position mirror.old dial.old) tried
-        result (position mirror.new dial.new) }
+        × AsksServer dialer asked.now.number asked.now.server.now most_reads
+        (dialing mirror.old dial.old) tried result (dialing mirror.new dial.new) }
     ensures known { result ≢ AttemptEnd.Followed Followed.TokenRefused }
     ensures capacity { vec_capacity attempts.new ≡ vec_capacity attempts.old }
     ensures cut { mirror.old.connection ≡ None → mirror.new.connection ≡ None }
 {
-    let outcome = try_server(alloc, dial, number, server, mirror, most_reads);
+    let outcome = try_server(alloc, dial, asked, mirror, most_reads);
     attempts.push_reserved(Attempt {
-        server: number,
+        server: asked.number,
         outcome,
     });
     if outcome != AttemptEnd::Followed(Followed::TokenRefused) {
         return outcome;
     }
-    let again = try_server(alloc, dial, number, server, mirror, most_reads);
+    let again = try_server(alloc, dial, asked, mirror, most_reads);
     attempts.push_reserved(Attempt {
-        server: number,
+        server: asked.number,
         outcome: again,
     });
     again
@@ -136,9 +144,9 @@ fn ask_server<D: Dial>(
 /// Asks these servers, in their order, for what a mirror lacks, and follows the response, each on a
 /// connection that is dialed by the server's number and in at most so many reads (`most_reads`): up
 /// to the first whose feed was followed to its end, or at which memory ran out, or all. Where a
-/// server refuses the mirror's token, it is asked once more, for everything. Tells each attempt, in
-/// order. The room for two attempts at each server is taken first; where there is none, nobody is
-/// asked.
+/// server refuses the mirror's token, it is asked once more, for everything. Answers each attempt,
+/// in order. The room for two attempts at each server is taken first; where there is none, nobody
+/// is asked.
 pub fn follow_first<D: Dial>(
     alloc: Global,
     dial: &mut D,
@@ -146,25 +154,17 @@ pub fn follow_first<D: Dial>(
     mirror: &mut Mirror,
     most_reads: u64,
 ) -> Result<Vec<Attempt>, AllocError>
-    ensures followed { let dialer = dialer_of (devices_of D.Reader.remaining D.Reader.reads
-        D.Reader.failures D.Writer.contents D.Writer.failures) D.misses D.dials D.closes in
+    ensures followed { let dialer = dialer_of D.Dial D.Reader.FeedRead D.Writer.FeedWrite in
         IfOk result (λ attempts. FollowsFirst dialer servers.now most_reads
-        (position mirror.old dial.old) attempts.items (position mirror.new dial.new)) }
+        (dialing mirror.old dial.old) attempts.items (dialing mirror.new dial.new)) }
     ensures cut { mirror.old.connection ≡ None → mirror.new.connection ≡ None }
     ensures memory { OnErr result ((mirror.new ≡ mirror.old) × (dial.new ≡ dial.old)) }
 {
     let room = servers.len().checked_mul(2).ok_or(AllocError)?;
     let mut attempts = Vec::with_capacity(alloc, room)?;
     'servers: for (number, server) in servers.iter().enumerate() {
-        let outcome = ask_server(
-            alloc,
-            dial,
-            number,
-            server,
-            mirror,
-            most_reads,
-            &mut attempts,
-        );
+        let asked = Numbered { number, server };
+        let outcome = ask_server(alloc, dial, &asked, mirror, most_reads, &mut attempts);
         if outcome.is_last() {
             return Ok(attempts);
         }

@@ -1,6 +1,5 @@
 //! Serving the next follower.
 ghost use Rattle.std.specs.Prelude.{◌≡◌, ◌≤◌};
-ghost use Rattle.feed_http.specs.Exchange.{devices_of};
 ghost use Rattle.feed_http.specs.Live.{intake_of};
 ghost use Rattle.feed_http.specs.Serving.{ServesOnce};
 ghost use Rattle.feed_relay.specs.Dialing.{links_of};
@@ -24,8 +23,7 @@ pub fn serve_next<A: Accept>(
     node: &Node,
     service: &Service<'_>,
 ) -> Result<Served, NetworkFault>
-    ensures { let links = links_of (devices_of A.Reader.remaining A.Reader.reads
-        A.Reader.failures A.Writer.contents A.Writer.failures) A.misses A.accepts A.closes in
+    ensures { let links = links_of A.Accept A.Reader.FeedRead A.Writer.FeedWrite in
         ServesNext links (λ spoken came. ServesOnce service.now node.now.shown spoken came)
         listener.old result listener.new }
 {
@@ -48,8 +46,7 @@ pub fn serve_live_next<A: Accept>(
     service: &Service<'_>,
 ) -> Result<Served, NetworkFault>
     requires { 1 ≤ turn }
-    ensures { let links = links_of (devices_of A.Reader.remaining A.Reader.reads
-        A.Reader.failures A.Writer.contents A.Writer.failures) A.misses A.accepts A.closes in
+    ensures { let links = links_of A.Accept A.Reader.FeedRead A.Writer.FeedWrite in
         ServesLiveNext links turn service.now (intake_of primary.old input.old.items)
         listener.old result (intake_of primary.new input.new.items) listener.new }
 {

@@ -4,7 +4,7 @@
 mod live;
 
 use feed_commands::stream::Stream;
-use feed_commands::{Fault, NoCommand, PROGRAM, Request, parse_words, run, tell};
+use feed_commands::{Fault, NoCommand, PROGRAM, Request, parse_words, report, run};
 use feed_compare::compare_servers;
 use feed_host::{
     Errors, Failure, audit_records, ended, input_ahead, pull_feed, relay_feed, serve_feed,
@@ -27,7 +27,7 @@ const WANT_OF_MEMORY: u8 = 5;
 /// Runs the command of this name that these words ask for, over the standard streams.
 fn run_words<'a>(rt: &HostRuntime, name: &str, words: &'a [&'a str]) -> u8 {
     let Ok(input) = input_ahead(rt) else {
-        return tell(name, Fault::Memory, &mut Stream::new(rt.stderr()));
+        return report(name, Fault::Memory, &mut Stream::new(rt.stderr()));
     };
     run(
         rt.alloc(),

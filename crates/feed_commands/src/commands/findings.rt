@@ -3,7 +3,7 @@ ghost use Rattle.std.specs.Prelude.{◌≡◌, ◌≢◌, ◌+◌, ◌<◌, ◌^
 ghost use Rattle.std.specs.BTreeSet.{contains_text};
 ghost use Rattle.feed_note.specs.Counts.{Stops, StopsAt};
 ghost use Rattle.feed_note.specs.Lines.{HasNoLineFeed};
-ghost use Rattle.feed_commands.specs.Findings.{OwnsId, HasMember, IsMisnamedBy, IsSaid, TakesSaid, ReadsOneLine, AreFound, finding_text, findings_text, is_in, is_with, first_or, TellsNothing};
+ghost use Rattle.feed_commands.specs.Findings.{OwnsId, HasMember, IsMisnamedBy, IsSaid, TakesSaid, ReadsOneLine, AreFound, finding_text, findings_text, is_in, is_with, first_line_found, TellsNothing};
 
 use feed_note::{LINE_BYTES, Line, LineFault, LineStop, SurveyFault, read_line, split_line};
 use feed_tables::{Change, Name};
@@ -12,7 +12,7 @@ use std::alloc::{AllocError, Global};
 use std::collections::BTreeSet;
 
 /// On how many lines of a feed something is so.
-#[derive(Clone, Copy, Debug, PartialEq, Eq)]
+#[derive(Clone, Copy)]
 pub(super) struct Finding {
     /// How many lines these are.
     pub count: u64,
@@ -35,7 +35,7 @@ impl Finding {
     fn take(&mut self, is_so: bool, line: u64)
         requires { self.old.count < line }
         ensures count { self.new.count ≡ self.old.count + cond is_so 1 0 }
-        ensures first { self.new.first ≡ first_or self.old.first is_so line }
+        ensures first { self.new.first ≡ first_line_found self.old.first is_so line }
     {
         if is_so {
             self.count += 1;
@@ -47,7 +47,7 @@ impl Finding {
 }
 
 /// What is found on the lines of a feed.
-#[derive(Clone, Copy, Debug, PartialEq, Eq)]
+#[derive(Clone, Copy)]
 pub(super) struct Findings {
     /// The line has a token that stood on a line before.
     pub repeats: Finding,

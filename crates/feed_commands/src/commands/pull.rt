@@ -1,18 +1,18 @@
 //! What the feed of the first of several servers publishes, printed.
 ghost use Rattle.std.specs.Prelude.{◌≡◌, ◌⊎◌, ◌++◌, ◌∷◌, [], false, true, map, is_some, string_bytes, codes, decimal, IfOk, IfErr, OnOk, Ok, IsErrOf};
 ghost use Rattle.feed_settings.specs.Place.{Place as Named};
-ghost use Rattle.feed_commands.specs.Pull.{place_at as place_of, RefusesServer, AreFurther, RefusesFurther};
-ghost use Rattle.feed_commands.specs.Pull.{asked_at, asked_of, AreServers, RefusesOneOf, HasNoServers, StartsFrom, FailsToStart};
+ghost use Rattle.feed_commands.specs.Pull.{place_asked as place_of, RefusesServer, AreFurther, RefusesFurther};
+ghost use Rattle.feed_commands.specs.Pull.{asked_at, server_asked, AreServers, RefusesOneOf, HasNoServers, StartsFrom, FailsToStart};
 ghost use Rattle.feed_commands.specs.Pull.{outcome_of_attempt, outcome_of_pull, PrintedPulled, PullFails};
 ghost use Rattle.feed_http.specs.Device.{HasFailed};
-ghost use Rattle.feed_http.specs.Exchange.{devices_of, wrote_by};
+ghost use Rattle.feed_http.specs.Exchange.{wrote_by};
 ghost use Rattle.feed_relay.specs.Dialing.{dialer_of};
-ghost use Rattle.feed_relay.specs.First.{position};
+ghost use Rattle.feed_relay.specs.First.{dialing};
 
 use crate::fault::Fault;
 use crate::input::read_input;
+use crate::reporting::FaultReporter;
 use crate::snapshot::{outcome, print_snapshot};
-use crate::telling::Teller;
 use feed_arguments::{PullOptions, UpstreamOptions, addresses};
 use feed_http::device::{FeedRead, FeedWrite};
 use feed_http::{EngineFault, FollowFault, Followed, Identity, Place};
@@ -60,8 +60,8 @@ fn push_server<'i>(
     address: &Address<'_>,
     servers: &mut Vec<Server<'i>>,
 ) -> Result<(), Fault>
-    ensures ok { OnOk result (map asked_of servers.new.items ≡ map asked_of servers.old.items
-        ++ asked_at upstream.now contest.now identity.now (address.now.host.now, address.now.port) ∷ []) }
+    ensures ok { OnOk result (map server_asked servers.new.items
+        ≡ map server_asked servers.old.items ++ asked_at upstream.now contest.now identity.now (address.now.host.now, address.now.port) ∷ []) }
     ensures made { OnOk result ((place : Named)
         × (place_of upstream.now contest.now (address.now.host.now, address.now.port) ≡ Ok place)) }
     ensures err { IfErr result (λ why.
@@ -103,7 +103,7 @@ fn push_servers<'i>(
     servers: &mut Vec<Server<'i>>,
 ) -> Result<(), Fault>
     ensures ok { let asked = map (λ a. (string_bytes a.0, a.1)) addresses.now in
-        OnOk result (map asked_of servers.new.items ≡ map asked_of servers.old.items
+        OnOk result (map server_asked servers.new.items ≡ map server_asked servers.old.items
         ++ map (asked_at upstream.now contest.now identity.now) asked) }
     ensures err { let asked = map (λ a. (string_bytes a.0, a.1)) addresses.now in
         IfErr result (λ why. RefusesOneOf upstream.now contest.now asked why) }
@@ -191,43 +191,52 @@ pub fn pull_outcome(attempts: &[Attempt]) -> Result<(), Fault>
     }
 }
 
-/// Follows the first of these servers that serves, tells why those before it failed, and prints the
-/// snapshot of what the mirror shows then, also where the last one failed. That is told, too, where
-/// the snapshot can't be printed. Out of memory, nothing is printed.
+/// What `pull` is asked for.
+#[derive(Drop)]
+pub struct Pull<'p> {
+    /// The options of its command line.
+    pub options: &'p PullOptions<'p>,
+    /// The servers that these name, in the order in which they are asked.
+    pub servers: &'p [Server<'p>],
+}
+
+/// Follows the first of the servers that serves, reports why those before it failed, and prints the
+/// snapshot of what the mirror shows then, also where the last one failed. That is reported, too,
+/// where the snapshot can't be printed. Out of memory, nothing is printed.
 pub fn print_pulled<D: Dial, W: FeedWrite, E: FeedWrite>(
     alloc: Global,
-    options: &PullOptions<'_>,
-    servers: &[Server<'_>],
+    asked: &Pull<'_>,
     mirror: &mut Mirror,
     dial: &mut D,
     out: &mut W,
     err: &mut E,
 ) -> Result<(), Fault>
-    ensures ok { let dialer = dialer_of (devices_of D.Reader.remaining D.Reader.reads
-        D.Reader.failures D.Writer.contents D.Writer.failures) D.misses D.dials D.closes in
-        OnOk result (PrintedPulled dialer servers.now options.now.most_reads
-        (position mirror.old dial.old) (Ok tt) (position mirror.new dial.new)
+    ensures ok { let dialer = dialer_of D.Dial D.Reader.FeedRead D.Writer.FeedWrite in
+        let most_reads = asked.now.options.now.most_reads in
+        OnOk result (PrintedPulled dialer asked.now.servers.now most_reads
+        (dialing mirror.old dial.old) (Ok tt) (dialing mirror.new dial.new)
         (wrote_by W.contents W.failures out.old out.new)) }
     ensures some { OnOk result (is_some mirror.new.node.published ≡ true) }
-    ensures told { OnOk result (E.failures err.new ≡ E.failures err.old) }
-    ensures err { let dialer = dialer_of (devices_of D.Reader.remaining D.Reader.reads
-        D.Reader.failures D.Writer.contents D.Writer.failures) D.misses D.dials D.closes in
-        IfErr result (λ why. PullFails dialer servers.now options.now.most_reads why
-        (position mirror.old dial.old) (position mirror.new dial.new)
+    ensures reported { OnOk result (E.failures err.new ≡ E.failures err.old) }
+    ensures err { let dialer = dialer_of D.Dial D.Reader.FeedRead D.Writer.FeedWrite in
+        let most_reads = asked.now.options.now.most_reads in
+        IfErr result (λ why. PullFails dialer asked.now.servers.now most_reads why
+        (dialing mirror.old dial.old) (dialing mirror.new dial.new)
         (wrote_by W.contents W.failures out.old out.new) (E.failures err.old)
         (E.failures err.new)) }
 {
-    let attempts = follow_first(alloc, dial, servers, mirror, options.most_reads)?;
-    let mut teller = Teller::new("pull");
-    teller.tell_earlier(servers, &attempts, err);
+    let servers = asked.servers;
+    let attempts = follow_first(alloc, dial, servers, mirror, asked.options.most_reads)?;
+    let mut reporter = FaultReporter::new("pull");
+    reporter.report_earlier(servers, &attempts, err);
     let pulled = pull_outcome(&attempts);
     if pulled == Err(Fault::Memory) {
         return pulled;
     }
     if let Err(failed) = print_snapshot(mirror, out) {
-        teller.tell_last(servers, &attempts, err);
+        reporter.report_last(servers, &attempts, err);
         return Err(failed);
     }
     outcome(pulled, mirror.node().token().is_some())?;
-    teller.outcome()
+    reporter.outcome()
 }

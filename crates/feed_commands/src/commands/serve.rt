@@ -3,9 +3,8 @@ ghost use Rattle.std.specs.Prelude.{◌≡◌, ◌≢◌, ◌≤◌, List, map, 
 ghost use Rattle.feed_commands.specs.Fault.{fault_of_batches};
 ghost use Rattle.feed_commands.specs.Serve.{StartsServing, StartFails, TakesBatches, EndsTaking, turn_of, serve_service};
 ghost use Rattle.feed_commands.specs.Serve.{serving, ServesOn, EndsServing, ServesAll, ServingFails};
-ghost use Rattle.feed_commands.specs.Telling.{HasTold};
+ghost use Rattle.feed_commands.specs.Reporting.{HasReported};
 ghost use Rattle.feed_http.specs.Device.{HasFailed};
-ghost use Rattle.feed_http.specs.Exchange.{devices_of};
 ghost use Rattle.feed_http.specs.Live.{intake_of};
 ghost use Rattle.feed_http.specs.declared.fault.Served.{Served as Done};
 ghost use Rattle.feed_note.specs.Batches.{batch_changes};
@@ -18,7 +17,7 @@ ghost use Rattle.feed_relay.specs.declared.fault.NetworkFault.{NetworkFault as F
 
 use crate::fault::Fault;
 use crate::input::read_input;
-use crate::telling::Teller;
+use crate::reporting::FaultReporter;
 use feed_arguments::ServeOptions;
 use feed_http::Service;
 use feed_http::device::{FeedRead, FeedWrite};
@@ -94,30 +93,28 @@ fn service_of<'a>(options: &ServeOptions<'a>) -> Service<'a>
     }
 }
 
-/// Serves one connection, and tells its fault. A fault that is more than a connection's ends the
+/// Serves one connection, and reports its fault. A fault that is more than a connection's ends the
 /// serving.
 fn serve_one<A: Accept, E: FeedWrite>(
     alloc: Global,
     options: &ServeOptions<'_>,
     source: &mut FedPrimary,
     listener: &mut A,
-    teller: &mut Teller,
+    reporter: &mut FaultReporter,
     err: &mut E,
 ) -> Result<(), Fault>
-    ensures ok { let links = links_of (devices_of A.Reader.remaining A.Reader.reads
-        A.Reader.failures A.Writer.contents A.Writer.failures) A.misses A.accepts A.closes in
+    ensures ok { let links = links_of A.Accept A.Reader.FeedRead A.Writer.FeedWrite in
         OnOk result ((served : Result Done Failing) × ServesOn links (turn_of options.now.turn)
         (serve_service options.now)
         (serving (intake_of source.old.primary source.old.waiting.items) listener.old) served
         (serving (intake_of source.new.primary source.new.waiting.items) listener.new)) }
-    ensures err { let links = links_of (devices_of A.Reader.remaining A.Reader.reads
-        A.Reader.failures A.Writer.contents A.Writer.failures) A.misses A.accepts A.closes in
+    ensures err { let links = links_of A.Accept A.Reader.FeedRead A.Writer.FeedWrite in
         IfErr result (λ why. EndsServing links (turn_of options.now.turn)
         (serve_service options.now)
         (serving (intake_of source.old.primary source.old.waiting.items) listener.old) why
         (serving (intake_of source.new.primary source.new.waiting.items) listener.new)) }
-    ensures told { HasTold (E.failures err.old) (E.failures err.new)
-        teller.old.has_failed teller.new.has_failed }
+    ensures reported { HasReported (E.failures err.old) (E.failures err.new)
+        reporter.old.has_failed reporter.new.has_failed }
 {
     let served = serve_live_next(
         alloc,
@@ -127,11 +124,11 @@ fn serve_one<A: Accept, E: FeedWrite>(
         turn_of(options),
         &service_of(options),
     );
-    teller.end_connection(served, err)
+    reporter.end_connection(served, err)
 }
 
-/// Serves one connection after another. A connection's fault is told, and serving goes on. What was
-/// taken of the batches, in order and each once, is what the primary committed.
+/// Serves one connection after another. A connection's fault is reported, and serving goes on. What
+/// was taken of the batches, in order and each once, is what the primary committed.
 pub fn serve_all<A: Accept, E: FeedWrite>(
     alloc: Global,
     options: &ServeOptions<'_>,
@@ -139,15 +136,13 @@ pub fn serve_all<A: Accept, E: FeedWrite>(
     listener: &mut A,
     err: &mut E,
 ) -> Result<(), Fault>
-    ensures served { let links = links_of (devices_of A.Reader.remaining A.Reader.reads
-        A.Reader.failures A.Writer.contents A.Writer.failures) A.misses A.accepts A.closes in
+    ensures served { let links = links_of A.Accept A.Reader.FeedRead A.Writer.FeedWrite in
         OnOk result (ServesAll links (turn_of options.now.turn)
         (serve_service options.now) options.now.count
         (serving (intake_of source.old.primary source.old.waiting.items) listener.old)
         (serving (intake_of source.new.primary source.new.waiting.items) listener.new)) }
-    ensures told { OnOk result (E.failures err.new ≡ E.failures err.old) }
-    ensures failed { let links = links_of (devices_of A.Reader.remaining A.Reader.reads
-        A.Reader.failures A.Writer.contents A.Writer.failures) A.misses A.accepts A.closes in
+    ensures reported { OnOk result (E.failures err.new ≡ E.failures err.old) }
+    ensures failed { let links = links_of A.Accept A.Reader.FeedRead A.Writer.FeedWrite in
         IfErr result (λ why. ServingFails links (turn_of options.now.turn)
         (serve_service options.now) options.now.count why
         (serving (intake_of source.old.primary source.old.waiting.items) listener.old)
@@ -161,9 +156,9 @@ pub fn serve_all<A: Accept, E: FeedWrite>(
         (intake_of source.old.primary source.old.waiting.items)
         (intake_of source.new.primary source.new.waiting.items)) }
 {
-    let mut teller = Teller::new("serve");
+    let mut reporter = FaultReporter::new("serve");
     'connections: for _made in 0..options.count {
-        serve_one(alloc, options, source, listener, &mut teller, err)?;
+        serve_one(alloc, options, source, listener, &mut reporter, err)?;
     }
-    teller.outcome()
+    reporter.outcome()
 }

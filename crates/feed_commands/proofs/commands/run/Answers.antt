@@ -8,7 +8,7 @@ returns-in-Some g c =
     inl (record {
       asked = c.in-Some.local.now;
       asks = subst (Asks words) c.in-Some.ensures.some c.in-Ok.ensures.ok;
-      done = λ e. (c.run_local.ensures.ok e, c.run_local.ensures.untold e);
+      done = λ e. (c.run_local.ensures.ok e, c.run_local.ensures.unreported e);
       failed = c.run_local.ensures.err;
       unrefused = c.run_local.ensures.statuses.0;
       greatest = c.run_local.ensures.statuses.1;
@@ -31,5 +31,5 @@ returns-in-Err g c =
       asks = c.in-Err.ensures.err;
       unread = refl;
       replied = c.answer_words.ensures.out;
-      tells = c.answer_words.ensures.err;
+      reports = c.answer_words.ensures.err;
     }))

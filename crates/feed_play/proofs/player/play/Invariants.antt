@@ -3,7 +3,7 @@
 use Rattle.std.proofs.Common.{◌≡◌, length}
 use Rattle.feed_world.specs.States.{IsWorld}
 use Rattle.feed_world.specs.World.{World}
-use Rattle.feed_play.specs.Told.{Prints}
+use Rattle.feed_play.specs.Printed.{Prints}
 use Rattle.feed_play.specs.Player.{PlaysUpTo}
 use Rattle.feed_play.specs.Lines.{all_lines}
 use Rattle.feed_play.proofs.player.play.Given as goal

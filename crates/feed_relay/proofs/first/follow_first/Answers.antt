@@ -1,19 +1,15 @@
 use Rattle.std.proofs.Common.{rules, sym, ap, ◌∙◌, subst, inr, ◌<◌, ◌++◌, ◌∷◌, [], length, take, arith, length-append}
 use Rattle.std.proofs.lemmas.List.{take_more, length-take-le}
-use Rattle.feed_relay.specs.First.{GoesOn, none_asked, position}
-use Rattle.feed_http.specs.Exchange.{devices_of}
+use Rattle.feed_relay.specs.First.{AsksEach, none_asked, dialing}
 use Rattle.feed_relay.specs.Dialing.{dialer_of}
 use Rattle.feed_relay.proofs.FirstLemmas.{goes_on, stops_at}
 use Rattle.feed_relay.proofs.first.follow_first.Goals as goal
 
 pub servers-init : goal.servers-init
 servers-init g c =
-    let dial = g.D.Dial in
-    let reader = g.D.Reader.FeedRead in
-    let writer = g.D.Writer.FeedWrite in
-    let start = position c.args.mirror.now c.args.dial.now in
+    let start = dialing c.args.mirror.now c.args.dial.now in
     record {
-      goes = subst (λ l. GoesOn (dialer_of (devices_of reader.remaining reader.reads reader.failures writer.contents writer.failures) dial.misses dial.dials dial.closes) c.args.most_reads start [] l start) (sym c.in_ok-attempts.ensures.items) none_asked;
+      goes = subst (λ l. AsksEach (dialer_of g.D.Dial g.D.Reader.FeedRead g.D.Writer.FeedWrite) c.args.most_reads start [] l start) (sym c.in_ok-attempts.ensures.items) none_asked;
       few = search rules;
       room = search rules;
       cut = λ none. none;

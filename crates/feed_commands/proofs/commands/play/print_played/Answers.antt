@@ -1,5 +1,5 @@
 use Rattle.std.proofs.Common.{rules, ◌∙◌, sym, inl, inr}
-use Rattle.feed_play.specs.Player.{Plays, Stops}
+use Rattle.feed_play.specs.Player.{Plays, StopsScript}
 use Rattle.std.proofs.lemmas.Result.{err_from_is_err_and}
 use Rattle.feed_commands.proofs.InputLemmas.{play_fails}
 use Rattle.feed_commands.proofs.PlayLemmas.{told_by}
@@ -28,7 +28,7 @@ returns-clause-err g c =
       whole = search rules;
       plays = inr (record {
         why = why;
-        stops = told_by (λ text. Stops script text why) _ _ told c.new-told.ensures.items c.as_slice-2.ensures.value c.in-Err-played-2.ensures.err;
+        stops = told_by (λ text. StopsScript script text why) _ _ told c.new-told.ensures.items c.as_slice-2.ensures.value c.in-Err-played-2.ensures.err;
         no_memory = sym c.is_want_of_memory.ensures ∙ c.if-is_want_of_memory.false;
       });
       printed = c.in-Err.ensures.prefix;
@@ -43,7 +43,7 @@ returns-then-is_want_of_memory-clause-err g c =
       script = script;
       told = told;
       whole = search rules;
-      stops = told_by (λ text. Stops script text why) _ _ told c.new-told.ensures.items c.as_slice-2.ensures.value c.in-Err-played-2.ensures.err;
+      stops = told_by (λ text. StopsScript script text why) _ _ told c.new-told.ensures.items c.as_slice-2.ensures.value c.in-Err-played-2.ensures.err;
       line = search rules;
       printed = inr (sym c.is_want_of_memory.ensures ∙ c.if-is_want_of_memory.true, record { failed = c.in-Err.ensures.failed; printed = c.in-Err.ensures.prefix });
     }

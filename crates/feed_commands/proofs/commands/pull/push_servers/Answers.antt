@@ -1,7 +1,7 @@
 use Rattle.std.proofs.Common.{ap, sym, subst, ◌∙◌, ◌<◌, ◌++◌, ◌∷◌, [], List, ℕ, length, map, string_bytes, arith}
 use Rattle.std.proofs.lemmas.List.{length-map}
 use Rattle.std.proofs.lemmas.Result.{err_from_is_err_and}
-use Rattle.feed_commands.specs.Pull.{asked_at, asked_of, RefusesServer}
+use Rattle.feed_commands.specs.Pull.{asked_at, server_asked, RefusesServer}
 use Rattle.feed_commands.proofs.MappedLemmas.{mapped_at, more_mapped}
 use Rattle.feed_commands.proofs.commands.pull.push_servers.Goals as goal
 
@@ -25,4 +25,4 @@ addresses-preserved c =
     let lt : c.addresses.host-index < length c.args.addresses.now = c.addresses-test.true in
     let x = c.addresses-item.result in
     more_mapped _ c.args.addresses.now c.addresses.host-index _ x lt (sym c.addresses-item.is) (asked_at c.args.upstream.now c.args.contest.now c.args.identity.now) _ _ _ c.addresses.invariant
-    (c.in_ok-push_server.ensures.ok ∙ ap (λ h. map asked_of c.addresses.servers.items ++ asked_at c.args.upstream.now c.args.contest.now c.args.identity.now (h, x.1) ∷ []) c.as_str.ensures.value)
+    (c.in_ok-push_server.ensures.ok ∙ ap (λ h. map server_asked c.addresses.servers.items ++ asked_at c.args.upstream.now c.args.contest.now c.args.identity.now (h, x.1) ∷ []) c.as_str.ensures.value)

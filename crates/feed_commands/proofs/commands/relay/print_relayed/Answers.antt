@@ -2,11 +2,11 @@ use Rattle.std.proofs.Common.{inl, refl}
 use Rattle.std.proofs.lemmas.Result.{err_from_is_err_and}
 use Rattle.feed_commands.proofs.InTurnLemmas.{done_none, done_more}
 use Rattle.feed_commands.proofs.RelayLemmas.{keeps_same, broke_off}
-use Rattle.feed_commands.proofs.TellingLemmas.{told_then}
+use Rattle.feed_commands.proofs.ReportingLemmas.{reported_then}
 use Rattle.feed_commands.proofs.commands.relay.print_relayed.Goals as goal
 
 pub rounds-init : goal.rounds-init
-rounds-init g c = record { made = done_none _ _; told = inl (refl, c.new-teller.ensures) }
+rounds-init g c = record { made = done_none _ _; reported = inl (refl, c.new-reporter.ensures) }
 
 pub returns-in_err-make_round-clause-err : goal.returns-in_err-make_round-clause-err
 returns-in_err-make_round-clause-err g c =
@@ -19,5 +19,5 @@ rounds-preserved g c =
     let on = c.in_ok-make_round.ensures.ok in
     record {
       made = done_more _ _ _ _ _ on.0 c.rounds.invariant.made on.1;
-      told = told_then _ _ _ _ _ _ c.rounds.invariant.told c.make_round.ensures.told;
+      reported = reported_then _ _ _ _ _ _ c.rounds.invariant.reported c.make_round.ensures.reported;
     }

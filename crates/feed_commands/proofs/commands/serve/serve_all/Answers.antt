@@ -2,12 +2,12 @@ use Rattle.std.proofs.Common.{inl, inr, refl}
 use Rattle.std.proofs.lemmas.Result.{err_from_is_err_and}
 use Rattle.feed_commands.proofs.InTurnLemmas.{done_none, done_more}
 use Rattle.feed_commands.proofs.ServeLemmas.{takes_all, takes_some, stopped_at, on_ok, taken_untold}
-use Rattle.feed_commands.proofs.TellingLemmas.{told_then}
+use Rattle.feed_commands.proofs.ReportingLemmas.{reported_then}
 use Rattle.feed_commands.proofs.commands.serve.serve_all.Goals as goal
 
 pub connections-init : goal.connections-init
 connections-init g c =
-    record { served = done_none _ _; told = inl (refl, c.new-teller.ensures) }
+    record { served = done_none _ _; reported = inl (refl, c.new-reporter.ensures) }
 
 pub returns-in_err-serve_one-clause-failed : goal.returns-in_err-serve_one-clause-failed
 returns-in_err-serve_one-clause-failed g c =
@@ -26,7 +26,7 @@ connections-preserved g c =
     let on = c.in_ok-serve_one.ensures.ok in
     record {
       served = done_more _ _ _ _ _ on.0 c.connections.invariant.served on.1;
-      told = told_then _ _ _ _ _ _ c.connections.invariant.told c.serve_one.ensures.told;
+      reported = reported_then _ _ _ _ _ _ c.connections.invariant.reported c.serve_one.ensures.reported;
     }
 
 pub returns-clause-ok : goal.returns-clause-ok

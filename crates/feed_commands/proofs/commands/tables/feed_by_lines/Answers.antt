@@ -1,7 +1,7 @@
 use Rattle.std.proofs.Common.{◌≡◌, ap₂, ◌∙◌, ◌++◌, [], take-append-drop}
 use Rattle.std.proofs.lemmas.List.{append-nil}
 use Rattle.std.proofs.lemmas.Result.{err_from_is_err_and}
-use Rattle.feed_commands.specs.Tables.{first_opening}
+use Rattle.feed_node.specs.Mirroring.{first_opening}
 use Rattle.feed_commands.proofs.TablesLemmas.{stands_on, stopped_at}
 use Rattle.feed_commands.proofs.commands.tables.feed_by_lines.Goals as goal
 

@@ -1,7 +1,7 @@
 use Rattle.std.proofs.Common.{[], refl, None, Some}
 use Rattle.std.proofs.lemmas.List.{append-nil}
 use Rattle.std.proofs.lemmas.Result.{err_from_is_err_and}
-use Rattle.feed_commands.specs.Tables.{first_opening}
+use Rattle.feed_node.specs.Mirroring.{first_opening}
 use Rattle.feed_commands.proofs.TablesLemmas.{faulted_by, stopped_at}
 use Rattle.feed_commands.proofs.commands.tables.feed_read.Goals as goal
 

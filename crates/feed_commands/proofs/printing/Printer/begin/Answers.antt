@@ -17,13 +17,13 @@ returns-clause-prints g c =
           (prints_then _ _ c.args.self.now c.if-self.self _ (codes "}\n{\"type\":\"") kind
           (subst
           (λ (k : Printer g.row.W.Denot). PrintsText contents failures c.args.self.now k (codes "}\n{\"type\":\""))
-          (sym w.self-is) (record { same_device = refl; told = w.put.ensures }))
-          (record { same_device = refl; told = c.put_string.ensures }))
+          (sym w.self-is) (record { same_device = refl; written = w.put.ensures }))
+          (record { same_device = refl; written = c.put_string.ensures }))
       | else-self w ↦
           prints_as _ _ _ _ _ _ (ap (λ b. end_before b ++ codes "{\"type\":\"" ++ kind) (sym w.if-self.false))
           (prints_then _ _ c.args.self.now c.if-self.self _ (codes "{\"type\":\"") kind
           (subst
           (λ (k : Printer g.row.W.Denot). PrintsText contents failures c.args.self.now k (codes "{\"type\":\""))
-          (sym w.self-is) (record { same_device = refl; told = w.put-else-self.ensures }))
-          (record { same_device = refl; told = c.put_string.ensures }))
+          (sym w.self-is) (record { same_device = refl; written = w.put-else-self.ensures }))
+          (record { same_device = refl; written = c.put_string.ensures }))
     ]

@@ -1,5 +1,5 @@
 use Rattle.feed_commands.specs.Printing.{end_before}
-use Rattle.feed_commands.proofs.PrintingLemmas.{tells_then, tells_as, beginning_told}
+use Rattle.feed_commands.proofs.PrintingLemmas.{tells_then, tells_as, beginning_written}
 use Rattle.feed_commands.proofs.printing.Printer.begin_first.Goals as goal
 
 pub returns-clause-prints : goal.returns-clause-prints
@@ -7,7 +7,7 @@ returns-clause-prints g c =
     let begun = c.begin.ensures.prints in
     record {
       same_device = begun.same_device;
-      told = tells_as _ _ _ _ _ _ _ _
-          (beginning_told (end_before c.args.self.now.is_begun) c.args.kind.now)
-          (tells_then _ _ _ _ _ _ _ _ _ _ _ begun.told c.put.ensures);
+      written = tells_as _ _ _ _ _ _ _ _
+          (beginning_written (end_before c.args.self.now.is_begun) c.args.kind.now)
+          (tells_then _ _ _ _ _ _ _ _ _ _ _ begun.written c.put.ensures);
     }

@@ -15,22 +15,22 @@ as_line text = text ++ line_feed ∷ []
 -- The line that tells a reply. The token is the one that the mirror has published then, where the
 -- event restarted one. Of a connection that broke for another reason than want of memory, nothing
 -- is said.
-abbrev pub Tells : Option (List ℕ) → Reply → List ℕ → Type 0
-Tells token (reply.Committed name) line = line ≡ as_line (codes "committed " ++ name)
-Tells token reply.Opened line = line ≡ as_line (codes "opened")
-Tells token reply.Refused line = line ≡ as_line (codes "refused")
-Tells token reply.NotYet line = line ≡ as_line (codes "not yet")
-Tells token (reply.Sent More) line = line ≡ as_line (codes "sent more")
-Tells token (reply.Sent UpToDate) line = line ≡ as_line (codes "sent up to date")
-Tells token (reply.Sent Gone) line = line ≡ as_line (codes "sent gone")
-Tells token reply.Idled line = line ≡ as_line (codes "idled")
-Tells token (reply.Delivered count) line = line ≡ as_line (codes "delivered " ++ decimal count)
-Tells token (reply.Broke i FollowMemory) line = line ≡ as_line (codes "broke out of memory")
-Tells token (reply.Broke i (Feed Memory)) line = line ≡ as_line (codes "broke out of memory")
-Tells token (reply.Broke i why) line = Unit {0}
-Tells token reply.Cut line = line ≡ as_line (codes "cut")
-Tells token (reply.Saved count) line = line ≡ as_line (codes "saved " ++ decimal count)
-Tells token (reply.Restarted published) line =
+abbrev pub PrintsReply : Option (List ℕ) → Reply → List ℕ → Type 0
+PrintsReply token (reply.Committed name) line = line ≡ as_line (codes "committed " ++ name)
+PrintsReply token reply.Opened line = line ≡ as_line (codes "opened")
+PrintsReply token reply.Refused line = line ≡ as_line (codes "refused")
+PrintsReply token reply.NotYet line = line ≡ as_line (codes "not yet")
+PrintsReply token (reply.Sent More) line = line ≡ as_line (codes "sent more")
+PrintsReply token (reply.Sent UpToDate) line = line ≡ as_line (codes "sent up to date")
+PrintsReply token (reply.Sent Gone) line = line ≡ as_line (codes "sent gone")
+PrintsReply token reply.Idled line = line ≡ as_line (codes "idled")
+PrintsReply token (reply.Delivered count) line = line ≡ as_line (codes "delivered " ++ decimal count)
+PrintsReply token (reply.Broke i FollowMemory) line = line ≡ as_line (codes "broke out of memory")
+PrintsReply token (reply.Broke i (Feed Memory)) line = line ≡ as_line (codes "broke out of memory")
+PrintsReply token (reply.Broke i why) line = Unit {0}
+PrintsReply token reply.Cut line = line ≡ as_line (codes "cut")
+PrintsReply token (reply.Saved count) line = line ≡ as_line (codes "saved " ++ decimal count)
+PrintsReply token (reply.Restarted published) line =
     line ≡ as_line (codes "restarted " ++ unwrap_or token (codes "nothing"))
 
 -- what is printed of what a node has published: its snapshot, the token on the last line

@@ -1,10 +1,10 @@
-//! What is told of faults.
+//! What is reported of faults.
 ghost use Rattle.std.specs.Prelude.{◌≡◌, true, false, IfErr, IfOk, OnOk, OnErr, max};
 ghost use Rattle.feed_http.specs.Device.{failures_after};
 ghost use Rattle.feed_http.specs.Exchange.{wrote_by};
 ghost use Rattle.feed_commands.specs.Fault.{goes_on, status_of};
 ghost use Rattle.feed_commands.specs.declared.fault.Fault.TheVariants as why;
-ghost use Rattle.feed_commands.specs.Telling.{IsEnded, TellsLines, IsTold, IsToldStatus, HasTold, FailsAs};
+ghost use Rattle.feed_commands.specs.Reporting.{EndsInLineFeed, ReportsLines, IsReported, IsReportedStatus, HasReported, FailsAs};
 
 use crate::commands::pull::attempt_outcome;
 use crate::fault::Fault;
@@ -16,7 +16,7 @@ use feed_relay::{Attempt, AttemptEnd, NetworkFault, Server};
 use std::fmt;
 use std::fmt::Write;
 
-/// The most bytes of what is told of one fault. The longest text names a server, of at most 255
+/// The most bytes of what is reported of one fault. The longest text names a server, of at most 255
 /// bytes, and has far fewer.
 const ROOM: usize = 512;
 
@@ -60,9 +60,9 @@ fn add_more(
     };
 }
 
-/// What is told of a fault: a line with its text alone, and a second one where more is known.
+/// What is reported of a fault: a line with its text alone, and a second one where more is known.
 fn text_of(name: &str, fault: Fault, address: Option<Address<'_>>) -> ArrayString<ROOM>
-    ensures { IsEnded result.bytes }
+    ensures { EndsInLineFeed result.bytes }
 {
     let mut words: ArrayString<WORDS> = ArrayString::new();
     let _ = write!(words, "{name}: {fault}");
@@ -80,7 +80,7 @@ fn print_fault<E: FeedWrite>(
     address: Option<Address<'_>>,
     err: &mut E,
 ) -> Result<(), Failed>
-    ensures lines { OnOk result (TellsLines (E.contents err.old) (E.contents err.new)) }
+    ensures lines { OnOk result (ReportsLines (E.contents err.old) (E.contents err.new)) }
     ensures failures { E.failures err.new ≡ failures_after (E.failures err.old) result }
 {
     let text = text_of(name, fault, address);
@@ -89,7 +89,7 @@ fn print_fault<E: FeedWrite>(
 
 /// Prints a line of the command of this name: these texts, one after the other.
 fn print_line<E: FeedWrite>(name: &str, kind: &str, text: &str, err: &mut E) -> Result<(), Failed>
-    ensures lines { OnOk result (TellsLines (E.contents err.old) (E.contents err.new)) }
+    ensures lines { OnOk result (ReportsLines (E.contents err.old) (E.contents err.new)) }
     ensures failures { E.failures err.new ≡ failures_after (E.failures err.old) result }
 {
     write_all(err, name.as_bytes())?;
@@ -101,54 +101,55 @@ fn print_line<E: FeedWrite>(name: &str, kind: &str, text: &str, err: &mut E) -> 
 
 /// Prints a fault of the command of this name, and a line that says more.
 fn print_more<E: FeedWrite>(name: &str, fault: Fault, more: &str, err: &mut E) -> Result<(), Failed>
-    ensures lines { OnOk result (TellsLines (E.contents err.old) (E.contents err.new)) }
+    ensures lines { OnOk result (ReportsLines (E.contents err.old) (E.contents err.new)) }
     ensures failures { E.failures err.new ≡ failures_after (E.failures err.old) result }
 {
     print_fault(name, fault, None, err)?;
     print_line(name, "", more, err)
 }
 
-/// The status, where all was told; else the greater of that and the one of a device that failed.
-fn status_after(told: Result<(), Failed>, status: u8) -> u8
-    ensures ok { IfOk told (λ _. result ≡ status) }
-    ensures err { IfErr told (λ _. result ≡ max status (status_of why.Write)) }
+/// The status, where all was reported; else the greater of that and the one of a device that
+/// failed.
+fn status_after(reported: Result<(), Failed>, status: u8) -> u8
+    ensures ok { IfOk reported (λ _. result ≡ status) }
+    ensures err { IfErr reported (λ _. result ≡ max status (status_of why.Write)) }
 {
-    match told {
+    match reported {
         Ok(()) => status,
         Err(Failed) => status.max(Fault::Write.status()),
     }
 }
 
-/// Tells a fault of the command of this name, and answers the status of the program. Where it can't
-/// be told, a device has failed too.
-pub fn tell<E: FeedWrite>(name: &str, fault: Fault, err: &mut E) -> u8
-    ensures { IsToldStatus fault (wrote_by E.contents E.failures err.old err.new) result }
+/// Reports a fault of the command of this name, and answers the status of the program. Where it
+/// can't be reported, a device has failed too.
+pub fn report<E: FeedWrite>(name: &str, fault: Fault, err: &mut E) -> u8
+    ensures { IsReportedStatus fault (wrote_by E.contents E.failures err.old err.new) result }
 {
-    tell_about(name, fault, None, err)
+    report_about(name, fault, None, err)
 }
 
-/// The same of a fault that is about an address, a host and a port, which a second line tells.
-pub fn tell_about<E: FeedWrite>(
+/// The same of a fault that is about an address, a host and a port, which a second line says.
+pub fn report_about<E: FeedWrite>(
     name: &str,
     fault: Fault,
     address: Option<(&str, u16)>,
     err: &mut E,
 ) -> u8
-    ensures { IsToldStatus fault (wrote_by E.contents E.failures err.old err.new) result }
+    ensures { IsReportedStatus fault (wrote_by E.contents E.failures err.old err.new) result }
 {
     status_after(print_fault(name, fault, address, err), fault.status())
 }
 
 /// The same of a fault that a second line says more of.
-pub fn tell_more<E: FeedWrite>(name: &str, fault: Fault, more: &str, err: &mut E) -> u8
-    ensures { IsToldStatus fault (wrote_by E.contents E.failures err.old err.new) result }
+pub fn report_more<E: FeedWrite>(name: &str, fault: Fault, more: &str, err: &mut E) -> u8
+    ensures { IsReportedStatus fault (wrote_by E.contents E.failures err.old err.new) result }
 {
     status_after(print_more(name, fault, more, err), fault.status())
 }
 
 /// The same of a fault with what it is about, on one line.
-pub fn tell_with<E: FeedWrite>(name: &str, fault: Fault, what: &str, err: &mut E) -> u8
-    ensures { IsToldStatus fault (wrote_by E.contents E.failures err.old err.new) result }
+pub fn report_with<E: FeedWrite>(name: &str, fault: Fault, what: &str, err: &mut E) -> u8
+    ensures { IsReportedStatus fault (wrote_by E.contents E.failures err.old err.new) result }
 {
     let mut kind: ArrayString<WORDS> = ArrayString::new();
     let _ = write!(kind, "{fault}: ");
@@ -156,8 +157,8 @@ pub fn tell_with<E: FeedWrite>(name: &str, fault: Fault, what: &str, err: &mut E
 }
 
 /// The same of a text, and of what ends with this status.
-pub fn tell_text<E: FeedWrite>(name: &str, text: &str, status: u8, err: &mut E) -> u8
-    ensures { IsTold status (wrote_by E.contents E.failures err.old err.new) result }
+pub fn report_text<E: FeedWrite>(name: &str, text: &str, status: u8, err: &mut E) -> u8
+    ensures { IsReported status (wrote_by E.contents E.failures err.old err.new) result }
 {
     status_after(print_line(name, "", text, err), status)
 }
@@ -172,94 +173,99 @@ fn address_of<'s>(servers: &'s [Server<'_>], attempt: &Attempt) -> Option<Addres
     }
 }
 
-/// What tells the faults that don't end a command.
+/// What reports the faults that don't end a command.
 #[derive(Drop)]
-pub(crate) struct Teller {
+pub(crate) struct FaultReporter {
     name: &'static str,
     has_failed: bool,
 }
 
-impl Teller {
-    /// Nothing was told yet by the command of this name.
-    pub(crate) fn new(name: &'static str) -> Teller
+impl FaultReporter {
+    /// Nothing was reported yet by the command of this name.
+    pub(crate) fn new(name: &'static str) -> FaultReporter
         ensures { result.has_failed ≡ false }
     {
-        Teller {
+        FaultReporter {
             name,
             has_failed: false,
         }
     }
 
-    /// Tells a fault, and on a second line the address that it is about where there is one. Where
-    /// it can't be told, the command goes on all the same.
-    fn tell<E: FeedWrite>(&mut self, fault: Fault, address: Option<Address<'_>>, err: &mut E)
-        ensures told { HasTold (E.failures err.old) (E.failures err.new)
+    /// Reports a fault, and on a second line the address that it is about where there is one. Where
+    /// it can't be reported, the command goes on all the same.
+    fn report<E: FeedWrite>(&mut self, fault: Fault, address: Option<Address<'_>>, err: &mut E)
+        ensures reported { HasReported (E.failures err.old) (E.failures err.new)
             self.old.has_failed self.new.has_failed }
         ensures lines { self.new.has_failed ≡ false
-            → TellsLines (E.contents err.old) (E.contents err.new) }
+            → ReportsLines (E.contents err.old) (E.contents err.new) }
     {
         if print_fault(self.name, fault, address, err).is_err() {
             self.has_failed = true;
         }
     }
 
-    /// Tells why an attempt at one of these servers failed, where it did.
-    fn tell_attempt<E: FeedWrite>(&mut self, servers: &[Server<'_>], attempt: &Attempt, err: &mut E)
-        ensures { HasTold (E.failures err.old) (E.failures err.new)
+    /// Reports why an attempt at one of these servers failed, where it did.
+    fn report_attempt<E: FeedWrite>(
+        &mut self,
+        servers: &[Server<'_>],
+        attempt: &Attempt,
+        err: &mut E,
+    )
+        ensures { HasReported (E.failures err.old) (E.failures err.new)
             self.old.has_failed self.new.has_failed }
     {
         if let Err(fault) = attempt_outcome(attempt.outcome) {
-            self.tell(fault, address_of(servers, attempt), err);
+            self.report(fault, address_of(servers, attempt), err);
         }
     }
 
-    /// Tells why these attempts failed.
-    pub(crate) fn tell_attempts<E: FeedWrite>(
+    /// Reports why these attempts failed.
+    pub(crate) fn report_attempts<E: FeedWrite>(
         &mut self,
         servers: &[Server<'_>],
         attempts: &[Attempt],
         err: &mut E,
     )
-        ensures { HasTold (E.failures err.old) (E.failures err.new)
+        ensures { HasReported (E.failures err.old) (E.failures err.new)
             self.old.has_failed self.new.has_failed }
     {
         'attempts: for attempt in attempts {
-            self.tell_attempt(servers, attempt, err);
+            self.report_attempt(servers, attempt, err);
         }
     }
 
     /// The same of all but the last one.
-    pub(crate) fn tell_earlier<E: FeedWrite>(
+    pub(crate) fn report_earlier<E: FeedWrite>(
         &mut self,
         servers: &[Server<'_>],
         attempts: &[Attempt],
         err: &mut E,
     )
-        ensures { HasTold (E.failures err.old) (E.failures err.new)
+        ensures { HasReported (E.failures err.old) (E.failures err.new)
             self.old.has_failed self.new.has_failed }
     {
         if let Some((_, earlier)) = attempts.split_last() {
-            self.tell_attempts(servers, earlier, err);
+            self.report_attempts(servers, earlier, err);
         }
     }
 
     /// The same of the last one alone.
-    pub(crate) fn tell_last<E: FeedWrite>(
+    pub(crate) fn report_last<E: FeedWrite>(
         &mut self,
         servers: &[Server<'_>],
         attempts: &[Attempt],
         err: &mut E,
     )
-        ensures { HasTold (E.failures err.old) (E.failures err.new)
+        ensures { HasReported (E.failures err.old) (E.failures err.new)
             self.old.has_failed self.new.has_failed }
     {
         if let Some(attempt) = attempts.last() {
-            self.tell_attempt(servers, attempt, err);
+            self.report_attempt(servers, attempt, err);
         }
     }
 
-    /// What a connection came to: its fault is told where others can be served after it, and is the
-    /// command's else.
+    /// What a connection came to: its fault is reported where others can be served after it, and is
+    /// the command's else.
     pub(crate) fn end_connection<E: FeedWrite>(
         &mut self,
         served: Result<Served, NetworkFault>,
@@ -267,7 +273,7 @@ impl Teller {
     ) -> Result<(), Fault>
         ensures on { OnOk result (goes_on served ≡ true) }
         ensures ends { IfErr result (λ why. (goes_on served ≡ false) × FailsAs served why) }
-        ensures told { HasTold (E.failures err.old) (E.failures err.new)
+        ensures reported { HasReported (E.failures err.old) (E.failures err.new)
             self.old.has_failed self.new.has_failed }
     {
         let Err(fault) = served else {
@@ -277,12 +283,12 @@ impl Teller {
         if !fault.is_of_a_connection() {
             return Err(fault);
         }
-        self.tell(fault, None, err);
+        self.report(fault, None, err);
         Ok(())
     }
 
     /// What the command comes to that has gone on to its end: a device's fault where something
-    /// could not be told.
+    /// could not be reported.
     pub(crate) fn outcome(&self) -> Result<(), Fault>
         ensures ok { OnOk result (self.now.has_failed ≡ false) }
         ensures err { IfErr result

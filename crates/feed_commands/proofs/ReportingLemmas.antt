@@ -1,4 +1,4 @@
--- Lemmas on what is told.
+-- Lemmas on what is reported.
 use Rattle.std.proofs.Common.{◌≡◌, inl, inr, sym, ap, ◌∙◌, ◌+◌, ◌-◌, ◌^◌, ℕ, Bool, true, false, true≢false, arith, List, [], ◌∷◌, ◌++◌, append_assoc, Option}
 use Rattle.std.proofs.KnownBytes.{Appends-trans}
 use Rattle.std.specs.Prelude.{OnOk, Result, Ok, Err}
@@ -6,33 +6,33 @@ use Rattle.std.specs.Io.KnownBytes.{Appends}
 use Rattle.std.proofs.lemmas.Bool.{cases_lt}
 use Rattle.feed_http.specs.Device.{counted, HasFailed}
 use Rattle.feed_text.specs.Ascii.{line_feed}
-use Rattle.feed_commands.specs.Telling.{HasTold, TellsLines}
+use Rattle.feed_commands.specs.Reporting.{HasReported, ReportsLines}
 
 counted_twice : (old n m : ℕ) → counted (counted old n) m ≡ counted old (n + m)
 counted_twice old n m = omega arith
 
--- what was told before, and what is told now
-pub told_then : (old middle new : ℕ) (before between after : Bool) → HasTold old middle before between
-    → HasTold middle new between after → HasTold old new before after
-told_then old middle new before between after (inl (quiet, same)) (inl (more, kept)) =
+-- what was reported before, and what is reported now
+pub reported_then : (old middle new : ℕ) (before between after : Bool) → HasReported old middle before between
+    → HasReported middle new between after → HasReported old new before after
+reported_then old middle new before between after (inl (quiet, same)) (inl (more, kept)) =
     inl (more ∙ quiet, kept ∙ same)
-told_then old middle new before between after (inl (quiet, same)) (inr (n, some, fails, is)) =
+reported_then old middle new before between after (inl (quiet, same)) (inr (n, some, fails, is)) =
     inr (n, some, fails ∙ ap (λ k. counted k n) quiet, is)
-told_then old middle new before between after (inr (n, some, fails, is)) (inl (more, kept)) =
+reported_then old middle new before between after (inr (n, some, fails, is)) (inl (more, kept)) =
     inr (n, some, more ∙ fails, kept ∙ is)
-told_then old middle new before between after (inr (n, some, fails, is)) (inr (m, least, more, kept)) =
+reported_then old middle new before between after (inr (n, some, fails, is)) (inr (m, least, more, kept)) =
     inr (n + m, omega (arith, some), more ∙ ap (λ k. counted k m) fails ∙ counted_twice old n m, kept)
 
--- all was told
-pub all_told : (old new : ℕ) (after : Bool) → HasTold old new false after → after ≡ false → new ≡ old
-all_told old new after (inl (quiet, same)) none = quiet
-all_told old new after (inr (n, some, fails, is)) none = absurd (true≢false (sym is ∙ none))
+-- all was reported
+pub all_reported : (old new : ℕ) (after : Bool) → HasReported old new false after → after ≡ false → new ≡ old
+all_reported old new after (inl (quiet, same)) none = quiet
+all_reported old new after (inr (n, some, fails, is)) none = absurd (true≢false (sym is ∙ none))
 
 -- something was not
-pub not_told : (old new : ℕ) (after : Bool) → HasTold old new false after → after ≡ true
+pub not_reported : (old new : ℕ) (after : Bool) → HasReported old new false after → after ≡ true
     → HasFailed old new
-not_told old new after (inl (quiet, same)) some = absurd (true≢false (sym some ∙ same))
-not_told old new after (inr (n, least, fails, is)) some =
+not_reported old new after (inl (quiet, same)) some = absurd (true≢false (sym some ∙ same))
+not_reported old new after (inr (n, least, fails, is)) some =
     elim (cases_lt (old + n) (2 ^ 64 - 1)) [
       | inl less ↦ inl (omega (arith, least, fails, less))
       | inr more ↦ inr (omega (arith, fails, more))
@@ -45,9 +45,9 @@ on_ok (Ok value) f h = f h
 on_ok (Err fault) f h = h
 
 -- its parts, one after the other
-pub line_told : (a b c d e f : Option (List ℕ)) (name mark kind text last : List ℕ) → Appends a b name → Appends b c mark → Appends c d kind → Appends d e text
-    → Appends e f last → last ≡ line_feed ∷ [] → TellsLines a f
-line_told a b c d e f name mark kind text last one two three four five is =
+pub line_reported : (a b c d e f : Option (List ℕ)) (name mark kind text last : List ℕ) → Appends a b name → Appends b c mark → Appends c d kind → Appends d e text
+    → Appends e f last → last ≡ line_feed ∷ [] → ReportsLines a f
+line_reported a b c d e f name mark kind text last one two three four five is =
     let front = ((name ++ mark) ++ kind) ++ text in (
       front ++ last,
       (front, ap (λ t. front ++ t) is),
@@ -56,6 +56,6 @@ line_told a b c d e f name mark kind text last one two three four five is =
     )
 
 -- lines, and then more
-pub lines_more : (a b c : Option (List ℕ)) → TellsLines a b → TellsLines b c → TellsLines a c
+pub lines_more : (a b c : Option (List ℕ)) → ReportsLines a b → ReportsLines b c → ReportsLines a c
 lines_more a b c (x, ends, h) (y, (front, is), k) =
     (x ++ y, (x ++ front, ap (λ t. x ++ t) is ∙ sym (append_assoc x front (line_feed ∷ []))), Appends-trans a b c x y h k)

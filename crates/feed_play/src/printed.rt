@@ -2,7 +2,7 @@
 
 ghost use Rattle.std.specs.Prelude.{◌≡◌, ◌++◌, string_bytes, IfOk, OnOk, OnErr};
 ghost use Rattle.std.specs.Option.{option_copied};
-ghost use Rattle.feed_play.specs.Told.{Tells, Prints, shown_text};
+ghost use Rattle.feed_play.specs.Printed.{PrintsReply, Prints, shown_text};
 
 use feed_follow::FollowFault;
 use feed_node::{FeedFault, Node, OpenFault, Pulled};
@@ -12,7 +12,7 @@ use std::alloc::{AllocError, Global};
 /// The line that tells a reply. The token is the one that a restarted mirror has published.
 fn reply_line(alloc: Global, reply: &Reply, token: Option<&str>) -> Result<String, AllocError>
     ensures { IfOk result
-        (λ line. Tells (option_copied token.entry) reply.now (string_bytes line)) }
+        (λ line. PrintsReply (option_copied token.entry) reply.now (string_bytes line)) }
 {
     match reply {
         Reply::Committed(token) => {
@@ -47,7 +47,7 @@ pub fn print_reply(
     out: &mut Vec<u8>,
 ) -> Result<(), AllocError>
     ensures ok { OnOk result (Prints out.old.items out.new.items
-        (Tells (option_copied token.entry) reply.now)) }
+        (PrintsReply (option_copied token.entry) reply.now)) }
     ensures err { OnErr result (out.new.items ≡ out.old.items) }
 {
     let line = reply_line(alloc, reply, token)?;
