@@ -110,6 +110,9 @@ impl Source {
         ensures places { result.places ≡ places }
         ensures identity { result.identity ≡ identity }
         ensures rest { result.rest.items ≡ [] }
+        ensures settles { (result.settling.pause ≡ limits.settle)
+            × (result.settling.is_always ≡ limits.is_fresh) }
+        ensures due { result.upstream.since ≡ desk.now.time }
     {
         // A relay without a state has nothing old to show, nor has one whose feed is the input.
         let has_nothing = mirror.node().token().is_none() || places.is_empty();

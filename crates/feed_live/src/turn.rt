@@ -1,6 +1,6 @@
 //! The turn.
 
-ghost use Rattle.std.specs.Prelude.{◌≡◌, ◌≢◌, ◌≤◌, ◌+◌, ◌-◌, ◌^◌, ◌⊎◌, ◌&&◌, [], List, ℕ, min, None, Some, Contains, IfSome, is_none, false, true};
+ghost use Rattle.std.specs.Prelude.{◌≡◌, ◌≢◌, ◌≤◌, ◌+◌, ◌-◌, ◌^◌, ◌⊎◌, ◌&&◌, [], List, ℕ, min, None, Some, Contains, IfSome, is_none, is_some, false, true};
 ghost use Rattle.feed_settings.specs.Limits.{Limits};
 ghost use Rattle.feed_node.specs.States.{NodeState};
 ghost use Rattle.feed_world.specs.Log.{Log};
@@ -120,6 +120,14 @@ impl Live {
         ensures most { result.screens.hub.most ≡ limits.screens.most }
         ensures limits { result.limits ≡ limits }
         ensures goes_on { result.ends_at ≡ None }
+        // it keeps state files if it has a store, and writes at once
+        ensures stores { is_some result.saved ≡ limits.has_store }
+        ensures at_once { IfSome result.saved (λ saved. saved.retry_at ≡ 0) }
+        ensures reported { result.reported ≡ now }
+        // it may connect at once, and shows what came afresh once that has settled
+        ensures connects { result.source.upstream.since ≡ now }
+        ensures settles { (result.source.settling.pause ≡ limits.settle)
+            × (result.source.settling.is_always ≡ limits.is_fresh) }
     {
         let Start {
             places,
@@ -395,6 +403,8 @@ fn saved_of<D: Store>(
         → IfSome file (EndsAsRecorded nodes text node.now.shown)
         → KeepsFiles nodes (D.files store.new) result }
     ensures had { (D.files store.new).had ≡ (D.files store.old).had }
+    ensures stores { is_some result ≡ has_store }
+    ensures at_once { IfSome result (λ saved. saved.retry_at ≡ 0) }
 {
     if has_store {
         Some(Saved::new(store, node, file))

@@ -159,6 +159,9 @@ impl Screens {
             → ((at : ℕ) → IsUnused (sockets at))
             → ServesScreens nodes contest result.hub result.conns sockets }
         ensures most { result.hub.most ≡ limits.most }
+        ensures window { result.hub.window ≡ limits.window }
+        ensures limits { result.limits ≡ limits }
+        ensures accepts { result.accept_at ≡ 0 }
     {
         Screens {
             hub: Hub::new(alloc, limits.framing, limits.window, limits.most),

@@ -21,6 +21,8 @@ impl Source {
         ensures same { feeds ≡ false → SameSource self.old self.new }
         ensures begins { feeds ≡ true → BeginsInput self.old self.new }
         ensures node { self.new.answers.shown.mirror.node ≡ self.old.answers.shown.mirror.node }
+        ensures upstream { self.new.upstream ≡ self.old.upstream }
+        ensures settling { self.new.settling ≡ self.old.settling }
     {
         if !feeds {
             return;

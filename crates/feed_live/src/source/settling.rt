@@ -57,7 +57,9 @@ pub(crate) struct Settling {
 }
 
 impl Settling {
-    pub(crate) fn new(pause: u64, is_always: bool, is_strange: bool) -> Settling {
+    pub(crate) fn new(pause: u64, is_always: bool, is_strange: bool) -> Settling
+        ensures { (result.pause ≡ pause) × (result.is_always ≡ is_always) }
+    {
         Settling {
             pause,
             is_always,

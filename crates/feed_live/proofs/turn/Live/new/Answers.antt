@@ -43,4 +43,12 @@ returns g c =
       most = c.relay.ensures.most ∙ c.new-screens.ensures.most;
       limits = refl;
       goes_on = refl;
+      stores = c.saved_of-saved.ensures.stores;
+      at_once = c.saved_of-saved.ensures.at_once;
+      reported = refl;
+      connects = ap (λ u. u.since) c.begin_input.ensures.upstream ∙ c.new-source.ensures.due ∙ c.new-desk.ensures.time;
+      settles = (
+        ap (λ s. s.pause) c.begin_input.ensures.settling ∙ c.new-source.ensures.settles.0,
+        ap (λ s. s.is_always) c.begin_input.ensures.settling ∙ c.new-source.ensures.settles.1,
+      );
     }

@@ -1,4 +1,4 @@
-use Rattle.std.proofs.Common.{None, ap, List}
+use Rattle.std.proofs.Common.{None, ap, refl, List}
 use Rattle.std.specs.Prelude.{Option, slice_index_or}
 use Rattle.feed_screens.specs.declared.conn.Conn.{Conn}
 use Rattle.feed_screens.proofs.ServingLemmas.{serving_none}
@@ -10,4 +10,7 @@ returns c =
       serving = λ nodes contest sockets closed.
           serving_none _ c.new-2.result sockets (λ at. ap (λ (slots : List (Option Conn)). slice_index_or slots at None) c.new-2.ensures.empty) closed;
       most = c.new.ensures.limits.1;
+      window = c.new.ensures.limits.0;
+      limits = refl;
+      accepts = refl;
     }
