@@ -22,6 +22,7 @@ use Rattle.feed_live.specs.declared.turn.Input.{Input}
 use Rattle.feed_live.specs.declared.turn.Input.TheVariants.{End}
 use Rattle.feed_live.specs.declared.turn.Live.{Live}
 use Rattle.feed_live.specs.Answering.{has_heard}
+use Rattle.feed_live.specs.Ending.{SameBeside}
 use Rattle.feed_live.specs.Relaying.{pursuit, pursuit_of, MayFollow, AnswersFromLog, FollowsServers, IsRelaying, SameSource, OnlyServes, followed_by, screen_side, within_turn}
 use Rattle.feed_screens.specs.Serving.{ServesScreens, StillServing}
 use Rattle.feed_live.specs.States.{states_of}
@@ -90,6 +91,10 @@ serves_then {a} {b} {c} {before} {between} {after} two one =
           two.serves nodes (subst (λ m. Contains nodes m.node) (sym one.source.shown) shown) (λ none. subst (λ m. Contains nodes m.node) (sym one.source.blank) (blank (sym (heard_same one.source one.heard) ∙ none))) in
           subst (λ t. StillServing nodes (string_bytes t) b.screens c.screens between after) one.contest later (one.serves nodes shown blank serving);
     }
+
+pub beside_then : {a b c : Live} → SameBeside b c → SameBeside a b → SameBeside a c
+beside_then two one =
+    record { saved = two.saved ∙ one.saved; epoch = two.epoch ∙ one.epoch; reported = two.reported ∙ one.reported }
 
 -- the screens changed alone, and the desk
 pub screens_only : (live : Live) (screens : Screens) (desk : Desk) {before after : AllSockets}

@@ -11,6 +11,12 @@ pub record EndsWithInput (old new : Live) (input : Input) : Type 0 where
   pub sets : input ≡ End → old.limits.ends_with_input ≡ true → new.ends_at ≢ None
   pub stays : (input ≢ End) ⊎ (old.limits.ends_with_input ≡ false) → new.ends_at ≡ old.ends_at
 
+-- neither were the state files touched, nor was the number of screens reported
+pub record SameBeside (old new : Live) : Type 0 where
+  pub saved : new.saved ≡ old.saved
+  pub epoch : new.epoch ≡ old.epoch
+  pub reported : new.reported ≡ old.reported
+
 -- the state files were not touched
 abbrev pub SameSaved : Live → Live → Type 0
 SameSaved old new = (new.saved ≡ old.saved) × (new.epoch ≡ old.epoch)

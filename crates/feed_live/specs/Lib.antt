@@ -5,6 +5,7 @@ pub mod States
 pub mod Upstream
 pub mod Relaying
 pub mod Taking
+pub mod Due
 pub mod Ending
 pub mod Telling
 pub mod Examples

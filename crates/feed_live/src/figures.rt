@@ -1,7 +1,8 @@
 //! What a relay counts, for those who watch it.
 
-ghost use Rattle.std.specs.Prelude.{◌≡◌};
+ghost use Rattle.std.specs.Prelude.{◌≡◌, option_map};
 ghost use Rattle.slab.specs.Slab.{slab_len};
+ghost use Rattle.feed_files.specs.Figures.{figures_of};
 ghost use Rattle.feed_live.specs.Answering.{is_answering};
 
 mod reasons;
@@ -215,7 +216,9 @@ impl Live {
     }
 
     /// What was counted of the state file; none where there is no such file.
-    pub fn file_figures(&self) -> Option<FileFigures> {
-        self.saved.as_ref().map(|saved| saved.figures())
+    pub fn file_figures(&self) -> Option<FileFigures>
+        ensures { result ≡ option_map figures_of self.now.saved }
+    {
+        Some(self.saved.as_ref()?.figures())
     }
 }

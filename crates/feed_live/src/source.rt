@@ -1,6 +1,6 @@
 //! The server that is followed, and the mirror of what it sends.
 
-ghost use Rattle.std.specs.Prelude.{◌≡◌, ◌≢◌, ◌<◌, [], None, Some, false, true};
+ghost use Rattle.std.specs.Prelude.{◌≡◌, ◌≢◌, ◌<◌, ◌≤◌, [], None, Some, false, true};
 
 mod connecting;
 mod input;
@@ -200,8 +200,14 @@ impl Source {
     }
 
     /// When something is due for which no event comes.
-    pub(crate) fn due(&self, idle: u64) -> u64 {
-        let due = self.upstream.due(idle);
+    pub(crate) fn due(&self, idle: u64) -> u64
+        ensures { self.now.upstream.follower ≡ None → result ≤ self.now.upstream.since }
+    {
+        self.upstream.due(idle).min(self.looks_at())
+    }
+
+    /// When the server is looked at, or something is reported; never where nothing is to come.
+    fn looks_at(&self) -> u64 {
         let dues = [
             self.late_at(),
             self.returns_at(),
@@ -211,7 +217,7 @@ impl Source {
             self.newest_at(),
             self.figures.warns_at(),
         ];
-        dues.iter().flatten().fold(due, |due, at| due.min(*at))
+        dues.iter().flatten().fold(u64::MAX, |due, at| due.min(*at))
     }
 
     /// When the server counts as heard though it publishes nothing: it answered with what comes

@@ -76,11 +76,12 @@ pub struct Live {
 impl Live {
     ghost use Rattle.feed_live.specs.Relaying.{IsRelaying, StillRelaying, OnlyServes};
     ghost use Rattle.feed_live.specs.Taking.{IsTakingInput, StillTaking, StopsTaking, bytes_in};
-    ghost use Rattle.feed_live.specs.Ending.{SameSaved};
+    ghost use Rattle.feed_live.specs.Ending.{SameBeside, SameSaved};
     ghost use Rattle.feed_screens.specs.Owed.{OwesWhatIsKept};
     ghost use Rattle.feed_live.specs.Running.{IsRelayOver, IsSameRelay};
     ghost use Rattle.feed_screens.specs.Waiting.{TakesNobody};
     ghost use Rattle.feed_live.specs.Ending.{EndsWithInput};
+    ghost use Rattle.feed_live.specs.Due.{IsDueInTime};
 
     /// A relay that starts from what the state files had.
     pub fn new<D: Store>(
@@ -240,6 +241,13 @@ impl Live {
 
         // a minute after the number of screens was reported last, at the latest
         ensures awake { result.due ≤ min (self.new.reported + 60000) (2 ^ 64 - 1) }
+        ensures reported { (self.new.reported ≡ self.old.reported) ⊎ (self.new.reported ≡ now) }
+
+        // where a state file is to be written, a server to be asked, or the end comes, then
+        ensures due { IsDueInTime self.new now result.due }
+
+        // it has state files where it had them
+        ensures stores { is_some self.new.saved ≡ is_some self.old.saved }
 
         // what counts as owed is what connections have yet to take, and nothing where there is none
         ensures owed { OwesWhatIsKept self.new.screens }
@@ -291,7 +299,7 @@ impl Live {
     /// Marks what became ready.
     fn note(&mut self, events: &[Ready])
         ensures serves { (sockets : AllSockets) → OnlyServes self.old self.new sockets sockets }
-        ensures saved { SameSaved self.old self.new }
+        ensures saved { SameBeside self.old self.new }
     {
         for event in events {
             self.note_one(*event);
@@ -301,7 +309,7 @@ impl Live {
     /// Marks one of them.
     fn note_one(&mut self, event: Ready)
         ensures serves { (sockets : AllSockets) → OnlyServes self.old self.new sockets sockets }
-        ensures saved { SameSaved self.old self.new }
+        ensures saved { SameBeside self.old self.new }
     {
         match event {
             // Who waits is taken at the end of the turn.
@@ -320,6 +328,8 @@ impl Live {
         ensures wakes { self.new.screens.has_more ≡ true → result.due ≤ now }
         ensures says { IfSome self.new.screens.saying.waits (λ at. now ≤ at → result.due ≤ at) }
         ensures awake { result.due ≤ min (self.new.reported + 60000) (2 ^ 64 - 1) }
+        ensures reported { (self.new.reported ≡ self.old.reported) ⊎ (self.new.reported ≡ now) }
+        ensures due { IsDueInTime self.new now result.due }
         ensures serves { (sockets : AllSockets) → OnlyServes self.old self.new sockets sockets }
         ensures saved { SameSaved self.old self.new }
         ensures takes { result.takes_input
@@ -328,7 +338,7 @@ impl Live {
         ensures in_time { IfSome self.new.ends_at (λ at. at ≤ now → result.is_over ≡ true) }
         ensures pauses { self.new.screens.accept_at ≡ self.old.screens.accept_at }
     {
-        self.report();
+        self.report(now);
         Turn {
             due: self.due(now),
             takes_input: self.takes_input(),
@@ -367,6 +377,7 @@ impl Live {
         ensures wakes { self.now.screens.has_more ≡ true → result ≤ now }
         ensures says { IfSome self.now.screens.saying.waits (λ at. now ≤ at → result ≤ at) }
         ensures awake { result ≤ min (self.now.reported + 60000) (2 ^ 64 - 1) }
+        ensures due { IsDueInTime self.now now result }
     {
         let mut due = self.reported.saturating_add(SCREENS_REPORT);
         if !self.screens.are_none() {

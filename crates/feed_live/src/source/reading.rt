@@ -262,6 +262,7 @@ impl Source {
     /// Where that is the one before the newest, it is asked with the newest first.
     fn refused<L: Link>(&mut self, desk: &mut Desk, link: &mut L)
         ensures left { WasLeft self.old self.new (L.exchanges link.old) (L.exchanges link.new) }
+        ensures at_once { self.new.upstream.since ≡ desk.old.time }
     {
         if self.rechecking.is_going() {
             self.ask_newest(link, desk.time);
@@ -278,6 +279,7 @@ impl Source {
     /// The others are asked with the token, and after that the mirror forgets it.
     pub(crate) fn without_token<L: Link>(&mut self, link: &mut L, now: u64)
         ensures left { WasLeft self.old self.new (L.exchanges link.old) (L.exchanges link.new) }
+        ensures at_once { self.new.upstream.since ≡ now }
     {
         self.leave(link, now);
         self.figures.refuse_token(now);

@@ -251,6 +251,7 @@ impl Source {
     /// A server does not hold the token before the newest: it is asked with the newest.
     pub(crate) fn ask_newest<L: Link>(&mut self, link: &mut L, now: u64)
         ensures left { WasLeft self.old self.new (L.exchanges link.old) (L.exchanges link.new) }
+        ensures at_once { self.new.upstream.since ≡ now }
     {
         self.rechecking.refuse();
         self.ask_again(link, now);
@@ -260,6 +261,7 @@ impl Source {
     /// whether they have that, and then everything is asked for.
     fn forgot<L: Link>(&mut self, desk: &mut Desk, link: &mut L)
         ensures left { WasLeft self.old self.new (L.exchanges link.old) (L.exchanges link.new) }
+        ensures at_once { self.new.upstream.since ≡ desk.old.time }
     {
         if let Some(token) = self.answers.shown.node().token() {
             let forgot = Report::Forgot {

@@ -1,6 +1,6 @@
 //! The part of a turn that follows: the input, or a server; and writes the state file.
 
-ghost use Rattle.std.specs.Prelude.{◌≡◌, ◌≢◌, ◌⊎◌, [], List, ℕ, ◌≤◌, Some, Contains, IfSome, false, true, None};
+ghost use Rattle.std.specs.Prelude.{◌≡◌, ◌≢◌, ◌⊎◌, [], List, ℕ, ◌≤◌, Some, Contains, IfSome, is_some, false, true, None};
 ghost use Rattle.feed_node.specs.States.{NodeState};
 ghost use Rattle.feed_device.specs.Calls.{CalledAtLeastOnce};
 ghost use Rattle.feed_device.specs.Files.{IsKnown};
@@ -14,11 +14,12 @@ use feed_device::{Link, Report, Store};
 impl Live {
     ghost use Rattle.feed_live.specs.Relaying.{StillRelaying, OnlyServes, SameEnd};
     ghost use Rattle.feed_live.specs.Ending.{EndsWithInput};
-    ghost use Rattle.feed_screens.specs.Serving.{SaysAll};
+    ghost use Rattle.feed_live.specs.Answering.{has_heard};
+    ghost use Rattle.feed_screens.specs.Serving.{SaysAll, AllEnd};
     ghost use Rattle.feed_live.specs.Taking.{StillTaking, StopsTaking, bytes_in};
     ghost use Rattle.feed_files.specs.Saved.{ArePartsOfRecords, KeepsFiles};
-    ghost use Rattle.feed_live.specs.Ending.{SameSaved};
-    ghost use Rattle.feed_files.specs.Writing.{WaitsToRetry, IsToWrite};
+    ghost use Rattle.feed_live.specs.Ending.{SameBeside};
+    ghost use Rattle.feed_files.specs.Writing.{WaitsToRetry, IsToWrite, HasSaved};
     ghost use Rattle.feed_files.specs.declared.saved.Saved.{Saved};
 
     /// Says what had to wait.
@@ -28,7 +29,7 @@ impl Live {
             → at ≤ self.old.desk.time → SaysAll self.new.screens
             self.new.source.answers.shown.mirror.node self.old.desk.time }
         ensures serves { (sockets : AllSockets) → OnlyServes self.old self.new sockets sockets }
-        ensures saved { SameSaved self.old self.new }
+        ensures saved { SameBeside self.old self.new }
     {
         if self.screens.says_now(self.desk.time) {
             self.source.say_more(&self.desk, &mut self.screens);
@@ -43,7 +44,7 @@ impl Live {
             (bytes_in input.entry) sockets sockets }
         ensures stops { input.entry ≢ Input.End → (sockets : AllSockets)
             → StopsTaking self.old self.new (bytes_in input.entry) sockets }
-        ensures saved { SameSaved self.old self.new }
+        ensures saved { SameBeside self.old self.new }
         ensures ends { EndsWithInput self.old self.new input.entry }
     {
         match input {
@@ -60,7 +61,7 @@ impl Live {
         ensures taking { (sockets : AllSockets) → StillTaking self.old self.new piece.now
             sockets sockets }
         ensures stops { (sockets : AllSockets) → StopsTaking self.old self.new piece.now sockets }
-        ensures saved { SameSaved self.old self.new }
+        ensures saved { SameBeside self.old self.new }
         ensures ends { SameEnd self.old self.new }
     {
         if self.feeds {
@@ -76,11 +77,14 @@ impl Live {
             → StillRelaying self.old self.new exchanges exchanges sockets sockets }
         ensures taking { (sockets : AllSockets) → StillTaking self.old self.new []
             sockets sockets }
-        ensures saved { SameSaved self.old self.new }
+        ensures saved { SameBeside self.old self.new }
         ensures limits { self.new.limits ≡ self.old.limits }
         ensures ends { self.old.limits.ends_with_input ≡ false
             → self.new.ends_at ≡ self.old.ends_at }
         ensures sets { self.old.limits.ends_with_input ≡ true → self.new.ends_at ≢ None }
+        // then the bodies of all who follow are ended
+        ensures bodies { self.old.limits.ends_with_input ≡ true → self.old.ends_at ≡ None
+            → AllEnd self.new.screens.hub }
     {
         if self.feeds {
             self.desk.reports.add(Report::EndOfInput);
@@ -99,7 +103,10 @@ impl Live {
             (L.exchanges link.old) (L.exchanges link.new) sockets sockets }
         // where there is no server
         ensures nothing { self.old.source.places.items ≡ [] → self.new ≡ self.old }
-        ensures saved { SameSaved self.old self.new }
+        // where a server is heard now, those who waited for one are looked at again
+        ensures looks { has_heard self.old.source ≡ false → has_heard self.new.source ≡ true
+            → self.new.screens.has_more ≡ true }
+        ensures saved { SameBeside self.old self.new }
         ensures ends { SameEnd self.old self.new }
     {
         if self.ends_at.is_some() || !self.source.has_servers() {
@@ -119,7 +126,7 @@ impl Live {
     fn go_on<L: Link>(&mut self, link: &mut L)
         ensures relaying { (sockets : AllSockets) → StillRelaying self.old self.new
             (L.exchanges link.old) (L.exchanges link.new) sockets sockets }
-        ensures saved { SameSaved self.old self.new }
+        ensures saved { SameBeside self.old self.new }
         ensures ends { SameEnd self.old self.new }
     {
         if self.source.has_more() && self.screens.says_at().is_none() {
@@ -131,7 +138,7 @@ impl Live {
     fn settle<L: Link>(&mut self, link: &mut L)
         ensures relaying { (sockets : AllSockets) → StillRelaying self.old self.new
             (L.exchanges link.old) (L.exchanges link.new) sockets sockets }
-        ensures saved { SameSaved self.old self.new }
+        ensures saved { SameBeside self.old self.new }
         ensures ends { SameEnd self.old self.new }
     {
         self.source
@@ -162,6 +169,12 @@ impl Live {
             → IsToWrite self.old.source.answers.shown.mirror.node self.old.desk.time saved
             → CalledAtLeastOnce (D.appended store.old) (D.appended store.new)
             ⊎ IfSome self.new.saved (WaitsToRetry self.old.desk.time) }
+        // there still are state files; nothing but a failure puts them off, and where there is no
+        // more to write, they have all
+        ensures stores { is_some self.new.saved ≡ is_some self.old.saved }
+        ensures saved { IfSome self.old.saved (λ old. IfSome self.new.saved
+            (HasSaved self.old.source.answers.shown.mirror.node self.old.desk.time old.retry_at)) }
+        ensures reported { self.new.reported ≡ self.old.reported }
     {
         let Some(saved) = &mut self.saved else {
             return;

@@ -12,7 +12,7 @@ use feed_screens::Shown;
 
 impl Live {
     ghost use Rattle.feed_live.specs.Relaying.{OnlyServes};
-    ghost use Rattle.feed_live.specs.Ending.{SameSaved};
+    ghost use Rattle.feed_live.specs.Ending.{SameBeside, SameSaved};
     ghost use Rattle.feed_screens.specs.Held.{Waits};
     ghost use Rattle.feed_live.specs.Answering.{has_heard};
     ghost use Rattle.feed_screens.specs.Waiting.{TakesNobody};
@@ -21,7 +21,7 @@ impl Live {
     pub(super) fn tick<S: Sockets>(&mut self, sockets: &mut S)
         ensures serves { OnlyServes self.old self.new (S.socket sockets.old)
             (S.socket sockets.new) }
-        ensures saved { SameSaved self.old self.new }
+        ensures saved { SameBeside self.old self.new }
         ensures asks { S.asked sockets.new ≡ S.asked sockets.old }
     {
         if self.screens.are_none() {
@@ -42,7 +42,7 @@ impl Live {
     /// Says a line feed after silence.
     fn keep_alive(&mut self)
         ensures serves { (sockets : AllSockets) → OnlyServes self.old self.new sockets sockets }
-        ensures saved { SameSaved self.old self.new }
+        ensures saved { SameBeside self.old self.new }
     {
         self.screens.idle(&self.desk);
     }
@@ -52,7 +52,7 @@ impl Live {
     fn look_for_late<S: Sockets>(&mut self, sockets: &mut S)
         ensures serves { OnlyServes self.old self.new (S.socket sockets.old)
             (S.socket sockets.new) }
-        ensures saved { SameSaved self.old self.new }
+        ensures saved { SameBeside self.old self.new }
         ensures asks { S.asked sockets.new ≡ S.asked sockets.old }
     {
         self.ticked = self.desk.time;
@@ -66,7 +66,7 @@ impl Live {
     /// Forgets the texts that no screen has any more.
     fn tidy(&mut self)
         ensures serves { (sockets : AllSockets) → OnlyServes self.old self.new sockets sockets }
-        ensures saved { SameSaved self.old self.new }
+        ensures saved { SameBeside self.old self.new }
     {
         self.source.tidy();
         self.screens.tidy();
@@ -75,7 +75,7 @@ impl Live {
     /// Requests wait: those that waited for long enough are looked at again.
     fn hold(&mut self)
         ensures serves { (sockets : AllSockets) → OnlyServes self.old self.new sockets sockets }
-        ensures saved { SameSaved self.old self.new }
+        ensures saved { SameBeside self.old self.new }
     {
         self.screens.look_again();
         if self.desk.time >= self.limits.hold && !self.is_hold_reported {
@@ -88,7 +88,7 @@ impl Live {
     pub(super) fn serve<S: Sockets>(&mut self, sockets: &mut S, events: &[Ready], had_more: bool)
         ensures serves { OnlyServes self.old self.new (S.socket sockets.old)
             (S.socket sockets.new) }
-        ensures saved { SameSaved self.old self.new }
+        ensures saved { SameBeside self.old self.new }
         ensures asks { S.asked sockets.new ≡ S.asked sockets.old }
     {
         self.serve_more(sockets, had_more);
@@ -101,7 +101,7 @@ impl Live {
     fn serve_event<S: Sockets>(&mut self, sockets: &mut S, event: Ready)
         ensures serves { OnlyServes self.old self.new (S.socket sockets.old)
             (S.socket sockets.new) }
-        ensures saved { SameSaved self.old self.new }
+        ensures saved { SameBeside self.old self.new }
         ensures asks { S.asked sockets.new ≡ S.asked sockets.old }
     {
         if let Ready::Screen { at, .. } = event {
@@ -113,7 +113,7 @@ impl Live {
     fn serve_more<S: Sockets>(&mut self, sockets: &mut S, had_more: bool)
         ensures serves { OnlyServes self.old self.new (S.socket sockets.old)
             (S.socket sockets.new) }
-        ensures saved { SameSaved self.old self.new }
+        ensures saved { SameBeside self.old self.new }
         ensures asks { S.asked sockets.new ≡ S.asked sockets.old }
     {
         if !had_more {
@@ -137,7 +137,7 @@ impl Live {
             → sockets.new ≡ sockets.old }
         ensures serves { OnlyServes self.old self.new (S.socket sockets.old)
             (S.socket sockets.new) }
-        ensures saved { SameSaved self.old self.new }
+        ensures saved { SameBeside self.old self.new }
         ensures asks { S.asked sockets.new ≡ S.asked sockets.old }
     {
         let shown = Shown {
@@ -154,7 +154,7 @@ impl Live {
     pub(super) fn accept<S: Sockets>(&mut self, sockets: &mut S, events: &[Ready], now: u64)
         ensures serves { OnlyServes self.old self.new (S.socket sockets.old)
             (S.socket sockets.new) }
-        ensures saved { SameSaved self.old self.new }
+        ensures saved { SameBeside self.old self.new }
         // where an event says so, one is asked for at least, unless none is taken for now
         ensures asks { Contains events.now Ready.Listener
             → CalledAtLeastOnce (S.asked sockets.old) (S.asked sockets.new)
@@ -167,15 +167,16 @@ impl Live {
     }
 
     /// Reports how many screens there are, where that has changed.
-    pub(super) fn report(&mut self)
+    pub(super) fn report(&mut self, now: u64)
         ensures pauses { self.new.screens.accept_at ≡ self.old.screens.accept_at }
         ensures serves { (sockets : AllSockets) → OnlyServes self.old self.new sockets sockets }
         ensures saved { SameSaved self.old self.new }
+        ensures reported { (self.new.reported ≡ self.old.reported) ⊎ (self.new.reported ≡ now) }
     {
-        if self.desk.time.saturating_sub(self.reported) < SCREENS_REPORT {
+        if now.saturating_sub(self.reported) < SCREENS_REPORT {
             return;
         }
-        self.reported = self.desk.time;
+        self.reported = now;
         if let Some(report) = self.screens.report() {
             self.desk.reports.add(report);
         }

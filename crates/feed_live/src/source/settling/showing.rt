@@ -215,6 +215,7 @@ impl Source {
     /// What comes after the token that is shown is asked for, at the same server.
     pub(crate) fn ask_again<L: Link>(&mut self, link: &mut L, now: u64)
         ensures left { WasLeft self.old self.new (L.exchanges link.old) (L.exchanges link.new) }
+        ensures at_once { self.new.upstream.since ≡ now }
     {
         self.leave(link, now);
         self.figures.change(Following::Away, now);
@@ -227,6 +228,7 @@ impl Source {
     /// to settle. So is each server from here on.
     pub(crate) fn ignored<L: Link>(&mut self, desk: &mut Desk, link: &mut L)
         ensures left { WasLeft self.old self.new (L.exchanges link.old) (L.exchanges link.new) }
+        ensures at_once { self.new.upstream.since ≡ desk.old.time }
     {
         desk.reports.add(Report::Ignores {
             server: self.upstream.place(),

@@ -18,4 +18,5 @@ returns g c =
             (λ is. ap (λ m. m.node) ((c.refused.ensures.next is).1 ∙ shown)) (λ is. ap (λ m. m.node) (c.refused.ensures.fresh is).1 ∙ ap (λ m. m.node) shown);
         blank = ap (λ a. a.blank.mirror) c.leave.ensures.answers;
       };
+      at_once = either (has_another c.leave.new.self.upstream.refused c.leave.new.self.upstream.places) (λ is. (c.refused.ensures.next is).0.2) (λ is. (c.refused.ensures.fresh is).0.2);
     }

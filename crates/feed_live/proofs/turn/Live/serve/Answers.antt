@@ -1,5 +1,5 @@
 use Rattle.std.proofs.Common.{◌∙◌}
-use Rattle.feed_live.proofs.TurnLemmas.{serves_then}
+use Rattle.feed_live.proofs.TurnLemmas.{beside_then, serves_then}
 use Rattle.feed_live.proofs.turn.Live.serve.Goals as goal
 
 pub loop-event-preserved : goal.loop-event-preserved
@@ -7,5 +7,5 @@ loop-event-preserved g c =
     record {
       serves = serves_then c.serve_event.ensures.serves c.loop-event.invariant.serves;
       asks = c.serve_event.ensures.asks ∙ c.loop-event.invariant.asks;
-      saved = (c.serve_event.ensures.saved.0 ∙ c.loop-event.invariant.saved.0, c.serve_event.ensures.saved.1 ∙ c.loop-event.invariant.saved.1);
+      saved = beside_then c.serve_event.ensures.saved c.loop-event.invariant.saved;
     }

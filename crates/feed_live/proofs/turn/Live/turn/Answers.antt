@@ -1,11 +1,11 @@
-use Rattle.std.proofs.Common.{sym, ap, subst, ◌∙◌, ◌++◌}
-use Rattle.std.specs.Prelude.{Contains}
+use Rattle.std.proofs.Common.{◌≡◌, sym, ap, subst, ◌∙◌, ◌++◌}
+use Rattle.std.specs.Prelude.{◌⊎◌, Contains, is_some}
 use Rattle.feed_files.specs.Saved.{KeepsFiles}
-use Rattle.feed_live.specs.Ending.{SameSaved}
+use Rattle.feed_live.specs.Ending.{SameBeside, SameSaved}
 use Rattle.feed_files.specs.Input.{StopsInput}
 use Rattle.feed_live.specs.Taking.{bytes_in}
 use Rattle.feed_screens.proofs.ServingLemmas.{serving_noted}
-use Rattle.feed_live.proofs.TurnLemmas.{serves_then, screens_only, relays_on, takes_only, takes_still, asked_then, goes_with}
+use Rattle.feed_live.proofs.TurnLemmas.{beside_then, serves_then, screens_only, relays_on, takes_only, takes_still, asked_then, goes_with}
 use Rattle.feed_screens.proofs.OwedLemmas.{owes_what_is_kept}
 use Rattle.feed_live.proofs.turn.Live.turn.Goals as goal
 
@@ -16,14 +16,11 @@ returns g c =
     let drained = screens_only c.tick.new.self c.drain_due.new.self c.drain_due.new.desk
     (λ nodes shown blank serving. c.drain_due.ensures.serving nodes _ (subst (λ n. Contains nodes n) (sym c.node-node.ensures) shown) serving) in
     let served = serves_then (c.next.ensures.serves _) (serves_then c.accept.ensures.serves (serves_then c.serve.ensures.serves (serves_then drained (serves_then c.tick.ensures.serves (c.save.ensures.serves _))))) in
-    let before : SameSaved c.args.self.now c.follow.new.self = (
-      c.follow.ensures.saved.0 ∙ c.take_input.ensures.saved.0 ∙ c.say_more.ensures.saved.0 ∙ c.note.ensures.saved.0,
-      c.follow.ensures.saved.1 ∙ c.take_input.ensures.saved.1 ∙ c.say_more.ensures.saved.1 ∙ c.note.ensures.saved.1,
-    ) in
-    let after : SameSaved c.save.new.self c.next.new.self = (
-      c.next.ensures.saved.0 ∙ c.accept.ensures.saved.0 ∙ c.serve.ensures.saved.0 ∙ c.tick.ensures.saved.0,
-      c.next.ensures.saved.1 ∙ c.accept.ensures.saved.1 ∙ c.serve.ensures.saved.1 ∙ c.tick.ensures.saved.1,
-    ) in
+    let noted : SameBeside c.args.self.now c.note.new.self = record { saved = c.note.ensures.saved.saved; epoch = c.note.ensures.saved.epoch; reported = c.note.ensures.saved.reported } in
+    let before : SameBeside c.args.self.now c.follow.new.self = beside_then c.follow.ensures.saved (beside_then c.take_input.ensures.saved (beside_then c.say_more.ensures.saved noted)) in
+    let drained_so : SameBeside c.tick.new.self c.serve.new.self = record { saved = c.serve.ensures.saved.saved; epoch = c.serve.ensures.saved.epoch; reported = c.serve.ensures.saved.reported } in
+    let later : SameBeside c.save.new.self c.accept.new.self = beside_then c.accept.ensures.saved (beside_then drained_so c.tick.ensures.saved) in
+    let after : SameSaved c.save.new.self c.next.new.self = (c.next.ensures.saved.0 ∙ later.saved, c.next.ensures.saved.1 ∙ later.epoch) in
     let files_of = g.D.Store.files in
     record {
       relaying = λ limits log servers is.
@@ -41,16 +38,19 @@ returns g c =
           );
       kept = λ nodes shown files.
           subst (KeepsFiles nodes (files_of c.save.new.store)) (sym after.0)
-          (c.save.ensures.kept nodes (subst (λ m. Contains nodes m.node) served.source.shown shown) (subst (KeepsFiles nodes (files_of c.args.devices.now.store)) (sym before.0) files));
+          (c.save.ensures.kept nodes (subst (λ m. Contains nodes m.node) served.source.shown shown) (subst (KeepsFiles nodes (files_of c.args.devices.now.store)) (sym before.saved) files));
       parts = λ nodes shown files parts.
           c.save.ensures.parts nodes (subst (λ m. Contains nodes m.node) served.source.shown shown)
-          (subst (KeepsFiles nodes (files_of c.args.devices.now.store)) (sym before.0) files) parts;
+          (subst (KeepsFiles nodes (files_of c.args.devices.now.store)) (sym before.saved) files) parts;
       anew = λ newer nodes shown known.
           subst (KeepsFiles nodes (files_of c.save.new.store)) (sym after.0)
-          (c.save.ensures.anew (λ same. newer (served.epoch ∙ same ∙ before.1)) nodes (subst (λ m. Contains nodes m.node) served.source.shown shown) known);
+          (c.save.ensures.anew (λ same. newer (served.epoch ∙ same ∙ before.epoch)) nodes (subst (λ m. Contains nodes m.node) served.source.shown shown) known);
       wakes = c.next.ensures.wakes;
       says = c.next.ensures.says;
       awake = c.next.ensures.awake;
+      reported = subst (λ at. (c.next.new.self.reported ≡ at) ⊎ (c.next.new.self.reported ≡ c.args.now)) (later.reported ∙ c.save.ensures.reported ∙ before.reported) c.next.ensures.reported;
+      due = c.next.ensures.due;
+      stores = ap is_some after.0 ∙ c.save.ensures.stores ∙ ap is_some before.saved;
       owed = owes_what_is_kept c.next.new.self.screens;
       asks = λ waits.
           asked_then (g.S.Sockets.asked c.args.devices.now.sockets) _ _ c.accept.new.self.screens c.next.new.self.screens c.args.now
