@@ -1,12 +1,8 @@
-//! The few tests that are proved safe before they run.
+//! The tests of the longest lines and of many objects, proved safe before they run.
 #![tactic(auto)]
 
 #[cfg(test)]
 mod counts;
-#[cfg(test)]
-mod frames;
-#[cfg(test)]
-mod names;
 #[cfg(test)]
 mod splitter;
 #[cfg(test)]

@@ -1,74 +1,7 @@
-//! Lines that come in pieces.
+//! The longest line, and longer ones, that come in pieces.
 
-use feed_note::{SplitFault, Splitter, lines_of_pieces};
+use feed_note::{SplitFault, Splitter};
 use std::alloc::Global;
-
-/// The lines that a splitter gives now, each behind a bar. There are fewer than 100.
-fn append_lines(alloc: Global, splitter: &mut Splitter, text: &mut Vec<u8>) -> Option<()> {
-    for _ in 0..100 {
-        let Some(line) = splitter.next_line(alloc).ok()? else {
-            return Some(());
-        };
-        text.push(b'|').ok()?;
-        text.extend_from_slice(line.as_slice()).ok()?;
-    }
-    None
-}
-
-/// Whether a text that comes in pieces of this length has these lines.
-fn gives(alloc: Global, text: &[u8], length: usize, want: &[u8]) -> Option<bool> {
-    let mut splitter = Splitter::new(alloc);
-    let mut lines = Vec::new(alloc);
-    for piece in text.chunks(length.max(1)) {
-        splitter.push(piece).ok()?;
-        append_lines(alloc, &mut splitter, &mut lines)?;
-    }
-    Some(lines.as_slice() == want)
-}
-
-/// A line with an escape, one that ends in a carriage return and a line feed, an empty one, and a
-/// part of a line.
-const FEED: &[u8] =
-    b"{\"type\":\"teams\",\"id\":null,\"data\":[{\"id\":\"\\u00e9\"}],\"token\":\"a\"}\na\r\n\nb";
-
-const LINES: &[u8] =
-    b"|{\"type\":\"teams\",\"id\":null,\"data\":[{\"id\":\"\\u00e9\"}],\"token\":\"a\"}|a\r|";
-
-#[test]
-fn lines_do_not_depend_on_the_pieces(rt: HostRuntime) {
-    for length in 1..80 {
-        let given = gives(rt.alloc(), FEED, length, LINES);
-        assert_eq!(rt; given, Some(true), "pieces of {length}");
-    }
-}
-
-/// A text in two pieces, of which the first ends within an escape, and the lines that come with
-/// each.
-const PIECES: [(&[u8], &[u8]); 3] = [
-    (b"", b""),
-    (b"{\"id\":\"\\u00", b""),
-    (b"e9\"}\n", b"|{\"id\":\"\\u00e9\"}"),
-];
-
-/// How many pieces bring what they should.
-fn brought(alloc: Global) -> Option<usize> {
-    let mut splitter = Splitter::new(alloc);
-    let mut count: usize = 0;
-    for (piece, want) in PIECES {
-        let mut lines = Vec::new(alloc);
-        splitter.push(piece).ok()?;
-        append_lines(alloc, &mut splitter, &mut lines)?;
-        if lines.as_slice() == want {
-            count = count.saturating_add(1);
-        }
-    }
-    Some(count)
-}
-
-#[test]
-fn waits_for_the_line_feed(rt: HostRuntime) {
-    assert_eq!(rt; brought(rt.alloc()), Some(3));
-}
 
 /// The greatest number of bytes of a line.
 const LIMIT: usize = 16_777_216;
@@ -131,24 +64,4 @@ fn refuses_a_longer_line_for_good(rt: HostRuntime) {
             "pieces of {length}"
         );
     }
-}
-
-/// Whether a list of pieces has these lines as a whole.
-fn has_lines(alloc: Global, pieces: &[&str], want: &[u8]) -> Option<bool> {
-    let mut list = Vec::new(alloc);
-    for piece in pieces {
-        list.push(piece.as_bytes().to_vec(alloc).ok()?).ok()?;
-    }
-    let mut text = Vec::new(alloc);
-    for line in &lines_of_pieces(alloc, list.as_slice()).ok()? {
-        text.push(b'|').ok()?;
-        text.extend_from_slice(line.as_slice()).ok()?;
-    }
-    Some(text.as_slice() == want)
-}
-
-#[test]
-fn pieces_give_the_lines_of_the_whole(rt: HostRuntime) {
-    let pieces = ["a\nb", "", "c\n\nd"];
-    assert_eq!(rt; has_lines(rt.alloc(), &pieces, b"|a|bc|"), Some(true));
 }
