@@ -196,7 +196,8 @@ pub fn difference_of(
     primary: &Tables,
     screen: &Tables,
 ) -> Result<Difference, AllocError>
-    ensures { IfOk result (λ found. TellsDifference primary.now.contents screen.now.contents found) }
+    ensures { IfOk result (λ found.
+        TellsDifference primary.now.contents screen.now.contents found) }
 {
     let Some(place) = first_place(alloc, primary, screen)? else {
         return Ok(Difference::Same);

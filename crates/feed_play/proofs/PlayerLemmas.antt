@@ -10,7 +10,7 @@ use Rattle.feed_note.specs.Lines.{lines as lines_of}
 use Rattle.feed_node.specs.States.{NodeState, published_token}
 use Rattle.feed_world.specs.Log.{Log, numbered}
 use Rattle.feed_world.specs.Position.{node_where}
-use Rattle.feed_world.specs.States.{FollowerState, WorldState, IsWorld, AreMirrors, shown_at}
+use Rattle.feed_world.specs.States.{FollowingMirror, WorldState, IsWorld, AreMirrors, shown_at}
 use Rattle.feed_world.specs.World.{Mirror, World, node_of}
 use Rattle.feed_world.specs.declared.event.Event.{Event}
 use Rattle.feed_world.specs.declared.event.Event.TheVariants as event
@@ -28,7 +28,7 @@ use Rattle.feed_play.specs.declared.script.Action.TheVariants as action
 -- ---- what nodes show
 
 module _ (limits : Limits) (log : Log) where
-  shows_place : (ms : List Mirror) (fs : List FollowerState) → AreMirrors limits log ms fs → (i : ℕ) (node : NodeState) → slice_get (map (λ f. f.mirror.node) fs) i ≡ Some node
+  shows_place : (ms : List Mirror) (fs : List FollowingMirror) → AreMirrors limits log ms fs → (i : ℕ) (node : NodeState) → slice_get (map (λ f. f.mirror.node) fs) i ≡ Some node
       → (i < length ms) × (node ≡ node_where log (option_and_then (λ m. m.place) (slice_get ms i)))
   shows_place [] [] h i node e = absurd (cc)
   shows_place [] (f ∷ fs) h i node e = absurd h
@@ -43,7 +43,7 @@ module _ (limits : Limits) (log : Log) where
       some_same same = ap node_or same
   shows_place (m ∷ ms) (f ∷ fs) h (suc i) node e = let (less, same) = shows_place ms fs h.1 i node e in (omega arith, same)
 
-  shows_none : (ms : List Mirror) (fs : List FollowerState) → AreMirrors limits log ms fs → (i : ℕ) → slice_get (map (λ f. f.mirror.node) fs) i ≡ None → length ms ≤ i
+  shows_none : (ms : List Mirror) (fs : List FollowingMirror) → AreMirrors limits log ms fs → (i : ℕ) → slice_get (map (λ f. f.mirror.node) fs) i ≡ None → length ms ≤ i
   shows_none [] [] h i e = omega arith
   shows_none [] (f ∷ fs) h i e = absurd h
   shows_none (m ∷ ms) [] h i e = absurd h

@@ -13,7 +13,7 @@ use Rattle.feed_world.specs.declared.event.Reply.{Reply}
 use Rattle.feed_world.specs.declared.event.WorldFault.{WorldFault}
 use Rattle.feed_world.specs.declared.event.WorldFault.TheVariants.{NoNode, Memory}
 use Rattle.feed_world.specs.Position.{Position, IsPlace, node_where}
-use Rattle.feed_world.specs.States.{FollowerState, IsMirror, AreNodes, Moves, RefusesMove, NodesMove, IsAsked, IsFramedAs, BreaksConnect, all_shown, event_asking, node_asked, mirror_asks}
+use Rattle.feed_world.specs.States.{FollowingMirror, IsMirror, AreNodes, Moves, RefusesMove, NodesMove, IsAsked, IsFramedAs, BreaksConnect, all_shown, event_asking, node_asked, mirror_asks}
 use Rattle.feed_world.specs.Step.{Move, Outcome, outcome, at_node, is_free, IsRefused}
 use Rattle.feed_world.specs.World.{Mirror, World, is_other, place_at}
 use Rattle.feed_world.proofs.Moved.{Keeps, LeadsTo, keeps_connect, keeps_serve, same_length, mirror_of, IsShown, shown, within, nobody, at, leads, event_moves, refusal_broke, move_fails}
@@ -55,7 +55,7 @@ no_node w i j back true e (inl k) = ap (λ b. if b then at_node w i (act w (ForC
 no_node w i j back false e k = ap (λ b. if b then at_node w i (act w (ForConnection j back w.framing)) else Err NoNode) e
 no_node w i j back true e (inr k) = absurd (cc)
 
-pub asked_nobody : (w : World) (primary : PrimaryState) (fs : List FollowerState)
+pub asked_nobody : (w : World) (primary : PrimaryState) (fs : List FollowingMirror)
     → AreNodes w primary fs → (number : ℕ) (asks : Asks)
     → ((place : ℕ) → number ≡ suc place → length fs ≤ place)
     → IsRefused w (event_asking asks number) NoNode
@@ -88,9 +88,9 @@ is_not_there w i j out = by (nat_le j (length w.mirrors)) (j == i) refl refl
         ]
 
 -- the mirror of the number, between the others
-module _ (w : World) (primary : PrimaryState) (fs : List FollowerState) (h : AreNodes w primary fs)
-    (number place : ℕ) (same : number ≡ suc place) (d : FollowerState) (less : place < length fs)
-    (f : FollowerState) (is : f ≡ get_or fs place d) (early later : List FollowerState)
+module _ (w : World) (primary : PrimaryState) (fs : List FollowingMirror) (h : AreNodes w primary fs)
+    (number place : ℕ) (same : number ≡ suc place) (d : FollowingMirror) (less : place < length fs)
+    (f : FollowingMirror) (is : f ≡ get_or fs place d) (early later : List FollowingMirror)
     (size : length early ≡ place) (whole : early ++ f ∷ later ≡ fs) (asks : Asks)
     (j : ℕ) (asked : j ≡ node_asked asks f.upstream) (framed : IsFramedAs w.framing asks) where
   mine : (m : Mirror) → IsMirror w.limits (numbered w.log) m (get_or fs place d) → IsMirror w.limits (numbered w.log) m f
@@ -119,14 +119,14 @@ module _ (w : World) (primary : PrimaryState) (fs : List FollowerState) (h : Are
         k m (place_at w (node_asked asks m.upstream)) s.1 s.0 i
 
     -- the mirror moved, or following a refusal broke off
-    moves_on : (g : FollowerState) (reply : Reply) (a : Asks) → AsksOther w number a → IsFramedAs w.framing a
+    moves_on : (g : FollowingMirror) (reply : Reply) (a : Asks) → AsksOther w number a → IsFramedAs w.framing a
         → Moves w.limits (numbered w.log) (act w a (at w primary fs h number place same d less).0) reply g
         → NodesMove w primary (event_asking a number) reply (slice_set fs place g)
     moves_on g reply a o e moves =
         event_moves w primary (event_asking a number) reply _ (subst (λ q. LeadsTo w q primary reply (slice_set fs place g)) (is_event w number a o e)
         (leads w primary fs h number place same d less (act w a) (subst (λ i. Keeps w i (act w a)) same (keeps w number a o e)) reply g moves))
 
-    one_reply : (g : FollowerState) (reply : Reply) (a : Asks) → AsksOther w number a → IsFramedAs w.framing a
+    one_reply : (g : FollowingMirror) (reply : Reply) (a : Asks) → AsksOther w number a → IsFramedAs w.framing a
         → IsAsked w.limits (numbered w.log) a (at w primary fs h number place same d less).0 number (place_at w (node_asked a (at w primary fs h number place same d less).0.upstream)) reply g
         → NodesMove w primary (event_asking a number) reply (slice_set fs place g)
     one_reply g reply (ForConnection j back framing) o e (inl moves) = moves_on g reply (ForConnection j back framing) o e moves
@@ -135,7 +135,7 @@ module _ (w : World) (primary : PrimaryState) (fs : List FollowerState) (h : Are
         (subst (λ q. BreaksConnect w.limits (numbered w.log) q (at w primary fs h number place same d less).0 j back (place_at w j) g) e broke.1)
     one_reply g reply ForCommit o e moves = moves_on g reply ForCommit o e moves
 
-    pub asked_leads : (new : List FollowerState) (g : FollowerState) → new ≡ slice_set fs place g
+    pub asked_leads : (new : List FollowingMirror) (g : FollowingMirror) → new ≡ slice_set fs place g
         → (r : Result Reply WorldFault)
         → ((m : Mirror) (at : Option Position) → IsPlace w.limits (numbered w.log) at
         → node ≡ node_where (numbered w.log) at → IsMirror w.limits (numbered w.log) m f

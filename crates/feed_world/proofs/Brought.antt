@@ -14,7 +14,7 @@ use Rattle.feed_node.specs.States.{published_token}
 use Rattle.feed_node.specs.Steps.{ReadingIsOne}
 use Rattle.feed_follow.specs.declared.fault.FollowFault.{FollowFault}
 use Rattle.feed_follow.specs.declared.fault.FollowFault.TheVariants.{Closed, LongHead, BadHead, Status, BadCoding, BadLength, BadChunk, Feed, Memory as FollowMemory}
-use Rattle.feed_follow.specs.Follower.{FollowerState as ReaderState, FollowsAt, GoesOn}
+use Rattle.feed_follow.specs.Follower.{FollowerState, FollowsAt, GoesOn}
 use Rattle.feed_follow.specs.declared.fault.Progress.{Progress}
 use Rattle.feed_follow.specs.declared.follower.Part.TheVariants.{Closed as NoMore}
 use Rattle.feed_follow.specs.Following.{HasReached, IsCutAfter, Leaves, HasBadLine, HasLostSome, Fails}
@@ -28,7 +28,7 @@ use Rattle.feed_world.specs.Connection.{Part, Snapshot, Commit, Line_feed, Conne
 use Rattle.feed_world.specs.Log.{Log, IsLog, IsDecimal}
 use Rattle.feed_world.specs.Position.{Position, node_where, renewed, IsPosition, IsPlace}
 use Rattle.feed_world.specs.Reading.{opening_at, IsOpened, PrefixesAreRead}
-use Rattle.feed_world.specs.States.{ConnectionState, FollowerState, IsConnection, HasAsked, IsReading, AreLinked, IsMirror, asks_with, Moves, BreaksMirror, IsBrought, Brings, next_bytes, delivered_after, published_between}
+use Rattle.feed_world.specs.States.{ConnectionState, FollowingMirror, IsConnection, HasAsked, IsReading, AreLinked, IsMirror, asks_with, Moves, BreaksMirror, IsBrought, Brings, next_bytes, delivered_after, published_between}
 use Rattle.feed_world.specs.Step.{reached, delivers, with_connection, mirror_delivers, brought_to, IsMemory}
 use Rattle.feed_world.specs.World.{Mirror}
 use Rattle.feed_world.proofs.Commits.{light_here, renewed_is_position}
@@ -244,7 +244,7 @@ module _ (prefixes : PrefixesAreRead) (one : ReadingIsOne) (responses : Response
       by false e l = in_body_then place c n begun mirror o asked l
 
   -- the mirror of the world, and what it has followed
-  module _ (m : Mirror) (c : Connection) (f : FollowerState) (reader : ReaderState) (h : IsMirror limits log m f) (r : IsReading limits log m c reader f.mirror) (fits : length (sent_bytes log c) < 2 ^ 64) where
+  module _ (m : Mirror) (c : Connection) (f : FollowingMirror) (reader : FollowerState) (h : IsMirror limits log m f) (r : IsReading limits log m c reader f.mirror) (fits : length (sent_bytes log c) < 2 ^ 64) where
     followed_before : FollowsTo limits log r.before c c.delivered f.mirror
     followed_before =
         follows_to r.before c c.delivered r.begun f.mirror r.opened r.asked
@@ -482,7 +482,7 @@ some_pushed s bytes fault answer within closed nothing memory = by (nat_lt s.del
         let both = nothing none going in
         absurd (cc)
 
-pub brings_more : (s : ConnectionState) (bytes end : ℕ) (piece : List ℕ) (reader : ReaderState) (old new : MirrorState) (answer : Progress) → end ≡ delivered_after s bytes
+pub brings_more : (s : ConnectionState) (bytes end : ℕ) (piece : List ℕ) (reader : FollowerState) (old new : MirrorState) (answer : Progress) → end ≡ delivered_after s bytes
     → piece ≡ drop s.delivered (take end s.bytes) → new.limits ≡ old.limits
     → ((start : MirrorState) (before : List ℕ) (standing : Standing) → FollowsAt start before standing s.reader old → GoesOn start (before ++ piece) reader new answer)
     → Brings s bytes old (record { token = s.token; framing = s.framing; reader = reader; bytes = s.bytes; delivered = end; start = s.start; over = s.over }) new
@@ -500,7 +500,7 @@ brings_more s bytes end piece reader old new answer at is limits goes =
 -- ---- a delivery
 
 module _ (prefixes : PrefixesAreRead) (one : ReadingIsOne) (responses : ResponsesAreFollowed) (carry : PrefixesCarryMore) (limits : Limits) (log : Log) (is_log : IsLog limits log) (decimal : IsDecimal log)
-    (m : Mirror) (f : FollowerState) (h : IsMirror limits log m f) (s : ConnectionState) (bytes : ℕ) where
+    (m : Mirror) (f : FollowingMirror) (h : IsMirror limits log m f) (s : ConnectionState) (bytes : ℕ) where
   module _ (c : Connection) (k : IsConnection log c s) (r : IsReading limits log m c s.reader f.mirror) (small : length s.bytes < 2 ^ 64) where
     fits : length (sent_bytes log c) < 2 ^ 64
     fits = subst (λ bs. length bs < 2 ^ 64) k.bytes small

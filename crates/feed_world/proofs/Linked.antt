@@ -10,14 +10,14 @@ use Rattle.feed_node.specs.declared.session.Pulled.{Pulled}
 use Rattle.feed_node.specs.declared.session.Pulled.TheVariants.{More, UpToDate, Gone}
 use Rattle.feed_node.specs.Mirroring.{MirrorState}
 use Rattle.feed_tables.specs.Tables.{listing}
-use Rattle.feed_follow.specs.Follower.{FollowerState as ReaderState, FollowsAt}
+use Rattle.feed_follow.specs.Follower.{FollowerState, FollowsAt}
 use Rattle.feed_answer.specs.Framed.{frame}
 use Rattle.feed_world.specs.declared.event.Reply.{Reply}
 use Rattle.feed_world.specs.declared.event.Reply.TheVariants.{Sent, Idled}
 use Rattle.feed_world.specs.Connection.{Connection, Part, Snapshot, Commit, Line_feed, part_text, parts_text, sent_bytes, bytes_sent, come_by, block_onto, blocks_within, moved_by, first_parts, GoOn, IsInOrder}
 use Rattle.feed_world.specs.Log.{Log, IsLog, state_after, changes_of_commit}
 use Rattle.feed_world.specs.Position.{Position, IsPlace}
-use Rattle.feed_world.specs.States.{ConnectionState, FollowerState, IsConnection, IsReading, AreLinked, IsMirror, Moves}
+use Rattle.feed_world.specs.States.{ConnectionState, FollowingMirror, IsConnection, IsReading, AreLinked, IsMirror, Moves}
 use Rattle.feed_world.specs.Step.{serves, serves_from, idles, with_more, with_line_feed, ended, linked, with_connection, mirror_serves, mirror_idles}
 use Rattle.feed_world.specs.World.{Mirror}
 use Rattle.feed_world.proofs.Growth.{goes_up, sending_keeps_order}
@@ -108,7 +108,7 @@ module _ (limits : Limits) (log : Log) where
   pub none_at_first : (c : Connection) → IsLog limits log → IsInOrder c → c.last ≤ length log.commits → blocks_within log c.parts 0 ≡ []
   none_at_first c is_log order sent = no_block (blocks_within log c.parts 0) (parts_have_text c is_log order sent 0)
 
-module _ (limits : Limits) (log : Log) (m : Mirror) (c : Connection) (reader : ReaderState) (mirror : MirrorState) (reading : IsReading limits log m c reader mirror) (next : Option Connection) where
+module _ (limits : Limits) (log : Log) (m : Mirror) (c : Connection) (reader : FollowerState) (mirror : MirrorState) (reading : IsReading limits log m c reader mirror) (next : Option Connection) where
   ended_reading : IsReading limits log (linked m next) (ended c) reader mirror
   ended_reading =
       let opened = reading.opened in
@@ -184,12 +184,12 @@ served_any limits log c place P h now over more = chosen (λ (r : Pulled × Conn
 -- ---- mirrors
 
 -- the mirror with another connection
-mirror_on : (limits : Limits) (log : Log) (m : Mirror) (f : FollowerState) (next : Option Connection) (other : Option ConnectionState) → IsMirror limits log m f
+mirror_on : (limits : Limits) (log : Log) (m : Mirror) (f : FollowingMirror) (next : Option Connection) (other : Option ConnectionState) → IsMirror limits log m f
     → AreLinked limits log (linked m next) next (record f { connection = other }) other
     → IsMirror limits log (linked m next) (record f { connection = other })
 mirror_on limits log m f next other is l = record { place = is.place; upstream = is.upstream; bounds = is.bounds; node = is.node; since = is.since; linked = l; in_log = is.in_log; saved = is.saved }
 
-pub mirror_served : (limits : Limits) (log : Log) (m : Mirror) (place : Option Position) (f : FollowerState) (s : ConnectionState) → f.connection ≡ Some s
+pub mirror_served : (limits : Limits) (log : Log) (m : Mirror) (place : Option Position) (f : FollowingMirror) (s : ConnectionState) → f.connection ≡ Some s
     → IsLog limits log → IsPlace limits log place → IsMirror limits log m f → (pulled : Pulled) (t : ConnectionState) → t.reader ≡ s.reader
     → ((c : Connection) → c.last ≤ length log.commits → IsConnection log c s → (pulled ≡ (serves c place).0) × IsConnection log (serves c place).1 t)
     → Moves limits log (mirror_serves m place) (Sent pulled) (record f { connection = Some t })
@@ -213,7 +213,7 @@ mirror_served limits log m place f s held is_log is_place is pulled t same servi
           ),
         )
 
-pub mirror_idled : (limits : Limits) (log : Log) (m : Mirror) (f : FollowerState) (s : ConnectionState) → f.connection ≡ Some s
+pub mirror_idled : (limits : Limits) (log : Log) (m : Mirror) (f : FollowingMirror) (s : ConnectionState) → f.connection ≡ Some s
     → IsMirror limits log m f → (reply : Reply) (t : ConnectionState) → t.reader ≡ s.reader
     → ((c : Connection) → IsConnection log c s → (reply ≡ (idles c).0) × IsConnection log (idles c).1 t)
     → Moves limits log (mirror_idles m) reply (record f { connection = Some t })

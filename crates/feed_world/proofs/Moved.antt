@@ -16,32 +16,32 @@ use Rattle.feed_world.specs.declared.event.WorldFault.TheVariants.{NoNode, NoCon
 use Rattle.feed_world.specs.Log.{Log, numbered}
 use Rattle.feed_world.specs.Connection.{Connection}
 use Rattle.feed_world.specs.Position.{Position, IsPlace, node_where}
-use Rattle.feed_world.specs.States.{FollowerState, IsMirror, ConnectionState, AreLinked, AreMirrors, AreNodes, Moves, RefusesMove, BreaksMirror, BreaksConnect, NodesMove, IsBrought, all_shown}
+use Rattle.feed_world.specs.States.{FollowingMirror, IsMirror, ConnectionState, AreLinked, AreMirrors, AreNodes, Moves, RefusesMove, BreaksMirror, BreaksConnect, NodesMove, IsBrought, all_shown}
 use Rattle.feed_world.specs.Step.{Move, Outcome, outcome, at_node, with_node, after_move, with_connection, is_free, is_free_reply, IsRefused, Breaks, BreaksRefusal, BrokeForMemory, linked, mirror_connects, mirror_serves, mirror_idles, mirror_delivers, mirror_cuts, mirror_saves, mirror_restarts, turned_to, connects, connects_to, holds_number, brought_to}
 use Rattle.feed_world.specs.World.{Mirror, World, is_other, mirror_at, with_mirror, place_at}
 
 -- ---- lists of mirrors
 
 module _ (limits : Limits) (log : Log) where
-  pub same_length : (ms : List Mirror) (fs : List FollowerState) → AreMirrors limits log ms fs → length ms ≡ length fs
+  pub same_length : (ms : List Mirror) (fs : List FollowingMirror) → AreMirrors limits log ms fs → length ms ≡ length fs
   same_length [] [] h = refl
   same_length [] (f ∷ fs) h = absurd h
   same_length (m ∷ ms) [] h = absurd h
   same_length (m ∷ ms) (f ∷ fs) h = ap suc (same_length ms fs h.1)
 
-  pub mirror_of : (ms : List Mirror) (fs : List FollowerState) (place : ℕ) (f : FollowerState) → AreMirrors limits log ms fs → slice_get fs place ≡ Some f
+  pub mirror_of : (ms : List Mirror) (fs : List FollowingMirror) (place : ℕ) (f : FollowingMirror) → AreMirrors limits log ms fs → slice_get fs place ≡ Some f
       → (m : Mirror) × (slice_get ms place ≡ Some m) × IsMirror limits log m f
   mirror_of [] [] place f h e = absurd (cc)
   mirror_of [] (g ∷ fs) place f h e = absurd h
   mirror_of (m ∷ ms) [] place f h e = absurd h
   mirror_of (m ∷ ms) (g ∷ fs) zero f h e = (m, refl, subst (λ o. option_is (IsMirror limits log m) o) e h.0)
     where
-      option_is : (FollowerState → Type 0) → Option FollowerState → Type 0
+      option_is : (FollowingMirror → Type 0) → Option FollowingMirror → Type 0
       option_is P None = Unit {0}
       option_is P (Some x) = P x
   mirror_of (m ∷ ms) (g ∷ fs) (suc place) f h e = mirror_of ms fs place f h.1 e
 
-  set_both : (ms : List Mirror) (fs : List FollowerState) (place : ℕ) (m : Mirror) (f : FollowerState) → AreMirrors limits log ms fs → IsMirror limits log m f
+  set_both : (ms : List Mirror) (fs : List FollowingMirror) (place : ℕ) (m : Mirror) (f : FollowingMirror) → AreMirrors limits log ms fs → IsMirror limits log m f
       → AreMirrors limits log (slice_set ms place m) (slice_set fs place f)
   set_both [] [] place m f h k = h
   set_both [] (g ∷ fs) place m f h k = absurd h
@@ -75,8 +75,8 @@ length_set (m ∷ ms) (suc place) n = ap suc (length_set ms place n)
 
 -- ---- one mirror moves
 
-module _ (w : World) (primary : PrimaryState) (fs : List FollowerState) (h : AreNodes w primary fs) where
-  put_back : (place : ℕ) (n : Mirror) (f : FollowerState) → is_other w (suc place) n.upstream ≡ true → IsMirror w.limits (numbered w.log) n f
+module _ (w : World) (primary : PrimaryState) (fs : List FollowingMirror) (h : AreNodes w primary fs) where
+  put_back : (place : ℕ) (n : Mirror) (f : FollowingMirror) → is_other w (suc place) n.upstream ≡ true → IsMirror w.limits (numbered w.log) n f
       → AreNodes (with_mirror w (suc place) n) primary (slice_set fs place f)
   put_back place n f other k =
       record {
@@ -90,7 +90,7 @@ module _ (w : World) (primary : PrimaryState) (fs : List FollowerState) (h : Are
       }
 
 -- the outcome is this reply and a world of these nodes
-pub record LeadsTo (w : World) (o : Outcome) (primary : PrimaryState) (reply : Reply) (fs : List FollowerState) : Type 0 where
+pub record LeadsTo (w : World) (o : Outcome) (primary : PrimaryState) (reply : Reply) (fs : List FollowingMirror) : Type 0 where
   pub after : World
   pub outcome : o ≡ Ok (reply, after)
   pub limits : after.limits ≡ w.limits
@@ -98,8 +98,8 @@ pub record LeadsTo (w : World) (o : Outcome) (primary : PrimaryState) (reply : R
   pub log : after.log ≡ w.log
   pub nodes : AreNodes after primary fs
 
-pub moved : (w : World) (primary : PrimaryState) (fs : List FollowerState) → AreNodes w primary fs → (place : ℕ) (m : Mirror) (r : Result Move WorldFault) → slice_get w.mirrors place ≡ Some m
-    → IfOk r (λ move. is_other w (suc place) move.1.upstream ≡ true) → (reply : Reply) (f : FollowerState) → Moves w.limits (numbered w.log) r reply f
+pub moved : (w : World) (primary : PrimaryState) (fs : List FollowingMirror) → AreNodes w primary fs → (place : ℕ) (m : Mirror) (r : Result Move WorldFault) → slice_get w.mirrors place ≡ Some m
+    → IfOk r (λ move. is_other w (suc place) move.1.upstream ≡ true) → (reply : Reply) (f : FollowingMirror) → Moves w.limits (numbered w.log) r reply f
     → LeadsTo w (after_move w (suc place) r) primary reply (slice_set fs place f)
 moved w primary fs h place m (Err fault) there keeps reply f k = absurd k
 moved w primary fs h place m (Ok move) there keeps reply f k =
@@ -195,8 +195,8 @@ keeps_restart w i n m = still_other w i m.upstream (mirror_restarts (numbered w.
 abbrev pub IsShown : World → ℕ → NodeState → Type 0
 IsShown w i node = (node ≡ node_where (numbered w.log) (place_at w i)) × IsPlace w.limits (numbered w.log) (place_at w i)
 
-module _ (w : World) (primary : PrimaryState) (fs : List FollowerState) (h : AreNodes w primary fs) where
-  shown_mirror : (ms : List Mirror) (gs : List FollowerState) (i : ℕ) (node : NodeState) → AreMirrors w.limits (numbered w.log) ms gs → slice_get (map (λ f. f.mirror.node) gs) i ≡ Some node
+module _ (w : World) (primary : PrimaryState) (fs : List FollowingMirror) (h : AreNodes w primary fs) where
+  shown_mirror : (ms : List Mirror) (gs : List FollowingMirror) (i : ℕ) (node : NodeState) → AreMirrors w.limits (numbered w.log) ms gs → slice_get (map (λ f. f.mirror.node) gs) i ≡ Some node
       → (node ≡ node_where (numbered w.log) (option_and_then (λ m. m.place) (slice_get ms i))) × IsPlace w.limits (numbered w.log) (option_and_then (λ m. m.place) (slice_get ms i))
   shown_mirror [] [] i node k e = absurd (cc)
   shown_mirror [] (g ∷ gs) i node k e = absurd k
@@ -223,7 +223,7 @@ module _ (w : World) (primary : PrimaryState) (fs : List FollowerState) (h : Are
   shown (suc i) node e = shown_mirror w.mirrors fs i node h.mirrors e
 
 -- it is one of the nodes
-pub within : (w : World) (primary : PrimaryState) (fs : List FollowerState) → AreNodes w primary fs → (i : ℕ) (node : NodeState) → slice_get (all_shown primary fs) i ≡ Some node → i ≤ length w.mirrors
+pub within : (w : World) (primary : PrimaryState) (fs : List FollowingMirror) → AreNodes w primary fs → (i : ℕ) (node : NodeState) → slice_get (all_shown primary fs) i ≡ Some node → i ≤ length w.mirrors
 within w primary fs h i node e =
     let a = slice_get_within (all_shown primary fs) i node e in
     let b = length-map fs (λ f. f.mirror.node) in
@@ -232,17 +232,17 @@ within w primary fs h i node e =
 
 -- ---- events
 
-pub event_moves : (w : World) (primary : PrimaryState) (event : Event) (reply : Reply) (fs : List FollowerState) → LeadsTo w (outcome w event) primary reply fs → NodesMove w primary event reply fs
+pub event_moves : (w : World) (primary : PrimaryState) (event : Event) (reply : Reply) (fs : List FollowingMirror) → LeadsTo w (outcome w event) primary reply fs → NodesMove w primary event reply fs
 event_moves w primary event reply fs l = (l.after, record { step = inl l.outcome; limits = l.limits; framing = l.framing; log = l.log }, l.nodes)
 
 -- a mirror without a connection has none in memory, and the other way round
-no_link : (limits : Limits) (log : Log) (m : Mirror) (f : FollowerState) (c : Option Connection) (s : Option ConnectionState) → AreLinked limits log m c f s → s ≡ None → c ≡ None
+no_link : (limits : Limits) (log : Log) (m : Mirror) (f : FollowingMirror) (c : Option Connection) (s : Option ConnectionState) → AreLinked limits log m c f s → s ≡ None → c ≡ None
 no_link limits log m f None s k e = refl
 no_link limits log m f (Some c) None k e = absurd k
 no_link limits log m f (Some c) (Some s) k e = absurd (cc)
 
 -- where there is no connection, a cut and a delivery are refused
-module _ (limits : Limits) (log : Log) (m : Mirror) (f : FollowerState) (act : Connection → Move) where
+module _ (limits : Limits) (log : Log) (m : Mirror) (f : FollowingMirror) (act : Connection → Move) where
   unlinked : (fault : WorldFault) → IsMirror limits log m f → (fault ≡ NoConnection) × (f.connection ≡ None) → RefusesMove (with_connection m.connection act) fault
   unlinked fault k e = subst (λ o. RefusesMove (with_connection o act) fault) (sym (no_link limits log m f m.connection f.connection k.linked e.1)) e.0
 
@@ -255,12 +255,12 @@ no_mirror : (w : World) (number : ℕ) (act : Mirror → Result Move WorldFault)
 no_mirror w zero act k = refl
 no_mirror w (suc place) act k = ap (λ o. with_node w (suc place) o act) (slice_get_past w.mirrors place (k place refl))
 
-pub nobody : (w : World) (primary : PrimaryState) (fs : List FollowerState) → AreNodes w primary fs → (number : ℕ) (act : Mirror → Result Move WorldFault)
+pub nobody : (w : World) (primary : PrimaryState) (fs : List FollowingMirror) → AreNodes w primary fs → (number : ℕ) (act : Mirror → Result Move WorldFault)
     → ((place : ℕ) → number ≡ suc place → length fs ≤ place) → at_node w number act ≡ Err NoNode
 nobody w primary fs h number act k =
     no_mirror w number act (λ place e. let l = same_length w.limits (numbered w.log) w.mirrors fs h.mirrors in let m = k place e in omega arith)
 
-module _ (w : World) (primary : PrimaryState) (fs : List FollowerState) (h : AreNodes w primary fs) (number place : ℕ) (same : number ≡ suc place) (d : FollowerState) (less : place < length fs) where
+module _ (w : World) (primary : PrimaryState) (fs : List FollowingMirror) (h : AreNodes w primary fs) (number place : ℕ) (same : number ≡ suc place) (d : FollowingMirror) (less : place < length fs) where
   -- the mirror of this number
   pub at : (m : Mirror) × (slice_get w.mirrors place ≡ Some m) × IsMirror w.limits (numbered w.log) m (get_or fs place d)
   at = mirror_of w.limits (numbered w.log) w.mirrors fs place (get_or fs place d) h.mirrors (slice_get-get_or fs place d less)
@@ -269,7 +269,7 @@ module _ (w : World) (primary : PrimaryState) (fs : List FollowerState) (h : Are
   other_at : is_other w (suc place) at.0.upstream ≡ true
   other_at = subst (λ o. IfSome o (λ m. is_other w (suc place) m.upstream ≡ true)) at.1 (h.others place)
 
-  pub leads : (act : Mirror → Result Move WorldFault) → Keeps w (suc place) act → (reply : Reply) (f : FollowerState) → Moves w.limits (numbered w.log) (act at.0) reply f
+  pub leads : (act : Mirror → Result Move WorldFault) → Keeps w (suc place) act → (reply : Reply) (f : FollowingMirror) → Moves w.limits (numbered w.log) (act at.0) reply f
       → LeadsTo w (at_node w number act) primary reply (slice_set fs place f)
   leads act keeps reply f k =
       subst (λ n. LeadsTo w (at_node w n act) primary reply (slice_set fs place f)) (sym same)
@@ -281,7 +281,7 @@ module _ (w : World) (primary : PrimaryState) (fs : List FollowerState) (h : Are
       (subst (λ o. RefusesOutcome o fault) (sym (outcome_at w place at.0 act at.1)) (move_refused w (suc place) (act at.0) fault k))
 
   -- an event at which the mirror makes this move
-  pub move_leads : (event : Event) (act : Mirror → Result Move WorldFault) → at_node w number act ≡ outcome w event → Keeps w (suc place) act → (r : Result Reply WorldFault) (f : FollowerState)
+  pub move_leads : (event : Event) (act : Mirror → Result Move WorldFault) → at_node w number act ≡ outcome w event → Keeps w (suc place) act → (r : Result Reply WorldFault) (f : FollowingMirror)
       → ((m : Mirror) → IsMirror w.limits (numbered w.log) m (get_or fs place d) → IfOk r (λ reply. Moves w.limits (numbered w.log) (act m) reply f))
       → IfOk r (λ reply. NodesMove w primary event reply (slice_set fs place f))
   move_leads event act is keeps (Ok reply) f k =
@@ -295,7 +295,7 @@ module _ (w : World) (primary : PrimaryState) (fs : List FollowerState) (h : Are
   move_fails act (Ok reply) k = tt
   move_fails act (Err fault) k = refused_by (at_node w number act) fault (refuses act fault (k at.0 at.2))
 
-  broken : (n : ℕ) (reply : Reply) (f : FollowerState) → BrokeForMemory number reply → BreaksMirror w.limits (numbered w.log) at.0 n f → NodesMove w primary (Deliver number n) reply (slice_set fs place f)
+  broken : (n : ℕ) (reply : Reply) (f : FollowingMirror) → BrokeForMemory number reply → BreaksMirror w.limits (numbered w.log) at.0 n f → NodesMove w primary (Deliver number n) reply (slice_set fs place f)
   broken n reply f is b =
       let after : World = with_mirror w (suc place) (brought_to w.limits.history (numbered w.log) at.0 b.connection b.e None) in
       let breaks : Breaks w number n after = record {
@@ -311,13 +311,13 @@ module _ (w : World) (primary : PrimaryState) (fs : List FollowerState) (h : Are
       } in
       (after, record { step = inr (is, breaks); limits = refl; framing = refl; log = refl }, put_back w primary fs h place _ f other_at b.is_mirror)
 
-  delivered : (n : ℕ) (reply : Reply) (f : FollowerState) → IsBrought w.limits (numbered w.log) at.0 number n reply f → NodesMove w primary (Deliver number n) reply (slice_set fs place f)
+  delivered : (n : ℕ) (reply : Reply) (f : FollowingMirror) → IsBrought w.limits (numbered w.log) at.0 number n reply f → NodesMove w primary (Deliver number n) reply (slice_set fs place f)
   delivered n reply f (inl moves) =
       event_moves w primary (Deliver number n) reply _ (leads (mirror_delivers w.limits.history (numbered w.log) n) (keeps_deliver w (suc place) n) reply f moves)
   delivered n reply f (inr broke) = broken n reply f broke.0 broke.1
 
   -- a connect at which following the refusal broke off
-  pub refusal_broke : (j back : ℕ) (reply : Reply) (f : FollowerState) → is_other w number j ≡ true → BrokeForMemory number reply
+  pub refusal_broke : (j back : ℕ) (reply : Reply) (f : FollowingMirror) → is_other w number j ≡ true → BrokeForMemory number reply
       → BreaksConnect w.limits (numbered w.log) w.framing at.0 j back (place_at w j) f → NodesMove w primary (Connect number j back) reply (slice_set fs place f)
   refusal_broke j back reply f other is b =
       let after : World = with_mirror w (suc place) (linked (turned_to j at.0) None) in
@@ -330,7 +330,7 @@ module _ (w : World) (primary : PrimaryState) (fs : List FollowerState) (h : Are
       } in
       (after, record { step = inr (is, breaks); limits = refl; framing = refl; log = refl }, put_back w primary fs h place _ f (ap (λ k. is_other w k j) (sym same) ∙ other) b.is_mirror)
 
-  pub deliver_leads : (n : ℕ) (r : Result Reply WorldFault) (f : FollowerState)
+  pub deliver_leads : (n : ℕ) (r : Result Reply WorldFault) (f : FollowingMirror)
       → ((m : Mirror) → IsMirror w.limits (numbered w.log) m (get_or fs place d) → IfOk r (λ reply. IsBrought w.limits (numbered w.log) m number n reply f)) → IfOk r (λ reply. NodesMove w primary (Deliver number n) reply (slice_set fs place f))
   deliver_leads n (Ok reply) f k = delivered n reply f (k at.0 at.2)
   deliver_leads n (Err fault) f k = tt
@@ -343,79 +343,79 @@ module _ (w : World) (primary : PrimaryState) (fs : List FollowerState) (h : Are
 
 -- ---- a mirror between the others
 
-set_between : (fs : List FollowerState) (place : ℕ) (g : FollowerState) → take place fs ++ (slice_set (take 1 (drop place fs)) 0 g ++ drop 1 (drop place fs)) ≡ slice_set fs place g
+set_between : (fs : List FollowingMirror) (place : ℕ) (g : FollowingMirror) → take place fs ++ (slice_set (take 1 (drop place fs)) 0 g ++ drop 1 (drop place fs)) ≡ slice_set fs place g
 set_between [] zero g = refl
 set_between (f ∷ fs) zero g = refl
 set_between [] (suc place) g = refl
 set_between (f ∷ fs) (suc place) g = ap (λ xs. f ∷ xs) (set_between fs place g)
 
-pub put_between : (fs early rest own later : List FollowerState) (place : ℕ) (g : FollowerState) → early ≡ take place fs → rest ≡ drop place fs → own ≡ take 1 rest → later ≡ drop 1 rest
+pub put_between : (fs early rest own later : List FollowingMirror) (place : ℕ) (g : FollowingMirror) → early ≡ take place fs → rest ≡ drop place fs → own ≡ take 1 rest → later ≡ drop 1 rest
     → early ++ (slice_set own 0 g ++ later) ≡ slice_set fs place g
 put_between fs early rest own later place g e r o l =
     (λ i. e i ++ (slice_set ((o ∙ ap (take 1) r) i) 0 g ++ (l ∙ ap (drop 1) r) i)) ∙ set_between fs place g
 
-around : (fs : List FollowerState) (place : ℕ) (d : FollowerState) → place < length fs → take place fs ++ get_or fs place d ∷ drop 1 (drop place fs) ≡ fs
+around : (fs : List FollowingMirror) (place : ℕ) (d : FollowingMirror) → place < length fs → take place fs ++ get_or fs place d ∷ drop 1 (drop place fs) ≡ fs
 around [] place d less = absurd (omega arith)
 around (f ∷ fs) zero d less = refl
 around (f ∷ fs) (suc place) d less = ap (λ xs. f ∷ xs) (around fs place d (omega arith))
 
-pub between : (fs early rest later : List FollowerState) (place : ℕ) (d : FollowerState) → place < length fs → early ≡ take place fs → rest ≡ drop place fs → later ≡ drop 1 rest
+pub between : (fs early rest later : List FollowingMirror) (place : ℕ) (d : FollowingMirror) → place < length fs → early ≡ take place fs → rest ≡ drop place fs → later ≡ drop 1 rest
     → early ++ get_or fs place d ∷ later ≡ fs
 between fs early rest later place d less e r l = (λ i. e i ++ get_or fs place d ∷ (l ∙ ap (drop 1) r) i) ∙ around fs place d less
 
-pub first_of_rest : (fs rest own : List FollowerState) (place : ℕ) (d : FollowerState) → ((k : ℕ) (x : FollowerState) → get_or rest k x ≡ get_or fs (place + k) x)
+pub first_of_rest : (fs rest own : List FollowingMirror) (place : ℕ) (d : FollowingMirror) → ((k : ℕ) (x : FollowingMirror) → get_or rest k x ≡ get_or fs (place + k) x)
     → get_or own 0 d ≡ get_or rest 0 d → get_or own 0 d ≡ get_or fs place d
 first_of_rest fs rest own place d k o = o ∙ k 0 d ∙ ap (λ n. get_or fs n d) (omega arith)
 
 -- ---- the nodes besides one mirror
 
 module _ (primary : PrimaryState) where
-  pub always_there : (early : List FollowerState) (i : ℕ) → i ≤ length early → None ≡ slice_get (all_shown primary early) i → ⊥
+  pub always_there : (early : List FollowingMirror) (i : ℕ) → i ≤ length early → None ≡ slice_get (all_shown primary early) i → ⊥
   always_there early zero less e = absurd (cc)
   always_there [] (suc i) less e = absurd (omega arith)
   always_there (f ∷ early) (suc zero) less e = absurd (cc)
   always_there (f ∷ early) (suc (suc i)) less e = always_there early (suc i) (omega arith) e
 
-  shown_in : (early later : List FollowerState) (i : ℕ) (node : NodeState) → slice_get (map (λ f. f.mirror.node) early) i ≡ Some node → slice_get (map (λ f. f.mirror.node) (early ++ later)) i ≡ Some node
+  shown_in : (early later : List FollowingMirror) (i : ℕ) (node : NodeState) → slice_get (map (λ f. f.mirror.node) early) i ≡ Some node → slice_get (map (λ f. f.mirror.node) (early ++ later)) i ≡ Some node
   shown_in [] later i node e = absurd (cc)
   shown_in (f ∷ early) later zero node e = e
   shown_in (f ∷ early) later (suc i) node e = shown_in early later i node e
 
-  pub shown_before : (early later : List FollowerState) (i : ℕ) (node : NodeState) → slice_get (all_shown primary early) i ≡ Some node → slice_get (all_shown primary (early ++ later)) i ≡ Some node
+  pub shown_before : (early later : List FollowingMirror) (i : ℕ) (node : NodeState) → slice_get (all_shown primary early) i ≡ Some node → slice_get (all_shown primary (early ++ later)) i ≡ Some node
   shown_before early later zero node e = e
   shown_before early later (suc i) node e = shown_in early later i node e
 
-  shown_at_end : (early later : List FollowerState) (f g : FollowerState) (i : ℕ) → slice_get later i ≡ Some g → slice_get (map (λ h. h.mirror.node) (early ++ f ∷ later)) (suc (length early + i)) ≡ Some g.mirror.node
+  shown_at_end : (early later : List FollowingMirror) (f g : FollowingMirror) (i : ℕ) → slice_get later i ≡ Some g → slice_get (map (λ h. h.mirror.node) (early ++ f ∷ later)) (suc (length early + i)) ≡ Some g.mirror.node
   shown_at_end [] later f g i e = ap (λ k. slice_get (map (λ h. h.mirror.node) later) k) (omega arith) ∙ shown_of later g i e
     where
-      shown_of : (fs : List FollowerState) (g : FollowerState) (k : ℕ) → slice_get fs k ≡ Some g → slice_get (map (λ h. h.mirror.node) fs) k ≡ Some g.mirror.node
+      shown_of : (fs : List FollowingMirror) (g : FollowingMirror) (k : ℕ) → slice_get fs k ≡ Some g → slice_get (map (λ h. h.mirror.node) fs) k ≡ Some g.mirror.node
       shown_of fs g k e = slice_get-map (λ h. h.mirror.node) fs k ∙ ap (option_map (λ h. h.mirror.node)) e
   shown_at_end (h ∷ early) later f g i e =
       let same : suc (length early) + i ≡ suc (length early + i) = omega arith in
       ap (λ k. slice_get (map (λ q. q.mirror.node) (early ++ f ∷ later)) k) same ∙ shown_at_end early later f g i e
 
-  pub shown_behind : (early later : List FollowerState) (f g : FollowerState) (i number : ℕ) → slice_get later i ≡ Some g → number ≡ suc (suc (length early + i)) → slice_get (all_shown primary (early ++ f ∷ later)) number ≡ Some g.mirror.node
+  pub shown_behind : (early later : List FollowingMirror) (f g : FollowingMirror) (i number : ℕ) → slice_get later i ≡ Some g → number ≡ suc (suc (length early + i)) → slice_get (all_shown primary (early ++ f ∷ later)) number ≡ Some g.mirror.node
   shown_behind early later f g i number e same = ap (λ k. slice_get (all_shown primary (early ++ f ∷ later)) k) same ∙ shown_at_end early later f g i e
 
   -- one among the first
-  pub found_before : (early later : List FollowerState) (i : ℕ) (r : Option (Bor Node)) → option_map (λ node. node.shown) (option_copied r) ≡ slice_get (all_shown primary early) i
+  pub found_before : (early later : List FollowingMirror) (i : ℕ) (r : Option (Bor Node)) → option_map (λ node. node.shown) (option_copied r) ≡ slice_get (all_shown primary early) i
       → IfSome r (λ node. slice_get (all_shown primary (early ++ later)) i ≡ Some node.now.shown)
   found_before early later i None e = tt
   found_before early later i (Some node) e = shown_before early later i node.now.shown (sym e)
 
-  pub found_there : (early : List FollowerState) (i : ℕ) (P : Type 0) (r : Option (Bor Node)) → i ≤ length early → option_map (λ node. node.shown) (option_copied r) ≡ slice_get (all_shown primary early) i → IfNone r P
+  pub found_there : (early : List FollowingMirror) (i : ℕ) (P : Type 0) (r : Option (Bor Node)) → i ≤ length early → option_map (λ node. node.shown) (option_copied r) ≡ slice_get (all_shown primary early) i → IfNone r P
   found_there early i P None less e = absurd (always_there early i less e)
   found_there early i P (Some node) less e = tt
 
-get_node : (fs : List FollowerState) (place : ℕ) (d : FollowerState) → place < length fs → Some (get_or fs place d).mirror.node ≡ slice_get (map (λ f. f.mirror.node) fs) place
+get_node : (fs : List FollowingMirror) (place : ℕ) (d : FollowingMirror) → place < length fs → Some (get_or fs place d).mirror.node ≡ slice_get (map (λ f. f.mirror.node) fs) place
 get_node [] place d less = absurd (omega arith)
 get_node (f ∷ fs) zero d less = refl
 get_node (f ∷ fs) (suc place) d less = get_node fs place d (omega arith)
 
-at_number : (primary : PrimaryState) (fs : List FollowerState) (number place : ℕ) (d : FollowerState) → number ≡ suc place → place < length fs → Some (get_or fs place d).mirror.node ≡ slice_get (all_shown primary fs) number
+at_number : (primary : PrimaryState) (fs : List FollowingMirror) (number place : ℕ) (d : FollowingMirror) → number ≡ suc place → place < length fs → Some (get_or fs place d).mirror.node ≡ slice_get (all_shown primary fs) number
 at_number primary fs number place d same less = get_node fs place d less ∙ ap (λ n. slice_get (all_shown primary fs) n) (sym same)
 
-pub among_mirrors : (primary : PrimaryState) (fs : List FollowerState) (number place : ℕ) (f : FollowerState) (node : NodeState) → 1 ≤ number → place ≡ number - 1 → place < length fs
+pub among_mirrors : (primary : PrimaryState) (fs : List FollowingMirror) (number place : ℕ) (f : FollowingMirror) (node : NodeState) → 1 ≤ number → place ≡ number - 1 → place < length fs
     → f ≡ get_or fs place f → node ≡ f.mirror.node → Some node ≡ slice_get (all_shown primary fs) number
 among_mirrors primary fs number place f node some same less is n =
     ap Some (n ∙ ap (λ g. g.mirror.node) is) ∙ at_number primary fs number place f (omega arith) less

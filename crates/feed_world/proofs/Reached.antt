@@ -6,7 +6,7 @@ use Rattle.feed_settings.specs.Limits.{Limits, History}
 use Rattle.feed_world.specs.Connection.{Part, Snapshot, Commit, Line_feed, Connection, part_text, parts_text, come_by, block_onto, blocks_within, blocks_come, moved_by, GoOn, first_parts}
 use Rattle.feed_world.specs.Log.{Log, numbered}
 use Rattle.feed_world.specs.Position.{Position, renewed}
-use Rattle.feed_world.specs.States.{ConnectionState, FollowerState, WorldState, AreLinked, AreMirrors, IsWorld, HasReached, HasReadAll}
+use Rattle.feed_world.specs.States.{ConnectionState, FollowingMirror, WorldState, AreLinked, AreMirrors, IsWorld, HasReached, HasReadAll}
 use Rattle.feed_world.specs.World.{Mirror, World, place_at, connection_at}
 use Rattle.feed_world.proofs.Responses.{come_all}
 
@@ -50,7 +50,7 @@ comes_to history log before false start last more s g =
     let own = s refl in
     subst (λ o. HasReached (moved_by history log o (blocks_of more)) last) (sym own.1) (goes_to history log more start last own.0 own.3 g)
 
-read_all : (limits : Limits) (log : Log) (m : Mirror) (c : Connection) (f : FollowerState) (s : ConnectionState) → AreLinked limits log m (Some c) f (Some s) → HasReadAll log m.place c
+read_all : (limits : Limits) (log : Log) (m : Mirror) (c : Connection) (f : FollowingMirror) (s : ConnectionState) → AreLinked limits log m (Some c) f (Some s) → HasReadAll log m.place c
 read_all limits log m c f s h all =
     let r = h.1 in
     let o = r.opened in
@@ -59,12 +59,12 @@ read_all limits log m c f s h all =
     let blocks : blocks_come log c c.delivered ≡ blocks_of (first_parts c.fresh c.start ++ order.more) = all_blocks log c.parts (come_by log c c.delivered) come ∙ ap blocks_of order.parts in
     subst (λ place. HasReached place c.last) (sym (r.place ∙ ap (moved_by limits.history log r.before) blocks)) (comes_to limits.history log r.before c.fresh c.start c.last order.more o.start order.go_on)
 
-linked_all : (limits : Limits) (log : Log) (m : Mirror) (f : FollowerState) (c : Option Connection) (s : Option ConnectionState) → AreLinked limits log m c f s → IfSome c (HasReadAll log m.place)
+linked_all : (limits : Limits) (log : Log) (m : Mirror) (f : FollowingMirror) (c : Option Connection) (s : Option ConnectionState) → AreLinked limits log m c f s → IfSome c (HasReadAll log m.place)
 linked_all limits log m f None s h = tt
 linked_all limits log m f (Some c) None h = absurd h
 linked_all limits log m f (Some c) (Some s) h = read_all limits log m c f s h
 
-all_at : (limits : Limits) (log : Log) (ms : List Mirror) (fs : List FollowerState) (i : ℕ) → AreMirrors limits log ms fs
+all_at : (limits : Limits) (log : Log) (ms : List Mirror) (fs : List FollowingMirror) (i : ℕ) → AreMirrors limits log ms fs
     → IfSome (option_and_then (λ m. m.connection) (slice_get ms i)) (HasReadAll log (option_and_then (λ m. m.place) (slice_get ms i)))
 all_at limits log [] fs i h = tt
 all_at limits log (m ∷ ms) [] i h = absurd h

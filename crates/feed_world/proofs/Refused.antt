@@ -8,7 +8,7 @@ use Rattle.feed_node.specs.Mirroring.{MirrorState, cut_off}
 use Rattle.feed_follow.specs.declared.fault.FollowFault.{FollowFault}
 use Rattle.feed_follow.specs.declared.fault.FollowFault.TheVariants.{Closed, LongHead, BadHead, Status, BadCoding, BadLength, BadChunk, Feed, Memory as FollowMemory}
 use Rattle.feed_follow.specs.declared.fault.Progress.{Progress}
-use Rattle.feed_follow.specs.Follower.{FollowerState as ReaderState, GoesOn}
+use Rattle.feed_follow.specs.Follower.{FollowerState, GoesOn}
 use Rattle.feed_follow.specs.Following.{Leaves, Answers, HasBadLine, HasLostSome, Fails}
 use Rattle.feed_follow.specs.Standing.{Standing, in_head, token_refused, in_body, done, failed, Stands}
 use Rattle.feed_answer.specs.declared.refusal.Refusal.{Refusal}
@@ -42,7 +42,7 @@ at_of refusal had n = by (nat_lt n (length (refusal_head refusal)))
     by true = tt
     by false = standing_of refusal had
 
-module _ (refusals : RefusalsAreFollowed) (refusal : Refusal) (old : MirrorState) (reader : ReaderState) (bytes : List ℕ) (is : bytes ≡ refusal_text refusal) where
+module _ (refusals : RefusalsAreFollowed) (refusal : Refusal) (old : MirrorState) (reader : FollowerState) (bytes : List ℕ) (is : bytes ≡ refusal_text refusal) where
   -- the whole of it stands in one way
   whole : (had : Bool) (q : Standing) → Stands had bytes q → q ≡ refusal_standing had refusal
   whole had q st =
@@ -67,7 +67,7 @@ module _ (refusals : RefusalsAreFollowed) (refusal : Refusal) (old : MirrorState
   of_whole had q st = subst IsOfRefusal (sym (whole had q st)) (standing_of refusal had)
 
   -- nothing is wrong: the token is refused
-  pub went_on : reader.had_token ≡ is_some old.since → (follower : ReaderState) (new : MirrorState) (answer : Progress) (number : ℕ) → follower.had_token ≡ reader.had_token
+  pub went_on : reader.had_token ≡ is_some old.since → (follower : FollowerState) (new : MirrorState) (answer : Progress) (number : ℕ) → follower.had_token ≡ reader.had_token
       → GoesOn old ([] ++ bytes) follower new answer → FollowsRefusal refusal number old Refused new
   went_on asked follower new answer number same (now, answers, follows) =
       let stands = follows.stands in

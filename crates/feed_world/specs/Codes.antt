@@ -5,16 +5,16 @@ use Rattle.feed_settings.specs.contracts.framing.Framing as framing
 use Rattle.feed_settings.specs.declared.framing.Framing.{Framing}
 use Rattle.feed_tables.specs.Codes.{text_code}
 use Rattle.feed_follow.specs.Codes.{follower_code as reader_code}
-use Rattle.feed_follow.specs.Follower.{FollowerState as ReaderState}
+use Rattle.feed_follow.specs.Follower.{FollowerState}
 use Rattle.feed_node.specs.declared.commit.Commit.{Commit}
 use Rattle.feed_node.specs.Codes.{commit_code, mirror_code, primary_code}
 use Rattle.feed_node.specs.Log.{PrimaryState}
 use Rattle.feed_node.specs.Mirroring.{MirrorState}
-use Rattle.feed_world.specs.States.{ConnectionState, FollowerState, WorldState}
+use Rattle.feed_world.specs.States.{ConnectionState, FollowingMirror, WorldState}
 
 abbrev pub connection_code : Coded ConnectionState
 connection_code =
-    code_by (((List ℕ × List ℕ) × (Framing × ReaderState)) × ((ℕ × ℕ) × Bool))
+    code_by (((List ℕ × List ℕ) × (Framing × FollowerState)) × ((ℕ × ℕ) × Bool))
     (coded× (coded× (coded× text_code text_code) (coded× framing.the_row.coded reader_code))
     (coded× (coded× coded_ℕ coded_ℕ) coded_bool))
     (λ c. (((c.token, c.bytes), (c.framing, c.reader)), ((c.delivered, c.start), c.over)))
@@ -28,7 +28,7 @@ connection_code =
       over = p.1.1;
     }) (λ _. refl)
 
-abbrev pub follower_code : Coded FollowerState
+abbrev pub follower_code : Coded FollowingMirror
 follower_code =
     code_by (MirrorState × (ℕ × (Option ConnectionState × List ℕ)))
     (coded× mirror_code (coded× coded_ℕ (coded× (coded_option connection_code) text_code)))
@@ -42,7 +42,7 @@ follower_code =
 
 abbrev pub world_code : Coded WorldState
 world_code =
-    code_by (Framing × (PrimaryState × (List Commit × List FollowerState)))
+    code_by (Framing × (PrimaryState × (List Commit × List FollowingMirror)))
     (coded× framing.the_row.coded
     (coded× primary_code (coded× (coded_list commit_code) (coded_list follower_code))))
     (λ w. (w.framing, (w.primary, (w.log, w.followers))))

@@ -7,7 +7,7 @@ use Rattle.feed_node.specs.Mirroring.{MirrorState, cut_off}
 use Rattle.feed_node.specs.States.{NodeState, published_token}
 use Rattle.feed_follow.specs.declared.fault.FollowFault.{FollowFault}
 use Rattle.feed_follow.specs.declared.fault.FollowFault.TheVariants.{Closed, Status}
-use Rattle.feed_follow.specs.Follower.{FollowerState as ReaderState, FollowsAt}
+use Rattle.feed_follow.specs.Follower.{FollowerState, FollowsAt}
 use Rattle.feed_follow.specs.Following.{Fails}
 use Rattle.feed_follow.specs.Standing.{Standing, in_head, token_refused, in_body, done, failed}
 use Rattle.feed_answer.specs.declared.refusal.Refusal.{Refusal}
@@ -124,7 +124,7 @@ FollowsTo limits log place c begun mirror (failed fault payload) = ⊥
 abbrev pub MirrorsFollow : Type 0
 MirrorsFollow =
     (limits : Limits) (log : Log) (place : Option Position) (c : Connection)
-    (begun mirror : MirrorState) (reader : ReaderState) (bytes : List ℕ) (n : ℕ) (s : Standing)
+    (begun mirror : MirrorState) (reader : FollowerState) (bytes : List ℕ) (n : ℕ) (s : Standing)
     → IsLog limits log → IsOpened limits log place c → HasAsked limits log place c.fresh begun
     → CarryFeed reader.had_token (sent_text log c) bytes
     → FollowsAt begun (take n bytes) s reader mirror

@@ -4,7 +4,7 @@ use Rattle.std.specs.Option.{option_and_then}
 use Rattle.feed_settings.specs.declared.framing.Framing.{Framing}
 use Rattle.feed_settings.specs.Limits.{Limits}
 use Rattle.feed_tables.specs.Tables.{no_tables, after_all}
-use Rattle.feed_follow.specs.Follower.{FollowerState as ReaderState, FollowsAt}
+use Rattle.feed_follow.specs.Follower.{FollowerState, FollowsAt}
 use Rattle.feed_follow.specs.Standing.{Standing, token_refused, failed}
 use Rattle.feed_follow.specs.declared.fault.FollowFault.{FollowFault}
 use Rattle.feed_follow.specs.declared.fault.FollowFault.TheVariants.{Status}
@@ -39,7 +39,7 @@ use Rattle.feed_world.specs.World.{Mirror, World, HasShape, is_other, connection
 pub record ConnectionState : Type 0 where
   pub token : List ℕ
   pub framing : Framing
-  pub reader : ReaderState
+  pub reader : FollowerState
   pub bytes : List ℕ
   pub delivered : ℕ
   pub start : ℕ
@@ -47,13 +47,13 @@ pub record ConnectionState : Type 0 where
 
 -- a mirror, the number of the node that it connected to last, its connection, if there is one, and
 -- its saved text
-pub record FollowerState : Type 0 where
+pub record FollowingMirror : Type 0 where
   pub mirror : MirrorState
   pub upstream : ℕ
   pub connection : Option ConnectionState
   pub saved : List ℕ
 
-abbrev pub sending : List ℕ → Framing → ReaderState → List ℕ → ℕ → ℕ → Bool → ConnectionState
+abbrev pub sending : List ℕ → Framing → FollowerState → List ℕ → ℕ → ℕ → Bool → ConnectionState
 sending token framing reader bytes delivered start over =
     record {
       token = token;
@@ -74,14 +74,14 @@ abbrev pub next_bytes : ConnectionState → ℕ → List ℕ
 next_bytes c bytes = drop c.delivered (take (delivered_after c bytes) c.bytes)
 
 -- the connection once they were delivered, with the mirror's end as it is then
-abbrev pub advanced : ConnectionState → ℕ → ReaderState → ConnectionState
+abbrev pub advanced : ConnectionState → ℕ → FollowerState → ConnectionState
 advanced c bytes reader =
     sending c.token c.framing reader c.bytes (delivered_after c bytes) c.start c.over
 
 -- the connection's next bytes were delivered, and the mirror followed them, wherever it stood
 pub record Brings (old : ConnectionState) (bytes : ℕ) (old_mirror : MirrorState)
     (new : ConnectionState) (new_mirror : MirrorState) : Type 0 where
-  pub reader : ReaderState
+  pub reader : FollowerState
   pub is : new ≡ advanced old bytes reader
   pub limits : new_mirror.limits ≡ old_mirror.limits
   pub follows : (start : MirrorState) (before : List ℕ) (standing : Standing)
@@ -96,7 +96,7 @@ published_between start before None = 0
 published_between start None (Some after) = (after - start) + 1
 published_between start (Some before) (Some after) = after - before
 
-abbrev pub follower_state : MirrorState → ℕ → Option ConnectionState → List ℕ → FollowerState
+abbrev pub follower_state : MirrorState → ℕ → Option ConnectionState → List ℕ → FollowingMirror
 follower_state mirror upstream connection saved =
     record { mirror = mirror; upstream = upstream; connection = connection; saved = saved }
 
@@ -106,14 +106,14 @@ pub record WorldState : Type 0 where
   pub framing : Framing
   pub primary : PrimaryState
   pub log : List Commit
-  pub followers : List FollowerState
+  pub followers : List FollowingMirror
 
-abbrev pub world_state : Framing → PrimaryState → List Commit → List FollowerState → WorldState
+abbrev pub world_state : Framing → PrimaryState → List Commit → List FollowingMirror → WorldState
 world_state framing primary log followers =
     record { framing = framing; primary = primary; log = log; followers = followers }
 
 -- a mirror without a connection, of which nothing was saved
-abbrev pub new_follower : Limits → FollowerState
+abbrev pub new_follower : Limits → FollowingMirror
 new_follower limits = follower_state (new_mirror limits) 0 None []
 
 -- why there is no world
@@ -142,7 +142,7 @@ pub record HasAsked (limits : Limits) (log : Log) (before : Option Position) (fr
 -- The mirror has followed what was delivered of the response, and is where the blocks of that bring
 -- it from where it was. One whose token was refused is on a fresh connection, and none came yet.
 pub record IsReading (limits : Limits) (log : Log) (m : Mirror) (c : Connection)
-    (reader : ReaderState) (mirror : MirrorState) : Type 0 where
+    (reader : FollowerState) (mirror : MirrorState) : Type 0 where
   pub before : Option Position
   pub opened : IsOpened limits log before c
   pub place : m.place ≡ moved_by limits.history log before (blocks_come log c c.delivered)
@@ -153,7 +153,7 @@ pub record IsReading (limits : Limits) (log : Log) (m : Mirror) (c : Connection)
   pub afresh : m.afresh ≡ true → (c.fresh ≡ true) × (blocks_come log c c.delivered ≡ [])
 
 -- both have a connection, this one; or neither has one, and the mirror is not open
-abbrev pub AreLinked : Limits → Log → Mirror → Option Connection → FollowerState
+abbrev pub AreLinked : Limits → Log → Mirror → Option Connection → FollowingMirror
     → Option ConnectionState → Type 0
 AreLinked limits log m (Some c) f (Some s) =
     IsConnection log c s × IsReading limits log m c s.reader f.mirror
@@ -167,7 +167,7 @@ asks_with log m = if m.afresh then None else published_token (node_where log m.p
 
 -- the mirror shows what one at this place shows, connected to the same node, and has the same saved
 -- text, of a state in the log
-pub record IsMirror (limits : Limits) (log : Log) (m : Mirror) (f : FollowerState) : Type 0 where
+pub record IsMirror (limits : Limits) (log : Log) (m : Mirror) (f : FollowingMirror) : Type 0 where
   pub place : IsPlace limits log m.place
   pub upstream : f.upstream ≡ m.upstream
   pub bounds : f.mirror.limits ≡ limits
@@ -179,14 +179,14 @@ pub record IsMirror (limits : Limits) (log : Log) (m : Mirror) (f : FollowerStat
 
 -- in a log, a mirror meets a node that is at this place
 pub record MeetsNode (limits : Limits) (log : Log) (m : Mirror) (place : Option Position)
-    (f : FollowerState) (node : NodeState) : Type 0 where
+    (f : FollowingMirror) (node : NodeState) : Type 0 where
   pub is_log : IsLog limits log
   pub is_place : IsPlace limits log place
   pub shows : node ≡ node_where log place
   pub mirror : IsMirror limits log m f
 
 -- the mirror made this move, and gave its reply
-abbrev pub Moves : Limits → Log → Result Move WorldFault → Reply → FollowerState → Type 0
+abbrev pub Moves : Limits → Log → Result Move WorldFault → Reply → FollowingMirror → Type 0
 Moves limits log (Ok move) reply f = (reply ≡ move.0) × IsMirror limits log move.1 f
 Moves limits log (Err fault) reply f = ⊥
 
@@ -197,7 +197,7 @@ RefusesMove (Err reason) fault = fault ≡ reason
 
 -- the connection had bytes to deliver, and broke for want of memory after some of them
 pub record BreaksMirror (limits : Limits) (log : Log) (m : Mirror) (bytes : ℕ)
-    (f : FollowerState) : Type 0 where
+    (f : FollowingMirror) : Type 0 where
   pub connection : Connection
   pub is_linked : m.connection ≡ Some connection
   pub some : connection.delivered < reached log connection bytes
@@ -207,7 +207,7 @@ pub record BreaksMirror (limits : Limits) (log : Log) (m : Mirror) (bytes : ℕ)
   pub is_mirror : IsMirror limits log (brought_to limits.history log m connection e None) f
 
 -- the mirror of this number was brought these bytes; it meets no fault but a want of memory
-abbrev pub IsBrought : Limits → Log → Mirror → ℕ → ℕ → Reply → FollowerState → Type 0
+abbrev pub IsBrought : Limits → Log → Mirror → ℕ → ℕ → Reply → FollowingMirror → Type 0
 IsBrought limits log m number bytes reply f =
     Moves limits log (mirror_delivers limits.history log bytes m) reply f
     ⊎ (BrokeForMemory number reply × BreaksMirror limits log m bytes f)
@@ -229,12 +229,12 @@ FollowsRefusal refusal number old reply new =
 
 -- the answer refused a connection, and memory ran out while the mirror read it
 pub record BreaksConnect (limits : Limits) (log : Log) (framing : Framing) (m : Mirror)
-    (j back : ℕ) (place : Option Position) (f : FollowerState) : Type 0 where
+    (j back : ℕ) (place : Option Position) (f : FollowingMirror) : Type 0 where
   pub refusal : IsRefusal (connects framing (turned_to j m) place back).0
   pub is_mirror : IsMirror limits log (linked (turned_to j m) None) f
 
 -- each mirror is the one at its place
-abbrev pub AreMirrors : Limits → Log → List Mirror → List FollowerState → Type 0
+abbrev pub AreMirrors : Limits → Log → List Mirror → List FollowingMirror → Type 0
 AreMirrors limits log [] [] = Unit {0}
 AreMirrors limits log (m ∷ ms) (f ∷ fs) = IsMirror limits log m f × AreMirrors limits log ms fs
 AreMirrors limits log [] (f ∷ fs) = ⊥
@@ -246,7 +246,7 @@ ConnectToOthers w =
     (i : ℕ) → IfSome (slice_get w.mirrors i) (λ m. is_other w (suc i) m.upstream ≡ true)
 
 -- the primary and the mirrors are those of this world
-pub record AreNodes (w : World) (primary : PrimaryState) (fs : List FollowerState) : Type 0 where
+pub record AreNodes (w : World) (primary : PrimaryState) (fs : List FollowingMirror) : Type 0 where
   pub log : IsLog w.limits (numbered w.log)
   pub latest : w.primary.at ≡ length w.log
   pub place : IsPosition w.limits (numbered w.log) w.primary
@@ -272,7 +272,7 @@ pub record MovesTo (w : World) (event : Event) (reply : Reply) (after : World) :
   pub log : after.log ≡ w.log
 
 -- the event led to a world whose mirrors these are
-abbrev pub NodesMove : World → PrimaryState → Event → Reply → List FollowerState → Type 0
+abbrev pub NodesMove : World → PrimaryState → Event → Reply → List FollowingMirror → Type 0
 NodesMove w primary event reply fs =
     (after : World) × MovesTo w event reply after × AreNodes after primary fs
 
@@ -316,7 +316,7 @@ IsFramedAs framing (ForConnection j back own) = own ≡ framing
 IsFramedAs framing ForCommit = Unit {0}
 
 -- the mirror of this number asked that node; or memory ran out while it read a refusal
-abbrev pub IsAsked : Limits → Log → Asks → Mirror → ℕ → Option Position → Reply → FollowerState
+abbrev pub IsAsked : Limits → Log → Asks → Mirror → ℕ → Option Position → Reply → FollowingMirror
     → Type 0
 IsAsked limits log (ForConnection j back framing) m number server reply f =
     Moves limits log (mirror_connects framing j back m server) reply f
@@ -348,7 +348,7 @@ link_at s (suc i) =
 -- ---- what all nodes have in common
 
 -- what each node shows: the primary first, and then the mirrors in order
-abbrev pub all_shown : PrimaryState → List FollowerState → List NodeState
+abbrev pub all_shown : PrimaryState → List FollowingMirror → List NodeState
 all_shown primary fs = primary.node ∷ map (λ f. f.mirror.node) fs
 
 -- what the node of this number shows, where there is one

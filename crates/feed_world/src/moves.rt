@@ -5,7 +5,7 @@ ghost use Rattle.std.specs.Option.{option_copied};
 ghost use Rattle.feed_node.specs.Log.{PrimaryState};
 ghost use Rattle.feed_world.specs.declared.event.Event.TheVariants.{Idle, Deliver, Cut as DoCut, Save, Restart};
 ghost use Rattle.feed_world.specs.declared.event.WorldFault.TheVariants.{NoNode};
-ghost use Rattle.feed_world.specs.States.{FollowerState, AreNodes, NodesMove, IsFramedAs, all_shown, event_asking};
+ghost use Rattle.feed_world.specs.States.{FollowingMirror, AreNodes, NodesMove, IsFramedAs, all_shown, event_asking};
 ghost use Rattle.feed_world.specs.Step.{IsRefused};
 ghost use Rattle.feed_world.specs.World.{World as Numbers};
 
@@ -49,7 +49,7 @@ fn other_node<'a>(
     later: &'a [Follower],
     number: usize,
 ) -> Option<&'a Node>
-    ensures some { (f : FollowerState) → IfSome result (λ node.
+    ensures some { (f : FollowingMirror) → IfSome result (λ node.
         slice_get (all_shown primary.now (earlier.now ++ f ∷ later.now)) number
         ≡ Some node.now.shown) }
     ensures other { IsSome result → number ≢ suc (length earlier.now) }

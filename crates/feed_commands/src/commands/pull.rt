@@ -61,7 +61,9 @@ fn push_server<'i>(
     servers: &mut Vec<Server<'i>>,
 ) -> Result<(), Fault>
     ensures ok { OnOk result (map server_asked servers.new.items
-        ≡ map server_asked servers.old.items ++ asked_at upstream.now contest.now identity.now (address.now.host.now, address.now.port) ∷ []) }
+        ≡ map server_asked servers.old.items
+        ++ asked_at upstream.now contest.now identity.now
+        (address.now.host.now, address.now.port) ∷ []) }
     ensures made { OnOk result ((place : Named)
         × (place_of upstream.now contest.now (address.now.host.now, address.now.port) ≡ Ok place)) }
     ensures err { IfErr result (λ why.

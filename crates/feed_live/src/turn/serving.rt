@@ -1,10 +1,13 @@
 //! The part of a turn that serves the screens.
 
-ghost use Rattle.std.specs.Prelude.{◌≡◌, ◌⊎◌, Contains, false, true};
+ghost use Rattle.std.specs.Prelude.{◌≡◌, ◌⊎◌, Contains, false, true, not, string_bytes};
 ghost use Rattle.slab.specs.Slab.{get};
 ghost use Rattle.feed_device.specs.Calls.{CalledAtLeastOnce};
 ghost use Rattle.feed_device.specs.Sockets.{AllSockets};
+ghost use Rattle.feed_live.specs.Answering.{has_heard};
 
+use crate::options::LiveLimits;
+use crate::source::Source;
 use crate::times::{SCREENS_REPORT, TICK};
 use crate::turn::Live;
 use feed_device::{Ready, Report, Sockets};
@@ -14,7 +17,6 @@ impl Live {
     ghost use Rattle.feed_live.specs.Relaying.{OnlyServes};
     ghost use Rattle.feed_live.specs.Ending.{SameBeside, SameSaved};
     ghost use Rattle.feed_screens.specs.Held.{Waits};
-    ghost use Rattle.feed_live.specs.Answering.{has_heard};
     ghost use Rattle.feed_screens.specs.Waiting.{TakesNobody};
 
     /// Once a second, looks for who is late; and says a line feed after silence.
@@ -119,11 +121,7 @@ impl Live {
         if !had_more {
             return;
         }
-        let shown = Shown {
-            is_held: !self.source.is_heard(),
-            hold: self.limits.hold,
-            contest: self.contest.as_str(),
-        };
+        let shown = shown_of(&self.source, &self.limits, &self.contest);
         let answers = &mut self.source.answers;
         self.screens
             .serve_more(&mut self.desk, sockets, answers, &shown);
@@ -140,11 +138,7 @@ impl Live {
         ensures saved { SameBeside self.old self.new }
         ensures asks { S.asked sockets.new ≡ S.asked sockets.old }
     {
-        let shown = Shown {
-            is_held: !self.source.is_heard(),
-            hold: self.limits.hold,
-            contest: self.contest.as_str(),
-        };
+        let shown = shown_of(&self.source, &self.limits, &self.contest);
         let answers = &mut self.source.answers;
         self.screens
             .serve(&mut self.desk, sockets, answers, &shown, at);
@@ -180,6 +174,19 @@ impl Live {
         if let Some(report) = self.screens.report() {
             self.desk.reports.add(report);
         }
+    }
+}
+
+/// What is asked for, and whether that can be answered: not before a server was heard.
+fn shown_of<'a>(source: &Source, limits: &LiveLimits, contest: &'a String) -> Shown<'a>
+    ensures held { result.is_held ≡ not (has_heard source.now) }
+    ensures hold { result.hold ≡ limits.now.hold }
+    ensures contest { result.contest.now ≡ string_bytes contest.now }
+{
+    Shown {
+        is_held: !source.is_heard(),
+        hold: limits.hold,
+        contest: contest.as_str(),
     }
 }
 
