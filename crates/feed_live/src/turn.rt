@@ -162,12 +162,16 @@ impl Live {
     }
 
     /// What happened since this was cleared last.
-    pub fn reports(&self) -> &[Report] {
+    pub fn reports(&self) -> &[Report]
+        ensures { result.now ≡ self.now.desk.reports.reports.items }
+    {
         self.desk.reports.all()
     }
 
     /// How much more happened that there was no room for.
-    pub fn missed(&self) -> u64 {
+    pub fn missed(&self) -> u64
+        ensures { result ≡ self.now.desk.reports.missed }
+    {
         self.desk.reports.missed()
     }
 
@@ -179,6 +183,8 @@ impl Live {
         ensures taking { (sockets : AllSockets) → StillTaking self.old self.new []
             sockets sockets }
         ensures rest { IsSameRelay self.old self.new }
+        ensures none { self.new.desk.reports.reports.items ≡ [] }
+        ensures missed { self.new.desk.reports.missed ≡ 0 }
     {
         self.desk.reports.clear();
     }
