@@ -14,7 +14,7 @@ use std::alloc::AllocError;
 use std::net::SocketAddr;
 
 /// Why a device did nothing.
-#[derive(Clone, Copy, Debug, PartialEq, Eq)]
+#[derive(Clone, Copy)]
 pub enum Stop {
     /// It would have to wait: an event comes when it is ready again.
     Waits,
@@ -145,7 +145,7 @@ pub trait Link {
 }
 
 /// What becomes of the file that is kept beside the state file, when that is begun again.
-#[derive(Clone, Copy, Debug, PartialEq, Eq)]
+#[derive(Clone, Copy)]
 pub enum Before {
     /// The former state file takes its place.
     Replaced,
@@ -156,7 +156,7 @@ pub enum Before {
 }
 
 /// Which of the two files is written.
-#[derive(Clone, Copy, Debug, PartialEq, Eq)]
+#[derive(Clone, Copy)]
 pub enum FileSlot {
     /// The state file.
     Current,
@@ -240,7 +240,7 @@ pub struct Devices<S, L, D> {
 }
 
 /// What became ready.
-#[derive(Clone, Copy, Debug)]
+#[derive(Clone, Copy)]
 pub enum Ready {
     /// A connection waits to be taken.
     Listener,

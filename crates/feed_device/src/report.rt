@@ -6,7 +6,7 @@ use std::net::SocketAddr;
 use std::{fmt, str};
 
 /// Why a server is left.
-#[derive(Clone, Copy, Debug, PartialEq, Eq)]
+#[derive(Clone, Copy, PartialEq, Eq)]
 pub enum Why {
     /// Its name has no address, or that can't be asked for.
     Unknown,
@@ -45,7 +45,7 @@ impl fmt::Display for Why {
 }
 
 /// How a screen's connection ended.
-#[derive(Clone, Copy, Debug, PartialEq, Eq)]
+#[derive(Clone, Copy)]
 pub enum How {
     /// Its answer, or its feed, was sent whole.
     Done,
@@ -72,7 +72,7 @@ impl fmt::Display for How {
 const LONGEST_EXCERPT: usize = 120;
 
 /// The first bytes of a text: at most 120, and whole characters.
-#[derive(Clone, Copy, Debug)]
+#[derive(Clone, Copy)]
 pub struct Excerpt {
     // The text, and then zeros, or more of the text that it was taken from.
     bytes: [u8; LONGEST_EXCERPT],
@@ -126,7 +126,7 @@ fn printable(byte: u8) -> u8 {
 }
 
 /// What happened, as it is reported. Times are in milliseconds, and servers have their numbers.
-#[derive(Clone, Copy, Debug)]
+#[derive(Clone, Copy)]
 pub enum Report {
     /// A server answers, after so long without one.
     Found {

@@ -1,7 +1,7 @@
 //! What is counted of the state file, for those who watch a relay.
 
 /// What was counted of the state file.
-#[derive(Clone, Copy, Debug)]
+#[derive(Clone, Copy)]
 pub struct FileFigures {
     /// How many bytes of the feed it has; zero where it is not written to.
     pub bytes: u64,

@@ -18,7 +18,7 @@ use memchr::memmem;
 use std::alloc::{AllocError, Global};
 
 /// What was counted of the feed that is followed. Times are in milliseconds.
-#[derive(Clone, Copy, Debug)]
+#[derive(Clone, Copy)]
 pub struct FeedFigures {
     /// How things stand with the server.
     pub following: Following,

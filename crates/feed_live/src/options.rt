@@ -8,7 +8,7 @@ use feed_node::{Limits, Mirror};
 use feed_screens::ScreenLimits;
 
 /// What a relay may do, and how long it waits.
-#[derive(Clone, Copy, Debug)]
+#[derive(Clone, Copy)]
 pub struct LiveLimits {
     /// Those of its screens. A server that is silent for twice as long as a screen is left.
     pub screens: ScreenLimits,

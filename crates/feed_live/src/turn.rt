@@ -34,7 +34,7 @@ pub enum Input<'a> {
 }
 
 /// What comes after a turn.
-#[derive(Clone, Copy, Debug)]
+#[derive(Clone, Copy)]
 pub struct Turn {
     /// When the next turn is due at the latest, where no device becomes ready before.
     pub due: u64,

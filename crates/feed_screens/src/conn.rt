@@ -33,7 +33,7 @@ pub(crate) enum Wanted {
 }
 
 /// That a connection waits for room: since when, and for what.
-#[derive(Clone, Copy, PartialEq, Eq)]
+#[derive(Clone, Copy)]
 pub(crate) struct Wait {
     /// When it began to wait, in milliseconds.
     pub(crate) since: u64,

@@ -12,7 +12,7 @@ const REFUSALS: usize = 5;
 const STATUSES: [u16; REFUSALS] = [400, 404, 405, 431, 503];
 
 /// What was counted of the screens since the start.
-#[derive(Clone, Copy, Debug)]
+#[derive(Clone, Copy)]
 pub struct ScreenTotals {
     /// The most at once.
     pub most: usize,
@@ -83,7 +83,7 @@ impl ScreenTotals {
 }
 
 /// How many screens there are at the moment.
-#[derive(Clone, Copy, Debug)]
+#[derive(Clone, Copy)]
 pub struct ScreenFigures {
     /// All connections, also those that were refused and are not closed yet.
     pub open: usize,
@@ -100,7 +100,7 @@ pub struct ScreenFigures {
 }
 
 /// One screen's connection, as it is at a moment. Times are in milliseconds.
-#[derive(Clone, Copy, Debug)]
+#[derive(Clone, Copy)]
 pub struct ScreenRow {
     /// Who connected.
     pub peer: SocketAddr,

@@ -3,7 +3,7 @@
 use feed_answer::Framing;
 
 /// How many screens, and how far back and how silent they may be.
-#[derive(Clone, Copy, Debug)]
+#[derive(Clone, Copy)]
 pub struct ScreenLimits {
     /// How many screens there may be at once.
     pub most: usize,

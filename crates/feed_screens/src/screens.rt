@@ -46,7 +46,7 @@ pub(crate) struct Keyed {
 }
 
 /// What came of bytes of a request.
-#[derive(Clone, Copy, PartialEq, Eq)]
+#[derive(Clone, Copy)]
 pub(crate) enum Hearing {
     /// They were heard, or wait for room.
     Goes,

@@ -14,7 +14,7 @@ use crate::answering::Answering;
 use crate::asking::Asking;
 use crate::backlog::Full;
 use crate::broadcast::Broadcast;
-use crate::hub::{Heard, Hub};
+use crate::hub::{Heard, Hub, ServedAt};
 use crate::screen::{Refill, Screen, bytes_of};
 use crate::seats::{Key, Seat};
 use feed_answer::{Framing, Reply, reply_to};
@@ -31,12 +31,11 @@ fn answer(
     framing: Framing,
     head: &[u8],
     answering: &mut Answering,
-    contest: &str,
+    served: &ServedAt<'_>,
     taken: usize,
-    now: u64,
 ) -> Result<(Screen, Heard), AllocError>
-    ensures answers { IfOk result (λ heard. IsAnswered head.now contest.now
-        answering.old.mirror.node framing now heard.0 heard.1.status) }
+    ensures answers { IfOk result (λ heard. IsAnswered head.now served.now.contest.now
+        answering.old.mirror.node framing served.now.time heard.0 heard.1.status) }
     ensures taken { IfOk result (λ heard. heard.1.taken ≡ taken) }
     ensures shared { IfOk result (λ heard.
         SharesTheText answering.new.opening heard.1.is_shared (Some (Seat.Watches heard.0))) }
@@ -45,13 +44,13 @@ fn answer(
     ensures mirror { answering.new.mirror ≡ answering.old.mirror }
     ensures framing { answering.new.framing ≡ answering.old.framing }
 {
-    match reply_to(alloc, head, answering.node(), contest, framing, 0)? {
+    match reply_to(alloc, head, answering.node(), served.contest, framing, 0)? {
         Reply::Whole(answered) => {
             let screen = Screen::open(
                 answered.framing,
                 bytes_of(answered.bytes)?,
                 answered.session,
-                now,
+                served.time,
             )?;
             let heard = Heard {
                 taken,
@@ -62,7 +61,7 @@ fn answer(
         }
         Reply::Snapshot(framing, session) => {
             let (text, is_shared) = answering.open(alloc, framing)?;
-            let screen = Screen::open(framing, text, Some(session), now)?;
+            let screen = Screen::open(framing, text, Some(session), served.time)?;
             let heard = Heard {
                 taken,
                 status: Some(OK),
@@ -79,14 +78,13 @@ fn hear_more(
     framing: Framing,
     asking: Asking,
     answering: &mut Answering,
-    contest: &str,
+    served: &ServedAt<'_>,
     piece: &[u8],
-    now: u64,
 ) -> Result<(Seat, Heard), AllocError>
     ensures takes { IfOk result (λ heard.
         TakesOfHead asking.head.items piece.now heard.1.taken) }
     ensures heard { (b : Broadcast) → b.framing ≡ framing → IfOk result (λ heard. HearsOf b
-        contest.now answering.old.mirror.node now asking
+        served.now.contest.now answering.old.mirror.node served.now.time asking
         (asking.head.items ++ take heard.1.taken piece.now) heard.1.status heard.0) }
     ensures moves { IfOk result (λ heard. IsAskingSeat (Some heard.0) → heard.1.taken ≡ 0
         → piece.now ≡ []) }
@@ -107,15 +105,7 @@ fn hear_more(
         };
         return Ok((Seat::Asks(asking), heard));
     }
-    let (screen, heard) = answer(
-        alloc,
-        framing,
-        asking.head(),
-        answering,
-        contest,
-        taken,
-        now,
-    )?;
+    let (screen, heard) = answer(alloc, framing, asking.head(), answering, served, taken)?;
     Ok((Seat::Watches(screen), heard))
 }
 
@@ -150,18 +140,17 @@ impl Hub {
         &mut self,
         alloc: Global,
         answering: &mut Answering,
-        contest: &str,
+        served: &ServedAt<'_>,
         key: Key,
         piece: &[u8],
-        now: u64,
     ) -> Result<Heard, AllocError>
-        ensures heard { IfOk result (λ heard. HearsAt self.old.broadcast contest.now
-            answering.old.mirror.node now piece.now heard (seat_at self.old.seats.slab key)
-            (seat_at self.new.seats.slab key)) }
+        ensures heard { IfOk result (λ heard. HearsAt self.old.broadcast served.now.contest.now
+            answering.old.mirror.node served.now.time piece.now heard
+            (seat_at self.old.seats.slab key) (seat_at self.new.seats.slab key)) }
         ensures served { (nodes : List NodeState) (asking : Asking) (s : Screen)
             → seat_at self.old.seats.slab key ≡ Some (Seat.Asks asking)
             → seat_at self.new.seats.slab key ≡ Some (Seat.Watches s)
-            → IfOk result (λ heard. IsAnsweredBy answering.old.mirror.node contest.now
+            → IfOk result (λ heard. IsAnsweredBy answering.old.mirror.node served.now.contest.now
             self.old.broadcast.framing (asking.head.items ++ take heard.taken piece.now)
             (λ answer. IsSeated nodes self.new key answer [])) }
         // while a request comes, some of the bytes are taken, where there are some
@@ -185,7 +174,7 @@ impl Hub {
             });
         };
         let framing = self.broadcast.framing();
-        let (seat, heard) = hear_more(alloc, framing, asking, answering, contest, piece, now)?;
+        let (seat, heard) = hear_more(alloc, framing, asking, answering, served, piece)?;
         self.seats.put_back(key, seat);
         Ok(heard)
     }

@@ -5,7 +5,7 @@ use feed_follow::FollowFault;
 use std::fmt;
 
 /// How things stand with the server that is followed.
-#[derive(Clone, Copy, Debug, PartialEq, Eq)]
+#[derive(Clone, Copy, PartialEq, Eq)]
 pub enum Following {
     /// A server answers with the feed.
     Answered,
@@ -25,7 +25,7 @@ pub enum Following {
 pub(crate) const KINDS: usize = 10;
 
 /// Why an attempt to follow a server failed, as it is counted.
-#[derive(Clone, Copy, Debug, PartialEq, Eq)]
+#[derive(Clone, Copy, PartialEq, Eq)]
 pub enum Reason {
     /// It can't be connected to.
     Refuses,
@@ -81,7 +81,7 @@ impl Reason {
 }
 
 /// How an attempt to follow a server failed.
-#[derive(Clone, Copy, Debug)]
+#[derive(Clone, Copy)]
 pub enum Failure {
     /// The server was left.
     Left(Why),

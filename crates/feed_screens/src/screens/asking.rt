@@ -13,7 +13,7 @@ ghost use Rattle.feed_screens.specs.Held.{answerer, IsAt, SameMirrors, Waits};
 use crate::conn::Stage;
 use crate::screens::{Answers, Hearing, Keyed, PIECE, Screens, Shown, TextId};
 use feed_device::{Desk, How, Sockets, Stop};
-use feed_hub::{Answering, Key};
+use feed_hub::{Answering, Key, ServedAt};
 use std::alloc::AllocError;
 
 impl Screens {
@@ -303,7 +303,13 @@ impl Screens {
         ensures keys { SameKeys self.old.conns self.new.conns }
         ensures mirror { answering.new.mirror ≡ answering.old.mirror }
     {
-        let heard = self.hub.hear(desk.alloc, answering, contest, keyed.key, piece, desk.time)?;
+        let served = ServedAt {
+            contest,
+            time: desk.time,
+        };
+        let heard = self
+            .hub
+            .hear(desk.alloc, answering, &served, keyed.key, piece)?;
         let Some(status) = heard.status else {
             return Ok(heard.taken);
         };

@@ -7,7 +7,7 @@ ghost use Rattle.feed_screens.specs.Pending.{total, takers, HasNone, Adds, Remov
 use std::alloc::{AllocError, Global};
 
 /// Which text that is.
-#[derive(Clone, Copy, Debug, PartialEq, Eq)]
+#[derive(Clone, Copy, PartialEq, Eq)]
 pub(crate) enum TextId {
     /// The snapshot, which many share: the number that what answers gave it.
     Opening(u64),

@@ -11,7 +11,7 @@ use feed_screens::Screens;
 use std::alloc::{AllocError, Global};
 
 /// Why a server is left at which a feed settled.
-#[derive(Clone, Copy, PartialEq, Eq)]
+#[derive(Clone, Copy)]
 pub(crate) enum Leaves {
     /// What comes after the token that is shown is asked for.
     Again,

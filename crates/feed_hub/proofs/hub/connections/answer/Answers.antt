@@ -13,10 +13,10 @@ returns-in_ok-screen-in-Whole-clause-answers c =
     let fits : length a.bytes.items < 2 ^ 64 = search rules in
     record {
       answer = answer;
-      answers = subst (λ n. AnswersTo c.args.head.now c.args.contest.now n c.args.framing 0 answer) c.node.ensures found;
+      answers = subst (λ n. AnswersTo c.args.head.now c.args.served.now.contest.now n c.args.framing 0 answer) c.node.ensures found;
       fits = fits;
       opens = c.in_ok-screen-in-Whole.ensures a.status
-          ∙ ap (λ t. opened (parts_of a.status a.framing t a.session) c.args.now) c.in_ok-bytes_of-in-Whole.ensures;
+          ∙ ap (λ t. opened (parts_of a.status a.framing t a.session) c.args.served.now.time) c.in_ok-bytes_of-in-Whole.ensures;
       status_is = refl;
     }
 
@@ -28,10 +28,10 @@ returns-in_ok-screen-in-Snapshot-clause-answers c =
     let found = rw c.in-Snapshot.is at c.in_ok-answered.ensures.answers in
     record {
       answer = parts_of 200 f (opening_text f (published_text c.args.answering.now.mirror.node.published)) s;
-      answers = subst (λ n. AnswersTo c.args.head.now c.args.contest.now n c.args.framing 0 (parts_of 200 f (opening_text f (published_text n.published)) s))
+      answers = subst (λ n. AnswersTo c.args.head.now c.args.served.now.contest.now n c.args.framing 0 (parts_of 200 f (opening_text f (published_text n.published)) s))
           c.node.ensures found;
       fits = subst (λ t. length t < 2 ^ 64) text c.in_ok-text-in-Snapshot.ensures.fits;
-      opens = c.in_ok-screen-in-Snapshot.ensures 200 ∙ ap (λ t. opened (parts_of 200 f t s) c.args.now) text;
+      opens = c.in_ok-screen-in-Snapshot.ensures 200 ∙ ap (λ t. opened (parts_of 200 f t s) c.args.served.now.time) text;
       status_is = refl;
     }
 

@@ -13,8 +13,8 @@ returns-clause-heard c b same =
     record {
       enough = subst IsEnough taken (c.in_ok-taken.ensures.enough c.if-not-is_enough.false);
       needed = λ r. subst IsReadAsNeeded taken (c.in_ok-taken.ensures.read r);
-      answered = subst (λ h. IsAnswered h c.args.contest.now node b.framing c.args.now screen status) (c.head.ensures ∙ taken)
-          (subst (λ f. IsAnswered c.head.result.now c.args.contest.now node f c.args.now screen status) (sym same) c.in_ok-screen.ensures.answers);
+      answered = subst (λ h. IsAnswered h c.args.served.now.contest.now node b.framing c.args.served.now.time screen status) (c.head.ensures ∙ taken)
+          (subst (λ f. IsAnswered c.head.result.now c.args.served.now.contest.now node f c.args.served.now.time screen status) (sym same) c.in_ok-screen.ensures.answers);
     }
 
 pub returns-clause-takes : goal.returns-clause-takes
