@@ -4,7 +4,7 @@
 //! orders, with others among them. One pass over the line keeps the value of the last of each name
 //! as a slice, and takes no memory.
 
-ghost use Rattle.std.specs.Prelude.{◌≡◌, ◌++◌, ℕ, [], false, IfSome, IsTrue, Some, option_map};
+ghost use Rattle.std.specs.Prelude.{◌≡◌, ◌++◌, ℕ, [], false, IfSome, IsTrue, Some};
 ghost use Rattle.feed_text.specs.declared.value.Item.{Item};
 ghost use Rattle.feed_text.specs.Members.{item_view, ArePlain, AreLastValues, AreSpeltValues, IsPlainString};
 ghost use Rattle.feed_text.specs.FourNames.{IsKeyAt, IsNamed, IsPlainFor, with_value, PlainIfSaid, TakesMember, TakesAll, LineTakes};
