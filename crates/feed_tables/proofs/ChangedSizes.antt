@@ -26,9 +26,6 @@ use Rattle.feed_tables.proofs.MapsOver.{same_gets}
 use Rattle.feed_tables.proofs.PatchSizes.{in_changed, weighed_over, weighed_less, weighed_kept}
 use Rattle.feed_tables.proofs.Sizes.{weighed-insert, size_is}
 
-not_under : (m n : ℕ) → n ≤ m → false ≡ nat_lt m n
-not_under m n le = sym (le-ltb m n le)
-
 -- each object counts as one
 one_each : (es : List (List ℕ × List ℕ)) → weighed each_one es ≡ length es
 one_each [] = refl
@@ -226,7 +223,7 @@ module _ (changed : Changed) where
       → false ≡ nat_lt most
       (min (size (with_all_ids changed (map_over items (map_less gone base)))) 18446744073709551615)
   size_within base items gone t i n come bound most t_is i_is n_is come_is bound_is within =
-      not_under most _ (omega (
+      sym (le-ltb most _ (omega (
         arith,
         size_at_most (map_over items (map_less gone base)),
         size_is (map_over items (map_less gone base)),
@@ -239,7 +236,7 @@ module _ (changed : Changed) where
         come_is,
         bound_is,
         within,
-      ))
+      )))
 
 -- how many objects are put in, at a fork
 sets_in-append : (l r : List (List ℕ × Ids)) → sets_in (l ++ r) ≡ sets_in l + sets_in r

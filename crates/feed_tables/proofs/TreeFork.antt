@@ -1,6 +1,7 @@
 -- What is known of a tree with the entries d once its node is a fork.
 use Rattle.std.proofs.Common.{Some, Less, Equal, Greater, ◌≡◌, ℕ, ◌<◌, ◌+◌, List, ◌∷◌, ◌++◌, length, sym, ap, ◌∙◌, subst, arith, length-append}
 use Rattle.std.specs.declared.boxed.Box.{Box}
+use Rattle.std.specs.declared.cmp.Ordering.{Ordering}
 use Rattle.std.specs.declared.alloc.Global.{Global}
 use Rattle.feed_tables.specs.Bytes.{byte_order, IsInOrder, without}
 use Rattle.feed_tables.specs.Tree.{entries_of}
@@ -35,6 +36,14 @@ at_fork {V} {n} {d} {box} view_is in_order is =
 -- the same of a fork that was borrowed
 pub at_lent : {V : Type 0} {n : Node V} {d : List (List ℕ × V)} {box : Box (Fork V) Global} → entries_of n ≡ d → IsInOrder d → n ≡ a_fork box → (fork : Fork V) → fork ≡ box.value → AtFork d fork.left (fork.id, fork.item) fork.right
 at_lent {V} {n} {d} {box} view_is in_order is fork same = subst (λ (f : Fork V). AtFork d f.left (f.id, f.item) f.right) (sym same) (at_fork view_is in_order is)
+
+-- how a name stands to that of a fork, as it was compared with the fork by another borrow
+pub ordered : {V : Type 0} {box : Fork V} {o p : Ordering} (q : List ℕ) (fork lent : Fork V) → fork ≡ box → lent ≡ box → o ≡ byte_order q lent.id → o ≡ p → byte_order q fork.id ≡ p
+ordered {V} q fork lent here there compared is = ap (λ (f : Fork V). byte_order q f.id) (here ∙ sym there) ∙ sym compared ∙ is
+
+-- and the fork's name to that name
+pub ordered_to : {V : Type 0} {box : Fork V} {o p : Ordering} (q : List ℕ) (fork lent : Fork V) → fork ≡ box → lent ≡ box → o ≡ byte_order lent.id q → o ≡ p → byte_order fork.id q ≡ p
+ordered_to {V} q fork lent here there compared is = ap (λ (f : Fork V). byte_order f.id q) (here ∙ sym there) ∙ sym compared ∙ is
 
 module _ {V : Type 0} {d l r : List (List ℕ × V)} {e : List ℕ × V} (f : AtFork d l e r) where
   -- the item of a name that comes before the fork's, is it, and comes after it

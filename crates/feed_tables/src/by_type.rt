@@ -135,7 +135,7 @@ impl IdsByType {
                 if types.count() == 0 {
                     self.types = Types::Alone(kind.copy()?, ids);
                 } else {
-                    types.insert(Fork::new(alloc, kind.copy()?, ids)?);
+                    types.insert(Fork::of(alloc, kind, ids)?);
                 }
             }
         }
@@ -193,8 +193,8 @@ fn both(
         (λ types. types ≡ map.insert (map.insert map.empty first.now held.old) kind.now ids) }
     ensures err { OnErr result (held.new ≡ held.old) }
 {
-    let last = Fork::new(alloc, kind.copy()?, ids)?;
-    let mut node = Fork::new(alloc, first.copy()?, Ids::new())?;
+    let last = Fork::of(alloc, kind, ids)?;
+    let mut node = Fork::of(alloc, first, Ids::new())?;
     node.set_item(mem::replace(held, Ids::new()));
     let mut types = Map::new();
     types.insert(node);

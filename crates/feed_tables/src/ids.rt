@@ -65,7 +65,7 @@ impl Ids {
             self.sets.remove(&id.key());
             return Ok(());
         }
-        let node = Fork::new(alloc, id.copy()?, ())?;
+        let node = Fork::of(alloc, id, ())?;
         self.gone.insert(node);
         self.sets.remove(&id.key());
         Ok(())

@@ -26,12 +26,19 @@ use std::alloc::{AllocError, Global};
 use std::marker::Model;
 
 /// Items by name. What takes a node takes no memory.
-#[derive(Drop)]
 pub struct Map<V> {
     tree: Tree<V>,
     // How many items there are, or `usize::MAX` where they are more. It is kept here alone: a count
     // in each node would make nodes larger, and would change in all that stand above a new one.
     count: usize,
+}
+
+// Written out: a caller's proof has one call where a value is dropped.
+impl<V: Drop> Drop for Map<V> {
+    fn drop(self) {
+        let Map { tree, count: _ } = self;
+        drop(tree);
+    }
 }
 
 impl<V> Model for Map<V> {
@@ -128,9 +135,10 @@ impl<V: Drop> Map<V> {
             return other.put_one(self, scale);
         }
         let come = self.tree.weigh(scale);
-        let count = other.count.saturating_add(self.count);
+        let Map { tree, count } = self;
+        let count = other.count.saturating_add(count);
         let mut spare = Tree::new();
-        other.tree.absorb(self.tree, &mut spare);
+        other.tree.absorb(tree, &mut spare);
         let spent = let_go(spare, scale);
         other.count = count_left(&other.tree, count, spent.count);
         Shift {
@@ -149,7 +157,8 @@ impl<V: Drop> Map<V> {
             usize.MAX }
     {
         let mut back = None;
-        match other.tree.into_node() {
+        let Map { tree, count: _ } = other;
+        match tree.into_node() {
             Some(node) => {
                 let come = node.weigh(scale);
                 let added = self.tree.insert(node, &mut back);
@@ -167,7 +176,8 @@ impl<V: Drop> Map<V> {
     pub fn take_from<W: Drop>(self, other: &mut Map<W>)
         ensures { other.new ≡ map_less self other.old }
     {
-        self.tree.take_from(other);
+        let Map { tree, count: _ } = self;
+        tree.take_from(other);
     }
 
     /// How many of these names are none of the others, or `usize::MAX` where they are more.
@@ -315,6 +325,19 @@ impl Held for ObjectText {
 
     fn is_same(&self, other: &ObjectText) -> bool {
         self.bytes() == other.bytes()
+    }
+}
+
+/// Whether both are the same, or both are none.
+pub fn are_same<V: Held>(item: Option<&V>, other: Option<&V>) -> bool
+    ensures { IsTrue result ↔ (option_copied item.entry ≡ option_copied other.entry) }
+{
+    match item {
+        Some(item) => match other {
+            Some(other) => item.is_same(other),
+            None => false,
+        },
+        None => other.is_none(),
     }
 }
 

@@ -83,7 +83,7 @@ impl Patch {
             ≡ map.insert (over base.now.contents self.old) kind.now table) }
         ensures err { OnErr result (self.new ≡ self.old) }
     {
-        let node = Fork::new(alloc, kind.copy()?, table)?;
+        let node = Fork::of(alloc, kind, table)?;
         self.tables.insert(node);
         self.ids.remove(&kind.key());
         Ok(())
@@ -99,7 +99,7 @@ impl Patch {
             self.tables.remove(&kind.key());
             return Ok(());
         }
-        let node = Fork::new(alloc, kind.copy()?, ())?;
+        let node = Fork::of(alloc, kind, ())?;
         self.gone.insert(node);
         self.tables.remove(&kind.key());
         Ok(())
@@ -118,7 +118,7 @@ impl Patch {
             ≡ with_object (over base.now.contents self.old) kind.now id.now object.now) }
         ensures err { OnErr result (self.new ≡ self.old) }
     {
-        let node = Fork::new(alloc, id.copy()?, object.copy()?)?;
+        let node = Fork::of(alloc, id, object.copy()?)?;
         if objects_of(&self.tables, &self.gone, base, &kind.key()).is_none() {
             return self.begin(alloc, base, kind, node);
         }
@@ -141,12 +141,13 @@ impl Patch {
     ) -> Result<(), AllocError>
         requires { collection_of (map.get (below base.now.contents self.old) kind.now) ≡ None }
         ensures ok { OnOk result (over base.now.contents self.new
-            ≡ with_object (over base.now.contents self.old) kind.now node.value.id node.value.item) }
+            ≡ with_object (over base.now.contents self.old)
+            kind.now node.value.id node.value.item) }
         ensures err { OnErr result (self.new ≡ self.old) }
     {
         let mut ids = Ids::new();
         ids.set(node);
-        let table = Fork::new(alloc, kind.copy()?, Table::Many(Map::new()))?;
+        let table = Fork::of(alloc, kind, Table::Many(Map::new()))?;
         self.ids.insert(alloc, kind, ids)?;
         self.tables.insert(table);
         Ok(())

@@ -48,7 +48,7 @@ impl Placed {
         let Change::Set(kind, id, object) = change else {
             return Ok(None);
         };
-        let node = Fork::new(alloc, id.copy()?, object.copy()?)?;
+        let node = Fork::of(alloc, id, object.copy()?)?;
         let kind = kind.copy()?;
         Ok(Some(Placed { kind, node }))
     }

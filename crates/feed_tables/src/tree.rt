@@ -254,6 +254,14 @@ impl<V: Drop> Fork<V> {
         Ok(node)
     }
 
+    /// A node of its own, of a copy of this name.
+    pub fn of(alloc: Global, id: &Name, item: V) -> Result<Box<Fork<V>>, AllocError>
+        ensures { IfOk result (λ node. (node.value.id ≡ id.now) × (node.value.item ≡ item)) }
+    {
+        let id = id.copy()?;
+        Fork::new(alloc, id, item)
+    }
+
     /// Its name.
     pub fn name(&self) -> &str
         ensures { result.now ≡ self.now.id }

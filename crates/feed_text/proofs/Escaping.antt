@@ -1,7 +1,7 @@
 -- What stands behind a backslash is read as `decoded` has it.
 use Rattle.std.proofs.Common.{◌≡◌, ◌≢◌, ℕ, ◌-◌, ◌<◌, ◌≤◌, Bool, true, false, cond, ◌&&◌, ◌==◌, nat_lt, List, [], ◌∷◌, ◌++◌, length, take, drop, Option, Some, None, inl, inr, refl, sym, ap, subst, ◌∙◌, arith, append_assoc, append-nil, leb, length-drop}
 use Rattle.std.specs.Prelude.{option_map, option_and_then, not}
-use Rattle.std.proofs.lemmas.Bool.{false≢true, eqb-true, and_parts, and_cases, le-ltb, lt-ltb, leb-true, leb-false, ne_eqb, not-false}
+use Rattle.std.proofs.lemmas.Bool.{and_right, false≢true, eqb-true, and_parts, and_cases, le-ltb, lt-ltb, leb-true, leb-false, ne_eqb, not-false}
 use Rattle.std.proofs.lemmas.Option.{cond_some, none-some, same_Some}
 use Rattle.std.proofs.lemmas.Str.{encode_ascii}
 use Rattle.std.specs.Char.{is_digit, encode_utf8}
@@ -27,10 +27,6 @@ prepend-nil : (r : Option (List ℕ)) → prepend [] r ≡ r
 prepend-nil None = refl
 prepend-nil (Some s) = refl
 
-and_false : (b : Bool) → (b && false) ≡ false
-and_false true = refl
-and_false false = refl
-
 -- ---- the contents
 
 -- what is meant by a character that was read
@@ -43,7 +39,7 @@ none_of false x e = refl
 
 no_unit : (a b c : ℕ) → code_unit a b c 0 ≡ None
 unfolding code_unit
-no_unit a b c = none_of (is_digit a 16 && is_digit b 16 && is_digit c 16 && false) _ (and_false (is_digit a 16 && is_digit b 16 && is_digit c 16))
+no_unit a b c = none_of (is_digit a 16 && is_digit b 16 && is_digit c 16 && false) _ (and_right (is_digit a 16 && is_digit b 16 && is_digit c 16) false refl)
 
 cond_meant : (b : Bool) (x y : Option (List ℕ)) (r s : Read) → x ≡ meant r → y ≡ meant s → cond b x y ≡ meant (cond b r s)
 cond_meant true x y r s p q = p
@@ -72,7 +68,7 @@ none_meant false h o rest e = refl
 high_meant : (h : ℕ) (text : List ℕ) → content (after_high h) text ≡ meant (low_half_at h text)
 unfolding content low_half_at unit_at
 high_meant h [] = refl
-high_meant h (s ∷ []) = ap (λ (t : Bool). meant (cond t (option_and_then (pair_of h) (unit_at [])) None)) (sym (and_false (s == 92)))
+high_meant h (s ∷ []) = ap (λ (t : Bool). meant (cond t (option_and_then (pair_of h) (unit_at [])) None)) (sym (and_right (s == 92) false refl))
 high_meant h (s ∷ u ∷ []) = none_meant _ h _ _ (no_unit 0 0 0)
 high_meant h (s ∷ u ∷ a ∷ []) = none_meant _ h _ _ (no_unit a 0 0)
 high_meant h (s ∷ u ∷ a ∷ b ∷ []) = none_meant _ h _ _ (no_unit a b 0)

@@ -1,5 +1,5 @@
 -- A mask of the bytes ahead: where the first of them stands, and what is left of it behind them.
-use Rattle.std.proofs.Common.{◌≡◌, ◌≢◌, ℕ, zero, suc, ◌+◌, ◌-◌, ◌*◌, ◌/◌, ◌<◌, ◌≤◌, ◌^◌, Bool, true, false, cond, List, [], ◌∷◌, ◌++◌, map, length, take, drop, eqb, Option, Some, None, IfSome, Bor, refl, sym, ap, subst, ◌∙◌, arith, pow-suc, mul_comm, length-append, inl, inr, eq-eqb}
+use Rattle.std.proofs.Common.{◌≡◌, ℕ, zero, suc, ◌+◌, ◌-◌, ◌*◌, ◌/◌, ◌<◌, ◌≤◌, ◌^◌, Bool, true, false, cond, List, [], ◌∷◌, ◌++◌, map, length, take, drop, eqb, Option, Some, None, IfSome, Bor, refl, sym, ap, subst, ◌∙◌, arith, pow-suc, mul_comm, length-append, inl, inr, eq-eqb}
 use Rattle.std.specs.Prelude.{not, slice_index}
 use Rattle.std.specs.List.{prefix_len}
 use Rattle.std.proofs.lemmas.List.{length-take, take-append-drop, drop-map, drop_at, drop-drop, get_or-drop}
@@ -13,7 +13,7 @@ use Rattle.feed_text.specs.Ascii.{quotation_mark, space, colon, comma, right_bra
 use Rattle.feed_text.specs.Json.{is_white_space}
 use Rattle.feed_text.specs.Members.{Spelling}
 use Rattle.feed_text.specs.Reading.{Foresees, is_stop, is_unescaped, rest_while, bytes_of, rest_of, or_nothing, first, behind_first, string_at, characters_at, parts_until, behind, item_at, pair_at, value_at}
-use Rattle.feed_text.proofs.Parts.{with_first}
+use Rattle.feed_text.proofs.Parts.{with_first, not_first}
 use Rattle.feed_text.proofs.PrefixReaders.{chosen, map_some}
 use Rattle.feed_text.proofs.Values.{value_text}
 use Rattle.feed_text.proofs.Depths.{reads_value}
@@ -203,11 +203,7 @@ more_members levels text rest more e there =
 pub no_more_members : (levels : ℕ) (text rest : List ℕ) → rest ≡ or_nothing (rest_of (pair_at (value_at levels) text)) → None ≡ behind_first comma rest
     → behind_first right_brace rest ≡ rest_of (parts_until right_brace (behind comma (pair_at (value_at levels))) (or_nothing (rest_of (pair_at (value_at levels) text))))
 no_more_members levels text rest e none =
-    let other : first rest ≢ comma = λ here. let some : behind_first comma rest ≡ Some (drop 1 rest) = rw (eq-eqb (first rest) comma here) refl in absurd (none_some (drop 1 rest) (none ∙ some)) in
-    sym (last_member levels rest other) ∙ ap (λ (t : List ℕ). rest_of (parts_until right_brace (behind comma (pair_at (value_at levels))) t)) e
-  where
-    none_some : (xs : List ℕ) → None ≡ Some xs → ⊥
-    none_some xs e = cc
+    sym (last_member levels rest (not_first comma rest none)) ∙ ap (λ (t : List ℕ). rest_of (parts_until right_brace (behind comma (pair_at (value_at levels))) t)) e
 
 -- ---- the end of a value
 

@@ -20,7 +20,7 @@ const WIDE: usize = 64;
 
 /// A text, and a mask of some of its first bytes, be they none: a bit for each that does not stand
 /// for itself in a string.
-#[derive(Clone, Copy, Debug)]
+#[derive(Clone, Copy)]
 pub struct Seen<'a> {
     pub text: &'a [u8],
     pub stops: u64,

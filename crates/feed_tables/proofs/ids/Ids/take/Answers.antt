@@ -16,4 +16,4 @@ returns-clause-ok c =
     let i = c.args.self.now in
     over_taken c.args.objects.now i.sets c.remove-2.new.self i.gone c.insert.new.self c.args.id.now c.in_ok-node.node.value.item
     (c.remove-2.ensures ∙ ap (λ (q : List ℕ). remove i.sets q) c.key-2.ensures)
-    (c.insert.ensures ∙ ap (λ (q : List ℕ). insert i.gone q c.in_ok-node.node.value.item) (c.in_ok-node.ensures.0 ∙ c.in_ok-copy.ensures))
+    (c.insert.ensures ∙ ap (λ (q : List ℕ). insert i.gone q c.in_ok-node.node.value.item) c.in_ok-node.ensures.0)

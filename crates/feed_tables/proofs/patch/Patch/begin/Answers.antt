@@ -17,7 +17,7 @@ returns-clause-ok c =
     let table = c.in_ok-table.table.value in
     let put : c.insert-2.new.self ≡ insert p.tables k (Many no_objects) =
     c.insert-2.ensures
-    ∙ ap (λ (q : List ℕ). insert p.tables q table.item) (c.in_ok-table.ensures.0 ∙ c.in_ok-copy.ensures)
+    ∙ ap (λ (q : List ℕ). insert p.tables q table.item) c.in_ok-table.ensures.0
     ∙ ap (λ (t : Table). insert p.tables k t) c.in_ok-table.ensures.1
     ∙ ap (λ (m : Objects). insert p.tables k (Many m)) c.new.ensures in
     let made : over_ids no_objects c.set.new.self ≡ insert no_objects first.id first.item =

@@ -21,4 +21,4 @@ returns-clause-ok c =
     changed_removed p.ids (over_of base p.gone p.tables) k (over_of base c.insert.new.self c.remove-2.new.self)
     (over_gone base p.gone p.tables c.remove-2.new.self c.insert.new.self k c.in_ok-node.node.value.item
     (c.remove-2.ensures ∙ ap (λ (q : List ℕ). remove p.tables q) c.key-2.ensures)
-    (c.insert.ensures ∙ ap (λ (q : List ℕ). insert p.gone q c.in_ok-node.node.value.item) (c.in_ok-node.ensures.0 ∙ c.in_ok-copy.ensures)))
+    (c.insert.ensures ∙ ap (λ (q : List ℕ). insert p.gone q c.in_ok-node.node.value.item) c.in_ok-node.ensures.0))

@@ -14,5 +14,5 @@ returns-clause-ok c =
     (c.remove.ensures ∙ ap (λ (q : List ℕ). remove p.ids q) c.key.ensures)
     (over_put base p.gone p.tables c.insert.new.self k c.args.table
     (c.insert.ensures
-    ∙ ap (λ (q : List ℕ). insert p.tables q c.in_ok-node.node.value.item) (c.in_ok-node.ensures.0 ∙ c.in_ok-copy.ensures)
+    ∙ ap (λ (q : List ℕ). insert p.tables q c.in_ok-node.node.value.item) c.in_ok-node.ensures.0
     ∙ ap (λ (t : Table). insert p.tables k t) c.in_ok-node.ensures.1))

@@ -28,8 +28,8 @@ returns-in_default-clause-ok c =
     let node = c.in_ok-node.node.value in
     let made : over_ids held.0 j ≡ insert (over_ids held.0 i) c.args.id.now c.args.object.now =
     set.3 held.0
-    ∙ ap (λ (q : List ℕ). insert (over_ids held.0 i) q node.item) (c.in_ok-node.ensures.0 ∙ c.in_ok-copy.ensures)
-    ∙ ap (λ (o : List ℕ). insert (over_ids held.0 i) c.args.id.now o) (c.in_ok-node.ensures.1 ∙ c.in_ok-copy-2.ensures) in
+    ∙ ap (λ (q : List ℕ). insert (over_ids held.0 i) q node.item) c.in_ok-node.ensures.0
+    ∙ ap (λ (o : List ℕ). insert (over_ids held.0 i) c.args.id.now o) (c.in_ok-node.ensures.1 ∙ c.in_ok-copy.ensures) in
     set_again p.ids m k c.set_in.new.self held.0 (over_ids held.0 i) j c.args.id.now c.args.object.now held.1
     (held_after p.ids m k held.0 i held.1 there.0) there.1 made
 
@@ -47,8 +47,8 @@ returns-clause-ok c =
     let made : over_ids held.0 j ≡ insert held.0 c.args.id.now c.args.object.now =
     c.set.ensures held.0
     ∙ ap (λ (n : Objects). insert n node.id node.item) (c.new-ids.ensures held.0)
-    ∙ ap (λ (q : List ℕ). insert held.0 q node.item) (back.2 ∙ c.in_ok-node.ensures.0 ∙ c.in_ok-copy.ensures)
-    ∙ ap (λ (o : List ℕ). insert held.0 c.args.id.now o) (back.3 ∙ c.in_ok-node.ensures.1 ∙ c.in_ok-copy-2.ensures) in
+    ∙ ap (λ (q : List ℕ). insert held.0 q node.item) (back.2 ∙ c.in_ok-node.ensures.0)
+    ∙ ap (λ (o : List ℕ). insert held.0 c.args.id.now o) (back.3 ∙ c.in_ok-node.ensures.1 ∙ c.in_ok-copy.ensures) in
     let put : c.insert.new.self ≡ insert p.ids k j =
     c.in_ok-insert.ensures.ok ∙ ap (λ (n : Changed). insert n k j) back.1 in
     set_again p.ids m k c.insert.new.self held.0 held.0 j c.args.id.now c.args.object.now held.1

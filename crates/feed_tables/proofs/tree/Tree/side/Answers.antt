@@ -1,6 +1,6 @@
 use Rattle.std.proofs.Common.{◌≡◌, Less, Greater}
 use Rattle.feed_tables.specs.Bytes.{byte_order}
-use Rattle.feed_tables.proofs.TreeFork.{at_lent}
+use Rattle.feed_tables.proofs.TreeFork.{at_lent, ordered_to}
 use Rattle.feed_tables.proofs.Unions.{fork_before, fork_after}
 use Rattle.feed_tables.proofs.tree.Tree.side.Goals as goal
 
@@ -18,12 +18,12 @@ pub returns-then-is_before : goal.returns-then-is_before
 returns-then-is_before g c =
     let fork = c.deref-in-Less.result.now in
     let f = at_lent c.self.view_is c.requires c.in-Fork.is fork c.deref-in-Less.ensures in
-    let order : byte_order fork.id c.args.id.now ≡ Less = cc in
+    let order : byte_order fork.id c.args.id.now ≡ Less = ordered_to c.args.id.now fork c.deref.result.now c.deref-in-Less.ensures c.deref.ensures c.compare.ensures c.in-Less.is in
     fork_before f c.args.id.now order (c.is_before.ensures c.if-is_before.true)
 
 pub returns-then-is_after : goal.returns-then-is_after
 returns-then-is_after g c =
     let fork = c.deref-in-Greater.result.now in
     let f = at_lent c.self.view_is c.requires c.in-Fork.is fork c.deref-in-Greater.ensures in
-    let order : byte_order fork.id c.args.id.now ≡ Greater = cc in
+    let order : byte_order fork.id c.args.id.now ≡ Greater = ordered_to c.args.id.now fork c.deref.result.now c.deref-in-Greater.ensures c.deref.ensures c.compare.ensures c.in-Greater.is in
     fork_after f c.args.id.now order (c.is_after.ensures c.if-is_after.true)

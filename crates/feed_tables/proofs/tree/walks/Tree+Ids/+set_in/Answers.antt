@@ -2,7 +2,7 @@ use Rattle.std.proofs.Common.{refl, rules, ◌≡◌, ◌∙◌, Greater, Less, 
 use Rattle.std.specs.FinMap.{find}
 use Rattle.feed_tables.specs.Bytes.{byte_order}
 use Rattle.feed_tables.specs.Tree.{entries_of}
-use Rattle.feed_tables.proofs.TreeFork.{at_lent, find_at, put_at}
+use Rattle.feed_tables.proofs.TreeFork.{at_lent, find_at, put_at, ordered}
 use Rattle.feed_tables.proofs.Setting.{sets_before, sets_after}
 use Rattle.feed_tables.proofs.tree.walks.Tree+Ids.+set_in.Goals as goal
 use Rattle.feed_tables.proofs.tree.walks.Tree+Ids.+set_in.Goals.{in-Leaf, in-Fork+in-Less, in-Fork+in-Equal, in-Fork+in-Greater}
@@ -28,18 +28,18 @@ returns t c =
         | in-Fork+in-Less w ↦
             let fork = w.in-Fork.fork.value in
             let f = at_lent c.self.view_is c.requires w.in-Fork.is fork refl in
-            let order : byte_order kind fork.id ≡ Less = cc (w.compare.ensures, w.in-Less.is, w.deref.ensures) in
+            let order : byte_order kind fork.id ≡ Less = ordered kind fork w.deref.result.now refl w.deref.ensures w.compare.ensures w.in-Less.is in
             rw (w.result-is, w.self-inside-is, w.deref_mut.ensures.value) (sets_before f kind id object w.set_in.new.self w.set_in.result order (rw w.deref_mut.ensures.value at w.set_in.ensures.set))
         | in-Fork+in-Equal w ↦
             let fork = w.in-Fork.fork.value in
             let f = at_lent c.self.view_is c.requires w.in-Fork.is fork refl in
-            let order : byte_order kind fork.id ≡ Equal = cc (w.compare.ensures, w.in-Equal.is, w.deref.ensures) in
+            let order : byte_order kind fork.id ≡ Equal = ordered kind fork w.deref.result.now refl w.deref.ensures w.compare.ensures w.in-Equal.is in
             rw (w.result-is, w.self-inside-is, w.deref_mut-in-Equal.ensures.value)
             (fork.item, w.set.new.self, (find_at f kind order, sym (put_at f kind w.set.new.self order)), rw w.deref_mut-in-Equal.ensures.value at w.set.ensures)
         | in-Fork+in-Greater w ↦
             let fork = w.in-Fork.fork.value in
             let f = at_lent c.self.view_is c.requires w.in-Fork.is fork refl in
-            let order : byte_order kind fork.id ≡ Greater = cc (w.compare.ensures, w.in-Greater.is, w.deref.ensures) in
+            let order : byte_order kind fork.id ≡ Greater = ordered kind fork w.deref.result.now refl w.deref.ensures w.compare.ensures w.in-Greater.is in
             rw (w.result-is, w.self-inside-is, w.deref_mut-in-Greater.ensures.value) (sets_after f kind id object w.set_in-in-Greater.new.self w.set_in-in-Greater.result order (rw w.deref_mut-in-Greater.ensures.value at w.set_in-in-Greater.ensures.set))
       ];
     }
