@@ -28,3 +28,22 @@ returns-in_err-hold-clause-none c = λ e options asks. absurd
 pub returns-in_err-pending-clause-none : goal.returns-in_err-pending-clause-none
 returns-in_err-pending-clause-none c = λ e options asks. absurd
     (c.number-4.ensures.none (search rules) options.pending asks.pending_is)
+
+pub returns-in_err-listen-clause-none : goal.returns-in_err-listen-clause-none
+returns-in_err-listen-clause-none c = λ e options asks. absurd
+    (c.port_if_given.ensures.none (search rules) options.listen asks.listen_is)
+
+pub returns-in_err-per_address-clause-none : goal.returns-in_err-per_address-clause-none
+returns-in_err-per_address-clause-none c = λ e options asks. absurd
+    (c.number_if_given.ensures.none (search rules) options.per_address asks.per_address_is)
+
+pub returns-in_err-status-clause-none : goal.returns-in_err-status-clause-none
+returns-in_err-status-clause-none c = λ e options asks. absurd
+    (c.port_if_given-2.ensures.none (search rules) options.status asks.status_is)
+
+pub returns-in_err-verbosity-clause-none : goal.returns-in_err-verbosity-clause-none
+returns-in_err-verbosity-clause-none c = λ e options asks. c.verbosity.ensures.none (search rules)
+
+pub returns-in_err-limits-clause-none : goal.returns-in_err-limits-clause-none
+returns-in_err-limits-clause-none c = λ e options asks. absurd
+    (c.live_limits.ensures.none (search rules) options.limits asks.limits_are)
