@@ -11,6 +11,7 @@ pub mod Saved
 pub mod Sent
 pub mod Serving
 pub mod Shown
+pub mod Spare
 pub mod Staged
 pub mod Staging
 pub mod States

@@ -2,6 +2,7 @@
 use Rattle.std.proofs.Common.{◌≡◌, refl, sym, ap, ◌∙◌, subst, ℕ, Bool, true, false, not, ◌||◌, ◌&&◌, cond, true≢false, List, [], ◌∷◌, length, Option, Some, None, append-nil}
 use Rattle.std.specs.Prelude.{MatchResult, Result, Ok, Err, is_none, nat_lt, option_map, option_and_then, option_to_list, flat_map}
 use Rattle.std.specs.List.{list_any}
+use Rattle.std.proofs.lemmas.Bool.{and_right}
 use Rattle.feed_text.specs.Json.{Value, kind_of, items_of, null_literal, true_literal, false_literal, number, string, empty_array, array, empty_object, object}
 use Rattle.feed_text.specs.Members.{Spelling, spelling_of}
 use Rattle.feed_text.specs.declared.Kind.{Kind}
@@ -128,10 +129,6 @@ module _ (n : Notification) where
   meaning_of_kind : (k : Kind) → member_kind n.content ≡ k → has_no_meaning n ≡ (is_string (member_kind n.id) && is_array k)
   meaning_of_kind k e = ap (λ x. is_string (member_kind n.id) && is_array x) e
 
-  and_false : (a : Bool) → (a && false) ≡ false
-  and_false true = refl
-  and_false false = refl
-
   -- no element of a content without elements is bad
   pub no_elements : elements_of n ≡ [] → has_bad_element n ≡ false
   no_elements e = ap (λ vs. list_any (λ v. not (is_object (kind_of v)) || is_none (element_id v)) vs) e
@@ -142,7 +139,7 @@ module _ (n : Notification) where
       record {
         holds = (v, e, k, is);
         good_data = data_of_kind Object kind;
-        meaning = meaning_of_kind Object kind ∙ and_false (is_string (member_kind n.id));
+        meaning = meaning_of_kind Object kind ∙ and_right (is_string (member_kind n.id)) false refl;
         good_elements = no_elements (elements_are v e ∙ no_items v (ap is_array k));
       }
 
@@ -150,7 +147,7 @@ module _ (n : Notification) where
   null_content kind none = record {
     holds = ap is_null kind;
     good_data = data_of_kind Null kind;
-    meaning = meaning_of_kind Null kind ∙ and_false (is_string (member_kind n.id));
+    meaning = meaning_of_kind Null kind ∙ and_right (is_string (member_kind n.id)) false refl;
     good_elements = no_elements none;
   }
 

@@ -6,7 +6,7 @@ use Rattle.std.specs.declared.alloc.Global.{Global}
 use Rattle.std.proofs.lemmas.List.{map-append, take-append-drop, take_more}
 use Rattle.std.proofs.lemmas.Grind.{flat_map-append}
 use Rattle.feed_note.specs.Lines.{HasNoLineFeed, IsCutInto, lines, rest, ended}
-use Rattle.feed_note.specs.Pieces.{IsShort, HasShortLines, HasLongLine, IsCutOff, joined, texts_of}
+use Rattle.feed_note.specs.Pieces.{IsShort, HasShortLines, HasLongLine, IsCutOff, TakesLines, joined, texts_of}
 use Rattle.feed_note.specs.Splitting.{Gives, IsLongNext}
 use Rattle.feed_note.proofs.LinesCut.{lines_cut, lines_are_the_only_cut, no_lines, no_rest}
 use Rattle.feed_note.proofs.LinesInRow.{ended-append}
@@ -95,18 +95,29 @@ begins_short left f = subst IsShort (sym (ap rest f ∙ no_rest [] refl)) short
     short : IsShort []
     short = omega arith
 
+-- one piece more
+joined_more : (pieces : List (Vec ℕ Global)) (i : ℕ) (piece : Vec ℕ Global) → i < length pieces → piece ≡ get_or pieces i piece
+    → joined (take (i + 1) pieces) ≡ joined (take i pieces) ++ piece.items
+joined_more pieces i piece h e =
+    ap joined (take_more pieces i piece h ∙ ap (λ p. take i pieces ++ p ∷ []) (sym e))
+    ∙ flat_map-append (λ p. p.items) (take i pieces) (piece ∷ [])
+    ∙ ap (λ t. joined (take i pieces) ++ t) (append-nil piece.items)
+
+pub one_piece_more : (pieces : List (Vec ℕ Global)) (i : ℕ) (piece : Vec ℕ Global) (before given : List (List ℕ)) (left pushed_left new : List ℕ) → i < length pieces
+    → piece ≡ get_or pieces i piece → IsCutOff (joined (take i pieces)) before left → pushed_left ≡ left ++ piece.items
+    → TakesLines pushed_left before given new → IsCutOff (joined (take (i + 1) pieces)) given new
+one_piece_more pieces i piece before given left pushed_left new h e cut is takes =
+    subst (λ t. IsCutOff t given new) (sym (joined_more pieces i piece h e))
+    (subst (λ ls. IsCutOff (joined (take i pieces) ++ piece.items) ls new) (sym takes.gained)
+    (cut_on (joined (take i pieces) ++ piece.items) (left ++ piece.items) new before takes.taken
+    (pushed (joined (take i pieces)) left piece.items before cut) (subst (λ t. IsCutOff t takes.taken new) is takes.cut)))
+
 pub pieces_split : (pieces : List (Vec ℕ Global)) (i : ℕ) (piece : Vec ℕ Global) → i < length pieces → piece ≡ get_or pieces i piece
     → joined pieces ≡ (joined (take i pieces) ++ piece.items) ++ joined (drop (i + 1) pieces)
 pieces_split pieces i piece h e =
     ap joined (sym (take-append-drop (i + 1) pieces))
     ∙ flat_map-append (λ p. p.items) (take (i + 1) pieces) (drop (i + 1) pieces)
-    ∙ ap (λ t. t ++ joined (drop (i + 1) pieces)) prefix
-  where
-    prefix : joined (take (i + 1) pieces) ≡ joined (take i pieces) ++ piece.items
-    prefix =
-        ap joined (take_more pieces i piece h ∙ ap (λ p. take i pieces ++ p ∷ []) (sym e))
-        ∙ flat_map-append (λ p. p.items) (take i pieces) (piece ∷ [])
-        ∙ ap (λ t. joined (take i pieces) ++ t) (append-nil piece.items)
+    ∙ ap (λ t. t ++ joined (drop (i + 1) pieces)) (joined_more pieces i piece h e)
 
 -- what is too long after one piece more is so in the whole text
 pub long_in_pieces : (pieces : List (Vec ℕ Global)) (i : ℕ) (piece : Vec ℕ Global) (given : List (List ℕ)) (left new : List ℕ) → i < length pieces

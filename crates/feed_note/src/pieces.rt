@@ -19,9 +19,9 @@ pub fn lines_of_pieces(alloc: Global, pieces: &[Vec<u8>]) -> Result<Vec<Vec<u8>>
     let mut splitter = Splitter::new(alloc);
     let mut all = Vec::new(alloc);
     for piece in pieces {
-        splitter
-            .push(piece.as_slice())
-            .map_err(|_| SplitFault::Memory)?;
+        if splitter.push(piece.as_slice()).is_err() {
+            return Err(SplitFault::Memory);
+        }
         take_lines(alloc, &mut splitter, &mut all)?;
     }
     Ok(all)
@@ -39,7 +39,11 @@ fn take_lines(
 {
     'lines: loop {
         match splitter.next_line(alloc) {
-            Ok(Some(line)) => all.push(line).map_err(|_| SplitFault::Memory)?,
+            Ok(Some(line)) => {
+                if all.push(line).is_err() {
+                    return Err(SplitFault::Memory);
+                }
+            }
             Ok(None) => return Ok(()),
             Err(fault) => return Err(fault),
         }
