@@ -5,8 +5,7 @@ ghost use Rattle.feed_note.specs.declared.line.LineFault.TheVariants.{Memory};
 
 use feed_tables::{Changes, Name};
 use std::alloc::{AllocError, AllocFailed};
-use std::error::Error;
-use std::fmt;
+use thiserror::Error;
 
 /// What a line of an event feed means.
 #[derive(Drop)]
@@ -21,53 +20,44 @@ pub enum Line {
 }
 
 /// Why a line means nothing: the first of these that holds.
-#[derive(Clone, Copy, Debug, PartialEq, Eq)]
+#[derive(Clone, Copy, Debug, PartialEq, Eq, Error)]
 pub enum LineFault {
     /// The line is not UTF-8.
+    #[error("not UTF-8")]
     Utf8,
     /// Its brackets nest 103 deep or more, outside strings.
+    #[error("nested too deep")]
     Deep,
     /// It is not one JSON object.
+    #[error("not a JSON object")]
     Syntax,
     /// It has no member `type`.
+    #[error("no type")]
     NoType,
     /// `type` is no string, or `id` or `token` neither a string nor null, or one of them has a lone
     /// surrogate.
+    #[error("bad type, id or token")]
     BadMember,
     /// `data` is a string, a number, true or false.
+    #[error("bad data")]
     BadData,
     /// `id` is a string and `data` an array.
+    #[error("no meaning")]
     NoMeaning,
     /// An element of `data` is no object, or its `id` is absent, no string, or has a lone
     /// surrogate.
+    #[error("bad element")]
     BadElement,
     /// A type, id, token or element's id is over 255 bytes long.
+    #[error("name too long")]
     LongName,
     /// An object that would be kept is over 1,048,576 bytes long or nests over 100 deep.
+    #[error("object too large")]
     BigObject,
     /// Memory ran out; this says nothing of the line.
+    #[error("out of memory")]
     Memory,
 }
-
-impl fmt::Display for LineFault {
-    fn fmt<W: fmt::Write>(&self, f: &mut fmt::Formatter<W>) -> fmt::Result {
-        f.write_str(match self {
-            LineFault::Utf8 => "not UTF-8",
-            LineFault::Deep => "nested too deep",
-            LineFault::Syntax => "not a JSON object",
-            LineFault::NoType => "no type",
-            LineFault::BadMember => "bad type, id or token",
-            LineFault::BadData => "bad data",
-            LineFault::NoMeaning => "no meaning",
-            LineFault::BadElement => "bad element",
-            LineFault::LongName => "name too long",
-            LineFault::BigObject => "object too large",
-            LineFault::Memory => "out of memory",
-        })
-    }
-}
-
-impl Error for LineFault {}
 
 impl From<AllocError> for LineFault {
     ghost from_gives = { λ _ fault. fault ≡ Memory };
