@@ -5,7 +5,7 @@ use Rattle.std.specs.List.{list_all}
 use Rattle.std.specs.Char.{is_ascii_digit, digit_value}
 use Rattle.std.specs.Str.Parse.{digits_value}
 use Rattle.std.proofs.Math.Nat.{pow-le-pow_right, pow-succ'}
-use Rattle.std.proofs.lemmas.Bool.{cases_Bool}
+use Rattle.std.proofs.lemmas.Bool.{and_right, cases_Bool}
 use Rattle.std.proofs.lemmas.Bool.Decides.{nat_tests}
 use Rattle.std.proofs.lemmas.List.{take_more, drop_more, drop_all}
 use Rattle.std.proofs.lemmas.List.Folds.{list_all_more, list_all_at}
@@ -62,11 +62,7 @@ pub other_byte : (text : List ℕ) (n : ℕ) → n < length text
 other_byte text n within h =
     let none : list_all is_ascii_digit text ≡ false = list_all_at is_ascii_digit text n 0 within
     h in
-    rw none (and_false (nat_lt 0 (length text) && nat_le (length text) 18))
-  where
-    and_false : (b : Bool) → (b && false) ≡ false
-    and_false true = refl
-    and_false false = refl
+    rw none (and_right (nat_lt 0 (length text) && nat_le (length text) 18) false refl)
 
 pub is_whole_length : (text : List ℕ) → 0 < length text → length text ≤ 18
     → list_all is_ascii_digit text ≡ true → is_length text ≡ true

@@ -35,6 +35,35 @@ fn len_within(left: u64, bytes: &[u8]) -> usize
     }
 }
 
+/// Reads as many bytes of a chunk as there are, where so many of them are still to come, and answers
+/// how many these are.
+fn feed_data(
+    alloc: Global,
+    mirror: &mut Mirror,
+    left: u64,
+    bytes: &[u8],
+) -> Result<(Chunking, usize), FollowFault>
+    requires left { 0 < left }
+    requires some { 0 < length bytes.now }
+    ensures place { IfOk result (λ r. IsPlace r.0) }
+    ensures some { IfOk result (λ r. 0 < r.1) }
+    ensures within { IfOk result (λ r. r.1 ≤ length bytes.now) }
+    ensures ok { IfOk result (λ r. FeedsChunks (Place.InBytes left) (take r.1 bytes.now) mirror.old
+        r.0 mirror.new) }
+    ensures err { IfErr result (StopsInChunks (Place.InBytes left) bytes.now
+        mirror.old mirror.new) }
+    ensures limits { mirror.new.limits ≡ mirror.old.limits }
+{
+    let len = len_within(left, bytes);
+    feed_payload(alloc, mirror, &bytes[..len])?;
+    let to = if left == len as u64 {
+        Chunking::BytesEnd
+    } else {
+        Chunking::InBytes(left - len as u64)
+    };
+    Ok((to, len))
+}
+
 /// Reads a byte of a chunked body, or as many as there are of a chunk's, and answers how many these
 /// are.
 fn feed_chunk(
@@ -53,20 +82,13 @@ fn feed_chunk(
     ensures err { IfErr result (StopsInChunks at bytes.now mirror.old mirror.new) }
     ensures limits { mirror.new.limits ≡ mirror.old.limits }
 {
-    let Chunking::InBytes(left) = at else {
-        let Some(to) = after_byte(at, bytes[0]) else {
-            return Err(FollowFault::BadChunk);
-        };
-        return Ok((to, 1));
-    };
-    let len = len_within(left, bytes);
-    feed_payload(alloc, mirror, &bytes[..len])?;
-    let to = if left == len as u64 {
-        Chunking::BytesEnd
-    } else {
-        Chunking::InBytes(left - len as u64)
-    };
-    Ok((to, len))
+    if let Chunking::InBytes(left) = at {
+        return feed_data(alloc, mirror, left, bytes);
+    }
+    match after_byte(at, bytes[0]) {
+        Some(to) => Ok((to, 1)),
+        None => Err(FollowFault::BadChunk),
+    }
 }
 
 /// Reads the next bytes of a chunked body; what comes after the body is ignored.
@@ -85,7 +107,7 @@ fn feed_chunks(
     let mut at = from;
     let mut read = 0;
     'chunks: while read < piece.len() {
-        if at == Chunking::Whole {
+        if matches!(at, Chunking::Whole) {
             return Ok(at);
         }
         let (to, len) = feed_chunk(alloc, mirror, at, &piece[read..])?;
@@ -93,6 +115,57 @@ fn feed_chunks(
         read += len;
     }
     Ok(at)
+}
+
+/// Reads the next bytes of a body of which so many are still to come.
+fn feed_sized(
+    alloc: Global,
+    mirror: &mut Mirror,
+    left: u64,
+    piece: &[u8],
+) -> Result<Part, FollowFault>
+    ensures part { IfOk result IsPart }
+    ensures ok { IfOk result (BodyGoesOn (Part.Sized left) piece.now mirror.old mirror.new) }
+    ensures err { IfErr result (BodyStops (Part.Sized left) piece.now mirror.old mirror.new) }
+    ensures limits { mirror.new.limits ≡ mirror.old.limits }
+{
+    let len = len_within(left, piece);
+    feed_payload(alloc, mirror, &piece[..len])?;
+    if left == len as u64 {
+        Ok(Part::Done)
+    } else {
+        Ok(Part::Sized(left - len as u64))
+    }
+}
+
+/// Reads the next bytes of a chunked body.
+fn feed_chunked(
+    alloc: Global,
+    mirror: &mut Mirror,
+    at: Chunking,
+    piece: &[u8],
+) -> Result<Part, FollowFault>
+    requires { IsPlace at }
+    ensures part { IfOk result IsPart }
+    ensures ok { IfOk result (BodyGoesOn (Part.InChunks at) piece.now mirror.old mirror.new) }
+    ensures err { IfErr result (BodyStops (Part.InChunks at) piece.now mirror.old mirror.new) }
+    ensures limits { mirror.new.limits ≡ mirror.old.limits }
+{
+    match feed_chunks(alloc, mirror, at, piece)? {
+        Chunking::Whole => Ok(Part::Done),
+        to => Ok(Part::InChunks(to)),
+    }
+}
+
+/// Reads the next bytes of a body up to the end of the connection.
+fn feed_open(alloc: Global, mirror: &mut Mirror, piece: &[u8]) -> Result<Part, FollowFault>
+    ensures part { IfOk result IsPart }
+    ensures ok { IfOk result (BodyGoesOn Part.ToEnd piece.now mirror.old mirror.new) }
+    ensures err { IfErr result (BodyStops Part.ToEnd piece.now mirror.old mirror.new) }
+    ensures limits { mirror.new.limits ≡ mirror.old.limits }
+{
+    feed_payload(alloc, mirror, piece)?;
+    Ok(Part::ToEnd)
 }
 
 /// Reads the next bytes of a body in this part of it.
@@ -109,23 +182,9 @@ pub(crate) fn feed_body(
     ensures limits { mirror.new.limits ≡ mirror.old.limits }
 {
     match part {
-        Part::Sized(left) => {
-            let len = len_within(left, piece);
-            feed_payload(alloc, mirror, &piece[..len])?;
-            if left == len as u64 {
-                Ok(Part::Done)
-            } else {
-                Ok(Part::Sized(left - len as u64))
-            }
-        }
-        Part::InChunks(at) => match feed_chunks(alloc, mirror, at, piece)? {
-            Chunking::Whole => Ok(Part::Done),
-            to => Ok(Part::InChunks(to)),
-        },
-        Part::ToEnd => {
-            feed_payload(alloc, mirror, piece)?;
-            Ok(part)
-        }
+        Part::Sized(left) => feed_sized(alloc, mirror, left, piece),
+        Part::InChunks(at) => feed_chunked(alloc, mirror, at, piece),
+        Part::ToEnd => feed_open(alloc, mirror, piece),
         _ => Ok(part),
     }
 }

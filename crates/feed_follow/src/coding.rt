@@ -10,7 +10,7 @@ use crate::FollowFault;
 use httparse::Header;
 
 /// How a body is framed: up to the end of the connection, by its length, or in chunks.
-#[derive(Clone, Copy, Debug, PartialEq, Eq)]
+#[derive(Clone, Copy)]
 pub(crate) enum BodyFraming {
     ToEnd,
     Sized(u64),

@@ -1,19 +1,19 @@
 //! A reader of one response, which feeds what it carries to a mirror.
-ghost use Rattle.std.specs.Prelude.{◌≡◌, ◌≢◌, ◌≤◌, ◌++◌, ℕ, List, [], length, is_some, None, Ok, Err, IfOk, IfErr, OnOk, OnErr};
+ghost use Rattle.std.specs.Prelude.{◌≡◌, ◌≢◌, ◌≤◌, ◌⊎◌, ◌+◌, ◌++◌, ℕ, List, [], length, is_some, None, Ok, Err, IfOk, IfErr, IfSome, IfNone, OnOk, OnErr};
 ghost use Rattle.feed_node.specs.Mirroring.{MirrorState, cut_off};
 ghost use Rattle.feed_follow.specs.declared.fault.FollowFault.{FollowFault as Fault};
 ghost use Rattle.feed_follow.specs.declared.fault.Progress.{Progress as Reached};
 ghost use Rattle.feed_follow.specs.Standing.{Standing, in_head};
 ghost use Rattle.feed_follow.specs.Following.{Fails};
 ghost use Rattle.feed_follow.specs.Follower.{FollowsAt, GoesOn, GoesOnOrRefuses, IsPart, first_part as part_for, progress as reached};
-ghost use Rattle.feed_follow.specs.HeadRead.{IsUnfinished};
+ghost use Rattle.feed_follow.specs.HeadRead.{IsHeadRead, IsNoHead, IsUnfinished};
 ghost use Rattle.feed_follow.specs.Heads.{head_bytes};
 ghost use Rattle.feed_follow.specs.Keeping.{kept_bytes, follower_of, KeepsLittle, HeadGoesOn, HeadStops};
 
 use crate::body::feed_body;
 use crate::chunk::Chunking;
 use crate::coding::BodyFraming;
-use crate::heads::{HEAD_BYTES, Verdict, look_at_head};
+use crate::heads::{HEAD_BYTES, Verdict, WholeHead, look_at_head};
 use crate::{FollowFault, Progress};
 use feed_node::Mirror;
 use std::alloc::{AllocError, Global};
@@ -21,7 +21,7 @@ use std::marker::Model;
 
 /// What is read next: the head; a body to the end of the connection, one of which so many bytes are
 /// still to come, or a chunked one; nothing, since the body is whole; or nothing more.
-#[derive(Clone, Copy, Debug, PartialEq, Eq)]
+#[derive(Clone, Copy)]
 pub(crate) enum Part {
     Head,
     ToEnd,
@@ -155,7 +155,7 @@ impl Follower {
         ensures limits { mirror.new.limits ≡ mirror.old.limits }
         ensures bounded { length self.new.kept ≤ head_bytes }
     {
-        if self.part == Part::Closed {
+        if matches!(self.part, Part::Closed) {
             return Err(FollowFault::Closed);
         }
         if piece.is_empty() {
@@ -246,6 +246,34 @@ fn with_more(alloc: Global, kept: Option<Vec<u8>>, bytes: &[u8]) -> Result<Vec<u
     Ok(head)
 }
 
+/// Looks at the bytes of the head so far and these after them, which are kept while no head is whole.
+fn look_further(
+    alloc: Global,
+    had_token: bool,
+    kept: &mut Option<Vec<u8>>,
+    bytes: &[u8],
+) -> Result<Option<WholeHead>, FollowFault>
+    ensures whole { IfOk result (λ found. IfSome found
+        (IsHeadRead had_token (kept_bytes kept.old ++ bytes.now))) }
+    ensures unfinished { IfOk result (λ found. IfNone found
+        (IsUnfinished (kept_bytes kept.old ++ bytes.now))) }
+    ensures err { IfErr result (λ fault. (fault ≡ Fault.Memory)
+        ⊎ IsNoHead had_token (kept_bytes kept.old ++ bytes.now) fault) }
+    ensures kept { IfOk result (λ found. IfNone found
+        (kept_bytes kept.new ≡ kept_bytes kept.old ++ bytes.now)) }
+    ensures bounded { length (kept_bytes kept.new)
+        ≤ length (kept_bytes kept.old) + length bytes.now }
+{
+    let head = with_more(alloc, kept.take(), bytes)?;
+    match look_at_head(had_token, &head)? {
+        Some(whole) => Ok(Some(whole)),
+        None => {
+            *kept = Some(head);
+            Ok(None)
+        }
+    }
+}
+
 /// Reads the next bytes of a head, and what stands of the body after it.
 fn read_head(
     alloc: Global,
@@ -265,12 +293,10 @@ fn read_head(
 {
     let before = kept_len(kept);
     let len = piece.len().min(HEAD_BYTES - before);
-    let head = with_more(alloc, kept.take(), &piece[..len])?;
-    let Some(whole) = look_at_head(had_token, &head)? else {
+    let Some(whole) = look_further(alloc, had_token, kept, &piece[..len])? else {
         if len < piece.len() {
             return Err(FollowFault::LongHead);
         }
-        *kept = Some(head);
         return Ok(Part::Head);
     };
     let Verdict::Body(framing) = whole.says else {

@@ -1,7 +1,7 @@
 //! The head of a response.
 ghost use Rattle.std.specs.Prelude.{◌≡◌, ◌≢◌, ℕ, ◌≤◌, ◌↔◌, ◌==◌, List, [], length, drop, IsTrue, count_by, IfOk, IfErr, IfSome, IfNone, OnOk, OnErr, None, Ok, Err, map, Bool};
 ghost use Rattle.httparse.specs.Grammar.{NeverHasResponse};
-ghost use Rattle.httparse.specs.Borrowed.{header_parts};
+ghost use Rattle.httparse.specs.Borrowed.{header_parts, HoldsSomeResponse};
 ghost use Rattle.feed_follow.specs.Heads.{line_count, IsHeadSize, IsPastLimits, HasNoWholeResponse};
 ghost use Rattle.feed_follow.specs.Standing.{verdict_of};
 ghost use Rattle.feed_follow.specs.HeadRead.{IsHeadRead, IsHeadFault, IsUnfinished, IsNoHead};
@@ -20,14 +20,14 @@ pub const HEAD_LINES: usize = 66;
 pub const HEAD_FIELDS: usize = 64;
 
 /// What a whole head says of its response, where it can be followed.
-#[derive(Clone, Copy, Debug, PartialEq, Eq)]
+#[derive(Clone, Copy)]
 pub(crate) enum Verdict {
     Body(BodyFraming),
     Refusal,
 }
 
 /// A whole head: its length, and what it says.
-#[derive(Clone, Copy, Debug, PartialEq, Eq)]
+#[derive(Clone, Copy)]
 pub(crate) struct WholeHead {
     pub len: usize,
     pub says: Verdict,
@@ -76,22 +76,30 @@ pub(crate) fn look_at_head(had_token: bool, bytes: &[u8]) -> Result<Option<Whole
     let mut headers = [EMPTY_HEADER; HEAD_FIELDS];
     let mut response = Response::new(&mut headers);
     match response.parse(bytes) {
-        Ok(Status::Complete(len)) => {
-            if !is_head_size(&bytes[..len], response.headers.len()) {
-                return unfinished(had_token, bytes);
-            }
-            let says = judge(had_token, response.code.unwrap_or(0), response.headers)?;
-            Ok(Some(WholeHead { len, says }))
-        }
+        Ok(Status::Complete(len)) => parsed(had_token, bytes, len, &response),
         Ok(Status::Partial) => unfinished(had_token, bytes),
-        Err(e) => {
-            if e == Error::TooManyHeaders {
-                unfinished(had_token, bytes)
-            } else {
-                never(had_token, bytes)
-            }
-        }
+        Err(Error::TooManyHeaders) => unfinished(had_token, bytes),
+        Err(_) => never(had_token, bytes),
     }
+}
+
+/// A head of so many bytes that was parsed is whole, if it is short enough.
+fn parsed(
+    had_token: bool,
+    bytes: &[u8],
+    len: usize,
+    head: &Response,
+) -> Result<Option<WholeHead>, FollowFault>
+    requires { HoldsSomeResponse bytes.now head.now len }
+    ensures whole { IfOk result (λ found. IfSome found (IsHeadRead had_token bytes.now)) }
+    ensures unfinished { IfOk result (λ found. IfNone found (IsUnfinished bytes.now)) }
+    ensures err { IfErr result (IsNoHead had_token bytes.now) }
+{
+    if !is_head_size(&bytes[..len], head.headers.len()) {
+        return unfinished(had_token, bytes);
+    }
+    let says = judge(had_token, head.code.unwrap_or(0), head.headers)?;
+    Ok(Some(WholeHead { len, says }))
 }
 
 /// Bytes with no whole head may go on within the limits.

@@ -32,7 +32,8 @@ use Rattle.feed_http.specs.Serving.{HasAll, commit_frames}
 use Rattle.feed_http.specs.Sending.{Sent, sent_none, sent_one, WroteCommits}
 use Rattle.feed_http.specs.Live.{Intake, intake_of, Accepts, accepts_none, accepts_one, TakesTurn, MayLoseTokens, HasSent, commit_sent, IsOver, SendsLive, IsCutShort}
 use Rattle.feed_http.specs.Taking.{IsHeld}
-use Rattle.feed_http.proofs.ServingLemmas.{next_moves, tokens-length, frames-append}
+use Rattle.feed_node.proofs.Keeping.{tokens-length}
+use Rattle.feed_http.proofs.ServingLemmas.{next_moves, frames-append}
 use Rattle.feed_http.proofs.RestLemmas.{new_is_published, last_is, never_lost}
 
 -- ---- a turn

@@ -16,8 +16,8 @@ use Rattle.feed_node.specs.Serving.{is_published, commit_after}
 use Rattle.feed_http.specs.Sessions.{Nothing_new, Lost, Commit_after, next, or_lost}
 use Rattle.feed_http.specs.Sending.{Sent, sent_none, sent_one}
 use Rattle.feed_http.specs.Live.{Intake, Accepts, accepts_none, accepts_one, TakesTurn, IsLongTurn}
-use Rattle.feed_http.proofs.ServingLemmas.{tokens-length}
 use Rattle.feed_http.proofs.RestLemmas.{new_is_published, at_place}
+use Rattle.feed_node.proofs.Keeping.{tokens-length}
 use Rattle.feed_node.proofs.Numbering.{tokens_from-length as length_tokens}
 
 -- the session stands at the last token of the start, and more commits than are kept came since

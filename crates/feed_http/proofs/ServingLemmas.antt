@@ -16,6 +16,7 @@ use Rattle.feed_note.specs.Publishing.{Published}
 use Rattle.feed_node.specs.declared.commit.Commit.{Commit}
 use Rattle.feed_node.specs.States.{NodeState, nothing_published, published_token, place_of, HoldsItsTokens, IsConsistent, tokens}
 use Rattle.feed_node.specs.Serving.{is_published, commit_after, commit_text}
+use Rattle.feed_node.proofs.Keeping.{tokens-length}
 use Rattle.feed_http.specs.Sessions.{Next, Nothing_new, Lost, Commit_after, next, or_lost, Pulls}
 use Rattle.feed_node.specs.declared.session.Pulled.{Pulled}
 use Rattle.feed_node.specs.declared.session.Pulled.TheVariants.{More, UpToDate, Gone}
@@ -35,10 +36,6 @@ pub record Moves (node : NodeState) (token : List ℕ) (commit : Commit) : Type 
   pub at : place_of node token ≡ Some place
   pub within : place < length node.kept
   pub behind : place_of node commit.token ≡ Some (place + 1)
-
-pub tokens-length : (kept : List Commit) → length (tokens kept) ≡ length kept
-tokens-length [] = refl
-tokens-length (c ∷ kept) = ap suc (tokens-length kept)
 
 token_at : (kept : List Commit) (k : ℕ) (c : Commit) → slice_get kept k ≡ Some c
     → (k < length kept) × (get_or (tokens kept) k [] ≡ c.token)

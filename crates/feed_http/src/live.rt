@@ -19,6 +19,14 @@ use feed_tables::Change;
 use std::alloc::Global;
 use std::collections::VecDeque;
 
+/// How a session is served while batches are taken: so many of them each time that nothing is new,
+/// and framed so.
+#[derive(Clone, Copy)]
+struct Terms {
+    turn: usize,
+    framing: Framing,
+}
+
 /// Commits so many batches from the start of the input, or all that remain. A refused batch is
 /// taken, too, and ends the turn.
 fn take_turn(
@@ -51,23 +59,23 @@ fn send_live<W: FeedWrite>(
     writer: &mut W,
     primary: &mut Primary,
     input: &mut VecDeque<Vec<Change>>,
-    turn: usize,
+    terms: Terms,
     session: &mut Session,
-    framing: Framing,
 ) -> Result<(u64, bool), EngineFault>
-    requires some { 1 ≤ turn }
+    requires some { 1 ≤ terms.turn }
     requires held { IsHeld primary.old.node session.old }
     ensures { let wrote = wrote_by W.contents W.failures writer.old writer.new in
         let start = intake_of primary.old input.old.items in
         let now = intake_of primary.new input.new.items in
         WritesBy wrote
-        (λ told. WroteTurns turn start session.old framing wrote now session.new told.0 told.1)
-        (WroteCutShort turn start session.old framing now wrote)
-        (WroteToRefusal turn start session.old framing now wrote) result }
+        (λ told. WroteTurns terms.turn start session.old terms.framing wrote now session.new
+        told.0 told.1)
+        (WroteCutShort terms.turn start session.old terms.framing now wrote)
+        (WroteToRefusal terms.turn start session.old terms.framing now wrote) result }
 {
     let mut count: u64 = 0;
     'turns: loop {
-        let (sent, gone) = send_commits(alloc, writer, primary.node(), session, framing)?;
+        let (sent, gone) = send_commits(alloc, writer, primary.node(), session, terms.framing)?;
         count = count.saturating_add(sent);
         if gone {
             return Ok((count, true));
@@ -75,7 +83,7 @@ fn send_live<W: FeedWrite>(
         if input.is_empty() {
             return Ok((count, false));
         }
-        take_turn(alloc, primary, input, turn)?;
+        take_turn(alloc, primary, input, terms.turn)?;
     }
 }
 
@@ -110,7 +118,8 @@ fn send_live_answer<W: FeedWrite>(
     let Some(mut session) = session else {
         return Ok(Served::nothing(status));
     };
-    let (commits, gone) = send_live(alloc, writer, primary, input, turn, &mut session, framing)?;
+    let terms = Terms { turn, framing };
+    let (commits, gone) = send_live(alloc, writer, primary, input, terms, &mut session)?;
     send_farewell(alloc, writer, &session, framing, gone)?;
     Ok(Served {
         status,

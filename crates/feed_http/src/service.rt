@@ -3,7 +3,7 @@
 use feed_answer::Framing;
 
 /// What a server serves on a connection, and how.
-#[derive(Clone, Copy, Debug)]
+#[derive(Clone, Copy)]
 pub struct Service<'c> {
     /// The contest that a request has to name.
     pub contest: &'c str,

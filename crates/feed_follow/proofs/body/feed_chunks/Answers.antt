@@ -33,8 +33,8 @@ chunks-preserved c =
       limits = cc (c.in_ok-to.ensures.limits);
     }
 
-pub returns-then-eq-clause-ok : goal.returns-then-eq-clause-ok
-returns-then-eq-clause-ok c = record {
+pub returns-then-matches-clause-ok : goal.returns-then-matches-clause-ok
+returns-then-matches-clause-ok c = record {
   prefix = take c.chunks.read c.args.piece.now;
   ignored = drop c.chunks.read c.args.piece.now;
   split = sym (take-append-drop c.chunks.read c.args.piece.now);

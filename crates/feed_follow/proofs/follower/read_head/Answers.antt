@@ -1,7 +1,6 @@
-use Rattle.std.proofs.Common.{◌≡◌, ◌-◌, [], ◌++◌, ◌∙◌, refl, ap, subst, length, take, drop}
+use Rattle.std.proofs.Common.{◌≡◌, ◌-◌, [], ◌++◌, ◌∙◌, refl, ap, inl, inr, length, take, drop}
 use Rattle.std.specs.Prelude.{min}
 use Rattle.std.proofs.lemmas.Result.{err_from_is_err_and, IfOk-weaker, MatchResult-weaker}
-use Rattle.feed_follow.specs.HeadRead.{IsHeadRead, IsNoHead, IsUnfinished}
 use Rattle.feed_follow.specs.Keeping.{kept_bytes, HeadGoesOn}
 use Rattle.feed_follow.specs.Feeding.{BodyGoesOn}
 use Rattle.feed_follow.proofs.HeadLemmas.{looked_end, in_piece, too_long}
@@ -10,33 +9,30 @@ use Rattle.feed_follow.proofs.follower.read_head.Goals as goal
 
 pub returns-in_err-whole-clause-err : goal.returns-in_err-whole-clause-err
 returns-in_err-whole-clause-err c = λ unfinished.
-    let p = err_from_is_err_and c.from_residual-in_err-whole.result
-    c.from_residual-in_err-whole.ensures.1 in
+    let p = err_from_is_err_and c.from_residual.result c.from_residual.ensures.1 in
     let kept = kept_bytes c.args.kept.now in
     let piece = c.args.piece.now in
     let len = c.min-len.result in
     let fault = c.in_err-whole.field-0.0 in
-    let looked : c.deref.result.now ≡ kept ++ take len piece = cc
-    (c.deref.ensures.value, c.in_ok-head.ensures, c.take.ensures.value) in
     let few : len ≡ min (length piece) (8192 - length kept) = c.min-len.ensures
     ∙ ap (λ n. min (length piece) (8192 - n)) c.kept_len-before.ensures in
-    let stop = subst (λ t. IsNoHead c.args.had_token t fault) looked c.in_err-whole.ensures.err in
-    rw (p.1, p.2) (stops_in_head c.args.had_token kept piece c.args.mirror.now fault
-    (in_piece c.args.had_token kept piece len fault (looked_end kept piece len c.requires few)
-    stop))
+    rw (p.1, p.2) (elim c.in_err-whole.ensures.err [
+      | inl is ↦ rw is refl
+      | inr stop ↦ stops_in_head c.args.had_token kept piece c.args.mirror.now fault
+          (in_piece c.args.had_token kept piece len fault
+          (looked_end kept piece len c.requires few) stop)
+    ])
 
 pub returns-then-len-piece-clause-err : goal.returns-then-len-piece-clause-err
 returns-then-len-piece-clause-err c = λ unfinished.
     let kept = kept_bytes c.args.kept.now in
     let piece = c.args.piece.now in
     let len = c.min-len.result in
-    let looked : c.deref.result.now ≡ kept ++ take len piece = cc
-    (c.deref.ensures.value, c.in_ok-head.ensures, c.take.ensures.value) in
     let few : len ≡ min (length piece) (8192 - length kept) = c.min-len.ensures
     ∙ ap (λ n. min (length piece) (8192 - n)) c.kept_len-before.ensures in
     let open_head = rw c.in_default.is at c.in_ok-whole.ensures.unfinished in (
       too_long c.args.had_token kept piece len c.requires few c.if-len-piece.true
-          (subst IsUnfinished looked open_head),
+          open_head,
       refl,
     )
 
@@ -45,11 +41,9 @@ returns-in_default-says-clause-ok c = λ unfinished.
     let kept = kept_bytes c.args.kept.now in
     let piece = c.args.piece.now in
     let len = c.min-len.result in
-    let looked : c.deref.result.now ≡ kept ++ take len piece = cc
-    (c.deref.ensures.value, c.in_ok-head.ensures, c.take.ensures.value) in
     let read = rw c.in-Some.is at c.in_ok-whole.ensures.whole in
     refuses c.args.had_token kept piece len c.in-Some.whole c.args.mirror.now c.cut.new.self
-    (subst (λ t. IsHeadRead c.args.had_token t c.in-Some.whole) looked read)
+    read
     c.in_default-says.is c.cut.ensures
 
 pub returns-clause-ok : goal.returns-clause-ok
@@ -61,9 +55,7 @@ returns-clause-ok c = λ unfinished.
     let found = c.in-Some.whole in
     let mid = c.begin.new.self in
     let new = c.feed_body.new.mirror in
-    let more = kept_bytes c.take.new.self in
-    let looked : c.deref.result.now ≡ kept ++ take len piece = cc
-    (c.deref.ensures.value, c.in_ok-head.ensures, c.take.ensures.value) in
+    let more = kept_bytes c.look_further.new.kept in
     let read = rw c.in-Some.is at c.in_ok-whole.ensures.whole in
     let at : s ≡ found.len - length kept = c.saturating_sub.ensures
     ∙ ap (λ n. found.len - n) c.kept_len-before.ensures in
@@ -72,7 +64,7 @@ returns-clause-ok c = λ unfinished.
     (HeadGoesOn c.args.had_token (kept ++ piece) c.args.mirror.now more new)
     (λ to goes. whole_goes_on c.args.had_token kept piece len found c.in-Body.framing
     c.first_part.result s c.args.mirror.now mid new unfinished
-    (subst (λ t. IsHeadRead c.args.had_token t found) looked read) c.in-Body.is c.first_part.ensures
+    read c.in-Body.is c.first_part.ensures
     at
     (record { limits = c.begin.ensures.limits; notes = []; stands = c.begin.ensures.stands }) more
     to goes)
@@ -87,15 +79,13 @@ returns-clause-err c = λ unfinished.
     let found = c.in-Some.whole in
     let mid = c.begin.new.self in
     let new = c.feed_body.new.mirror in
-    let looked : c.deref.result.now ≡ kept ++ take len piece = cc
-    (c.deref.ensures.value, c.in_ok-head.ensures, c.take.ensures.value) in
     let read = rw c.in-Some.is at c.in_ok-whole.ensures.whole in
     let at : s ≡ found.len - length kept = c.saturating_sub.ensures
     ∙ ap (λ n. found.len - n) c.kept_len-before.ensures in
     MatchResult-weaker c.feed_body.result c.feed_body.ensures.err (λ _ x. x)
     (λ fault stops. whole_stops c.args.had_token kept piece len found c.in-Body.framing
     c.first_part.result s c.args.mirror.now mid new unfinished
-    (subst (λ t. IsHeadRead c.args.had_token t found) looked read) c.in-Body.is c.first_part.ensures
+    read c.in-Body.is c.first_part.ensures
     at
     (record { limits = c.begin.ensures.limits; notes = []; stands = c.begin.ensures.stands }) fault
     stops)

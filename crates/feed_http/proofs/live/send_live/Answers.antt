@@ -18,8 +18,8 @@ returns-in_err-sent g c =
     let node_is : c.node.result.now.shown ≡ c.turns.primary.node = c.node.ensures.node in
     let p = err_from_is_err_and c.from_residual.result c.from_residual.ensures.1 in
     passed _ p.1 p.2 c.turns.invariant.quiet refl
-    (λ part. cut_short c.args.turn (intake_of c.args.primary.now c.args.input.now.items) c.args.session.now sent (intake_of c.turns.primary c.turns.input.items) c.turns.session c.args.framing _ _ _ run wrote
-    (subst (λ n. WroteCommits n c.turns.session c.args.framing (g.W.FeedWrite.contents c.turns.writer) (g.W.FeedWrite.contents c.send_commits.new.writer)) node_is part))
+    (λ part. cut_short c.args.terms.turn (intake_of c.args.primary.now c.args.input.now.items) c.args.session.now sent (intake_of c.turns.primary c.turns.input.items) c.turns.session c.args.terms.framing _ _ _ run wrote
+    (subst (λ n. WroteCommits n c.turns.session c.args.terms.framing (g.W.FeedWrite.contents c.turns.writer) (g.W.FeedWrite.contents c.send_commits.new.writer)) node_is part))
     (λ why none. absurd none) c.in_err-sent.ensures.sent
 
 pub returns-then-gone : goal.returns-then-gone
@@ -34,11 +34,11 @@ returns-then-gone g c =
     let over = all_lost c.node.result.now.shown c.turns.primary.node c.send_commits.new.session c.in_ok-sent.gone node_is c.if-gone.true all in (
       record {
         sent = sent ++ more;
-        has_sent = sent_on c.args.turn start c.args.session.now sent now c.turns.session c.send_commits.new.session more run goes_on;
+        has_sent = sent_on c.args.terms.turn start c.args.session.now sent now c.turns.session c.send_commits.new.session more run goes_on;
         over = over;
         count_is = omega (arith, length-append sent more, count, many, c.saturating_add-count.ensures);
-        frames = frames_on c.args.framing sent more _ _ _ wrote appended;
-        only_long = λ is. lost_late c.args.turn start now c.turns.session c.send_commits.new.session more c.node.ensures.consistent goes_on over (c.turns.invariant.held c.requires.held);
+        frames = frames_on c.args.terms.framing sent more _ _ _ wrote appended;
+        only_long = λ is. lost_late c.args.terms.turn start now c.turns.session c.send_commits.new.session more c.node.ensures.consistent goes_on over (c.turns.invariant.held c.requires.held);
         each_long = λ few long. refl;
       },
       quiet ∙ c.turns.invariant.quiet,
@@ -59,10 +59,10 @@ returns-then-is_empty g c =
     let nothing_left = none_left c.turns.primary c.turns.input.items empty in (
       record {
         sent = sent ++ more;
-        has_sent = sent_on c.args.turn start c.args.session.now sent before c.turns.session c.send_commits.new.session more run goes_on;
+        has_sent = sent_on c.args.terms.turn start c.args.session.now sent before c.turns.session c.send_commits.new.session more run goes_on;
         over = (new, nothing_left);
         count_is = omega (arith, length-append sent more, count, many, c.saturating_add-count.ensures);
-        frames = frames_on c.args.framing sent more _ _ _ wrote appended;
+        frames = frames_on c.args.terms.framing sent more _ _ _ wrote appended;
         only_long = λ is. absurd (cc);
         each_long = λ few long. elim (c.turns.invariant.lost few long) [
           | inl same ↦ (let left = ap (λ i. length i.batches) (sym same) in let gone : length before.batches ≡ 0 = ap length nothing_left in absurd (omega (arith, long.1)))
@@ -84,19 +84,19 @@ turns-preserved g c =
     let goes_on = subst (λ n. Sent n c.turns.session more c.send_commits.new.session) node_is sends in
     let new = all_new c.node.result.now.shown c.turns.primary.node c.send_commits.new.session c.in_ok-sent.gone node_is c.if-gone.false all in
     let takes = c.in_ok-take_turn.ensures.ok in
-    let left = fewer_left c.args.turn before now takes in
+    let left = fewer_left c.args.terms.turn before now takes in
     record {
       run = (
         sent ++ more,
         turn_taken (sent ++ more) before now c.send_commits.new.session
-            (sent_on c.args.turn start c.args.session.now sent before c.turns.session c.send_commits.new.session more run goes_on) new takes,
+            (sent_on c.args.terms.turn start c.args.session.now sent before c.turns.session c.send_commits.new.session more run goes_on) new takes,
         omega (arith, length-append sent more, count, many, c.saturating_add-count.ensures),
-        frames_on c.args.framing sent more _ _ _ wrote appended,
+        frames_on c.args.terms.framing sent more _ _ _ wrote appended,
       );
       quiet = quiet ∙ c.turns.invariant.quiet;
-      held = λ h. held_on c.args.turn start before now c.turns.session c.send_commits.new.session more c.turns.invariant.limits c.turns.invariant.fewer c.node.ensures.consistent goes_on new takes (c.turns.invariant.held h);
+      held = λ h. held_on c.args.terms.turn start before now c.turns.session c.send_commits.new.session more c.turns.invariant.limits c.turns.invariant.fewer c.node.ensures.consistent goes_on new takes (c.turns.invariant.held h);
       lost = λ few long. inr (elim (c.turns.invariant.lost few long) [
-        | inl same ↦ turn_loses c.args.turn start before now c.send_commits.new.session same few c.node.ensures.primary new takes long
+        | inl same ↦ turn_loses c.args.terms.turn start before now c.send_commits.new.session same few c.node.ensures.primary new takes long
         | inr past ↦ absurd (never_kept start before c.turns.session c.send_commits.new.session more c.turns.invariant.limits c.node.ensures.primary c.node.ensures.consistent past goes_on new)
       ]);
       limits = accepts_limits c.turns.primary _ c.take_turn.new.primary takes.accepted ∙ c.turns.invariant.limits;
@@ -116,17 +116,17 @@ returns-in_err-take_turn g c =
     let p = err_from_is_err_and c.from_residual-in_err-take_turn.result c.from_residual-in_err-take_turn.ensures.1 in
     rw (p.1, p.2) (
       (
-        commit_frames c.args.framing (sent ++ more),
+        commit_frames c.args.terms.framing (sent ++ more),
         record {
           sent = sent ++ more;
           before = before;
           token = c.send_commits.new.session;
-          has_sent = sent_on c.args.turn start c.args.session.now sent before c.turns.session c.send_commits.new.session more run goes_on;
+          has_sent = sent_on c.args.terms.turn start c.args.session.now sent before c.turns.session c.send_commits.new.session more run goes_on;
           nothing_new = new;
           refuses = c.in_err-take_turn.ensures.err;
           text_is = refl;
         },
-        frames_on c.args.framing sent more _ _ _ wrote appended,
+        frames_on c.args.terms.framing sent more _ _ _ wrote appended,
       ),
       quiet ∙ c.turns.invariant.quiet,
     )

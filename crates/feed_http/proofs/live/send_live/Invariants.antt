@@ -17,11 +17,11 @@ invariant-turns g l =
     let start = intake_of l.initial.primary l.initial.input.items in
     let now = intake_of l.primary l.input.items in
     record {
-      run : (sent : List Commit) × HasSent l.turn start l.initial.session sent now l.session × (l.count ≡ counted 0 (length sent))
-          × Appends (writer.contents l.initial.writer) (writer.contents l.writer) (commit_frames l.framing sent);
+      run : (sent : List Commit) × HasSent l.terms.turn start l.initial.session sent now l.session × (l.count ≡ counted 0 (length sent))
+          × Appends (writer.contents l.initial.writer) (writer.contents l.writer) (commit_frames l.terms.framing sent);
       quiet : writer.failures l.writer ≡ writer.failures l.initial.writer;
-      held : IsHeld start.primary.node l.initial.session → MayLoseTokens l.turn start ⊎ IsHeld now.primary.node l.session;
-      lost : start.primary.count ≤ last_count → IsLongTurn l.turn start → (now ≡ start) ⊎ IsPast start now.primary l.session;
+      held : IsHeld start.primary.node l.initial.session → MayLoseTokens l.terms.turn start ⊎ IsHeld now.primary.node l.session;
+      lost : start.primary.count ≤ last_count → IsLongTurn l.terms.turn start → (now ≡ start) ⊎ IsPast start now.primary l.session;
       limits : now.primary.limits ≡ start.primary.limits;
       fewer : length now.batches ≤ length start.batches;
     }
