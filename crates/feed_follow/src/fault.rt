@@ -4,11 +4,10 @@ ghost use Rattle.feed_follow.specs.declared.fault.FollowFault.TheVariants as fol
 
 use feed_node::FeedFault;
 use std::alloc::AllocError;
-use std::error::Error;
-use std::fmt;
+use thiserror::Error;
 
 /// How far a response has come.
-#[derive(Clone, Copy, PartialEq, Eq)]
+#[derive(Clone, Copy, Debug, PartialEq, Eq)]
 pub enum Progress {
     /// The head is not yet whole.
     Head,
@@ -22,45 +21,35 @@ pub enum Progress {
 
 /// Why a response can't be followed any further: the one whose byte comes first, and at one byte
 /// the first of these.
-#[derive(Clone, Copy, Debug, PartialEq, Eq)]
+#[derive(Clone, Copy, Debug, PartialEq, Eq, Error)]
 pub enum FollowFault {
     /// A fault or a refused token was answered before.
+    #[error("closed")]
     Closed,
     /// More than 8,192 bytes, 66 lines or 64 fields.
+    #[error("head too long")]
     LongHead,
     /// No bytes can follow that make a head.
+    #[error("bad head")]
     BadHead,
     /// Neither 200, nor 400 after a request with a token.
+    #[error("status {0}")]
     Status(u16),
     /// Another content coding than `identity`, or another transfer coding than one `chunked`.
+    #[error("bad coding")]
     BadCoding,
     /// Lengths that are no numbers of 1 to 18 digits, or not one number.
+    #[error("bad length")]
     BadLength,
     /// A byte that can't stand where it does in a chunked body.
+    #[error("bad chunk")]
     BadChunk,
     /// What the mirror finds wrong with the feed.
+    #[error(transparent)]
     Feed(FeedFault),
+    #[error("out of memory")]
     Memory,
 }
-
-impl fmt::Display for FollowFault {
-    fn fmt<W: fmt::Write>(&self, f: &mut fmt::Formatter<W>) -> fmt::Result {
-        let text = match self {
-            FollowFault::Status(status) => return write!(f, "status {status}"),
-            FollowFault::Feed(fault) => return fault.fmt(f),
-            FollowFault::Closed => "closed",
-            FollowFault::LongHead => "head too long",
-            FollowFault::BadHead => "bad head",
-            FollowFault::BadCoding => "bad coding",
-            FollowFault::BadLength => "bad length",
-            FollowFault::BadChunk => "bad chunk",
-            FollowFault::Memory => "out of memory",
-        };
-        f.write_str(text)
-    }
-}
-
-impl Error for FollowFault {}
 
 impl From<AllocError> for FollowFault {
     ghost from_gives = { λ _ fault. fault ≡ follow_fault.Memory };

@@ -5,41 +5,30 @@ ghost use Rattle.feed_http.specs.declared.fault.EngineFault.TheVariants as engin
 use feed_follow::FollowFault;
 use feed_node::CommitFault;
 use std::alloc::AllocError;
-use std::error::Error;
-use std::fmt;
+use thiserror::Error;
 
 /// Why an engine stopped.
-#[derive(Clone, Copy, Debug, PartialEq, Eq)]
+#[derive(Clone, Copy, Debug, PartialEq, Eq, Error)]
 pub enum EngineFault {
     /// A read failed.
+    #[error("read failed")]
     Read,
     /// A write failed.
+    #[error("write failed")]
     Write,
     /// All reads that were allowed were made, and another was needed.
+    #[error("too many turns")]
     Turns,
     /// The primary refused a batch.
+    #[error(transparent)]
     Commit(CommitFault),
     /// A response can't be followed.
+    #[error(transparent)]
     Follow(FollowFault),
     /// Memory ran out.
+    #[error("out of memory")]
     Memory,
 }
-
-impl fmt::Display for EngineFault {
-    fn fmt<W: fmt::Write>(&self, f: &mut fmt::Formatter<W>) -> fmt::Result {
-        let text = match self {
-            EngineFault::Commit(fault) => return fault.fmt(f),
-            EngineFault::Follow(fault) => return fault.fmt(f),
-            EngineFault::Read => "read failed",
-            EngineFault::Write => "write failed",
-            EngineFault::Turns => "too many turns",
-            EngineFault::Memory => "out of memory",
-        };
-        f.write_str(text)
-    }
-}
-
-impl Error for EngineFault {}
 
 impl From<AllocError> for EngineFault {
     ghost from_gives = { λ _ fault. fault ≡ engine_fault.Memory };
@@ -67,7 +56,7 @@ impl From<CommitFault> for EngineFault {
 
 /// What an engine served: the status of its answer, how many commits it sent after what the
 /// session opened with, and whether the node lost the session's token.
-#[derive(Clone, Copy, PartialEq, Eq)]
+#[derive(Clone, Copy, Debug, PartialEq, Eq)]
 pub struct Served {
     /// The status code of the answer.
     pub status: u16,
