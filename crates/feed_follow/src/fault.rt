@@ -47,7 +47,7 @@ impl fmt::Display for FollowFault {
     fn fmt<W: fmt::Write>(&self, f: &mut fmt::Formatter<W>) -> fmt::Result {
         let text = match self {
             FollowFault::Status(status) => return write!(f, "status {status}"),
-            FollowFault::Feed(fault) => return fault.fmt(f),
+            FollowFault::Feed(fault) => return fmt::Display::fmt(fault, f),
             FollowFault::Closed => "closed",
             FollowFault::LongHead => "head too long",
             FollowFault::BadHead => "bad head",

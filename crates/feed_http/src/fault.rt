@@ -28,8 +28,8 @@ pub enum EngineFault {
 impl fmt::Display for EngineFault {
     fn fmt<W: fmt::Write>(&self, f: &mut fmt::Formatter<W>) -> fmt::Result {
         let text = match self {
-            EngineFault::Commit(fault) => return fault.fmt(f),
-            EngineFault::Follow(fault) => return fault.fmt(f),
+            EngineFault::Commit(fault) => return fmt::Display::fmt(fault, f),
+            EngineFault::Follow(fault) => return fmt::Display::fmt(fault, f),
             EngineFault::Read => "read failed",
             EngineFault::Write => "write failed",
             EngineFault::Turns => "too many turns",
