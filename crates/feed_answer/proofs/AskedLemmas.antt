@@ -1,5 +1,5 @@
 -- A request is read in one way.
-use Rattle.std.proofs.Common.{◌≡◌, ℕ, List, [], sym, ap, ap₂, ◌∙◌, refl, subst, Option, length, not, ◌||◌, ◌==◌, is_some}
+use Rattle.std.proofs.Common.{◌≡◌, ℕ, List, [], sym, ap, ap₂, ◌∙◌, refl, subst, Option, length, not, ◌||◌, ◌==◌, is_some, codes}
 use Rattle.std.specs.Prelude.{slice_index, if◌then◌else◌}
 use Rattle.httparse.specs.Grammar.{RequestHead}
 use Rattle.httparse.proofs.GrammarLemmas.{request_unique}
@@ -10,6 +10,8 @@ use Rattle.http_uri.proofs.Theorems.{Spells_unique}
 use Rattle.feed_answer.specs.declared.refusal.Refusal.TheVariants.{LargeHead, Unreadable, NotGet, OtherPath, NothingPublished, TokenNotHeld}
 use Rattle.feed_answer.specs.Heads.{BeginsWithRequest, IsTooLargeRequest}
 use Rattle.feed_answer.specs.Asked.{Asked, refused, feed, Asks, HasNoRequest, Requests, since_token}
+use Rattle.feed_answer.specs.AskedFor.{AsksBy}
+use Rattle.feed_answer.specs.RequestText.{feed_path}
 
 -- a whole head whose target is no path, or spells no URI
 pub no_request : (bytes : List ℕ) (head : RequestHead) (rest : List ℕ)
@@ -47,6 +49,42 @@ requests bytes head rest method path text minor target since begins is_text is_p
       minor_is = sym is_minor;
       since_is = sym is_since;
     }
+
+-- what such a head asks for by its method and its target
+pub asks_by : (bytes contest method text : List ℕ) (head : RequestHead) (rest : List ℕ)
+    (minor : ℕ) (target : Target) (asked : Asked)
+    → BeginsWithRequest bytes head rest
+    → text ≡ head.target → slice_index text 0 ≡ 47 → Spells text target → method ≡ head.method
+    → minor ≡ head.minor → AsksBy method target minor contest asked → Asks bytes contest asked
+asks_by bytes contest method text head rest minor target (refused NotGet) begins is_text is_path
+    spells is_method is_minor other = (
+      method,
+      uri_path target,
+      other,
+      (
+        minor,
+        since_token (uri_query target),
+        requests bytes head rest method (uri_path target) text minor target _ begins is_text
+            is_path spells is_method refl is_minor refl,
+      ),
+    )
+asks_by bytes contest method text head rest minor target (refused OtherPath) begins is_text is_path
+    spells is_method is_minor (get, other) = (
+      uri_path target,
+      other,
+      (
+        minor,
+        since_token (uri_query target),
+        requests bytes head rest (codes "GET") (uri_path target) text minor target _ begins is_text
+            is_path spells (sym get ∙ is_method) refl is_minor refl,
+      ),
+    )
+asks_by bytes contest method text head rest minor target (feed asked since) begins is_text is_path
+    spells is_method is_minor (get, path, same, by_query) =
+    requests bytes head rest (codes "GET") (feed_path [] contest) text asked target since begins
+    is_text is_path spells (sym get ∙ is_method) path (same ∙ is_minor) by_query
+asks_by bytes contest method text head rest minor target (refused refusal) begins is_text is_path
+    spells is_method is_minor none = absurd none
 
 -- ---- bytes ask for one thing
 

@@ -6,20 +6,19 @@ ghost use Rattle.feed_follow.specs.Heads.{head_fields, IsHeadSize};
 ghost use Rattle.feed_answer.specs.Heads.{BeginsWithRequest, HasNoWholeRequest};
 ghost use Rattle.feed_answer.specs.RequestText.{feed_path};
 ghost use Rattle.feed_answer.specs.Asked.{Asks, since_token};
-ghost use Rattle.feed_answer.specs.AskedFor.{asked_of};
+ghost use Rattle.feed_answer.specs.AskedFor.{asked_of, AsksBy};
 
-use crate::heads::is_short;
+use crate::heads::find_head;
 use crate::refusal::Refusal;
 use crate::request_target::{asked_since, is_path};
 use feed_follow::{HEAD_FIELDS, is_past_limits};
 use http_uri::{Uri, UriError};
-use httparse::Status;
-use httparse::spans::{EMPTY_HEADER_SPAN, HeaderSpan, RequestSpans, parse_request};
+use httparse::spans::{EMPTY_HEADER_SPAN, HeaderSpan, RequestSpans};
 use std::alloc::{AllocError, Global};
 
 /// What a client asks for: nothing that can be had, or the feed, with its version of HTTP/1 and its
 /// token.
-#[derive(Debug, Drop)]
+#[derive(Drop)]
 pub(crate) enum AskedFor {
     Refused(Refusal),
     Feed(u8, Option<String>),
@@ -38,15 +37,8 @@ fn whole_request(bytes: &[u8], headers: &mut [HeaderSpan]) -> Option<RequestSpan
         (spans.path.end ≤ length bytes.now)) }
     ensures none { IfNone result (HasNoWholeRequest bytes.now) }
 {
-    match parse_request(bytes, headers) {
-        Ok(Status::Complete(head)) => {
-            if is_short(&bytes[..head.len]) {
-                Some(head)
-            } else {
-                None
-            }
-        }
-        Ok(Status::Partial) => None,
+    match find_head(bytes, headers) {
+        Ok(found) => found,
         Err(_) => None,
     }
 }
@@ -82,18 +74,31 @@ pub(crate) fn read_request(
     if !begins_with_slash(target) {
         return Ok(AskedFor::Refused(Refusal::Unreadable));
     }
-    let uri = match Uri::from_bytes(alloc, target) {
-        Ok(uri) => uri,
-        Err(UriError::Invalid(_)) => return Ok(AskedFor::Refused(Refusal::Unreadable)),
-        Err(UriError::OutOfMemory) => return Err(AllocError),
-    };
     let method = head.method.of(bytes);
+    match Uri::from_bytes(alloc, target) {
+        Ok(uri) => asked_by(alloc, method, &uri, head.version, contest),
+        Err(UriError::Invalid(_)) => Ok(AskedFor::Refused(Refusal::Unreadable)),
+        Err(UriError::OutOfMemory) => Err(AllocError),
+    }
+}
+
+/// What a request with this method and this target asks for, in this version of HTTP/1.
+fn asked_by(
+    alloc: Global,
+    method: &[u8],
+    target: &Uri,
+    minor: u8,
+    contest: &str,
+) -> Result<AskedFor, AllocError>
+    ensures { IfOk result (λ asked. AsksBy method.now target.now minor contest.now
+        (asked_of asked)) }
+{
     if !is_get(method) {
         return Ok(AskedFor::Refused(Refusal::NotGet));
     }
-    if !is_path(uri.path(), contest) {
+    if !is_path(target.path(), contest) {
         return Ok(AskedFor::Refused(Refusal::OtherPath));
     }
-    let since = asked_since(alloc, uri.query())?;
-    Ok(AskedFor::Feed(head.version, since))
+    let since = asked_since(alloc, target.query())?;
+    Ok(AskedFor::Feed(minor, since))
 }

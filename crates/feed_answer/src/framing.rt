@@ -1,6 +1,8 @@
 //! How the body of an answer is framed.
-ghost use Rattle.std.specs.Prelude.{◌≡◌, ◌++◌, [], IsOk, IfOk, OnOk, OnErr};
+ghost use Rattle.std.specs.Prelude.{◌≡◌, ◌++◌, [], false, IsOk, IfOk, OnOk, OnErr};
 ghost use Rattle.feed_note.specs.Written.{Begins};
+ghost use Rattle.std.specs.Fmt.{digits};
+ghost use Rattle.httparse.specs.Ascii.{crlf_bytes};
 ghost use Rattle.feed_answer.specs.Framed as framed;
 
 use feed_settings::Framing;
@@ -67,11 +69,8 @@ fn put_behind(head: &[u8], mut bytes: Vec<u8>) -> Result<Vec<u8>, AllocError>
 fn chunk_behind(alloc: Global, head: &[u8], mut bytes: Vec<u8>) -> Result<Vec<u8>, AllocError>
     ensures { IfOk result (λ text. text.items ≡ head.now ++ framed.chunk_text bytes.items) }
 {
-    let len = bytes.len();
-    let size = format!(in alloc; "{len:x}")?;
     let mut front = Vec::from_slice(alloc, head)?;
-    front.extend_from_slice(size.as_bytes())?;
-    front.extend_from_slice(b"\r\n")?;
+    append_size(alloc, bytes.len(), &mut front)?;
     bytes.extend_from_slice(b"\r\n")?;
     put_behind(front.as_slice(), bytes)
 }
@@ -88,15 +87,24 @@ fn append_chunk(alloc: Global, bytes: &[u8], out: &mut Vec<u8>) -> Result<(), Al
     appended
 }
 
-// Leaves a part of the chunk where memory runs out.
+// Each of the functions below leaves a part of its text where memory runs out.
+
 fn append_parts(alloc: Global, bytes: &[u8], out: &mut Vec<u8>) -> Result<(), AllocError>
     ensures ok { OnOk result (out.new.items ≡ out.old.items ++ framed.chunk_text bytes.now) }
     ensures kept { Begins out.old.items out.new.items }
 {
-    let len = bytes.len();
+    append_size(alloc, bytes.len(), out)?;
+    out.extend_from_slice(bytes)?;
+    out.extend_from_slice(b"\r\n")
+}
+
+/// Appends the line that says how many bytes a chunk has.
+fn append_size(alloc: Global, len: usize, out: &mut Vec<u8>) -> Result<(), AllocError>
+    ensures ok { OnOk result
+        (out.new.items ≡ out.old.items ++ (digits 16 false len ++ crlf_bytes)) }
+    ensures kept { Begins out.old.items out.new.items }
+{
     let size = format!(in alloc; "{len:x}")?;
     out.extend_from_slice(size.as_bytes())?;
-    out.extend_from_slice(b"\r\n")?;
-    out.extend_from_slice(bytes)?;
     out.extend_from_slice(b"\r\n")
 }

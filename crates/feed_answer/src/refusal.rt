@@ -5,7 +5,7 @@ ghost use Rattle.feed_answer.specs.Answer.{refusal_code, refusal_text};
 use http::StatusCode;
 
 /// Why a request for a feed is refused: the first of these that holds.
-#[derive(Clone, Copy, Debug, PartialEq, Eq)]
+#[derive(Clone, Copy)]
 pub enum Refusal {
     /// The head is over its limits.
     LargeHead,

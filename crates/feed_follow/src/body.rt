@@ -35,8 +35,8 @@ fn len_within(left: u64, bytes: &[u8]) -> usize
     }
 }
 
-/// Reads as many bytes of a chunk as there are, where so many of them are still to come, and answers
-/// how many these are.
+/// Reads as many bytes of a chunk as there are, where so many of them are still to come, and
+/// answers how many these are.
 fn feed_data(
     alloc: Global,
     mirror: &mut Mirror,

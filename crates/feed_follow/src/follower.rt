@@ -246,7 +246,8 @@ fn with_more(alloc: Global, kept: Option<Vec<u8>>, bytes: &[u8]) -> Result<Vec<u
     Ok(head)
 }
 
-/// Looks at the bytes of the head so far and these after them, which are kept while no head is whole.
+/// Looks at the bytes of the head so far and these after them, which are kept while no head is
+/// whole.
 fn look_further(
     alloc: Global,
     had_token: bool,

@@ -1,6 +1,5 @@
 use Rattle.std.proofs.Common.{subst}
 use Rattle.std.proofs.lemmas.Result.{err_from_is_err_and}
-use Rattle.feed_follow.specs.declared.chunk.Chunking.TheVariants.{Whole}
 use Rattle.feed_follow.specs.Feeding.{FeedsToEnd}
 use Rattle.feed_follow.proofs.BodyLemmas.{chunks_end, chunks_go_on, chunks_stop}
 use Rattle.feed_follow.proofs.body.feed_chunked.Goals as goal
