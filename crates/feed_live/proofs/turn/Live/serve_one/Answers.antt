@@ -12,5 +12,5 @@ returns-clause-serves g c =
       source = record { servers = refl; shown = c.serve.ensures.mirrors.shown; blank = c.serve.ensures.mirrors.blank; coming = refl; follower = refl; reach = refl; request = refl; rest = refl };
       heard = refl;
       epoch = refl;
-      serves = λ nodes shown blank. subst (λ t. StillServing nodes t c.args.self.now.screens c.serve.new.self (g.S.Sockets.socket c.args.sockets.now) (g.S.Sockets.socket c.serve.new.sockets)) c.shown_of.ensures.contest (c.serve.ensures.serving nodes shown (λ held. blank (not-true _ (sym c.shown_of.ensures.held ∙ held))));
+      serves = λ nodes shown blank. subst (λ t. StillServing nodes t c.args.self.now.screens c.serve.new.self (g.S.Sockets.socket c.args.sockets.now) (g.S.Sockets.socket c.serve.new.sockets)) c.shown_of-shown.ensures.contest (c.serve.ensures.serving nodes shown (λ held. blank (not-true _ (sym c.shown_of-shown.ensures.held ∙ held))));
     }
