@@ -141,7 +141,9 @@ pub fn run<S: Sockets, L: Link, D: Store, H: Host<S, L, D>>(
         (λ fault. CountsHostFault fault (H.failed host.old) (H.failed host.new)) }
 {
     let mut live = begin(alloc, setup, host, &mut devices.store)?;
-    match run_turns(alloc, host, devices, &mut live) {
+    let ended = run_turns(alloc, host, devices, &mut live);
+    drop(live);
+    match ended {
         Ok(()) => Ok(()),
         Err(error) => Err(RunFault::Host(error)),
     }

@@ -20,17 +20,17 @@ returns-in-Ok-clause-run g c =
     let found : Surroundings = around (g.D.Store.files c.args.devices.now.store) (g.H.Host.input c.args.host.now) in
     inl (runs_from c.args.setup found
     (moment_of c.in_ok-live.live at_once (g.H.Host.time c.begin.new.host) (around (g.D.Store.files c.begin.new.store) (g.H.Host.input c.begin.new.host)))
-    (moment_of c.run_turns.new.live ran.0 ran.1 (surroundings (g.L.Link.exchanges c.run_turns.new.devices.link) (g.S.Sockets.socket c.run_turns.new.devices.sockets)
-    (g.D.Store.files c.run_turns.new.devices.store) (g.H.Host.input c.run_turns.new.host)))
+    (moment_of c.run_turns-ended.new.live ran.0 ran.1 (surroundings (g.L.Link.exchanges c.run_turns-ended.new.devices.link) (g.S.Sockets.socket c.run_turns-ended.new.devices.sockets)
+    (g.D.Store.files c.run_turns-ended.new.devices.store) (g.H.Host.input c.run_turns-ended.new.host)))
     _ c.in_ok-live.ensures.begins refl refl c.in_ok-live.ensures.input c.in_ok-live.ensures.calls ran.2.run ran.2.ends)
 
-pub returns-clause-run : goal.returns-clause-run
-returns-clause-run g c =
+pub returns-in-Err-clause-run : goal.returns-in-Err-clause-run
+returns-in-Err-clause-run g c =
     let ran = c.in-Err.ensures.run in
     let around = λ (files : StateFiles) (input : Option InputSoFar). surroundings (g.L.Link.exchanges c.args.devices.now.link) (g.S.Sockets.socket c.args.devices.now.sockets) files input in
     let found : Surroundings = around (g.D.Store.files c.args.devices.now.store) (g.H.Host.input c.args.host.now) in
     inl (runs_from c.args.setup found
     (moment_of c.in_ok-live.live at_once (g.H.Host.time c.begin.new.host) (around (g.D.Store.files c.begin.new.store) (g.H.Host.input c.begin.new.host)))
-    (moment_of c.run_turns.new.live ran.0 ran.1 (surroundings (g.L.Link.exchanges c.run_turns.new.devices.link) (g.S.Sockets.socket c.run_turns.new.devices.sockets)
-    (g.D.Store.files c.run_turns.new.devices.store) (g.H.Host.input c.run_turns.new.host)))
+    (moment_of c.run_turns-ended.new.live ran.0 ran.1 (surroundings (g.L.Link.exchanges c.run_turns-ended.new.devices.link) (g.S.Sockets.socket c.run_turns-ended.new.devices.sockets)
+    (g.D.Store.files c.run_turns-ended.new.devices.store) (g.H.Host.input c.run_turns-ended.new.host)))
     _ c.in_ok-live.ensures.begins refl refl c.in_ok-live.ensures.input c.in_ok-live.ensures.calls ran.2.run tt)
