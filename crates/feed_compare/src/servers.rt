@@ -247,9 +247,11 @@ pub fn compare_servers(rt: &HostRuntime, options: &CompareOptions<'_>) -> Result
         Some(seconds) => seconds.saturating_mul(1_000),
         None => u64::MAX,
     };
-    match comparison.run(until) {
+    let ended = match comparison.run(until) {
         Ok(()) => comparison.end(),
         Err(Fault::Differs) => Err(Failure::told_as(Fault::Differs, "the servers differ")),
         Err(fault) => Err(Failure::from(fault)),
-    }
+    };
+    drop(comparison);
+    ended
 }

@@ -231,7 +231,10 @@ pub(crate) fn live_feed<'r>(
         mut engine,
         mut devices,
     } = prepare(rt, options)?;
-    match run(rt.alloc(), setup, &mut engine, &mut devices) {
+    let ended = run(rt.alloc(), setup, &mut engine, &mut devices);
+    drop(devices);
+    drop(engine);
+    match ended {
         Ok(()) => Ok(()),
         Err(RunFault::Memory) => Err(Failure::from(Fault::Memory)),
         Err(RunFault::Host(error)) => Err(Failure::from(fault_of_system(error))),
