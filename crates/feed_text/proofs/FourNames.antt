@@ -1,10 +1,9 @@
 -- The members of a line under four names: keys, strings without a backslash, and what is found with
 -- one member more.
-use Rattle.std.proofs.Common.{◌≡◌, ℕ, Bool, true, false, cond, List, [], ◌∷◌, ◌++◌, length, take, drop, Option, Some, None, refl, sym, ap, subst, ◌∙◌, ◌-◌, ◌<◌, ◌≤◌, arith, eqb-true, eq-eqb, append_assoc}
+use Rattle.std.proofs.Common.{◌≡◌, ◌≢◌, ℕ, Bool, true, false, cond, List, [], ◌∷◌, ◌++◌, length, take, drop, Option, Some, None, refl, sym, ap, subst, ◌∙◌, ◌-◌, ◌<◌, ◌≤◌, arith, eqb-true, eq-eqb, append_assoc}
 use Rattle.std.proofs.lemmas.List.{take-append-drop, reverse-append}
 use Rattle.std.proofs.lemmas.Option.{cond_some}
-use Rattle.std.specs.Prelude.{nat_eq, codes, option_map, map, find, ◌==◌, IsTrue, IfSome}
-use Rattle.std.specs.Borrow.{Bor}
+use Rattle.std.specs.Prelude.{nat_eq, codes, option_map, map, find, ◌==◌, IsTrue}
 use Rattle.std.specs.Str.{bytes_eq}
 use Rattle.std.specs.List.{list_all}
 use Rattle.std.specs.Option.{option_eq}
@@ -24,7 +23,7 @@ use Rattle.feed_text.proofs.Bounds.{while_shorter}
 use Rattle.feed_text.proofs.Collecting.{pairs_and_rest, onto, collect_some, collect_close, start_some, start_empty}
 use Rattle.feed_text.proofs.Found.{found_member_spelt}
 use Rattle.feed_text.proofs.Loops.{item_found, member_found, members_shorter, prefix_is}
-use Rattle.feed_text.proofs.Parts.{with_first, not_first}
+use Rattle.feed_text.proofs.Parts.{with_first}
 use Rattle.feed_text.proofs.Plain.{plain_tail, quotes_says}
 use Rattle.feed_text.proofs.PrefixReaders.{while_parts, while_passes, while_rest, map_some}
 use Rattle.feed_text.proofs.Rests.{string_rest, value_string}
@@ -86,9 +85,8 @@ slice_string text inside end rest opened run closed =
 -- ---- keys
 
 -- a key that stands there to the letter
-pub key_begins : (which : Key) (name text : List ℕ) (found : Option (Key × Bor (List ℕ))) → IsNamed which name → IsTrue (list_all is_unescaped name) → IfSome found (λ f. (f.0 ≡ which) × (text ≡ name ++ quotation_mark ∷ colon ∷ f.1.now)) → IfSome found (λ f. IsKeyAt text f.0 f.1.now)
-key_begins which name text None named unescaped e = tt
-key_begins which name text (Some f) named unescaped e = record { name = name; behind = colon ∷ f.1.now; named = subst (λ (k : Key). IsNamed k name) (sym e.0) named; unescaped = unescaped; whole = e.1; value_is = refl }
+pub key_begins : (which : Key) (name text value : List ℕ) → IsNamed which name → IsTrue (list_all is_unescaped name) → text ≡ name ++ quotation_mark ∷ colon ∷ value → IsKeyAt text which value
+key_begins which name text value named unescaped whole = record { name = name; behind = colon ∷ value; named = named; unescaped = unescaped; whole = whole; value_is = refl }
 
 -- a key up to the next quotation mark
 pub key_found : (kind : Key) (text end behind value : List ℕ) → end ≡ rest_while is_unescaped text → end ≡ quotation_mark ∷ behind → IsNamed kind (take (length text - length end) text) → Some value ≡ behind_first colon (rest_while is_white_space behind) → IsKeyAt text kind value
@@ -218,10 +216,16 @@ pub record ReadSoFar (levels : ℕ) (text rest : List ℕ) (found : NamedMembers
 pub reads_first : (levels : ℕ) (text : List ℕ) (found : NamedMembers) → None ≡ behind_first right_brace (rest_while is_white_space text) → AreLastValues [] found → ArePlain found → ReadSoFar levels text text found
 reads_first levels text found missing last plain = record {
   seen = [];
-  next = λ m after e. sym (start_some levels text m after (not_first right_brace (rest_while is_white_space text) missing) (sym e));
+  next = λ m after e. sym (start_some levels text m after no_brace (sym e));
   last = last;
   plain = λ _. plain;
 }
+  where
+    no_brace : first (rest_while is_white_space text) ≢ right_brace
+    no_brace here =
+        let shut : first (rest_while is_white_space text) == right_brace ≡ true = eq-eqb _ right_brace here in
+        let some : None ≡ Some (drop 1 (rest_while is_white_space text)) = missing ∙ ap (λ (v : Bool). cond v (Some (drop 1 (rest_while is_white_space text))) None) shut in
+        absurd cc
 
 module _ (levels : ℕ) (text rest inside after : List ℕ) (old new : NamedMembers) (so_far : ReadSoFar levels text rest old) (opened : Some inside ≡ behind_first quotation_mark (rest_while is_white_space rest)) (takes : TakesMember levels inside old new after) where
   white_is : rest_while is_white_space rest ≡ quotation_mark ∷ inside

@@ -4,8 +4,7 @@
 //! orders, with others among them. One pass over the line keeps the value of the last of each name
 //! as a slice, and takes no memory.
 
-ghost use Rattle.std.specs.Prelude.{◌≡◌, ◌++◌, ℕ, [], false, IfSome, IsTrue, Some};
-ghost use Rattle.feed_text.specs.declared.value.Item.{Item};
+ghost use Rattle.std.specs.Prelude.{◌≡◌, ℕ, [], IfSome, IsTrue, Some, option_map};
 ghost use Rattle.feed_text.specs.Members.{item_view, ArePlain, AreLastValues, AreSpeltValues, IsPlainString};
 ghost use Rattle.feed_text.specs.FourNames.{IsKeyAt, IsNamed, IsPlainFor, with_value, PlainIfSaid, TakesMember, TakesAll, LineTakes};
 ghost use Rattle.feed_text.specs.Reading.{value_at, item_at, item_and_rest};
@@ -15,7 +14,7 @@ use crate::ascii::is_text;
 use crate::line::VALUE_LEVELS;
 use crate::run::skip_unescaped;
 use crate::scalar::{after_byte, after_mark, skip_white_space};
-use crate::value::{Item, next_item, prefix};
+use crate::value::{Item, first_byte, next_item, prefix};
 
 /// The values of the last members of a line whose names are `type`, `id`, `data` and `token`, as
 /// slices of the line.
@@ -44,38 +43,28 @@ enum Key {
     Other,
 }
 
-impl Key {
-    /// Whether it is that of a type, an id or a token, whose values have to be strings.
-    #[inline(always)]
-    fn is_name(self) -> bool
-        ensures { result ≡ false → (value : Item) → IsPlainFor self value }
-    {
-        matches!(self, Key::Kind | Key::Id | Key::Token)
-    }
-}
-
-/// A key that stands there to the letter, with the quotation mark and the colon behind it, and what
-/// comes after these.
-#[inline(always)]
-fn key_at<'a>(text: &'a [u8], key: Key, letters: &[u8]) -> Option<(Key, &'a [u8])>
-    ensures { IfSome result (λ found.
-        (found.0 ≡ key) × (text.now ≡ letters.now ++ found.1.now)) }
-{
-    Some((key, text.strip_prefix(letters)?))
-}
-
 /// One of the four keys, where it stands to the letter behind a quotation mark, and what comes
 /// after its colon.
 #[inline(always)]
 fn usual_key(text: &[u8]) -> Option<(Key, &[u8])>
     ensures { IfSome result (λ found. IsKeyAt text.now found.0 found.1.now) }
 {
-    match text {
-        [b't', b'y', ..] => key_at(text, Key::Kind, b"type\":"),
-        [b't', ..] => key_at(text, Key::Token, b"token\":"),
-        [b'i', ..] => key_at(text, Key::Id, b"id\":"),
-        [b'd', ..] => key_at(text, Key::Content, b"data\":"),
+    match first_byte(text) {
+        b't' => kind_or_token(text),
+        b'i' => Some((Key::Id, text.strip_prefix(b"id\":")?)),
+        b'd' => Some((Key::Content, text.strip_prefix(b"data\":")?)),
         _ => None,
+    }
+}
+
+/// The same, of a type and a token.
+#[inline(always)]
+fn kind_or_token(text: &[u8]) -> Option<(Key, &[u8])>
+    ensures { IfSome result (λ found. IsKeyAt text.now found.0 found.1.now) }
+{
+    match text.strip_prefix(b"type\":") {
+        Some(rest) => Some((Key::Kind, rest)),
+        None => Some((Key::Token, text.strip_prefix(b"token\":")?)),
     }
 }
 
@@ -135,6 +124,15 @@ fn next_plain(text: &[u8]) -> Option<(Item<'_>, &[u8])>
     Some((Item { text }, skip_white_space(rest)))
 }
 
+/// Any value with the white space around it, in a call of its own.
+#[inline(never)]
+fn any_item(text: &[u8], levels: usize) -> Option<(Item<'_>, &[u8])>
+    ensures { option_map (λ x. (item_view x.0, x.1.now)) result
+        ≡ item_and_rest (item_at (value_at levels) text.now) }
+{
+    next_item(text, levels)
+}
+
 /// The value of a key with the white space around it, what comes after that, and whether it is a
 /// string without a backslash where it has to be one.
 #[inline(always)]
@@ -143,14 +141,33 @@ fn value_of(key: Key, text: &[u8], levels: usize) -> Option<(Item<'_>, &[u8], bo
         ≡ item_and_rest (item_at (value_at levels) text.now)) }
     ensures plain { IfSome result (λ found. IsTrue found.2 → IsPlainFor key found.0) }
 {
-    let is_name = key.is_name();
-    if is_name {
-        if let Some((item, rest)) = next_plain(text) {
-            return Some((item, rest, true));
+    match key {
+        Key::Content => {
+            let (item, rest) = next_item(text, levels)?;
+            Some((item, rest, true))
+        }
+        Key::Other => {
+            let (item, rest) = any_item(text, levels)?;
+            Some((item, rest, true))
+        }
+        Key::Kind | Key::Id | Key::Token => name_value(text, levels),
+    }
+}
+
+/// The same, of a type, an id or a token.
+#[inline(always)]
+fn name_value(text: &[u8], levels: usize) -> Option<(Item<'_>, &[u8], bool)>
+    ensures item { IfSome result (λ found. Some (item_view found.0, found.1.now)
+        ≡ item_and_rest (item_at (value_at levels) text.now)) }
+    ensures plain { IfSome result (λ found. IsTrue found.2 → IsPlainString found.0) }
+{
+    match next_plain(text) {
+        Some((item, rest)) => Some((item, rest, true)),
+        None => {
+            let (item, rest) = any_item(text, levels)?;
+            Some((item, rest, false))
         }
     }
-    let (item, rest) = next_item(text, levels)?;
-    Some((item, rest, !is_name))
 }
 
 impl<'a> NamedMembers<'a> {
@@ -195,41 +212,37 @@ impl<'a> NamedMembers<'a> {
         self.put(key, item, is_plain);
         Some(rest)
     }
+}
 
-    /// Takes the members up to the closing brace, and gives what comes after it.
-    #[inline(always)]
-    fn take_members(&mut self, text: &'a [u8], levels: usize) -> Option<&'a [u8]>
-        requires last { AreLastValues [] self.old }
-        requires plain { ArePlain self.old }
-        ensures { IfSome result (λ rest. TakesAll levels text.now self.new rest.now) }
-    {
-        if let Some(end) = after_mark(text, b'}') {
-            return Some(end);
-        }
-        let mut rest = text;
-        loop {
-            let after = self.take_member(after_mark(rest, b'"')?, levels)?;
-            if let Some(end) = after_byte(after, b'}') {
-                return Some(end);
-            }
-            rest = after_byte(after, b',')?;
-        }
+/// The members up to the closing brace, and what comes after it.
+#[inline(always)]
+fn named_members(text: &[u8], levels: usize) -> Option<(NamedMembers<'_>, &[u8])>
+    ensures { IfSome result (λ found. TakesAll levels text.now found.0 found.1.now) }
+{
+    let mut found = NamedMembers::none();
+    if let Some(end) = after_mark(text, b'}') {
+        return Some((found, end));
     }
-
-    /// Takes those of a line, whose values nest at most so deep, and answers whether it has them.
-    #[inline(always)]
-    fn take_line(&mut self, line: &'a [u8], levels: usize) -> bool
-        requires last { AreLastValues [] self.old }
-        requires plain { ArePlain self.old }
-        ensures { IsTrue result → LineTakes levels line.now self.new }
-    {
-        let Some(text) = after_mark(line, b'{') else {
-            return false;
-        };
-        match self.take_members(text, levels) {
-            Some(rest) => skip_white_space(rest).is_empty(),
-            None => false,
+    let mut rest = text;
+    loop {
+        let after = found.take_member(after_mark(rest, b'"')?, levels)?;
+        if let Some(end) = after_byte(after, b'}') {
+            return Some((found, end));
         }
+        rest = after_byte(after, b',')?;
+    }
+}
+
+/// The same of a line, whose values nest at most so deep.
+#[inline(always)]
+fn named_of_line(line: &[u8], levels: usize) -> Option<NamedMembers<'_>>
+    ensures { IfSome result (λ found. LineTakes levels line.now found) }
+{
+    let (found, rest) = named_members(after_mark(line, b'{')?, levels)?;
+    if skip_white_space(rest).is_empty() {
+        Some(found)
+    } else {
+        None
     }
 }
 
@@ -241,9 +254,6 @@ pub fn scan_named(line: &[u8]) -> Option<NamedMembers<'_>>
     ensures depth { IfSome result (λ _. ¬ NestsTooDeep line.now) }
     ensures plain { IfSome result (λ found. IsTrue found.are_plain → ArePlain found) }
 {
-    let mut found = NamedMembers::none();
-    if !found.take_line(line, VALUE_LEVELS) {
-        return None;
-    }
+    let found = named_of_line(line, VALUE_LEVELS)?;
     if is_text(line) { Some(found) } else { None }
 }

@@ -6,19 +6,19 @@ use Rattle.feed_text.proofs.named.scan_named.Goals as goal
 
 pub returns-then-is_text-clause-members : goal.returns-then-is_text-clause-members
 returns-then-is_text-clause-members c =
-    let t = c.take_line.ensures c.if-not-take_line.false in
+    let t = c.in_ok-found.ensures in
     record {
       members = t.members;
-      held = (members_found (λ (m : NamedMembers). t.members) 101 c.args.line.now (Some c.take_line.new.self) (c.is_text.ensures.0 c.if-is_text.true) t.read).held;
+      held = (members_found (λ (m : NamedMembers). t.members) 101 c.args.line.now (Some c.in_ok-found.found) (c.is_text.ensures.0 c.if-is_text.true) t.read).held;
       last = t.last;
     }
 
 pub returns-then-is_text-clause-spelt : goal.returns-then-is_text-clause-spelt
 returns-then-is_text-clause-spelt c =
-    let t = c.take_line.ensures c.if-not-take_line.false in
-    values_spelt t.members c.take_line.new.self (found_spelt (λ (m : NamedMembers). t.members) 101 c.args.line.now (Some c.take_line.new.self) (c.is_text.ensures.0 c.if-is_text.true) t.read) t.last
+    let t = c.in_ok-found.ensures in
+    values_spelt t.members c.in_ok-found.found (found_spelt (λ (m : NamedMembers). t.members) 101 c.args.line.now (Some c.in_ok-found.found) (c.is_text.ensures.0 c.if-is_text.true) t.read) t.last
 
 pub returns-then-is_text-clause-depth : goal.returns-then-is_text-clause-depth
 returns-then-is_text-clause-depth c =
-    let t = c.take_line.ensures c.if-not-take_line.false in
-    within_shallow c.args.line.now t.members (members_found (λ (m : NamedMembers). t.members) 101 c.args.line.now (Some c.take_line.new.self) (c.is_text.ensures.0 c.if-is_text.true) t.read)
+    let t = c.in_ok-found.ensures in
+    within_shallow c.args.line.now t.members (members_found (λ (m : NamedMembers). t.members) 101 c.args.line.now (Some c.in_ok-found.found) (c.is_text.ensures.0 c.if-is_text.true) t.read)
