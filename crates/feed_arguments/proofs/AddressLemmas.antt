@@ -12,7 +12,7 @@ use Rattle.std.proofs.lemmas.Str.Parse.{digit_at}
 use Rattle.std.proofs.lemmas.Str.Pattern.{NoCharPasses-char, drop_at_char}
 use Rattle.feed_settings.specs.Place.{is_host}
 use Rattle.std.specs.List.{AllWithin, HoldsAt}
-use Rattle.feed_arguments.specs.Addresses.{parts, IsPort, IsAddress, IsGood, IsBad, IsFirstBad, AreGood, AreAddresses, IsListOf}
+use Rattle.feed_arguments.specs.Addresses.{parts, IsPort, IsAddress, IsSomeAddress, IsNoAddress, IsFirstBad, AreGood, AreAddresses, IsListOf}
 
 -- the byte is not in the text
 abbrev pub Lacks : ℕ → List ℕ → Type 0
@@ -57,11 +57,11 @@ digits_lack : (digits : List ℕ) → AllDigits 10 digits → Lacks 58 digits
 digits_lack digits all i inside e = let at = digit_at digits i all inside in omega (arith, at, e)
 
 -- a text without a colon, one whose host is none, and one whose port is none
-pub bad_without_colon : (text : List ℕ) → Lacks 58 text → IsBad text
+pub bad_without_colon : (text : List ℕ) → Lacks 58 text → IsNoAddress text
 bad_without_colon text lacks good = not_in 58 text good.0.0 good.1.digits lacks good.1.is
 
 pub bad_host : (text host digits : List ℕ) → text ≡ host ++ 58 ∷ digits → Lacks 58 digits → is_host host ≡ false
-    → IsBad text
+    → IsNoAddress text
 bad_host text host digits is lacks none good =
     let same = same_cut 58 host digits good.0.0 good.1.digits (sym is ∙ good.1.is) lacks
     (digits_lack good.1.digits good.1.port.digits) in
@@ -69,7 +69,7 @@ bad_host text host digits is lacks none good =
     absurd (cc)
 
 pub bad_port : (text host digits : List ℕ) → text ≡ host ++ 58 ∷ digits → Lacks 58 digits
-    → ((port : ℕ) → ¬ (IsPort digits port)) → IsBad text
+    → ((port : ℕ) → ¬ (IsPort digits port)) → IsNoAddress text
 bad_port text host digits is lacks none good =
     let same = same_cut 58 host digits good.0.0 good.1.digits (sym is ∙ good.1.is) lacks
     (digits_lack good.1.digits good.1.port.digits) in
@@ -77,7 +77,7 @@ bad_port text host digits is lacks none good =
 
 -- the first part that a search finds is the first that is no address
 pub first_of : (all : List (List ℕ)) (r : Option ℕ)
-    → MatchOption r (AreGood all) (λ i. (i < length all) × HoldsAt IsBad all i × AllWithin IsGood all 0 i)
+    → MatchOption r (AreGood all) (λ i. (i < length all) × HoldsAt IsNoAddress all i × AllWithin IsSomeAddress all 0 i)
     → MatchOption r (AreGood all) (IsFirstBad all)
 first_of all None h = h
 first_of all (Some i) h = record { inside = h.0; bad = h.1; earlier = h.2 }
@@ -117,9 +117,9 @@ module _ {X Y : Type 0} (f : X → Y) (xs : List X) (i : ℕ) (d x : X) (inside 
 
 -- of parts that are addresses, the one at this place; and what there is once it was taken
 pub good_part : (all : List (Bor (List ℕ))) (i : ℕ) (d : Bor (List ℕ)) → i < length all
-    → AreGood (map (λ part. part.now) all) → IsGood (slice_index_or all i d).now
+    → AreGood (map (λ part. part.now) all) → IsSomeAddress (slice_index_or all i d).now
 good_part all i d inside good =
-    subst IsGood (mapped_at (λ part. part.now) all i d (slice_index_or all i d) inside refl [])
+    subst IsSomeAddress (mapped_at (λ part. part.now) all i d (slice_index_or all i d) inside refl [])
     (good i [] (omega arith) (omega (arith, inside, length-map all (λ part. part.now))))
 
 pub more_parts : (all : List (Bor (List ℕ))) (i : ℕ) (d : Bor (List ℕ)) (addresses now : List (List ℕ × ℕ))

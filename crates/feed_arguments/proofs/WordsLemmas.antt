@@ -19,7 +19,7 @@ use Rattle.clap.specs.declared.error.kind.ErrorKind.{ErrorKind}
 use Rattle.clap.specs.declared.error.kind.ErrorKind.TheVariants as kind
 use Rattle.clap.proofs.OnLiterals.{clap_on_literals}
 use Rattle.feed_arguments.proofs.Conjunctions.{sixth}
-use Rattle.feed_arguments.specs.Options.{number_at, text_at, IsInDigits, IsNumber, IsNumberIfGiven}
+use Rattle.feed_arguments.specs.Options.{number_at, text_at, IsInDigits, SaysNumber, IsNumberIfGiven}
 use Rattle.feed_arguments.specs.Words.{command_line, AskInVain, AsksAt, AsksBy, AsksNothing, RefusesBy, RepliesBy}
 use Rattle.feed_arguments.specs.declared.request.Request.{Request}
 use Rattle.feed_arguments.specs.declared.request.NoCommand.{NoCommand}
@@ -136,13 +136,13 @@ says_none id most rows none =
       greatest = tt;
     }
 
-pub says_some : (id : Text) (most : ℕ) (rows : List Row) (n : ℕ) → IsNumber id most rows n
+pub says_some : (id : Text) (most : ℕ) (rows : List Row) (n : ℕ) → SaysNumber id most rows n
     → IsNumberIfGiven id most rows (Some n)
 says_some id most rows n is = record { digits = is.digits; said = is.said; least = is.least; greatest = is.greatest }
 
 -- and nothing where it has a text that says none
 pub says_nothing : (id : Text) (most : ℕ) (rows : List Row) (n : Option ℕ) → ¬ (text_at id rows ≡ None)
-    → ((m : ℕ) → ¬ (IsNumber id most rows m)) → ¬ (IsNumberIfGiven id most rows n)
+    → ((m : ℕ) → ¬ (SaysNumber id most rows m)) → ¬ (IsNumberIfGiven id most rows n)
 says_nothing id most rows None given never is =
     given ((none_of_both (find (λ r. bytes_eq r.id id) rows)).1
     ((mapped_none (λ t. digits_value 10 (without_leading_plus t)) (one_of id rows)).1 is.said))

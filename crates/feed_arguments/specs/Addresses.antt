@@ -38,11 +38,11 @@ pub record IsAddress (text : List ℕ) (address : List ℕ × ℕ) : Type 0 wher
   pub port : IsPort digits address.1
 
 -- the text is an address, or is none
-abbrev pub IsGood : List ℕ → Type 0
-IsGood text = (address : List ℕ × ℕ) × IsAddress text address
+abbrev pub IsSomeAddress : List ℕ → Type 0
+IsSomeAddress text = (address : List ℕ × ℕ) × IsAddress text address
 
-abbrev pub IsBad : List ℕ → Type 0
-IsBad text = ¬ (IsGood text)
+abbrev pub IsNoAddress : List ℕ → Type 0
+IsNoAddress text = ¬ (IsSomeAddress text)
 
 -- what stands between the commas
 abbrev pub parts : List ℕ → List (List ℕ)
@@ -64,12 +64,12 @@ pub record IsListOf (text : List ℕ) (addresses : List (List ℕ × ℕ)) : Typ
 -- the part of this number is the first that is no address
 pub record IsFirstBad (parts : List (List ℕ)) (number : ℕ) : Type 0 where
   pub inside : number < length parts
-  pub bad : HoldsAt IsBad parts number
-  pub earlier : AllWithin IsGood parts 0 number
+  pub bad : HoldsAt IsNoAddress parts number
+  pub earlier : AllWithin IsSomeAddress parts 0 number
 
 -- each part is an address
 abbrev pub AreGood : List (List ℕ) → Type 0
-AreGood parts = AllWithin IsGood parts 0 (length parts)
+AreGood parts = AllWithin IsSomeAddress parts 0 (length parts)
 
 -- why the text is no list of addresses: the first of the reasons; or memory ran out, and nothing
 -- else is wrong

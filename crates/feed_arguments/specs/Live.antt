@@ -6,7 +6,7 @@ use Rattle.feed_settings.specs.Limits.{most_commits}
 use Rattle.feed_arguments.specs.Addresses.{most_port}
 use Rattle.feed_arguments.specs.Options as options
 use Rattle.feed_arguments.specs.Options.{flag, number_in, number_between, text_option, tied, with_default, with_rules, text_at}
-use Rattle.feed_arguments.specs.Options.{IsNumber, IsNumberUpTo, IsNumberIfGiven, IsGiven, IsFramed, AsksLimitsOr}
+use Rattle.feed_arguments.specs.Options.{SaysNumber, IsNumberUpTo, IsNumberIfGiven, IsGiven, IsFramed, AsksLimitsOr}
 use Rattle.feed_arguments.specs.Upstream.{AsksUpstream}
 use Rattle.feed_arguments.specs.declared.request.LiveOptions.{LiveOptions}
 use Rattle.feed_arguments.specs.declared.request.UpstreamOptions.{UpstreamOptions}
@@ -196,10 +196,10 @@ pub record AsksLive (rows : List Row) (options : LiveOptions) : Type 0 where
   pub status_is : IsNumberIfGiven (codes "status") most_port rows options.status
   pub status_address_is :
       text_at (codes "status-address") rows ≡ option_map (λ text. text.now) options.status_address
-  pub screens_are : IsNumber (codes "screens") most_screens rows options.screens
-  pub idle_is : IsNumber (codes "idle") most_idle rows options.idle
-  pub window_is : IsNumber (codes "window") most_window rows options.window
-  pub pending_is : IsNumber (codes "pending") most_pending rows options.pending
+  pub screens_are : SaysNumber (codes "screens") most_screens rows options.screens
+  pub idle_is : SaysNumber (codes "idle") most_idle rows options.idle
+  pub window_is : SaysNumber (codes "window") most_window rows options.window
+  pub pending_is : SaysNumber (codes "pending") most_pending rows options.pending
   pub framing_is : IsFramed rows options.framing
   pub state_is : text_at (codes "state") rows ≡ option_map (λ text. text.now) options.state
   pub new_is : IsGiven (codes "new") rows options.is_new

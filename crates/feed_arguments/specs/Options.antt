@@ -171,7 +171,7 @@ pub record IsNumberUpTo (name : Text) (most : ℕ) (rows : List Row) (number : �
   pub greatest : number ≤ most
 
 -- an option's value says this number, from 1 to the most
-pub record IsNumber (name : Text) (most : ℕ) (rows : List Row) (number : ℕ) : Type 0 where
+pub record SaysNumber (name : Text) (most : ℕ) (rows : List Row) (number : ℕ) : Type 0 where
   pub digits : IsInDigits name rows
   pub said : number_at name rows ≡ Some number
   pub least : 1 ≤ number
@@ -200,9 +200,9 @@ pub record IsFramed (rows : List Row) (framed : Framing) : Type 0 where
 -- the limits of a node: without a limit of memory, kept commits have so many bytes, where that is
 -- limited by itself
 pub record AsksLimitsOr (bytes : Option ℕ) (rows : List Row) (limits : Limits) : Type 0 where
-  pub history_is : IsNumber (codes "history") most_commits rows limits.history.commits
+  pub history_is : SaysNumber (codes "history") most_commits rows limits.history.commits
   pub bytes_is : limits.history.bytes ≡ option_or limits.memory bytes
-  pub staged_is : IsNumber (codes "staged") most_changes rows limits.staged
+  pub staged_is : SaysNumber (codes "staged") most_changes rows limits.staged
   pub memory_is : IsNumberIfGiven (codes "memory") most_memory rows limits.memory
 
 -- the same where kept commits have any bytes then

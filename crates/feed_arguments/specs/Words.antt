@@ -8,7 +8,7 @@ use Rattle.feed_settings.specs.Limits.{most_commits}
 use Rattle.feed_arguments.specs.Addresses.{most_port}
 use Rattle.feed_arguments.specs.Live.{live, AsksLive}
 use Rattle.feed_arguments.specs.Options.{most_rounds, most_silence, at, stream, verbose, primary, screen, of, against, compared_contest, for_seconds, json, port, listen, contest, count, turn, chunked, back, host, from, base, host_header, user_file, reads, silence, resume, limits, with_rules}
-use Rattle.feed_arguments.specs.Options.{text_at, IsNumber, IsNumberUpTo, IsNumberIfGiven, IsGiven, IsFramed, AsksLimits}
+use Rattle.feed_arguments.specs.Options.{text_at, SaysNumber, IsNumberUpTo, IsNumberIfGiven, IsGiven, IsFramed, AsksLimits}
 use Rattle.feed_arguments.specs.Upstream.{AsksUpstream}
 use Rattle.feed_arguments.specs.declared.request.Local.TheVariants as local
 use Rattle.clap.specs.declared.error.kind.ErrorKind.{ErrorKind}
@@ -151,9 +151,9 @@ pub record AsksCompare (rows : List Row) (options : CompareOptions) : Type 0 whe
 
 -- the values of the options of `serve`
 pub record AsksServe (rows : List Row) (options : ServeOptions) : Type 0 where
-  pub port_is : IsNumber (codes "port") most_port rows options.port
+  pub port_is : SaysNumber (codes "port") most_port rows options.port
   pub contest_is : text_at (codes "contest") rows ≡ Some options.contest.now
-  pub count_is : IsNumber (codes "count") most_rounds rows options.count
+  pub count_is : SaysNumber (codes "count") most_rounds rows options.count
   pub turn_is : IsNumberIfGiven (codes "turn") most_rounds rows options.turn
   pub back_is : IsNumberUpTo (codes "back") most_commits rows options.back
   pub framing_is : IsFramed rows options.framing
@@ -164,7 +164,7 @@ pub record AsksServe (rows : List Row) (options : ServeOptions) : Type 0 where
 pub record AsksPull (rows : List Row) (options : PullOptions) : Type 0 where
   pub upstream_is : AsksUpstream rows options.upstream
   pub contest_is : text_at (codes "contest") rows ≡ Some options.contest.now
-  pub most_reads_are : IsNumber (codes "turns") most_rounds rows options.most_reads
+  pub most_reads_are : SaysNumber (codes "turns") most_rounds rows options.most_reads
   pub silence_is : IsNumberIfGiven (codes "silence") most_silence rows options.silence
   pub resume_is : IsGiven (codes "resume") rows options.resume
   pub verbose_is : IsGiven (codes "verbose") rows options.verbose
@@ -173,8 +173,8 @@ pub record AsksPull (rows : List Row) (options : PullOptions) : Type 0 where
 -- the values of the options of `relay`
 pub record AsksRelay (rows : List Row) (options : RelayOptions) : Type 0 where
   pub pull_is : AsksPull rows options.pull
-  pub listen_is : IsNumber (codes "listen") most_port rows options.listen
-  pub count_is : IsNumber (codes "count") most_rounds rows options.count
+  pub listen_is : SaysNumber (codes "listen") most_port rows options.listen
+  pub count_is : SaysNumber (codes "count") most_rounds rows options.count
   pub framing_is : IsFramed rows options.framing
 
 -- the command of this name, with these values of its options, is what is requested

@@ -1,6 +1,6 @@
 //! Addresses of servers.
 ghost use Rattle.std.specs.Prelude.{◌≡◌, ◌≤◌, ◌++◌, ◌∷◌, [], ℕ, List, None, true, false, map, length, string_bytes, IfOk, IfErr, IfSome, OnOk, MatchOption};
-ghost use Rattle.feed_arguments.specs.Addresses.{parts, most_addresses, IsPort, IsAddress, IsGood, IsBad, IsFirstBad};
+ghost use Rattle.feed_arguments.specs.Addresses.{parts, most_addresses, IsPort, IsAddress, IsSomeAddress, IsNoAddress, IsFirstBad};
 ghost use Rattle.feed_arguments.specs.Addresses.{AreGood, AreAddresses, IsListOf, RefusesList};
 ghost use Rattle.feed_arguments.specs.declared.address.AddressFault.TheVariants as address_fault;
 
@@ -50,7 +50,7 @@ fn port_of(text: &str) -> Option<u16>
 /// The host and the port of one address.
 fn address_of(text: &str) -> Option<(&str, u16)>
     ensures some { IfSome result (λ a. IsAddress text.now (a.0.now, a.1)) }
-    ensures none { result ≡ None → IsBad text.now }
+    ensures none { result ≡ None → IsNoAddress text.now }
 {
     let (host, digits) = text.rsplit_once(':')?;
     if !is_host(host) {
@@ -62,8 +62,8 @@ fn address_of(text: &str) -> Option<(&str, u16)>
 
 /// Whether a part is an address.
 fn is_address(part: &str) -> bool
-    ensures good { result ≡ true → IsGood part.now }
-    ensures bad { result ≡ false → IsBad part.now }
+    ensures good { result ≡ true → IsSomeAddress part.now }
+    ensures bad { result ≡ false → IsNoAddress part.now }
 {
     match address_of(part) {
         Some(_) => true,
@@ -98,7 +98,7 @@ fn push_address(
     part: &str,
     addresses: &mut Vec<(String, u16)>,
 ) -> Result<(), AllocError>
-    requires { IsGood part.now }
+    requires { IsSomeAddress part.now }
     ensures { OnOk result ((address : List ℕ × ℕ) × IsAddress part.now address
         × (map (λ a. (string_bytes a.0, a.1)) addresses.new.items
         ≡ map (λ a. (string_bytes a.0, a.1)) addresses.old.items ++ address ∷ [])) }

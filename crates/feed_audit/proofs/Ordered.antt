@@ -17,8 +17,8 @@ use Rattle.feed_tables.specs.Changes.{sets}
 use Rattle.feed_tables.specs.Tables.{Contents, listed, listing, or_clear, as_singleton, object_of, collection_of}
 use Rattle.feed_tables.specs.declared.change.Change.{Change}
 use Rattle.feed_tables.specs.declared.change.Change.TheVariants.{Set, Remove, Empty, Single, Clear}
-use Rattle.feed_tables.specs.declared.tables.Table.{Table}
-use Rattle.feed_tables.specs.declared.tables.Table.TheVariants.{One, Many}
+use Rattle.feed_tables.specs.declared.table.Table.{Table}
+use Rattle.feed_tables.specs.declared.table.Table.TheVariants.{One, Many}
 use Rattle.feed_tables.proofs.Entries.{first, second, less, equal, earlier, find_below, find_skip, find_stop, find_here, find_before, below_right, below_trans}
 use Rattle.feed_tables.proofs.Order.{total}
 use Rattle.feed_tables.proofs.Maps.{byte_order_antisymmetric}

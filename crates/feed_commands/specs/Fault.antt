@@ -130,4 +130,5 @@ abbrev pub SaysMore : List ℕ → Fault → Fault → Type 0
 SaysMore line why reported =
     (reported ≡ why)
     ⊎ ((stop : SurveyStop) × (spot : Option Spot) × (why ≡ fault.Survey stop)
-    × (reported ≡ fault.Survey (record { fault = stop.fault; spot = spot })) × StandsInLine line spot)
+    × (reported ≡ fault.Survey (record { fault = stop.fault; spot = spot }))
+    × StandsInLine line spot)

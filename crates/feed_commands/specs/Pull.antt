@@ -70,7 +70,8 @@ asked_at upstream contest identity address =
     (address, (place_asked upstream contest address, identity))
 
 abbrev pub server_asked : Server → AskedServer
-server_asked server = ((string_bytes server.host, server.port), (Ok server.place, server.identity.now))
+server_asked server =
+    ((string_bytes server.host, server.port), (Ok server.place, server.identity.now))
 
 -- the servers are those at the first address and the further ones, each with the place there, and
 -- are asked as this identity
@@ -135,15 +136,16 @@ FailsToPrint text out unreported_old unreported_new =
 module _ {D R W : Type 0} where
   -- which servers were asked, what that came to, and what the mirror is then
   pub record HasPulled (dialer : Dialer D R W) (servers : List Server) (most_reads : ℕ)
-      (start : DialingMirror D) (ended : Result (Unit {0}) Fault) (end : DialingMirror D) : Type 0 where
+      (start : DialingMirror D) (ended : Result (Unit {0}) Fault) (end : DialingMirror D)
+      : Type 0 where
     pub attempts : List Attempt
     pub follows : FollowsFirst dialer servers most_reads start attempts end
     pub came : outcome_of_pull attempts ≡ ended
 
   -- the same, and the snapshot of what the mirror shows was printed
   pub record PrintedPulled (dialer : Dialer D R W) (servers : List Server) (most_reads : ℕ)
-      (start : DialingMirror D) (ended : Result (Unit {0}) Fault) (end : DialingMirror D) (out : Wrote)
-      : Type 0 where
+      (start : DialingMirror D) (ended : Result (Unit {0}) Fault) (end : DialingMirror D)
+      (out : Wrote) : Type 0 where
     pub has : HasPulled dialer servers most_reads start ended end
     pub printed : Appends out.old out.new (published_text end.mirror.node.published)
 
@@ -157,16 +159,18 @@ module _ {D R W : Type 0} where
 
   -- What was pulled and printed where the command fails. What could not be reported is counted
   -- between two counts.
-  abbrev pub PullFails : Dialer D R W → List Server → ℕ → Fault → DialingMirror D → DialingMirror D → Wrote
-      → ℕ → ℕ → Type 0
+  abbrev pub PullFails : Dialer D R W → List Server → ℕ → Fault → DialingMirror D
+      → DialingMirror D → Wrote → ℕ → ℕ → Type 0
   PullFails dialer servers most_reads fault.Memory start end out unreported_old unreported_new =
       RunsOut dialer servers most_reads start end × Keeps out.old out.new
   PullFails dialer servers most_reads fault.Write start end out unreported_old unreported_new =
       ((ended : Result (Unit {0}) Fault) × HasPulled dialer servers most_reads start ended end)
       × FailsToPrint (published_text end.mirror.node.published) out unreported_old unreported_new
-  PullFails dialer servers most_reads fault.Unpublished start end out unreported_old unreported_new =
+  PullFails dialer servers most_reads fault.Unpublished start end out unreported_old
+      unreported_new =
       PrintedPulled dialer servers most_reads start (Ok tt) end out
       × (end.mirror.node.published ≡ None)
-  PullFails dialer servers most_reads (fault.Network why) start end out unreported_old unreported_new =
+  PullFails dialer servers most_reads (fault.Network why) start end out unreported_old
+      unreported_new =
       PrintedPulled dialer servers most_reads start (Err (fault.Network why)) end out
   PullFails dialer servers most_reads why start end out unreported_old unreported_new = ⊥

@@ -93,5 +93,6 @@ module _ {D R W A S T : Type 0} (dialer : Dialer D R W) (links : Links A S T)
   abbrev pub RelayFails : ℕ → Fault → Relaying D A → Relaying D A → Wrote → ℕ → ℕ → Type 0
   RelayFails count why start end out unreported_old unreported_new =
       ((why ≡ fault.Write) × MakesRounds count start end
-      × FailsToPrint (published_text end.follower.mirror.node.published) out unreported_old unreported_new)
+      × FailsToPrint (published_text end.follower.mirror.node.published) out unreported_old
+      unreported_new)
       ⊎ (RelayBreaksOff count start why end × Keeps out.old out.new)

@@ -6,13 +6,13 @@ use Rattle.feed_node.specs.Mirroring.{first_opening}
 use Rattle.feed_node.specs.Steps.{ReadingIsOne}
 use Rattle.feed_node.specs.States.{NodeState}
 use Rattle.feed_world.specs.Log.{Log}
-use Rattle.feed_world.specs.Position.{Position, IsPlace, node_where}
+use Rattle.feed_world.specs.Position.{Position, IsPlaceOfLog, node_where}
 use Rattle.feed_hub.specs.Files.{FilesRestore}
 use Rattle.feed_audit.specs.States.{IsStateOf, StatesArePublished, published_after}
 use Rattle.feed_files.specs.Audited.{state_at, FilesAreOfLog, FilesAgree}
 
 -- what a node at a place of the log has published
-published_there : (limits : Limits) (log : Log) (place : Option Position) → IsPlace limits log place → (state : Published)
+published_there : (limits : Limits) (log : Log) (place : Option Position) → IsPlaceOfLog limits log place → (state : Published)
     → (node_where log place).published ≡ Some state → (k : ℕ) × (k ≤ length log.commits) × (state ≡ state_at log k)
 published_there limits log None is state e = absurd (cc)
 published_there limits log (Some p) is state e = (p.at, is.in_log, cc)

@@ -13,7 +13,7 @@ use Rattle.feed_follow.specs.declared.fault.FollowFault.{FollowFault}
 use Rattle.feed_follow.specs.declared.fault.FollowFault.TheVariants.{BadChunk, Feed}
 use Rattle.feed_follow.specs.declared.follower.Part.{Part}
 use Rattle.feed_follow.specs.declared.follower.Part.TheVariants.{Head, ToEnd, Sized, InChunks, Done, Closed}
-use Rattle.feed_follow.specs.ChunkReading.{Reads, stays, goes, next}
+use Rattle.feed_follow.specs.ChunkReading.{ReadsChunks, stays, goes, next}
 use Rattle.feed_follow.specs.Bodies.{IsBody, IsBodyPrefix}
 use Rattle.feed_follow.specs.Following.{HasReached, IsCutAfter, IsCutAtFault}
 use Rattle.feed_follow.specs.Follower.{ReadsBody}
@@ -112,14 +112,14 @@ pub feeds_byte : (at to : Chunking) (b : ℕ) (mirror : MirrorState)
     → FeedsChunks at (b ∷ []) mirror to mirror
 feeds_byte at to b mirror other e = record {
   payload = [];
-  reads = subst (λ p. Reads at (b ∷ []) p to) (ap (λ p. p ++ []) (brings_nothing at b other))
+  reads = subst (λ p. ReadsChunks at (b ∷ []) p to) (ap (λ p. p ++ []) (brings_nothing at b other))
       (goes at to to b [] [] e (stays to));
   fed = fed_nothing mirror;
 }
 
 -- bytes of a chunk
 pub feeds_data : (left : ℕ) (bytes : List ℕ) (to : Chunking) (old new : MirrorState)
-    → Reads (InBytes left) bytes bytes to → HasFed old bytes new
+    → ReadsChunks (InBytes left) bytes bytes to → HasFed old bytes new
     → FeedsChunks (InBytes left) bytes old to new
 feeds_data left bytes to old new reads fed = record { payload = bytes; reads = reads; fed = fed }
 
@@ -211,7 +211,7 @@ open_stops bytes old new fault stops start framing text payload h reached =
 -- ---- a chunked body
 
 chunks_bring : (text payload prefix q : List ℕ) (at to : Chunking) (framing : BodyFraming)
-    → ReadsBody framing text payload (InChunks at) → to ≢ Whole → Reads at prefix q to
+    → ReadsBody framing text payload (InChunks at) → to ≢ Whole → ReadsChunks at prefix q to
     → IsBodyPrefix framing (text ++ prefix) (payload ++ q)
 chunks_bring text payload prefix q at to framing h going reads =
     subst (λ f. IsBodyPrefix f (text ++ prefix) (payload ++ q)) (sym h.0)
@@ -248,14 +248,14 @@ chunks_go_on at to piece old new going run framing text payload h =
         h.0,
         going,
         subst
-            (λ t. Reads LineStart (text ++ t) (payload ++ run.feeds.payload) to) all reads,
+            (λ t. ReadsChunks LineStart (text ++ t) (payload ++ run.feeds.payload) to) all reads,
       ),
       run.feeds.fed,
     )
 
 chunk_brings : (at : Chunking) (text payload prefix q counted : List ℕ) (left : ℕ)
     (framing : BodyFraming)
-    → ReadsBody framing text payload (InChunks at) → Reads at prefix q (InBytes left)
+    → ReadsBody framing text payload (InChunks at) → ReadsChunks at prefix q (InBytes left)
     → length counted ≤ left
     → IsBodyPrefix framing (text ++ (prefix ++ counted)) (payload ++ (q ++ counted))
 chunk_brings at text payload prefix q counted left framing h reads few =

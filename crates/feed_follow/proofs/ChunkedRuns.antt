@@ -16,7 +16,7 @@ use Rattle.httparse.specs.Grammar.{is_ows, is_extension_byte, ChunkLine, chunk_s
 use Rattle.feed_follow.specs.declared.chunk.Chunking.{Chunking}
 use Rattle.feed_follow.specs.declared.chunk.Chunking.TheVariants.{LineStart, InDigits, InPad, InExtension, LineCr, InBytes, BytesEnd, BytesCr, TrailerStart, InTrailer, TrailerCr, EndCr, Whole}
 use Rattle.feed_follow.specs.ChunkedBody.{Chunk, IsChunk, IsSizeLine, size_line, print_chunk, carried, IsLastLine, IsTrailer, AreTrailers, IsChunkedBody, IsChunkedPrefix, BreaksOff, IsBreak, IsInChunk, IsInTrailers, print_trailers}
-use Rattle.feed_follow.specs.ChunkReading.{next, after_size, in_trailer, after_line, brought_by, Reads, stays, goes, IsPlace}
+use Rattle.feed_follow.specs.ChunkReading.{next, after_size, in_trailer, after_line, brought_by, ReadsChunks, stays, goes, IsChunkPlace}
 use Rattle.feed_follow.proofs.ChunkReading.{StandsIn, step, IsBringing, IsTrailing, if_either, none_some, some_some, brought_chunk, brought_is, brought_spelled, onto, as_lf, padded, are_push, line_of_padded, line_of_extended, below, unequal, positive, digit_small, length_push_trailer}
 
 -- ---- sound: what was read is the prefix of a body
@@ -91,7 +91,7 @@ moves EndCr t b text payload s e = moves_in EndCr t b text payload (λ x. cc) s 
 moves Whole t b text payload s e = moves_in Whole t b text payload (λ x. cc) s e
 
 -- wherever a body stands, more bytes that can stand there bring it on
-pub stands_on : (at to : Chunking) (bytes brought text payload : List ℕ) → Reads at bytes brought to
+pub stands_on : (at to : Chunking) (bytes brought text payload : List ℕ) → ReadsChunks at bytes brought to
     → StandsIn at text payload → StandsIn to (text ++ bytes) (payload ++ brought)
 stands_on at to bytes brought text payload (stays _) s = subst (λ t. StandsIn at t (payload ++ []))
     (sym (append-nil text)) (subst (λ p. StandsIn at text p) (sym (append-nil payload)) s)
@@ -230,29 +230,29 @@ is_prefix Whole text payload s = inl (is_whole text payload s)
 -- ---- complete: the prefix of a body is read
 
 -- one run behind another
-pub reads_both : (at middle to : Chunking) (x p y q : List ℕ) → Reads at x p middle
-    → Reads middle y q to → Reads at (x ++ y) (p ++ q) to
+pub reads_both : (at middle to : Chunking) (x p y q : List ℕ) → ReadsChunks at x p middle
+    → ReadsChunks middle y q to → ReadsChunks at (x ++ y) (p ++ q) to
 reads_both at middle to x p y q (stays _) second = second
 reads_both at middle to x p y q (goes _ behind _ b more later e first) second =
-    subst (λ payload. Reads at ((b ∷ more) ++ y) payload to)
+    subst (λ payload. ReadsChunks at ((b ∷ more) ++ y) payload to)
     (sym (append_assoc (brought_by at b) later q))
     (goes at behind to b (more ++ y) (later ++ q) e
     (reads_both behind middle to more later y q first second))
 
 -- a run with these texts, written otherwise
-pub reads_as : (at to : Chunking) (x y p q : List ℕ) → x ≡ y → p ≡ q → Reads at x p to
-    → Reads at y q to
-reads_as at to x y p q e f r = subst (λ t. Reads at t q to) e (subst (λ t. Reads at x t to) f r)
+pub reads_as : (at to : Chunking) (x y p q : List ℕ) → x ≡ y → p ≡ q → ReadsChunks at x p to
+    → ReadsChunks at y q to
+reads_as at to x y p q e f r = subst (λ t. ReadsChunks at t q to) e (subst (λ t. ReadsChunks at x t to) f r)
 
 one : (at to : Chunking) (b : ℕ) → next at b ≡ Some to
-    → Reads at (b ∷ []) (brought_by at b ++ []) to
+    → ReadsChunks at (b ∷ []) (brought_by at b ++ []) to
 one at to b e = goes at to to b [] [] e (stays to)
 
 digits_run : (ds : List ℕ) (n m size : ℕ) → AllByRecursion (λ b. is_ascii_hexdigit b ≡ true) ds
     → m ≡ n + length ds → m ≤ 16
-    → Reads (InDigits n size) ds [] (InDigits m (digits_value_after 16 size ds))
+    → ReadsChunks (InDigits n size) ds [] (InDigits m (digits_value_after 16 size ds))
 digits_run [] n m size h e few = let same : n ≡ m = omega arith in subst
-    (λ k. Reads (InDigits n size) [] [] (InDigits k size)) same (stays (InDigits n size))
+    (λ k. ReadsChunks (InDigits n size) [] [] (InDigits k size)) same (stays (InDigits n size))
 digits_run (d ∷ ds) n m size h e few =
     let room : nat_lt n 16 ≡ true = grind (arith, nat_tests) in
     goes (InDigits n size) (InDigits (n + 1) (size * 16 + digit_value d))
@@ -294,13 +294,13 @@ none_brought _ t b e is = refl
 
 -- a byte of a size line, and then these
 goes_in_line : (at behind to : Chunking) (b : ℕ) (bytes : List ℕ) → next at b ≡ Some behind
-    → is_in_line behind ≡ true → Reads behind bytes [] to → Reads at (b ∷ bytes) [] to
-goes_in_line at behind to b bytes e is reads = subst (λ p. Reads at (b ∷ bytes) p to)
+    → is_in_line behind ≡ true → ReadsChunks behind bytes [] to → ReadsChunks at (b ∷ bytes) [] to
+goes_in_line at behind to b bytes e is reads = subst (λ p. ReadsChunks at (b ∷ bytes) p to)
     (none_brought at behind b e is) (goes at behind to b bytes [] e reads)
 
 pad_run : (pad : List ℕ) (at : Chunking) (n m size : ℕ) → EndsSize at n size
     → AllByRecursion (λ b. is_ows b ≡ true) pad → m ≡ n + length pad → m ≤ 1024
-    → (to : Chunking) × EndsSize to m size × Reads at pad [] to
+    → (to : Chunking) × EndsSize to m size × ReadsChunks at pad [] to
 pad_run [] at n m size ends h e short = let same : n ≡ m =
     omega arith in (at, subst (λ k. EndsSize at k size) same ends, stays at)
 pad_run (b ∷ pad) at n m size ends h e short =
@@ -324,9 +324,9 @@ text_is_no_lf b h = grind (arith, nat_tests)
 
 extension_run : (bytes : List ℕ) (n m size : ℕ)
     → AllByRecursion (λ b. is_extension_byte b ≡ true) bytes → m ≡ n + length bytes → m ≤ 1024
-    → Reads (InExtension n size) bytes [] (InExtension m size)
+    → ReadsChunks (InExtension n size) bytes [] (InExtension m size)
 extension_run [] n m size h e short = let same : n ≡ m = omega arith in subst
-    (λ k. Reads (InExtension n size) [] [] (InExtension k size)) same (stays (InExtension n size))
+    (λ k. ReadsChunks (InExtension n size) [] [] (InExtension k size)) same (stays (InExtension n size))
 extension_run (b ∷ bytes) n m size h e short =
     let room : nat_lt n 1024 ≡ true = grind (arith, nat_tests) in
     let no_cr = text_is_no_cr b h.0 in
@@ -339,7 +339,7 @@ extension_run (b ∷ bytes) n m size h e short =
 extended_run : (extension : Option (List ℕ)) (at : Chunking) (n size : ℕ) → EndsSize at n size
     → IsExtension extension → n + length (print_extension extension) ≤ 1024
     → (to : Chunking) × (next to carriage_return ≡ Some (LineCr size))
-    × Reads at (print_extension extension) [] to
+    × ReadsChunks at (print_extension extension) [] to
 extended_run None at n size ends h short = (at, ends carriage_return refl, stays at)
 extended_run (Some text) at n size ends h short =
     let room : nat_lt n 1024 ≡ true = grind (arith, nat_tests) in
@@ -357,16 +357,16 @@ line_run : (digits pad : List ℕ) (extension : Option (List ℕ)) → 0 < lengt
     → AllByRecursion (λ b. is_ows b ≡ true) pad
     → IsExtension extension → length ((digits ++ pad) ++ print_extension extension) ≤ 1024
     → (to : Chunking) × (next to carriage_return ≡ Some (LineCr (digits_value 16 digits)))
-    × Reads LineStart ((digits ++ pad) ++ print_extension extension) [] to
+    × ReadsChunks LineStart ((digits ++ pad) ++ print_extension extension) [] to
 line_run [] pad extension some few hex ows is short = absurd (omega arith)
 line_run (d ∷ ds) pad extension some few hex ows is short =
     let value : digits_value_after 16 (digit_value d) ds ≡ digits_value 16 (d ∷ ds) =
     ap (λ k. digits_value_after 16 k ds) (sym (zero-add (digit_value d))) in
     let size = digits_value_after 16 (digit_value d) ds in
     let n = 1 + length ds in
-    let digits : Reads (InDigits 1 (digit_value d)) ds [] (InDigits n size) = digits_run ds 1 n
+    let digits : ReadsChunks (InDigits 1 (digit_value d)) ds [] (InDigits n size) = digits_run ds 1 n
     (digit_value d) hex.1 refl (omega arith) in
-    let first : Reads LineStart (d ∷ ds) [] (InDigits n size) = goes LineStart
+    let first : ReadsChunks LineStart (d ∷ ds) [] (InDigits n size) = goes LineStart
     (InDigits 1 (digit_value d)) (InDigits n size) d ds [] (rw hex.0 refl) digits in
     let within : n + length pad + length (print_extension extension) ≤ 1024 =
     omega (
@@ -387,7 +387,7 @@ line_run (d ∷ ds) pad extension some few hex ows is short =
 
 -- a size line with its CR
 lined_run : (l : ChunkLine) → IsSizeLine l
-    → Reads LineStart (size_line l ++ carriage_return ∷ []) [] (LineCr (chunk_size l))
+    → ReadsChunks LineStart (size_line l ++ carriage_return ∷ []) [] (LineCr (chunk_size l))
 lined_run l is =
     let run = line_run l.digits l.pad l.extension is.is_line.digits.0 is.is_line.digits.1
     (recursion_from_All (λ b. is_ascii_hexdigit b ≡ true) l.digits is.is_line.digits.2)
@@ -400,9 +400,9 @@ lined_run l is =
 
 -- and with its CR LF
 pub whole_line_run : (l : ChunkLine) → IsSizeLine l
-    → Reads LineStart (size_line l ++ crlf_bytes) [] (after_line (chunk_size l))
+    → ReadsChunks LineStart (size_line l ++ crlf_bytes) [] (after_line (chunk_size l))
 whole_line_run l is =
-    subst (λ t. Reads LineStart t [] (after_line (chunk_size l)))
+    subst (λ t. ReadsChunks LineStart t [] (after_line (chunk_size l)))
     (append_assoc (size_line l) (carriage_return ∷ []) (line_feed ∷ []))
     (reads_both LineStart (LineCr (chunk_size l)) (after_line (chunk_size l))
     (size_line l ++ carriage_return ∷ []) [] (line_feed ∷ []) [] (lined_run l is)
@@ -419,9 +419,9 @@ not_last k h = grind (arith, nat_tests)
 
 -- some of them
 pub some_run : (bytes : List ℕ) (left to : ℕ) → left ≡ length bytes + to → 0 < to
-    → Reads (InBytes left) bytes bytes (InBytes to)
+    → ReadsChunks (InBytes left) bytes bytes (InBytes to)
 some_run [] left to e some = let same : left ≡ to = omega arith in subst
-    (λ k. Reads (InBytes left) [] [] (InBytes k)) same (stays (InBytes left))
+    (λ k. ReadsChunks (InBytes left) [] [] (InBytes k)) same (stays (InBytes left))
 some_run (b ∷ bytes) left to e some =
     let more : (left == 1) ≡ false = grind (arith, nat_tests) in
     goes (InBytes left) (InBytes (left - 1)) (InBytes to) b bytes bytes (rw more refl)
@@ -429,7 +429,7 @@ some_run (b ∷ bytes) left to e some =
 
 -- all of them
 pub all_run : (bytes : List ℕ) (left : ℕ) → left ≡ length bytes → 0 < left
-    → Reads (InBytes left) bytes bytes BytesEnd
+    → ReadsChunks (InBytes left) bytes bytes BytesEnd
 all_run [] left e some = absurd (omega arith)
 all_run (b ∷ []) left e some =
     let last : (left == 1) ≡ true = grind (arith, nat_tests) in
@@ -442,25 +442,25 @@ all_run (b ∷ (c ∷ bytes)) left e some =
 after_some : (size : ℕ) → 0 < size → after_line size ≡ InBytes size
 after_some size some = let zeros : (size == 0) ≡ false = grind (arith, nat_tests) in rw zeros refl
 
-crlf_run : Reads BytesEnd crlf_bytes [] LineStart
+crlf_run : ReadsChunks BytesEnd crlf_bytes [] LineStart
 crlf_run = goes BytesEnd BytesCr LineStart carriage_return (line_feed ∷ []) [] refl
     (goes BytesCr LineStart LineStart line_feed [] [] refl (stays LineStart))
 
 -- a size line of a chunk, and then these bytes
 pub bytes_from : (l : ChunkLine) (bytes brought : List ℕ) (to : Chunking) → IsSizeLine l
-    → 0 < chunk_size l → Reads (InBytes (chunk_size l)) bytes brought to
-    → Reads LineStart (size_line l ++ (crlf_bytes ++ bytes)) brought to
+    → 0 < chunk_size l → ReadsChunks (InBytes (chunk_size l)) bytes brought to
+    → ReadsChunks LineStart (size_line l ++ (crlf_bytes ++ bytes)) brought to
 bytes_from l bytes brought to is some reads =
-    subst (λ t. Reads LineStart t brought to) (append_assoc (size_line l) crlf_bytes bytes)
+    subst (λ t. ReadsChunks LineStart t brought to) (append_assoc (size_line l) crlf_bytes bytes)
     (reads_both LineStart (InBytes (chunk_size l)) to (size_line l ++ crlf_bytes) [] bytes brought
-    (subst (λ p. Reads LineStart (size_line l ++ crlf_bytes) [] p)
+    (subst (λ p. ReadsChunks LineStart (size_line l ++ crlf_bytes) [] p)
     (after_some (chunk_size l) some) (whole_line_run l is)) reads)
 
 -- a whole chunk
-pub chunk_run : (c : Chunk) → IsChunk c → Reads LineStart (print_chunk c) c.bytes LineStart
+pub chunk_run : (c : Chunk) → IsChunk c → ReadsChunks LineStart (print_chunk c) c.bytes LineStart
 chunk_run c is =
     let size_is = is.size in
-    let data_run : Reads (InBytes (chunk_size c.line)) c.bytes c.bytes BytesEnd = all_run c.bytes
+    let data_run : ReadsChunks (InBytes (chunk_size c.line)) c.bytes c.bytes BytesEnd = all_run c.bytes
     (chunk_size c.line) is.size (omega (arith, is.some)) in
     reads_as LineStart LineStart (size_line c.line ++ (crlf_bytes ++ (c.bytes ++ crlf_bytes)))
     (print_chunk c) (c.bytes ++ []) c.bytes (sym (simp append_assoc)) (append-nil c.bytes)
@@ -470,7 +470,7 @@ chunk_run c is =
     data_run crlf_run))
 
 pub chunks_run : (chunks : List Chunk) → AllByRecursion IsChunk chunks
-    → Reads LineStart (flat_map print_chunk chunks) (carried chunks) LineStart
+    → ReadsChunks LineStart (flat_map print_chunk chunks) (carried chunks) LineStart
 chunks_run [] are = stays LineStart
 chunks_run (c ∷ chunks) are = reads_both LineStart LineStart LineStart (print_chunk c) c.bytes
     (flat_map print_chunk chunks) (carried chunks) (chunk_run c are.0) (chunks_run chunks are.1)
@@ -485,9 +485,9 @@ trailer_byte n b h small =
     rw no_lf (rw room refl)
 
 part_run : (part : List ℕ) (n m : ℕ) → AllByRecursion (λ b. is_extension_byte b ≡ true) part
-    → m ≡ n + length part → m ≤ 8190 → Reads (InTrailer n) part [] (InTrailer m)
+    → m ≡ n + length part → m ≤ 8190 → ReadsChunks (InTrailer n) part [] (InTrailer m)
 part_run [] n m h e short = let same : n ≡ m = omega arith in subst
-    (λ k. Reads (InTrailer n) [] [] (InTrailer k)) same (stays (InTrailer n))
+    (λ k. ReadsChunks (InTrailer n) [] [] (InTrailer k)) same (stays (InTrailer n))
 part_run (b ∷ part) n m h e short =
     let no_cr = text_is_no_cr b h.0 in
     goes (InTrailer n) (InTrailer (n + 1)) (InTrailer m) b part []
@@ -496,7 +496,7 @@ part_run (b ∷ part) n m h e short =
 
 -- an unfinished trailer line
 pub unfinished_run : (part : List ℕ) (n m : ℕ) → IsTrailer part → m ≡ n + length part → m ≤ 8190
-    → Reads (TrailerStart n) part [] (InTrailer m)
+    → ReadsChunks (TrailerStart n) part [] (InTrailer m)
 unfinished_run [] n m is e short = absurd (omega (arith, is.0))
 unfinished_run (b ∷ part) n m is e short =
     let all = recursion_from_All (λ c. is_extension_byte c ≡ true) (b ∷ part) is.1 in
@@ -506,7 +506,7 @@ unfinished_run (b ∷ part) n m is e short =
     (part_run part (n + 1) m all.1 (omega arith) short)
 
 trailer_run : (text : List ℕ) (n m : ℕ) → IsTrailer text → m ≡ n + length text → m ≤ 8190
-    → Reads (TrailerStart n) (text ++ crlf_bytes) [] (TrailerStart (m + 2))
+    → ReadsChunks (TrailerStart n) (text ++ crlf_bytes) [] (TrailerStart (m + 2))
 trailer_run text n m is e short =
     reads_both (TrailerStart n) (InTrailer m) (TrailerStart (m + 2)) text [] crlf_bytes []
     (unfinished_run text n m is e short)
@@ -517,9 +517,9 @@ trailer_run text n m is e short =
 
 pub trailers_run : (trailers : List (List ℕ)) (n m : ℕ) → AllByRecursion IsTrailer trailers
     → m ≡ n + length (print_trailers trailers) → m ≤ 8192
-    → Reads (TrailerStart n) (print_trailers trailers) [] (TrailerStart m)
+    → ReadsChunks (TrailerStart n) (print_trailers trailers) [] (TrailerStart m)
 trailers_run [] n m are e short = let same : n ≡ m = omega arith in subst
-    (λ k. Reads (TrailerStart n) [] [] (TrailerStart k)) same (stays (TrailerStart n))
+    (λ k. ReadsChunks (TrailerStart n) [] [] (TrailerStart k)) same (stays (TrailerStart n))
 trailers_run (t ∷ trailers) n m are e short =
     let grown : length (print_trailers (t ∷ trailers)) ≡ length t + 2 + length
     (print_trailers trailers) = length-append (t ++ crlf_bytes) (print_trailers trailers)
@@ -532,24 +532,24 @@ trailers_run (t ∷ trailers) n m are e short =
 -- ---- every prefix of a body is read
 
 last_from : (l : ChunkLine) (text payload : List ℕ) (to : Chunking) → IsLastLine l
-    → Reads (TrailerStart 0) text payload to
-    → Reads LineStart (size_line l ++ (crlf_bytes ++ text)) payload to
+    → ReadsChunks (TrailerStart 0) text payload to
+    → ReadsChunks LineStart (size_line l ++ (crlf_bytes ++ text)) payload to
 last_from l text payload to is reads =
-    subst (λ t. Reads LineStart t payload to) (append_assoc (size_line l) crlf_bytes text)
+    subst (λ t. ReadsChunks LineStart t payload to) (append_assoc (size_line l) crlf_bytes text)
     (reads_both LineStart (TrailerStart 0) to (size_line l ++ crlf_bytes) [] text payload
-    (subst (λ p. Reads LineStart (size_line l ++ crlf_bytes) [] (after_line p)) is.size
+    (subst (λ p. ReadsChunks LineStart (size_line l ++ crlf_bytes) [] (after_line p)) is.size
     (whole_line_run l is.line)) reads)
 
-end_run : (n : ℕ) → Reads (TrailerStart n) crlf_bytes [] Whole
+end_run : (n : ℕ) → ReadsChunks (TrailerStart n) crlf_bytes [] Whole
 end_run n = goes (TrailerStart n) EndCr Whole carriage_return (line_feed ∷ []) [] refl
     (goes EndCr Whole Whole line_feed [] [] refl (stays Whole))
 
 pub body_run : (text payload : List ℕ) → IsChunkedBody text payload
-    → Reads LineStart text payload Whole
+    → ReadsChunks LineStart text payload Whole
 body_run text payload b =
     let n = length (print_trailers b.trailers) in
     let short = b.are_trailers.short in
-    let trailing : Reads (TrailerStart 0) (print_trailers b.trailers ++ crlf_bytes) [] Whole =
+    let trailing : ReadsChunks (TrailerStart 0) (print_trailers b.trailers ++ crlf_bytes) [] Whole =
     reads_both (TrailerStart 0) (TrailerStart n) Whole (print_trailers b.trailers) [] crlf_bytes []
     (trailers_run b.trailers 0 n b.are_trailers.each (omega arith) short) (end_run n) in
     reads_as LineStart Whole
@@ -565,7 +565,7 @@ body_run text payload b =
 -- the bytes lead to a place that is not the end
 pub record Leads (at : Chunking) (text payload : List ℕ) : Type 0 where
   pub to : Chunking
-  pub reads : Reads at text payload to
+  pub reads : ReadsChunks at text payload to
   pub going : to ≢ Whole
 
 in_line_going : (at : Chunking) (size : ℕ) → next at carriage_return ≡ Some (LineCr size)
@@ -584,7 +584,7 @@ line_leads l end is (inl none) =
     is.short in
     record {
       to = run.0;
-      reads = subst (λ t. Reads LineStart t [] run.0)
+      reads = subst (λ t. ReadsChunks LineStart t [] run.0)
           (sym (ap (λ t. size_line l ++ t) none ∙ append-nil (size_line l))) run.2;
       going =
           in_line_going run.0 (chunk_size l) run.1;
@@ -593,7 +593,7 @@ line_leads l end is (inr cr) =
     record {
       to = LineCr (chunk_size l);
       reads = subst
-          (λ t. Reads LineStart (size_line l ++ t) [] (LineCr (chunk_size l))) (sym cr)
+          (λ t. ReadsChunks LineStart (size_line l ++ t) [] (LineCr (chunk_size l))) (sym cr)
           (lined_run l is);
       going = λ same. cc;
     }
@@ -612,7 +612,7 @@ module _ (text bytes : List ℕ) (h : IsInChunk text bytes) where
             (size_line h.line ++ (crlf_bytes ++ (bytes ++ h.end))) text bytes bytes chunk_spelled
             refl
             (bytes_from h.line (bytes ++ h.end) bytes (InBytes left) h.is_line h.some
-            (subst (λ t. Reads (InBytes (chunk_size h.line)) t bytes (InBytes left))
+            (subst (λ t. ReadsChunks (InBytes (chunk_size h.line)) t bytes (InBytes left))
             (sym (ap (λ t. bytes ++ t) none ∙ append-nil bytes))
             (some_run bytes (chunk_size h.line) left (omega arith) (omega arith))));
         going = λ same. cc;
@@ -626,7 +626,7 @@ module _ (text bytes : List ℕ) (h : IsInChunk text bytes) where
     reads = reads_as LineStart BytesEnd (size_line h.line ++ (crlf_bytes ++ (bytes ++ h.end))) text
         bytes bytes chunk_spelled refl
         (bytes_from h.line (bytes ++ h.end) bytes BytesEnd h.is_line h.some
-        (subst (λ t. Reads (InBytes (chunk_size h.line)) t bytes BytesEnd)
+        (subst (λ t. ReadsChunks (InBytes (chunk_size h.line)) t bytes BytesEnd)
         (sym (ap (λ t. bytes ++ t) none ∙ append-nil bytes))
         (all_run bytes (chunk_size h.line) full h.some)));
     going = λ same. cc;
@@ -636,7 +636,7 @@ module _ (text bytes : List ℕ) (h : IsInChunk text bytes) where
     reads = reads_as LineStart BytesCr (size_line h.line ++ (crlf_bytes ++ (bytes ++ h.end))) text
         (bytes ++ []) bytes chunk_spelled (append-nil bytes)
         (bytes_from h.line (bytes ++ h.end) (bytes ++ []) BytesCr h.is_line h.some
-        (subst (λ t. Reads (InBytes (chunk_size h.line)) (bytes ++ t) (bytes ++ []) BytesCr)
+        (subst (λ t. ReadsChunks (InBytes (chunk_size h.line)) (bytes ++ t) (bytes ++ []) BytesCr)
         (sym cr)
         (reads_both (InBytes (chunk_size h.line)) BytesEnd BytesCr bytes bytes
         (carriage_return ∷ []) [] (all_run bytes (chunk_size h.line) full h.some)
@@ -663,8 +663,8 @@ chunk_leads text bytes h =
 
 module _ (text : List ℕ) (h : IsInTrailers text) where
   trailing_to : (part_text payload : List ℕ) (to : Chunking) → h.part ++ h.end ≡ part_text
-      → Reads (TrailerStart (length (print_trailers h.trailers))) part_text [] to
-      → Reads LineStart text [] to
+      → ReadsChunks (TrailerStart (length (print_trailers h.trailers))) part_text [] to
+      → ReadsChunks LineStart text [] to
   trailing_to part_text payload to same reads =
       let spelled : text ≡ size_line h.last
       ++ (crlf_bytes ++ (print_trailers h.trailers ++ (h.part ++ h.end))) = h.spelled
@@ -781,7 +781,7 @@ breaks_off_leads text payload b =
     }
 
 pub prefix_reads : (text payload : List ℕ) → IsChunkedPrefix text payload
-    → (to : Chunking) × Reads LineStart text payload to
+    → (to : Chunking) × ReadsChunks LineStart text payload to
 prefix_reads text payload (inl body) = (Whole, body_run text payload body)
 prefix_reads text payload (inr breaks) = let leads = breaks_off_leads text payload
     breaks in (leads.to, leads.reads)
@@ -800,13 +800,13 @@ brought at (b ∷ bytes) =
     brought_by at b ++ unwrap_or (option_map (λ behind. brought behind bytes) (next at b)) []
 
 -- where a run goes
-pub runs_to : (at to : Chunking) (bytes payload : List ℕ) → Reads at bytes payload to
+pub runs_to : (at to : Chunking) (bytes payload : List ℕ) → ReadsChunks at bytes payload to
     → after_bytes at bytes ≡ Some to
 runs_to at to bytes payload (stays _) = refl
 runs_to at to bytes payload (goes _ behind _ b more later e reads) =
     ap (option_and_then (λ p. after_bytes p more)) e ∙ runs_to behind to more later reads
 
-pub runs_bring : (at to : Chunking) (bytes payload : List ℕ) → Reads at bytes payload to
+pub runs_bring : (at to : Chunking) (bytes payload : List ℕ) → ReadsChunks at bytes payload to
     → brought at bytes ≡ payload
 runs_bring at to bytes payload (stays _) = refl
 runs_bring at to bytes payload (goes _ behind _ b more later e reads) =
@@ -815,7 +815,7 @@ runs_bring at to bytes payload (goes _ behind _ b more later e reads) =
 
 -- a run of bytes and one more byte
 last_step : (at to middle : Chunking) (b : ℕ) (bytes payload : List ℕ)
-    → Reads at bytes payload middle → after_bytes at (bytes ++ b ∷ []) ≡ Some to
+    → ReadsChunks at bytes payload middle → after_bytes at (bytes ++ b ∷ []) ≡ Some to
     → next middle b ≡ Some to
 last_step at to middle b bytes payload (stays _) e = option_and_then_some (λ p. after_bytes p [])
     (next at b) to e (λ x is same. is ∙ same)
@@ -825,7 +825,7 @@ last_step at to middle b bytes payload (goes _ behind _ c more later is reads) e
 
 -- a byte that can't stand there is the prefix of no body
 pub refused_byte : (at : Chunking) (b : ℕ) (text payload other : List ℕ)
-    → Reads LineStart text payload at → next at b ≡ None → ¬ (IsChunkedPrefix (text ++ b ∷ []) other)
+    → ReadsChunks LineStart text payload at → next at b ≡ None → ¬ (IsChunkedPrefix (text ++ b ∷ []) other)
 refused_byte at b text payload other reads none prefix =
     let (to, run) = prefix_reads (text ++ b ∷ []) other prefix in
     let some = last_step LineStart to at b text payload reads
@@ -837,8 +837,8 @@ refused_byte at b text payload other reads none prefix =
 
 -- one byte more
 pub reads_more : (at middle to : Chunking) (b : ℕ) (bytes payload : List ℕ)
-    → Reads at bytes payload middle → next middle b ≡ Some to
-    → Reads at (bytes ++ b ∷ []) (payload ++ brought_by middle b) to
+    → ReadsChunks at bytes payload middle → next middle b ≡ Some to
+    → ReadsChunks at (bytes ++ b ∷ []) (payload ++ brought_by middle b) to
 reads_more at middle to b bytes payload reads e =
     reads_as at to (bytes ++ b ∷ []) (bytes ++ b ∷ []) (payload ++ (brought_by middle b ++ []))
     (payload ++ brought_by middle b) refl
@@ -847,11 +847,11 @@ reads_more at middle to b bytes payload reads e =
     (one middle to b e))
 
 -- the numbers stay in their bounds
-place_of_next : (s t : Chunking) → ◌≡◌ {A = Option Chunking} (Some s) (Some t) → IsPlace s
-    → IsPlace t
-place_of_next s t e h = subst IsPlace (some_some s t e) h
+place_of_next : (s t : Chunking) → ◌≡◌ {A = Option Chunking} (Some s) (Some t) → IsChunkPlace s
+    → IsChunkPlace t
+place_of_next s t e h = subst IsChunkPlace (some_some s t e) h
 
-place_after_size : (n size b : ℕ) (t : Chunking) → after_size n size b ≡ Some t → IsPlace t
+place_after_size : (n size b : ℕ) (t : Chunking) → after_size n size b ≡ Some t → IsChunkPlace t
 place_after_size n size b t e =
     if_either (b == carriage_return) (Some (LineCr size)) _ t e
     (λ _ k. place_of_next (LineCr size) t k tt)
@@ -862,7 +862,7 @@ place_after_size n size b t e =
     (λ _ k4. place_of_next (InExtension (n + 1) size) t k4 tt) (λ _ k4. none_some t k4)))
     (λ _ k2. none_some t k2))
 
-place_in_trailer : (n b : ℕ) (t : Chunking) → in_trailer n b ≡ Some t → IsPlace t
+place_in_trailer : (n b : ℕ) (t : Chunking) → in_trailer n b ≡ Some t → IsChunkPlace t
 place_in_trailer n b t e =
     if_either (b == line_feed) None _ t e (λ _ k. none_some t k)
     (λ _ k. if_either (nat_lt n 8190) (Some (InTrailer (n + 1))) None t k
@@ -873,7 +873,7 @@ more_below : (n size digit : ℕ) → size < 16 ^ n → digit < 16 → size * 16
 more_below n size digit h small = let grown : 16 ^ (n + 1) ≡ 16 * 16 ^ n = ap (λ k. 16 ^ k)
     (add-one n) ∙ pow-succ' 16 n in omega arith
 
-pub place_stays : (at t : Chunking) (b : ℕ) → IsPlace at → next at b ≡ Some t → IsPlace t
+pub place_stays : (at t : Chunking) (b : ℕ) → IsChunkPlace at → next at b ≡ Some t → IsChunkPlace t
 place_stays LineStart t b h e =
     if_either (is_ascii_hexdigit b) (Some (InDigits 1 (digit_value b))) None t e
     (λ hex k. let small = digit_small b hex in place_of_next (InDigits 1 (digit_value b)) t k
@@ -897,9 +897,9 @@ place_stays (LineCr size) t b h e =
     if_either (b == line_feed) (Some (after_line size)) None t e
     (λ _ k. place_of_next (after_line size) t k
     (elim (cases_Bool (size == 0)) [
-      | inl zeros ↦ subst (λ c. IsPlace (if c then TrailerStart 0 else InBytes size)) (sym zeros)
+      | inl zeros ↦ subst (λ c. IsChunkPlace (if c then TrailerStart 0 else InBytes size)) (sym zeros)
           (lit≤ tt)
-      | inr some ↦ subst (λ c. IsPlace (if c then TrailerStart 0 else InBytes size)) (sym some)
+      | inr some ↦ subst (λ c. IsChunkPlace (if c then TrailerStart 0 else InBytes size)) (sym some)
           (positive size some)
     ]))
     (λ _ k. none_some t k)
@@ -930,13 +930,13 @@ brings_nothing _ b h = refl
 
 -- ---- runs from the start of a body
 
-pub run_is_whole : (text payload : List ℕ) → Reads LineStart text payload Whole
+pub run_is_whole : (text payload : List ℕ) → ReadsChunks LineStart text payload Whole
     → IsChunkedBody text payload
 run_is_whole text payload reads = is_whole text payload
     (stands_on LineStart Whole text payload [] [] reads starts)
 
 pub run_breaks_off : (at : Chunking) (text payload : List ℕ) → at ≢ Whole
-    → Reads LineStart text payload at → BreaksOff text payload
+    → ReadsChunks LineStart text payload at → BreaksOff text payload
 run_breaks_off at text payload going reads =
     elim (is_prefix at text payload (stands_on LineStart at text payload [] [] reads starts)) [
       | inl body ↦
@@ -949,7 +949,7 @@ run_breaks_off at text payload going reads =
 
 -- some bytes of a chunk
 pub data_run : (bytes : List ℕ) (left : ℕ) → length bytes ≤ left
-    → (to : Chunking) × (to ≢ Whole) × Reads (InBytes left) bytes bytes to
+    → (to : Chunking) × (to ≢ Whole) × ReadsChunks (InBytes left) bytes bytes to
 data_run [] left few = (InBytes left, λ same. cc, stays (InBytes left))
 data_run (b ∷ bytes) left few =
     elim (cases_lt (length (b ∷ bytes)) left) [

@@ -13,7 +13,7 @@ use Rattle.feed_follow.specs.declared.fault.FollowFault.{FollowFault}
 use Rattle.feed_follow.specs.declared.fault.FollowFault.TheVariants.{LongHead, BadHead, BadChunk}
 use Rattle.feed_follow.specs.declared.heads.Verdict.{Verdict}
 use Rattle.feed_follow.specs.declared.heads.Verdict.TheVariants.{Body, Refusal}
-use Rattle.feed_follow.specs.ChunkReading.{Reads, stays, goes, next, brought_by}
+use Rattle.feed_follow.specs.ChunkReading.{ReadsChunks, stays, goes, next, brought_by}
 use Rattle.feed_follow.specs.ChunkedBody.{IsChunkedPrefix, HasBadChunk}
 use Rattle.feed_follow.specs.Heads.{HasBadHead}
 use Rattle.feed_follow.specs.Standing.{Standing, in_head, token_refused, in_body, done, failed, verdict, Stands, StandsInHead, StandsInBody, StandsBehind}
@@ -74,7 +74,7 @@ leads EndCr to b bytes e =
     ap (λ o. unwrap_or (option_map (λ t. behind [] (comes_to t bytes)) o) (failed BadChunk [])) e
 
 -- a run, and then the rest
-run_comes : (at to : Chunking) (bytes payload rest : List ℕ) → Reads at bytes payload to
+run_comes : (at to : Chunking) (bytes payload rest : List ℕ) → ReadsChunks at bytes payload to
     → comes_to at (bytes ++ rest) ≡ behind payload (comes_to to rest)
 run_comes at to bytes payload rest (stays _) = sym (behind_nothing (comes_to at rest))
   where
@@ -100,7 +100,7 @@ stops : (at : Chunking) (b : ℕ) (rest : List ℕ) → at ≢ Whole → next at
     → comes_to at (b ∷ rest) ≡ failed BadChunk []
 stops at b rest going none = rw (no_end at going) (rw none refl)
 
-chunked_done : (body ignored payload : List ℕ) → Reads LineStart body payload Whole
+chunked_done : (body ignored payload : List ℕ) → ReadsChunks LineStart body payload Whole
     → done payload ≡ comes_to LineStart (body ++ ignored)
 chunked_done body ignored payload reads = sym (run_comes LineStart Whole body payload ignored reads
     ∙ ap (behind payload) (whole_done ignored) ∙ ap done (append-nil payload))
@@ -110,7 +110,7 @@ chunked_done body ignored payload reads = sym (run_comes LineStart Whole body pa
     whole_done (b ∷ rest) = refl
 
 chunked_open : (at : Chunking) (text payload : List ℕ) → at ≢ Whole
-    → Reads LineStart text payload at → in_body payload ≡ comes_to LineStart text
+    → ReadsChunks LineStart text payload at → in_body payload ≡ comes_to LineStart text
 chunked_open at text payload going reads =
     let open_end : comes_to at [] ≡ in_body [] = rw (no_end at going) refl in
     sym (ap (comes_to LineStart) (sym (append-nil text))
@@ -119,7 +119,7 @@ chunked_open at text payload going reads =
 
 -- behind a prefix that breaks off a byte that can't stand there leads nowhere
 leads_nowhere : (at : Chunking) (byte : ℕ) (prefix payload : List ℕ)
-    → Reads LineStart prefix payload at
+    → ReadsChunks LineStart prefix payload at
     → ((other : List ℕ) → ¬ (IsChunkedPrefix (prefix ++ byte ∷ []) other)) → (o : Option Chunking)
     → next at byte ≡ o → next at byte ≡ None
 leads_nowhere at byte prefix payload reads never None e = e

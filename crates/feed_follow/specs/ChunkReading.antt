@@ -70,23 +70,24 @@ brought_by EndCr b = []
 brought_by Whole b = []
 
 -- the numbers of a place, as far as code needs them
-abbrev pub IsPlace : Chunking → Type 0
-IsPlace LineStart = Unit {0}
-IsPlace (InDigits n size) = (n ≤ 16) × (size < 16 ^ n)
-IsPlace (InPad n size) = Unit {0}
-IsPlace (InExtension n size) = Unit {0}
-IsPlace (LineCr size) = Unit {0}
-IsPlace (InBytes left) = 0 < left
-IsPlace BytesEnd = Unit {0}
-IsPlace BytesCr = Unit {0}
-IsPlace (TrailerStart n) = n ≤ trailer_bytes
-IsPlace (InTrailer n) = n ≤ 8190
-IsPlace (TrailerCr n) = n ≤ 8190
-IsPlace EndCr = Unit {0}
-IsPlace Whole = Unit {0}
+abbrev pub IsChunkPlace : Chunking → Type 0
+IsChunkPlace LineStart = Unit {0}
+IsChunkPlace (InDigits n size) = (n ≤ 16) × (size < 16 ^ n)
+IsChunkPlace (InPad n size) = Unit {0}
+IsChunkPlace (InExtension n size) = Unit {0}
+IsChunkPlace (LineCr size) = Unit {0}
+IsChunkPlace (InBytes left) = 0 < left
+IsChunkPlace BytesEnd = Unit {0}
+IsChunkPlace BytesCr = Unit {0}
+IsChunkPlace (TrailerStart n) = n ≤ trailer_bytes
+IsChunkPlace (InTrailer n) = n ≤ 8190
+IsChunkPlace (TrailerCr n) = n ≤ 8190
+IsChunkPlace EndCr = Unit {0}
+IsChunkPlace Whole = Unit {0}
 
 -- the bytes bring a body from one place to another, and these are the bytes of chunks among them
-pub data Reads : Chunking → List ℕ → List ℕ → Chunking → Type 0 where
-  stays : (at : Chunking) → Reads at [] [] at
+pub data ReadsChunks : Chunking → List ℕ → List ℕ → Chunking → Type 0 where
+  stays : (at : Chunking) → ReadsChunks at [] [] at
   goes : (at behind to : Chunking) (b : ℕ) (bytes payload : List ℕ) → next at b ≡ Some behind
-      → Reads behind bytes payload to → Reads at (b ∷ bytes) (brought_by at b ++ payload) to
+      → ReadsChunks behind bytes payload to
+      → ReadsChunks at (b ∷ bytes) (brought_by at b ++ payload) to

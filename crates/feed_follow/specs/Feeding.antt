@@ -10,7 +10,7 @@ use Rattle.feed_follow.specs.declared.coding.BodyFraming.TheVariants as framed
 use Rattle.feed_follow.specs.declared.fault.FollowFault.{FollowFault}
 use Rattle.feed_follow.specs.declared.fault.FollowFault.TheVariants.{BadChunk, Feed}
 use Rattle.feed_follow.specs.declared.follower.Part.{Part}
-use Rattle.feed_follow.specs.ChunkReading.{Reads, next}
+use Rattle.feed_follow.specs.ChunkReading.{ReadsChunks, next}
 use Rattle.feed_follow.specs.ChunkedBody.{HasBadChunk}
 use Rattle.feed_follow.specs.Standing.{in_body, done, StandsInBody}
 use Rattle.feed_follow.specs.Following.{HasReached, IsCutAfter, IsCutAtFault}
@@ -43,7 +43,7 @@ StopsFeeding old bytes new fault = ⊥
 pub record FeedsChunks (at : Chunking) (piece : List ℕ) (old : MirrorState) (to : Chunking)
     (new : MirrorState) : Type 0 where
   pub payload : List ℕ
-  pub reads : Reads at piece payload to
+  pub reads : ReadsChunks at piece payload to
   pub fed : HasFed old payload new
 
 -- the piece was, up to the end of the body
@@ -75,7 +75,7 @@ pub record StopsInChunk (at : Chunking) (piece : List ℕ) (old new : MirrorStat
   pub left : ℕ
   pub payload : List ℕ
   pub split : piece ≡ prefix ++ (bytes ++ later)
-  pub reads : Reads at prefix payload (InBytes left)
+  pub reads : ReadsChunks at prefix payload (InBytes left)
   pub fits : length bytes ≤ left
   pub stops : StopsBehind old payload bytes new fault
 

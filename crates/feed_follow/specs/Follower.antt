@@ -1,18 +1,20 @@
 -- What a follower keeps of a response, and where it stands with the mirror that it feeds.
-use Rattle.std.specs.Prelude.{◌≡◌, ◌≢◌, ◌<◌, ◌+◌, ℕ, Bool, List, ◌++◌, length, is_some, Ok, ◌==◌, if◌then◌else◌}
+use Rattle.std.specs.Prelude.{◌≡◌, ◌≢◌, ◌<◌, ◌≤◌, ◌+◌, ℕ, Bool, List, [], ◌++◌, None, length, is_some, Result, Ok, Err, OnErr, ◌==◌, if◌then◌else◌}
 use Rattle.httparse.specs.Grammar.{ResponseHead}
 use Rattle.feed_node.specs.Mirroring.{MirrorState, cut_off, refused_off}
 use Rattle.feed_follow.specs.declared.chunk.Chunking.TheVariants.{LineStart, Whole}
 use Rattle.feed_follow.specs.declared.coding.BodyFraming.{BodyFraming}
 use Rattle.feed_follow.specs.declared.coding.BodyFraming.TheVariants as framed
 use Rattle.feed_follow.specs.declared.heads.Verdict.TheVariants.{Body}
+use Rattle.feed_follow.specs.declared.fault.FollowFault.{FollowFault}
+use Rattle.feed_follow.specs.declared.fault.FollowFault.TheVariants as faults
 use Rattle.feed_follow.specs.declared.fault.Progress.{Progress}
 use Rattle.feed_follow.specs.declared.fault.Progress.TheVariants as reached
 use Rattle.feed_follow.specs.declared.follower.Part.{Part}
 use Rattle.feed_follow.specs.declared.follower.Part.TheVariants.{Head, ToEnd, Sized, InChunks, Done, Closed}
 use Rattle.feed_follow.specs.Bodies.{IsBody}
 use Rattle.feed_follow.specs.ChunkReading as chunks
-use Rattle.feed_follow.specs.Heads.{BeginsWithResponse}
+use Rattle.feed_follow.specs.Heads.{BeginsWithResponse, head_bytes}
 use Rattle.feed_follow.specs.Standing.{Standing, in_head, token_refused, in_body, done, Stands, verdict}
 use Rattle.feed_follow.specs.Following.{Leaves, Answers}
 
@@ -30,7 +32,7 @@ ReadsBody framing text payload ToEnd = (framing ≡ framed.ToEnd) × (payload �
 ReadsBody framing text payload (Sized left) =
     (framing ≡ framed.Sized (length text + left)) × (0 < left) × (payload ≡ text)
 ReadsBody framing text payload (InChunks at) =
-    (framing ≡ framed.InChunks) × (at ≢ Whole) × chunks.Reads LineStart text payload at
+    (framing ≡ framed.InChunks) × (at ≢ Whole) × chunks.ReadsChunks LineStart text payload at
 ReadsBody framing text payload Done =
     (body : List ℕ) × (ignored : List ℕ) × (text ≡ body ++ ignored) × IsBody framing body payload
 ReadsBody framing text payload Closed = ⊥
@@ -68,7 +70,7 @@ pub record FollowsAt (start : MirrorState) (bytes : List ℕ) (standing : Standi
 
 -- the numbers of a part, as far as code needs them
 abbrev pub IsPart : Part → Type 0
-IsPart (InChunks at) = chunks.IsPlace at
+IsPart (InChunks at) = chunks.IsChunkPlace at
 IsPart part = Unit {0}
 
 -- the part of a response behind a head that frames its body so
@@ -95,3 +97,20 @@ abbrev pub GoesOnOrRefuses : MirrorState → List ℕ → FollowerState → Mirr
 GoesOnOrRefuses start bytes follower mirror reached.TokenRefused =
     (mirror ≡ cut_off start) × FollowsAt start bytes token_refused follower (refused_off mirror)
 GoesOnOrRefuses start bytes follower mirror answer = GoesOn start bytes follower mirror answer
+
+-- what any push of a piece keeps to, wherever the response stands
+pub record IsPush (piece : List ℕ) (old new : FollowerState) (before after : MirrorState)
+    (result : Result Progress FollowFault) : Type 0 where
+  -- after a fault or a refused token nothing is read
+  pub closed : old.part ≡ Closed → (result ≡ Err faults.Closed) × (after ≡ before) × (new ≡ old)
+  pub closes : OnErr result (new.part ≡ Closed)
+  pub refuses : result ≡ Ok reached.TokenRefused → new.part ≡ Closed
+  -- no bytes, and bytes behind a whole body, take no memory and change nothing
+  pub nothing : piece ≡ [] → old.part ≢ Closed
+      → (result ≡ Ok (progress old.part)) × (after ≡ before) × (new ≡ old)
+  pub done : old.part ≡ Done → (result ≡ Ok reached.Done) × (after ≡ before) × (new ≡ old)
+  -- a fault leaves no connection
+  pub cut : OnErr result (old.part ≢ Closed → after.connection ≡ None)
+  pub asked : new.had_token ≡ old.had_token
+  pub limits : after.limits ≡ before.limits
+  pub bounded : length new.kept ≤ head_bytes

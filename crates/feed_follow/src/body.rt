@@ -1,7 +1,7 @@
 //! The body of a response, whose payload goes to a mirror.
 ghost use Rattle.feed_follow.specs.declared.chunk.Chunking.{Chunking as Place};
 ghost use Rattle.std.specs.Prelude.{◌≡◌, ◌≢◌, ◌<◌, ◌≤◌, ℕ, List, [], length, take, IfOk, IfErr, OnOk};
-ghost use Rattle.feed_follow.specs.ChunkReading.{IsPlace};
+ghost use Rattle.feed_follow.specs.ChunkReading.{IsChunkPlace};
 ghost use Rattle.feed_follow.specs.Follower.{IsPart};
 ghost use Rattle.feed_follow.specs.Feeding.{HasFed, StopsFeeding, FeedsChunks, FeedsToEnd, StopsInChunks, BodyGoesOn, BodyStops};
 
@@ -45,7 +45,7 @@ fn feed_data(
 ) -> Result<(Chunking, usize), FollowFault>
     requires left { 0 < left }
     requires some { 0 < length bytes.now }
-    ensures place { IfOk result (λ r. IsPlace r.0) }
+    ensures place { IfOk result (λ r. IsChunkPlace r.0) }
     ensures some { IfOk result (λ r. 0 < r.1) }
     ensures within { IfOk result (λ r. r.1 ≤ length bytes.now) }
     ensures ok { IfOk result (λ r. FeedsChunks (Place.InBytes left) (take r.1 bytes.now) mirror.old
@@ -72,10 +72,10 @@ fn feed_chunk(
     at: Chunking,
     bytes: &[u8],
 ) -> Result<(Chunking, usize), FollowFault>
-    requires place { IsPlace at }
+    requires place { IsChunkPlace at }
     requires going { at ≢ Place.Whole }
     requires some { 0 < length bytes.now }
-    ensures place { IfOk result (λ r. IsPlace r.0) }
+    ensures place { IfOk result (λ r. IsChunkPlace r.0) }
     ensures some { IfOk result (λ r. 0 < r.1) }
     ensures within { IfOk result (λ r. r.1 ≤ length bytes.now) }
     ensures ok { IfOk result (λ r. FeedsChunks at (take r.1 bytes.now) mirror.old r.0 mirror.new) }
@@ -98,8 +98,8 @@ fn feed_chunks(
     from: Chunking,
     piece: &[u8],
 ) -> Result<Chunking, FollowFault>
-    requires { IsPlace from }
-    ensures place { IfOk result IsPlace }
+    requires { IsChunkPlace from }
+    ensures place { IfOk result IsChunkPlace }
     ensures ok { IfOk result (λ to. FeedsToEnd from piece.now mirror.old to mirror.new) }
     ensures err { IfErr result (StopsInChunks from piece.now mirror.old mirror.new) }
     ensures limits { mirror.new.limits ≡ mirror.old.limits }
@@ -145,7 +145,7 @@ fn feed_chunked(
     at: Chunking,
     piece: &[u8],
 ) -> Result<Part, FollowFault>
-    requires { IsPlace at }
+    requires { IsChunkPlace at }
     ensures part { IfOk result IsPart }
     ensures ok { IfOk result (BodyGoesOn (Part.InChunks at) piece.now mirror.old mirror.new) }
     ensures err { IfErr result (BodyStops (Part.InChunks at) piece.now mirror.old mirror.new) }

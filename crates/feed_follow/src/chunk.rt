@@ -125,7 +125,7 @@ fn only(wanted: u8, byte: u8, to: Chunking) -> Option<Chunking>
 
 /// Where the body stands after one more byte; nowhere, if the byte can't stand there.
 pub(crate) fn after_byte(at: Chunking, byte: u8) -> Option<Chunking>
-    requires { reading.IsPlace at }
+    requires { reading.IsChunkPlace at }
     ensures { result ≡ reading.next at byte }
 {
     match at {

@@ -1,11 +1,10 @@
 //! A reader of one response, which feeds what it carries to a mirror.
-ghost use Rattle.std.specs.Prelude.{◌≡◌, ◌≢◌, ◌≤◌, ◌⊎◌, ◌+◌, ◌++◌, ℕ, List, [], length, is_some, None, Ok, Err, IfOk, IfErr, IfSome, IfNone, OnOk, OnErr};
+ghost use Rattle.std.specs.Prelude.{◌≡◌, ◌≢◌, ◌≤◌, ◌⊎◌, ◌+◌, ◌++◌, ℕ, List, [], length, is_some, None, Ok, Err, IfOk, IfErr, IfSome, IfNone};
 ghost use Rattle.feed_node.specs.Mirroring.{MirrorState, cut_off};
 ghost use Rattle.feed_follow.specs.declared.fault.FollowFault.{FollowFault as Fault};
-ghost use Rattle.feed_follow.specs.declared.fault.Progress.{Progress as Reached};
 ghost use Rattle.feed_follow.specs.Standing.{Standing, in_head};
 ghost use Rattle.feed_follow.specs.Following.{Fails};
-ghost use Rattle.feed_follow.specs.Follower.{FollowsAt, GoesOn, GoesOnOrRefuses, IsPart, first_part as part_for, progress as reached};
+ghost use Rattle.feed_follow.specs.Follower.{FollowsAt, GoesOn, GoesOnOrRefuses, IsPart, IsPush, first_part as part_for, progress as reached};
 ghost use Rattle.feed_follow.specs.HeadRead.{IsHeadRead, IsNoHead, IsUnfinished};
 ghost use Rattle.feed_follow.specs.Heads.{head_bytes};
 ghost use Rattle.feed_follow.specs.Keeping.{kept_bytes, follower_of, KeepsLittle, HeadGoesOn, HeadStops};
@@ -78,10 +77,7 @@ impl Follower {
         mirror: &mut Mirror,
         piece: &[u8],
     ) -> Result<Progress, FollowFault>
-        // after a fault or a refused token
-        ensures closed { self.old.part ≡ Part.Closed
-            → (result ≡ Err Fault.Closed) × (mirror.new ≡ mirror.old) × (self.new ≡ self.old) }
-        ensures closes { OnErr result (self.new.part ≡ Part.Closed) }
+        ensures push { IsPush piece.now self.old self.new mirror.old mirror.new result }
 
         // wherever the response stands
         ensures ok { (start : MirrorState) (before : List ℕ) (standing : Standing)
@@ -90,22 +86,6 @@ impl Follower {
         ensures err { (start : MirrorState) (before : List ℕ) (standing : Standing)
             → FollowsAt start before standing self.old mirror.old
             → IfErr result (Fails start self.old.had_token before piece.now mirror.new) }
-
-        // no bytes take no memory and change nothing
-        ensures nothing { piece.now ≡ [] → self.old.part ≢ Part.Closed
-            → (result ≡ Ok (reached self.old.part)) × (mirror.new ≡ mirror.old)
-            × (self.new ≡ self.old) }
-
-        // bytes behind a whole body take no memory and change nothing
-        ensures done { self.old.part ≡ Part.Done
-            → (result ≡ Ok Reached.Done) × (mirror.new ≡ mirror.old) }
-        ensures done_stays { self.old.part ≡ Part.Done → self.new ≡ self.old }
-
-        // a fault leaves no connection
-        ensures cut { OnErr result (self.old.part ≢ Part.Closed → mirror.new.connection ≡ None) }
-        ensures asked { self.new.had_token ≡ self.old.had_token }
-        ensures limits { mirror.new.limits ≡ mirror.old.limits }
-        ensures bounded { length self.new.kept ≤ head_bytes }
     {
         match self.push_keeping_token(alloc, mirror, piece)? {
             Progress::TokenRefused => {
@@ -125,11 +105,7 @@ impl Follower {
         mirror: &mut Mirror,
         piece: &[u8],
     ) -> Result<Progress, FollowFault>
-        // after a fault or a refused token
-        ensures closed { self.old.part ≡ Part.Closed
-            → (result ≡ Err Fault.Closed) × (mirror.new ≡ mirror.old) × (self.new ≡ self.old) }
-        ensures closes { OnErr result (self.new.part ≡ Part.Closed) }
-        ensures refuses { result ≡ Ok Reached.TokenRefused → self.new.part ≡ Part.Closed }
+        ensures push { IsPush piece.now self.old self.new mirror.old mirror.new result }
 
         // wherever the response stands
         ensures ok { (start : MirrorState) (before : List ℕ) (standing : Standing)
@@ -138,22 +114,6 @@ impl Follower {
         ensures err { (start : MirrorState) (before : List ℕ) (standing : Standing)
             → FollowsAt start before standing self.old mirror.old
             → IfErr result (Fails start self.old.had_token before piece.now mirror.new) }
-
-        // no bytes take no memory and change nothing
-        ensures nothing { piece.now ≡ [] → self.old.part ≢ Part.Closed
-            → (result ≡ Ok (reached self.old.part)) × (mirror.new ≡ mirror.old)
-            × (self.new ≡ self.old) }
-
-        // bytes behind a whole body take no memory and change nothing
-        ensures done { self.old.part ≡ Part.Done
-            → (result ≡ Ok Reached.Done) × (mirror.new ≡ mirror.old) }
-        ensures done_stays { self.old.part ≡ Part.Done → self.new ≡ self.old }
-
-        // a fault leaves no connection
-        ensures cut { OnErr result (self.old.part ≢ Part.Closed → mirror.new.connection ≡ None) }
-        ensures asked { self.new.had_token ≡ self.old.had_token }
-        ensures limits { mirror.new.limits ≡ mirror.old.limits }
-        ensures bounded { length self.new.kept ≤ head_bytes }
     {
         if matches!(self.part, Part::Closed) {
             return Err(FollowFault::Closed);

@@ -18,7 +18,7 @@ use Rattle.feed_http.specs.Device.{AppendsPrefix, RoseBy, RoseAtMost}
 use Rattle.feed_http.specs.Exchange.{Exchange, FailuresAreTold}
 use Rattle.feed_http.specs.HeadReading.{IsReadAsNeeded, IsEnough}
 use Rattle.feed_http.specs.Sessions.{Nothing_new, Commit_after, next}
-use Rattle.feed_http.specs.Serving.{HasAll, commit_frames, BeginsCommit, answered_text, Tells, BrokeInHead}
+use Rattle.feed_http.specs.Serving.{HasAll, commit_frames, BeginsCommit, answered_text, ServedTells, BrokeInHead}
 
 -- a primary, and the batches that it is still to take, the next one first
 pub record Intake : Type 0 where
@@ -101,7 +101,7 @@ pub record SendsLive (turn : ℕ) (start : Intake) (answer : AnswerParts) (text 
   pub gone : Bool
   pub sends : SendsLiveTo turn start answer.session sent gone now
   pub text_is : text ≡ answered_text answer sent gone
-  pub tells : Tells answer sent gone served
+  pub tells : ServedTells answer sent gone served
 
 -- ---- where it broke off
 
@@ -124,7 +124,7 @@ pub record IsCutShort (turn : ℕ) (start : Intake) (opened : List ℕ) (framing
 
 -- the text is the frames of the commits that a session was sent; then, with nothing new, a turn
 -- was begun in which a batch was refused
-pub record IsRefused (turn : ℕ) (start : Intake) (opened : List ℕ) (framing : Framing)
+pub record BatchIsRefused (turn : ℕ) (start : Intake) (opened : List ℕ) (framing : Framing)
     (fault : CommitFault) (now : Intake) (text : List ℕ) : Type 0 where
   pub sent : List Commit
   pub before : Intake
@@ -148,7 +148,7 @@ abbrev pub WroteRefused : ℕ → Intake → AnswerParts → CommitFault → Int
     → Option (List ℕ) → Type 0
 WroteRefused turn start answer fault now old new =
     (opened : List ℕ) × (text : List ℕ) × (answer.session ≡ Some opened)
-    × IsRefused turn start opened answer.framing fault now text
+    × BatchIsRefused turn start opened answer.framing fault now text
     × Appends old new (answer.text ++ text)
 
 -- ---- on a connection

@@ -11,7 +11,7 @@ use Rattle.feed_http.specs.declared.fault.Served.{Served}
 use Rattle.feed_answer.specs.Answered.{AnswerParts}
 use Rattle.feed_http.specs.Device.{AppendsPrefix, counted}
 use Rattle.feed_http.specs.Exchange.{Wrote}
-use Rattle.feed_http.specs.Live.{Intake, HasSent, IsOver, SendsLive, MayLoseTokens, LosesItsToken, IsCutShort, IsRefused}
+use Rattle.feed_http.specs.Live.{Intake, HasSent, IsOver, SendsLive, MayLoseTokens, LosesItsToken, IsCutShort, BatchIsRefused}
 use Rattle.feed_answer.specs.Served.{behind_opening}
 use Rattle.feed_http.specs.Serving.{Sends, commit_frames, HasAll, BeginsCommit, SendsAnswer}
 
@@ -91,7 +91,7 @@ WroteCutShort turn start opened framing now wrote =
 -- these frames, up to a turn in which a batch was refused
 abbrev pub WroteToRefusal : ℕ → Intake → List ℕ → Framing → Intake → Wrote → CommitFault → Type 0
 WroteToRefusal turn start opened framing now wrote why =
-    (text : List ℕ) × IsRefused turn start opened framing why now text
+    (text : List ℕ) × BatchIsRefused turn start opened framing why now text
     × Appends wrote.old wrote.new text
 
 -- all that a primary writes with this answer, which takes batches meanwhile

@@ -54,7 +54,7 @@ answered_text answer sent gone =
     answer.text ++ written_behind answer.session answer.framing sent gone
 
 -- what `Served` tells
-pub record Tells (answer : AnswerParts) (sent : List Commit) (gone : Bool)
+pub record ServedTells (answer : AnswerParts) (sent : List Commit) (gone : Bool)
     (served : Served) : Type 0 where
   pub status : served.status ≡ answer.status
   pub commits : served.commits ≡ counted 0 (length sent)
@@ -72,7 +72,7 @@ pub record SendsAnswer (node : NodeState) (answer : AnswerParts) (text : List �
   pub gone : Bool
   pub sends : SendsTo node answer.session sent gone
   pub text_is : text ≡ answered_text answer sent gone
-  pub tells : Tells answer sent gone served
+  pub tells : ServedTells answer sent gone served
 
 -- all that a node writes to a client that sent these bytes
 pub record Serves (head contest : List ℕ) (node : NodeState) (framing : Framing) (back : ℕ)

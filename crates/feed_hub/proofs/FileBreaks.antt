@@ -24,8 +24,8 @@ use Rattle.feed_world.specs.Following.{PlacesStay, AllIsReached, number_at}
 use Rattle.feed_world.specs.Laws.{NodesSendTheNext, PartsGoOn}
 use Rattle.feed_world.specs.Log.{Log, IsLog, state_after, state_text}
 use Rattle.feed_world.specs.Position.{Position, node_where}
-use Rattle.feed_world.specs.Reading.{IsOpened, IsRead, PrefixesAreRead}
-use Rattle.feed_world.specs.States.{HasReached}
+use Rattle.feed_world.specs.Reading.{IsOpened, PrefixIsRead, SentIsRead}
+use Rattle.feed_world.specs.States.{IsAsFarAs}
 use Rattle.feed_hub.specs.Told.{Told, told_none, told_commit, told_line_feed}
 use Rattle.feed_hub.specs.Laws.{AreInLog, StandInOrder}
 use Rattle.feed_hub.specs.Files.{PublishesAsRecorded, FilesBreakOff}
@@ -186,7 +186,7 @@ ends_with_line before line text more rest h (inr (first, is)) after within e =
 -- ---- the law
 
 pub record Given : Type 0 where
-  pub prefixes : PrefixesAreRead
+  pub prefixes : SentIsRead
   pub one : ReadingIsOne
   pub sends : NodesSendTheNext
   pub order : PartsGoOn
@@ -212,7 +212,7 @@ module _ (g : Given) (limits : Limits) (log : Log) (nodes : List NodeState) (k :
   sent : sent_text log c ≡ state_text log k ++ joined texts
   sent = its_text limits log k texts token None true order tt (no_start k)
 
-  read_so : (prefix behind : List ℕ) → prefix ++ behind ≡ state_text log k ++ joined texts → IsRead limits log None c prefix
+  read_so : (prefix behind : List ℕ) → prefix ++ behind ≡ state_text log k ++ joined texts → PrefixIsRead limits log None c prefix
   read_so prefix behind whole = g.prefixes limits log None c prefix behind is_log opened (whole ∙ sym sent)
 
   -- how often the lines of a prefix publish
@@ -232,12 +232,12 @@ module _ (g : Given) (limits : Limits) (log : Log) (nodes : List NodeState) (k :
       let same = g.one.notes limits first_opening text r.notes notes r.nothing_bad reading in
       let all : length (sent_text log c) ≡ length text = ap length (sent ∙ sym whole) in
       let place = moved_by limits.history log None (blocks_within log c.parts (length text)) in
-      let least : HasReached place order.last = subst (λ n. HasReached (moved_by limits.history log None (blocks_within log c.parts n)) order.last) all (g.reached limits log None c opened) in
+      let least : IsAsFarAs place order.last = subst (λ n. IsAsFarAs (moved_by limits.history log None (blocks_within log c.parts n)) order.last) all (g.reached limits log None c opened) in
       let most : number_at place ≤ max 0 order.last = (g.stays limits log None c (length text) opened).1 in
       ap (λ ns. published_token (reads limits.history first_opening ns)) (sym same)
       ∙ ap published_token r.shows ∙ by place least most ∙ ap Some (sym order.token_is)
     where
-      by : (place : Option Position) → HasReached place order.last → number_at place ≤ max 0 order.last
+      by : (place : Option Position) → IsAsFarAs place order.last → number_at place ≤ max 0 order.last
           → published_token (node_where log place) ≡ Some (log.token order.last)
       by None least most = absurd least
       by (Some p) least most =

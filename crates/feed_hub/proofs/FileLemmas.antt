@@ -13,7 +13,7 @@ use Rattle.feed_node.specs.Steps.{ReadingIsOne}
 use Rattle.feed_answer.specs.FrameLaws.{joined}
 use Rattle.feed_world.specs.Laws.{opened_text}
 use Rattle.feed_world.specs.Log.{Log, IsLog, state_after}
-use Rattle.feed_world.specs.Position.{Position, IsPlace, node_where}
+use Rattle.feed_world.specs.Position.{Position, IsPlaceOfLog, node_where}
 use Rattle.feed_world.specs.Reading.{opening_at}
 use Rattle.feed_hub.specs.declared.record.Record.{Record}
 use Rattle.feed_hub.specs.Told.{Told}
@@ -103,7 +103,7 @@ reads_on_in_log one limits log own bytes shown =
 
 -- the snapshot of a record is that of a state of the log
 begins_at : (limits : Limits) (log : Log) (place : Option Position) (p : Published)
-    → IsPlace limits log place → (node_where log place).published ≡ Some p
+    → IsPlaceOfLog limits log place → (node_where log place).published ≡ Some p
     → (k : ℕ) × (k ≤ length log.commits) × (p ≡ record { tables = state_after log k; token = log.token k })
 begins_at limits log None p is_place e = let no : None ≡ Some p = e in absurd (cc)
 begins_at limits log (Some q) p is_place e =

@@ -31,10 +31,10 @@ use Rattle.feed_world.specs.Connection.{Connection, sent_text}
 use Rattle.feed_world.specs.Following.{OpensAsked, SessionsOpenAsAsked, PlacesStay, AllIsReached, IsBroughtBy, CarriesPrefix, CarryFeed, FollowsTo, MirrorsFollow, IsCutInLog, FailsKeepStates, RefusalsKeepNodes, brought_by}
 use Rattle.feed_world.specs.Laws.{opened_text}
 use Rattle.feed_world.specs.Log.{Log, IsLog, tokens_of}
-use Rattle.feed_world.specs.Position.{Position, IsPlace, node_where}
+use Rattle.feed_world.specs.Position.{Position, IsPlaceOfLog, node_where}
 use Rattle.feed_world.specs.Reading.{IsOpened}
-use Rattle.feed_world.specs.States.{HasAsked, HasReached}
-use Rattle.feed_world.specs.Step.{IsMemory}
+use Rattle.feed_world.specs.States.{HasAsked, IsAsFarAs}
+use Rattle.feed_world.specs.Step.{IsForMemory}
 use Rattle.feed_hub.specs.Told.{Told, IsGoing, IsDue}
 use Rattle.feed_hub.specs.Screen.{pending, token_at}
 use Rattle.feed_hub.specs.Laws.{IsInLog, StandsInLog, AreInLog, StandInOrder, ScreensAreConnections}
@@ -152,7 +152,7 @@ module _ (refusals : RefusalsAreFollowed) (keep : RefusalsKeepNodes) (limits : L
       none : answer.session ≡ None
       none = ap (λ a. a.session) is
 
-      why : (fault ≡ Status (refusal_code refusal)) ⊎ (IsMemory fault ⊎ (fault ≡ Closed)) → MayStop answer fault
+      why : (fault ≡ Status (refusal_code refusal)) ⊎ (IsForMemory fault ⊎ (fault ≡ Closed)) → MayStop answer fault
       why (inl status) = inr (none, inl (status ∙ ap (λ a. Status a.status) (sym is)))
       why (inr (inl memory)) = inl memory
       why (inr (inr closed)) = inr (none, inr closed)
@@ -260,7 +260,7 @@ started : (limits : Limits) (log : Log) (head contest : List ℕ) (begun : Mirro
     → is_none begun.since ≡ false → (own : Position) × (a.place ≡ Some own) × (own.low ≤ o.k) × (o.k ≤ own.at)
 started limits log head contest begun p answer opened a o some = asked_with a.since refl a.may_ask
   where
-    at_place : (token : List ℕ) → a.since ≡ Some token → (place : Option Position) → a.place ≡ place → IsPlace limits log place
+    at_place : (token : List ℕ) → a.since ≡ Some token → (place : Option Position) → a.place ≡ place → IsPlaceOfLog limits log place
         → Contains (node_where log place).held token
         → (own : Position) × (place ≡ Some own) × (own.low ≤ o.k) × (o.k ≤ own.at)
     at_place token is None at is_place (i, within, e) = absurd (omega (arith, within))
@@ -384,7 +384,7 @@ module _ (connects : ScreensAreConnections) (opens_so : SessionsOpenAsAsked)
         shows = b.node;
         last = in_order.last;
         token_is = in_order.token_is;
-        reaches = subst (λ m. HasReached (brought_by limits log a.place c m) in_order.last) (ap length (sym all_text)) (reached limits log a.place c is_open);
+        reaches = subst (λ m. IsAsFarAs (brought_by limits log a.place c m) in_order.last) (ap length (sym all_text)) (reached limits log a.place c is_open);
       }
 
   -- and so it is with the end of the body behind it
@@ -413,7 +413,7 @@ module _ (connects : ScreensAreConnections) (opens_so : SessionsOpenAsAsked)
         shows = b.node;
         last = in_order.last;
         token_is = in_order.token_is;
-        reaches = subst (λ m. HasReached (brought_by limits log a.place c m) in_order.last) (ap length (sym all_text)) (reached limits log a.place c is_open);
+        reaches = subst (λ m. IsAsFarAs (brought_by limits log a.place c m) in_order.last) (ap length (sym all_text)) (reached limits log a.place c is_open);
       }
 
 pub screens_are_safe : ScreensAreConnections → SessionsOpenAsAsked → ResponsesAreFollowed → EndsAreFollowed

@@ -15,10 +15,10 @@ use Rattle.feed_note.specs.Texts.{batch_text}
 use Rattle.feed_world.proofs.Responses.{joined_parts}
 use Rattle.feed_world.specs.Laws.{opened_text, NodesSendTheNext, PartsGoOn}
 use Rattle.feed_world.specs.Following.{PlacesStay, AllIsReached}
-use Rattle.feed_world.specs.States.{HasReached}
+use Rattle.feed_world.specs.States.{IsAsFarAs}
 use Rattle.feed_world.specs.Log.{Log, state_text, changes_of_commit}
-use Rattle.feed_world.specs.Position.{Position, IsPlace, node_where}
-use Rattle.feed_world.specs.Reading.{PrefixesAreRead, IsOpened}
+use Rattle.feed_world.specs.Position.{Position, IsPlaceOfLog, node_where}
+use Rattle.feed_world.specs.Reading.{SentIsRead, IsOpened}
 use Rattle.feed_hub.specs.Told.{Told, told_none, told_commit, told_line_feed}
 use Rattle.feed_hub.specs.Laws.{StandInOrder, ScreensAreConnections, ShowsState, ScreensShowStates, ScreensReach, StandsWell, ScreensAreFollowed}
 use Rattle.feed_follow.specs.Standing.{in_head, in_body, done}
@@ -40,7 +40,7 @@ screens_connect sends order log nodes k texts token is_log in_log small told = b
   where
     next_one : (texts : List (List ℕ)) (token : List ℕ) (node : NodeState) (commit : Commit)
         → StandInOrder log k texts token → commit_after node token ≡ Some commit
-        → (own : Limits) (place : Option Position) → IsPlace own log place → node ≡ node_where log place
+        → (own : Limits) (place : Option Position) → IsPlaceOfLog own log place → node ≡ node_where log place
         → StandInOrder log k (texts ++ commit_text commit ∷ []) commit.token
     next_one texts token node commit s e own place is_place same =
         let there : commit_after (node_where log place) (log.token s.last) ≡ Some commit =
@@ -83,7 +83,7 @@ abbrev pub connection : (log : Log) (k : ℕ) (texts : List (List ℕ)) (token :
 connection log k texts token fresh s = record { framing = Close; fresh = fresh; start = k; parts = first_parts fresh k ++ s.parts; delivered = 0; last = s.last; over = false }
 
 module _ (limits : Limits) (log : Log) (k : ℕ) (texts : List (List ℕ)) (token : List ℕ) (place : Option Position) (fresh : Bool)
-    (s : StandInOrder log k texts token) (is_place : IsPlace limits log place)
+    (s : StandInOrder log k texts token) (is_place : IsPlaceOfLog limits log place)
     (start : fresh ≡ false → (own : Position) × (place ≡ Some own) × (own.low ≤ k) × (k ≤ own.at)) where
   pub its_text : sent_text log (connection log k texts token fresh s) ≡ opened_text log fresh k ++ joined texts
   its_text =
@@ -93,7 +93,7 @@ module _ (limits : Limits) (log : Log) (k : ℕ) (texts : List (List ℕ)) (toke
   pub is_opened : IsOpened limits log place (connection log k texts token fresh s)
   is_opened = record { mirror = is_place; start = start; order = record { more = s.parts; parts = refl; go_on = s.go_on }; sent = s.in_log }
 
-pub screens_show : NodesSendTheNext → PartsGoOn → PrefixesAreRead → PlacesStay → ScreensShowStates
+pub screens_show : NodesSendTheNext → PartsGoOn → SentIsRead → PlacesStay → ScreensShowStates
 screens_show sends order read stays limits log nodes k texts token place fresh prefix behind is_log in_log small told is_place start whole =
     let s = screens_connect sends order log nodes k texts token is_log.named in_log small told in
     let c = connection log k texts token fresh s in
@@ -107,7 +107,7 @@ screens_show sends order read stays limits log nodes k texts token place fresh p
       shows = r.shows;
     }
 
-pub screens_reach : NodesSendTheNext → PartsGoOn → PrefixesAreRead → PlacesStay → AllIsReached → ScreensReach
+pub screens_reach : NodesSendTheNext → PartsGoOn → SentIsRead → PlacesStay → AllIsReached → ScreensReach
 screens_reach sends order read stays all limits log nodes k texts token place fresh is_log in_log small told is_place start =
     let s = screens_connect sends order log nodes k texts token is_log.named in_log small told in
     let c = connection log k texts token fresh s in
@@ -123,10 +123,10 @@ screens_reach sends order read stays all limits log nodes k texts token place fr
       shows = r.shows;
       last = s.last;
       token_is = s.token_is;
-      reaches = subst (λ n. HasReached (moved_by limits.history log place (blocks_within log c.parts n)) s.last) (ap length text) (all limits log place c opened);
+      reaches = subst (λ n. IsAsFarAs (moved_by limits.history log place (blocks_within log c.parts n)) s.last) (ap length text) (all limits log place c opened);
     }
 
-pub screens_follow : NodesSendTheNext → PartsGoOn → PrefixesAreRead → PlacesStay → ResponsesAreFollowed → EndsAreFollowed → ScreensAreFollowed
+pub screens_follow : NodesSendTheNext → PartsGoOn → SentIsRead → PlacesStay → ResponsesAreFollowed → EndsAreFollowed → ScreensAreFollowed
 screens_follow sends order read stays followed ends limits log nodes k texts token place fresh framing n had_token is_log in_log small told is_place start are = (
   (standing_at framing (opened_text log fresh k ∷ texts) n, followed framing (opened_text log fresh k ∷ texts) n had_token are, well_of framing (nat_lt n (length (feed_head framing)))),
   (ended_at framing (opened_text log fresh k ∷ texts) n, ends framing (opened_text log fresh k ∷ texts) n had_token are, ended framing),

@@ -23,17 +23,17 @@ use Rattle.feed_node.specs.Reading.{Opening, Reads, reads, shows, unskipped, bat
 use Rattle.feed_node.specs.Sent.{TakesText, TextsGoOn, PublishesAtEnd, BatchesPublishAtEnd, IsSendable}
 use Rattle.feed_node.specs.Serving.{HeldTokensStand}
 use Rattle.feed_node.specs.States.{NodeState, holds_token, place_of, published_tables, published_token, token_of}
-use Rattle.feed_node.specs.Staging.{Standing, step, steps, times_published, staging, publishing, without_changes, AllTaken}
+use Rattle.feed_node.specs.Staging.{StagingState, step, steps, times_published, staging, publishing, without_changes, AllTaken}
 use Rattle.feed_node.specs.Steps.{StepsRead, TakenAreGood, ReadingIsOne, standing_after}
 use Rattle.feed_answer.specs.FrameLaws.{joined}
 use Rattle.feed_world.specs.Connection.{Connection, Part, Snapshot, Commit, Line_feed, part_text, block_onto, blocks_within, moved_by, GoOn, sent_text}
 use Rattle.feed_world.specs.Following.{PlacesStay, AllIsReached}
 use Rattle.feed_world.specs.Laws.{NodesSendTheNext, PartsGoOn}
-use Rattle.feed_world.specs.States.{HasReached}
+use Rattle.feed_world.specs.States.{IsAsFarAs}
 use Rattle.feed_world.specs.Log.{Log, IsLog, tokens_of, state_after, all_changes}
-use Rattle.feed_world.specs.Position.{Position, IsPosition, IsPlace, node_at, node_where, renewed}
+use Rattle.feed_world.specs.Position.{Position, IsPosition, IsPlaceOfLog, node_at, node_where, renewed}
 use Rattle.feed_world.proofs.Commits.{renewed_again, renewed_itself, one_more}
-use Rattle.feed_world.specs.Reading.{opening_at, IsOpened, IsRead, PrefixesAreRead, TokensTellStates}
+use Rattle.feed_world.specs.Reading.{opening_at, IsOpened, PrefixIsRead, SentIsRead, TokensTellStates}
 use Rattle.feed_hub.specs.declared.record.Record.{Record}
 use Rattle.feed_hub.specs.Told.{Told}
 use Rattle.feed_hub.specs.Record.{IsRecorded}
@@ -130,7 +130,7 @@ held_is_in stand log own token order holds =
     (r.0, r.1, omega (arith, to, order), r.3)
 
 -- such a batch is dropped, and nothing is published
-module _ (batches : BatchesPublishAtEnd) (sized : ListingHasSize) (weighs : ListingHasBytes) (limits : Limits) (s : Standing) (p : Published)
+module _ (batches : BatchesPublishAtEnd) (sized : ListingHasSize) (weighs : ListingHasBytes) (limits : Limits) (s : StagingState) (p : Published)
     (few : 1 ≤ limits.staged) (small : is_large limits p.tables ≡ false) (fits : is_large limits (published_tables s.node.shown) ≡ false)
     (sendable : IsSendable p) (nothing : s.changes ≡ []) (goes_on : s.afresh ≡ false) (holds : holds_token s.node.shown p.token ≡ true) where
   abbrev its_changes : List Change
@@ -189,7 +189,7 @@ unfolding lines rest
 no_notes limits opening [] r = refl
 no_notes limits opening (n ∷ ns) r = absurd r.good
 
-module _ (read : PrefixesAreRead) (limits : Limits) (log : Log) (own : Position) (is_log : IsLog limits log) (is_position : IsPosition limits log own) where
+module _ (read : SentIsRead) (limits : Limits) (log : Log) (own : Position) (is_log : IsLog limits log) (is_position : IsPosition limits log own) where
   -- a node at a position keeps no more than its history
   pub is_latest : keep_latest limits.history (node_at log own) ≡ node_at log own
   is_latest =
@@ -293,7 +293,7 @@ pub record Given : Type 0 where
   pub weighs : ListingHasBytes
   pub listed : ListingIsWithin
   pub stand : HeldTokensStand
-  pub prefixes : PrefixesAreRead
+  pub prefixes : SentIsRead
   pub tokens : TokensTellStates
   pub shows : ScreensShowStates
   pub one : ReadingIsOne
@@ -308,7 +308,7 @@ module _ (g : Given) (limits : Limits) (log : Log) (nodes : List NodeState) (own
   abbrev opening : Opening
   opening = opening_at log (Some own) false
 
-  abbrev before : Standing
+  abbrev before : StagingState
   before = standing_after limits.history opening []
 
   abbrev p : Published
@@ -389,7 +389,7 @@ module _ (g : Given) (limits : Limits) (log : Log) (nodes : List NodeState) (own
           shows = same_shown g.read g.good g.goes_on limits opening text dropped found.notes ∙ found.shows;
           last = order.last;
           token_is = order.token_is;
-          reaches = subst (λ n. HasReached (moved_by limits.history log (Some own) (blocks_within log c.parts n)) order.last) (ap length sent) (g.reached limits log (Some own) c opened);
+          reaches = subst (λ n. IsAsFarAs (moved_by limits.history log (Some own) (blocks_within log c.parts n)) order.last) (ap length sent) (g.reached limits log (Some own) c opened);
         };
         place = low.0;
         at = low.1;
@@ -414,7 +414,7 @@ module _ (g : Given) (limits : Limits) (log : Log) (nodes : List NodeState) (own
       sent : sent_text log c ≡ joined recorded.texts
       sent = its_text limits log begins.0 recorded.texts r.token (Some own) false order is_position (λ _. (own, refl, within.0, within.1))
 
-      found : IsRead limits log (Some own) c (joined recorded.texts)
+      found : PrefixIsRead limits log (Some own) c (joined recorded.texts)
       found = g.prefixes limits log (Some own) c (joined recorded.texts) [] is_log opened (append-nil (joined recorded.texts) ∙ sym sent)
 
       low : (q : Position) × (moved_by limits.history log (Some own) (blocks_within log c.parts (length (joined recorded.texts))) ≡ Some q)
@@ -463,7 +463,7 @@ files_follow g limits log nodes written prefix behind former further part rest l
     let found = restores.fed notes mirror bounds stands in
     by found.0 found.1 found.2
   where
-    by : (place : Option Position) → IsPlace limits log place → mirror.node ≡ node_where log place → FollowsFile limits log mirror part
+    by : (place : Option Position) → IsPlaceOfLog limits log place → mirror.node ≡ node_where log place → FollowsFile limits log mirror part
     by None is_place same =
         let no : holds_token (node_where log None) second.snapshot.token ≡ true = subst (λ n. holds_token n second.snapshot.token ≡ true) same holds in
         absurd (true≢false (sym no))

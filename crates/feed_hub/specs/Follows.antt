@@ -14,9 +14,9 @@ use Rattle.feed_answer.specs.Answered.{AnswerParts, AnswersTo}
 use Rattle.feed_answer.specs.Asked.{Asks, feed}
 use Rattle.feed_answer.specs.FollowLaws.{StandsOnly}
 use Rattle.feed_world.specs.Log.{Log, IsLog}
-use Rattle.feed_world.specs.Position.{Position, IsPlace, node_where}
-use Rattle.feed_world.specs.States.{HasAsked, HasReached}
-use Rattle.feed_world.specs.Step.{IsMemory}
+use Rattle.feed_world.specs.Position.{Position, IsPlaceOfLog, node_where}
+use Rattle.feed_world.specs.States.{HasAsked, IsAsFarAs}
+use Rattle.feed_world.specs.Step.{IsForMemory}
 use Rattle.feed_hub.specs.declared.screen.Screen.{Screen}
 use Rattle.feed_hub.specs.Backlog.{Backlog}
 use Rattle.feed_hub.specs.Screen.{pending, token_at, IsServed}
@@ -37,14 +37,14 @@ pub record HasAskedSo (limits : Limits) (log : Log) (head contest : List ℕ)
   pub may_ask : MayAskWith begun since
   pub asks : Asks head contest (feed minor since)
   pub place : Option Position
-  pub is_place : IsPlace limits log place
+  pub is_place : IsPlaceOfLog limits log place
   pub asked : HasAsked limits log place (is_none begun.since) begun
 
 -- why it may stop: memory runs out; or it was refused, and this is the status of that, or it was
 -- told of its refused token before
 abbrev pub MayStop : AnswerParts → FollowFault → Type 0
 MayStop answer fault =
-    IsMemory fault
+    IsForMemory fault
     ⊎ ((answer.session ≡ None) × ((fault ≡ Status answer.status) ⊎ (fault ≡ Closed)))
 
 -- Whatever prefix of these bytes came to the mirror, in any pieces. They stand in one way. The
@@ -77,11 +77,11 @@ ScreensFollow =
 pub record ArrivesInLog (limits : Limits) (log : Log) (token : List ℕ) (mirror : MirrorState)
     : Type 0 where
   pub place : Option Position
-  pub is_place : IsPlace limits log place
+  pub is_place : IsPlaceOfLog limits log place
   pub shows : mirror.node ≡ node_where log place
   pub last : ℕ
   pub token_is : token ≡ log.token last
-  pub reaches : HasReached place last
+  pub reaches : IsAsFarAs place last
 
 -- Where nothing is pending for a screen whose body goes on, and its mirror followed all that it was
 -- handed, that is as far as the screen.

@@ -8,9 +8,9 @@ use Rattle.feed_note.specs.declared.line.Line.{Line}
 use Rattle.feed_world.specs.Connection.{Part, GoOn, part_texts}
 use Rattle.feed_world.specs.Laws.{opened_text}
 use Rattle.feed_world.specs.Log.{Log, IsLog, IsNamed}
-use Rattle.feed_world.specs.Position.{Position, IsPlace, node_where}
+use Rattle.feed_world.specs.Position.{Position, IsPlaceOfLog, node_where}
 use Rattle.feed_world.specs.Reading.{opening_at}
-use Rattle.feed_world.specs.States.{HasReached}
+use Rattle.feed_world.specs.States.{IsAsFarAs}
 use Rattle.feed_follow.specs.Standing.{Standing, in_head, token_refused, in_body, done, failed}
 use Rattle.feed_answer.specs.Carried.{response_text, ended_text}
 use Rattle.feed_answer.specs.FrameLaws.{AreTexts, joined}
@@ -25,7 +25,7 @@ use Rattle.feed_hub.specs.Told.{Told, told_text}
 -- it shows nothing, or is at a place of the log: it shows the state of that at its token
 abbrev pub IsInLog : Limits → Log → NodeState → Type 0
 IsInLog limits log node =
-    (place : Option Position) × IsPlace limits log place × (node ≡ node_where log place)
+    (place : Option Position) × IsPlaceOfLog limits log place × (node ≡ node_where log place)
 
 -- so it is with a node that has limits of its own, whatever they are
 abbrev pub StandsInLog : Log → NodeState → Type 0
@@ -59,7 +59,7 @@ pub record ShowsState (limits : Limits) (log : Log) (place : Option Position) (f
   pub notes : List Line
   pub nothing_bad : Reads limits (opening_at log place fresh) prefix notes
   pub at : Option Position
-  pub is_place : IsPlace limits log at
+  pub is_place : IsPlaceOfLog limits log at
   pub shows : keep_latest limits.history (reads limits.history (opening_at log place fresh) notes)
       ≡ node_where log at
 
@@ -68,7 +68,7 @@ ScreensShowStates =
     (limits : Limits) (log : Log) (nodes : List NodeState) (k : ℕ) (texts : List (List ℕ))
     (token : List ℕ) (place : Option Position) (fresh : Bool) (prefix behind : List ℕ)
     → IsLog limits log → AreInLog log nodes → k ≤ length log.commits
-    → Told nodes (log.token k) texts token → IsPlace limits log place
+    → Told nodes (log.token k) texts token → IsPlaceOfLog limits log place
     → (fresh ≡ false → (own : Position) × (place ≡ Some own) × (own.low ≤ k) × (k ≤ own.at))
     → prefix ++ behind ≡ opened_text log fresh k ++ joined texts
     → ShowsState limits log place fresh prefix
@@ -79,19 +79,19 @@ pub record ReachesState (limits : Limits) (log : Log) (place : Option Position) 
   pub notes : List Line
   pub nothing_bad : Reads limits (opening_at log place fresh) text notes
   pub at : Option Position
-  pub is_place : IsPlace limits log at
+  pub is_place : IsPlaceOfLog limits log at
   pub shows : keep_latest limits.history (reads limits.history (opening_at log place fresh) notes)
       ≡ node_where log at
   pub last : ℕ
   pub token_is : token ≡ log.token last
-  pub reaches : HasReached at last
+  pub reaches : IsAsFarAs at last
 
 abbrev pub ScreensReach : Type 0
 ScreensReach =
     (limits : Limits) (log : Log) (nodes : List NodeState) (k : ℕ) (texts : List (List ℕ))
     (token : List ℕ) (place : Option Position) (fresh : Bool)
     → IsLog limits log → AreInLog log nodes → k ≤ length log.commits
-    → Told nodes (log.token k) texts token → IsPlace limits log place
+    → Told nodes (log.token k) texts token → IsPlaceOfLog limits log place
     → (fresh ≡ false → (own : Position) × (place ≡ Some own) × (own.low ≤ k) × (k ≤ own.at))
     → ReachesState limits log place fresh token (opened_text log fresh k ++ joined texts)
 
@@ -117,7 +117,7 @@ ScreensAreFollowed =
     (token : List ℕ) (place : Option Position) (fresh : Bool) (framing : Framing) (n : ℕ)
     (had_token : Bool)
     → IsLog limits log → AreInLog log nodes → k ≤ length log.commits
-    → Told nodes (log.token k) texts token → IsPlace limits log place
+    → Told nodes (log.token k) texts token → IsPlaceOfLog limits log place
     → (fresh ≡ false → (own : Position) × (place ≡ Some own) × (own.low ≤ k) × (k ≤ own.at))
     → AreTexts (opened_text log fresh k ∷ texts)
     → StandsSo limits log place fresh had_token

@@ -1,6 +1,8 @@
 //! Long texts that several screens are sent, each kept once.
 
-ghost use Rattle.std.specs.Prelude.{◌≡◌, ◌≤◌, None, false, IfSome, length};
+ghost use Rattle.std.specs.Prelude.{◌≡◌, ◌+◌, ◌≤◌, None, Some, false, IfSome, IfNone, Contains, length};
+ghost use Rattle.feed_hub.specs.declared.frames.Frame.{Frame};
+ghost use Rattle.feed_hub.specs.Frames.{IsKeptAs, GivesNumber};
 
 use bytes::Bytes;
 use std::alloc::Global;
@@ -41,13 +43,19 @@ impl Frames {
     }
 
     /// Forgets the texts that no screen has any more.
-    pub(crate) fn tidy(&mut self) {
+    pub(crate) fn tidy(&mut self)
+        ensures kept { (frame : Frame) → Contains self.new.kept.items frame
+            → Contains self.old.kept.items frame }
+        ensures next { self.new.next ≡ self.old.next }
+    {
         self.kept.retain(|frame| !frame.text.is_unique());
     }
 
     /// The text that is kept with these bytes.
     fn find(&self, bytes: &[u8]) -> Option<Shared>
-        ensures { IfSome result (λ shared. shared.text ≡ bytes.now) }
+        ensures text { IfSome result (λ shared. shared.text ≡ bytes.now) }
+        ensures number { IfSome result (λ shared.
+            IfSome shared.number (IsKeptAs self.now.kept.items bytes.now)) }
     {
         for frame in &self.kept {
             if frame.text.as_slice() == bytes {
@@ -59,12 +67,17 @@ impl Frames {
         None
     }
 
-    /// Keeps a text, where there is memory for that. Its number then.
-    fn keep(&mut self, text: &Bytes) -> Option<u64> {
+    /// Keeps a text, where there is memory for that, and a number that none had. Its number then.
+    fn keep(&mut self, text: &Bytes) -> Option<u64>
+        ensures number { IfSome result
+            (λ number. (number ≡ self.old.next) × (self.new.next ≡ self.old.next + 1)) }
+        ensures none { IfNone result (self.new.next ≡ self.old.next) }
+    {
         let text = text.clone().ok()?;
         let number = self.next;
+        let next = number.checked_add(1)?;
         self.kept.push(Frame { number, text }).ok()?;
-        self.next = number.wrapping_add(1);
+        self.next = next;
         Some(number)
     }
 
@@ -85,6 +98,9 @@ impl Frames {
     pub(crate) fn share(&mut self, text: Bytes, has_room: bool) -> Option<Shared>
         ensures text { IfSome result (λ shared. shared.text ≡ text) }
         ensures none { result ≡ None → (has_room ≡ false) × (65536 ≤ length text) }
+        // its number is that of the same text, or the next one, so that no other text gets it
+        ensures number { IfSome result
+            (λ shared. GivesNumber self.old self.new text shared.number) }
     {
         if text.len() < LONG {
             return Some(Shared { text, number: None });

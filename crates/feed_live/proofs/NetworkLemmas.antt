@@ -17,7 +17,7 @@ use Rattle.feed_answer.specs.RequestText.{feed_path, request_text, request_text_
 use Rattle.feed_answer.proofs.AskedLemmas.{one_request}
 use Rattle.httparse.proofs.GrammarLemmas.{ReadsRequest-append}
 use Rattle.feed_world.specs.Log.{Log, IsLog}
-use Rattle.feed_world.specs.Position.{Position, IsPlace, node_where}
+use Rattle.feed_world.specs.Position.{Position, IsPlaceOfLog, node_where}
 use Rattle.feed_hub.proofs.FollowLemmas.{held_among}
 use Rattle.feed_hub.specs.Follows.{MayAskWith}
 use Rattle.feed_hub.specs.Laws.{IsInLog, AreInLog}
@@ -205,7 +205,7 @@ may_be_asked limits log begun a None is_log may = tt
 may_be_asked limits log begun a (Some token) is_log (some, held) =
     by a.place a.is_place (subst (λ n. Contains n.held token) (ap (λ r. r.before) a.asks.opening) held)
   where
-    by : (place : Option Position) → IsPlace limits log place → Contains (node_where log place).held token → MayBeAskedWith (Some token)
+    by : (place : Option Position) → IsPlaceOfLog limits log place → Contains (node_where log place).held token → MayBeAskedWith (Some token)
     by None is_place (i, within, e) = absurd (omega (arith, within))
     by (Some own) is_place there =
         let order : own.low ≤ own.at = is_place.order in

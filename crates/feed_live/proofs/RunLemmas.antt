@@ -41,6 +41,19 @@ still_over {live} {after} {now} same over =
           (subst (λ files. (over.at ≤ now) ⊎ ((slab_len live.screens.conns ≡ 0) × IfSome files (λ saved. saved.has_more ≡ false))) (sym same.saved) over.over);
     }
 
+same_back : {live after : Live} → IsSameRelay live after → IsSameRelay after live
+same_back same =
+    record {
+      source = sym same.source;
+      screens = sym same.screens;
+      saved = sym same.saved;
+      epoch = sym same.epoch;
+      feeds = sym same.feeds;
+      limits = sym same.limits;
+      ends_at = sym same.ends_at;
+      reported = sym same.reported;
+    }
+
 -- what was reported is forgotten behind a turn
 pub cleared : {old : Moment} {live after : Live} {next : Turn} {time : Option ℕ} {around : Surroundings} → IsTurn old (moment_of live next time around)
     → ((e : Exchanges) (s : AllSockets) → StillRelaying live after e e s s) → ((s : AllSockets) → StillTaking live after [] s s)
@@ -77,8 +90,7 @@ cleared {old} {live} {after} {next} {time} {around} turn relaying taking same =
       takes =
           subst (λ ends_at. next.takes_input ≡ (is_none ends_at && is_none after.screens.saying.waits)) (sym same.ends_at)
           (subst (λ screens. next.takes_input ≡ (is_none live.ends_at && is_none screens.saying.waits)) (sym same.screens) turn.takes);
-      over = λ is. still_over same (turn.over is);
-      in_time = subst (λ ends_at. IfSome ends_at (λ at. at ≤ turn.now → next.is_over ≡ true)) (sym same.ends_at) turn.in_time;
+      over = (λ is. still_over same (turn.over.0 is), λ is. turn.over.1 (still_over (same_back same) is));
     }
 
 -- what the input gave before is what it had given then, and the time stays while a turn is told

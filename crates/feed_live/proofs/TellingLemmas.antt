@@ -16,7 +16,7 @@ use Rattle.feed_follow.specs.declared.fault.FollowFault.TheVariants.{Closed, Lon
 use Rattle.feed_follow.specs.Following.{HasReached, IsCutAfter, IsCutAtFault, Leaves, Brings, HasBadLine, HasLostSome, Fails}
 use Rattle.feed_follow.specs.Standing.{Standing, in_head, token_refused, in_body, done, failed, Stands}
 use Rattle.feed_world.specs.Log.{Log, IsNamed}
-use Rattle.feed_world.specs.Position.{Position, IsPlace}
+use Rattle.feed_world.specs.Position.{Position, IsPlaceOfLog}
 use Rattle.feed_world.specs.Reading.{opening_at}
 use Rattle.feed_world.specs.Telling.{Tells, TellsShow, told_to}
 use Rattle.feed_hub.specs.Laws.{IsInLog}
@@ -68,7 +68,7 @@ meaning_tells one log fresh k text notes are tells xs later ns whole meant =
 -- ---- what a mirror makes of it
 
 module _ (show : TellsShow) (limits : Limits) (log : Log) (named : IsNamed log) (place : Option Position) (fresh : Bool) (k : ℕ)
-    (is_place : IsPlace limits log place) (begins : MayBegin place fresh k) (text : List ℕ) (tells : TextTells log fresh k text) where
+    (is_place : IsPlaceOfLog limits log place) (begins : MayBegin place fresh k) (text : List ℕ) (tells : TextTells log fresh k text) where
   abbrev opening : Opening
   opening = opening_at log place fresh
 

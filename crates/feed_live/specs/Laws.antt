@@ -9,7 +9,7 @@ use Rattle.feed_answer.specs.Asked.{Asks, feed}
 use Rattle.feed_answer.specs.FrameLaws.{joined}
 use Rattle.feed_world.specs.Laws.{opened_text}
 use Rattle.feed_world.specs.Log.{Log, IsLog}
-use Rattle.feed_world.specs.Position.{Position, IsPlace}
+use Rattle.feed_world.specs.Position.{Position, IsPlaceOfLog}
 use Rattle.feed_world.specs.Reading.{opening_at}
 use Rattle.feed_hub.specs.Follows.{HasAskedSo, FollowsInLog}
 use Rattle.feed_hub.specs.Laws.{IsInLog, AreInLog, ShowsState}
@@ -89,7 +89,7 @@ SentIsHonest =
     (token : List ℕ) (place : Option Position) (fresh : Bool) (begun : MirrorState)
     (input behind : List ℕ)
     → IsLog limits log → AreInLog log nodes → k ≤ length log.commits
-    → Told nodes (log.token k) texts token → IsPlace limits log place
+    → Told nodes (log.token k) texts token → IsPlaceOfLog limits log place
     → (fresh ≡ false → (own : Position) × (place ≡ Some own) × (own.low ≤ k) × (k ≤ own.at))
     → present_opening begun ≡ opening_at log place fresh
     → input ++ behind ≡ opened_text log fresh k ++ joined texts

@@ -1,5 +1,5 @@
 -- A run of a relay: what it begins with, and turn after turn, to its end.
-use Rattle.std.specs.Prelude.{◌≡◌, ◌≢◌, ◌⊎◌, ℕ, suc, ◌+◌, ◌-◌, ◌^◌, ◌≤◌, min, Bool, true, false, List, [], ◌∷◌, ◌++◌, length, map, Option, Some, None, option_map, is_none, ◌&&◌, IfSome, Contains, Result, OnOk, IsErr}
+use Rattle.std.specs.Prelude.{◌≡◌, ◌≢◌, ◌⊎◌, ◌↔◌, ℕ, suc, ◌+◌, ◌-◌, ◌^◌, ◌≤◌, min, Bool, true, false, List, [], ◌∷◌, ◌++◌, length, map, Option, Some, None, option_map, is_none, ◌&&◌, IfSome, Contains, Result, OnOk, IsErr}
 use Rattle.std.specs.List.{AllByRecursion}
 use Rattle.slab.specs.Slab.{slab_len}
 use Rattle.feed_settings.specs.Limits.{Limits}
@@ -150,8 +150,7 @@ pub record IsTurn (old new : Moment) : Type 0 where
   pub ends : EndsWithInput old.live new.live given
   pub takes : new.next.takes_input
       ≡ (is_none new.live.ends_at && is_none new.live.screens.saying.waits)
-  pub over : new.next.is_over ≡ true → IsRelayOver new.live now
-  pub in_time : IfSome new.live.ends_at (λ at. at ≤ now → new.next.is_over ≡ true)
+  pub over : (new.next.is_over ≡ true) ↔ IsRelayOver new.live now
 
 -- all but what is reported of a relay stays
 pub record IsSameRelay (old new : Live) : Type 0 where

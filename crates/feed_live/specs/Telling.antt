@@ -13,7 +13,7 @@ use Rattle.feed_node.specs.Mirroring.{MirrorState, present_opening, first_openin
 use Rattle.feed_node.specs.Reading.{Reads, reads}
 use Rattle.feed_follow.specs.Carrying.{CarryText, IsFeedOf}
 use Rattle.feed_world.specs.Log.{Log, IsNamed}
-use Rattle.feed_world.specs.Position.{Position, IsPlace}
+use Rattle.feed_world.specs.Position.{Position, IsPlaceOfLog}
 use Rattle.feed_world.specs.Reading.{opening_at}
 use Rattle.feed_world.specs.Telling.{Tells}
 use Rattle.feed_device.specs.Links.{Exchange, once_at}
@@ -49,7 +49,7 @@ MayBegin place fresh k =
 abbrev pub ToldIsHonest : Type 0
 ToldIsHonest =
     (limits : Limits) (log : Log) (place : Option Position) (fresh : Bool) (k : ℕ)
-    (begun : MirrorState) (input : List ℕ) → IsNamed log → IsPlace limits log place
+    (begun : MirrorState) (input : List ℕ) → IsNamed log → IsPlaceOfLog limits log place
     → MayBegin place fresh k → present_opening begun ≡ opening_at log place fresh
     → TextTells log fresh k input → IsHonestInput limits log begun input
 

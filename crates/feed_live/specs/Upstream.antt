@@ -16,7 +16,7 @@ use Rattle.feed_follow.specs.Standing.{Standing}
 use Rattle.feed_answer.specs.Identity.{Identity}
 use Rattle.feed_answer.specs.RequestText.{request_text_as}
 use Rattle.feed_world.specs.Log.{Log, state_after}
-use Rattle.feed_world.specs.Position.{Position, IsPlace}
+use Rattle.feed_world.specs.Position.{Position, IsPlaceOfLog}
 use Rattle.feed_world.specs.States.{HasAsked}
 use Rattle.feed_hub.specs.Follows.{MayAskWith}
 use Rattle.feed_hub.specs.Laws.{IsInLog}
@@ -25,7 +25,7 @@ use Rattle.feed_device.specs.Links.{Exchange, Exchanges, Shown, nothing_shown, o
 -- the mirror is at a place of the log, and has the token of that to ask with, or none
 pub record AsksInLog (limits : Limits) (log : Log) (mirror : MirrorState) : Type 0 where
   pub place : Option Position
-  pub is_place : IsPlace limits log place
+  pub is_place : IsPlaceOfLog limits log place
   pub asks : HasAsked limits log place (is_none mirror.since) mirror
 
 -- the servers that are asked, by their places, and as whom

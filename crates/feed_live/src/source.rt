@@ -90,6 +90,15 @@ pub(crate) struct Source {
     figures: FeedFigures,
 }
 
+/// Whether requests may be answered before a server was heard: nothing old is to be shown, since
+/// nothing was restored or the feed is the input; or what is old may be.
+fn answers_at_once(mirror: &Mirror, places: &[Place], serves_old: bool) -> bool
+    ensures { mirror.now.node.published ≢ None → places.now ≢ [] → serves_old ≡ false
+        → result ≡ false }
+{
+    serves_old || places.is_empty() || mirror.node().token().is_none()
+}
+
 impl Source {
     ghost use Rattle.feed_live.specs.Relaying.{SameSource};
     ghost use Rattle.feed_live.specs.declared.source.Reach.TheVariants.{Away};
@@ -113,9 +122,11 @@ impl Source {
         ensures settles { (result.settling.pause ≡ limits.settle)
             × (result.settling.is_always ≡ limits.is_fresh) }
         ensures due { result.upstream.since ≡ desk.now.time }
+        // what was restored is not shown before a server was heard, unless it is to be at once
+        ensures heard { mirror.node.published ≢ None → places.items ≢ []
+            → limits.serves_old ≡ false → result.is_heard ≡ false }
     {
-        // A relay without a state has nothing old to show, nor has one whose feed is the input.
-        let has_nothing = mirror.node().token().is_none() || places.is_empty();
+        let is_heard = answers_at_once(&mirror, &places, limits.serves_old);
         Source {
             upstream: Upstream::new(places.len().max(1), desk.time),
             places,
@@ -137,7 +148,7 @@ impl Source {
             has_reported_twice: false,
             returning: Returning::new(limits.return_after, desk.time),
             rechecking: Rechecking::new(limits.rechecks),
-            is_heard: has_nothing || limits.serves_old,
+            is_heard,
             away_since: desk.time,
             is_fresh: false,
             epoch: 0,

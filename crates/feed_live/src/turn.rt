@@ -1,6 +1,6 @@
 //! The turn.
 
-ghost use Rattle.std.specs.Prelude.{◌≡◌, ◌≢◌, ◌≤◌, ◌+◌, ◌-◌, ◌^◌, ◌⊎◌, ◌&&◌, [], List, ℕ, min, None, Some, Contains, IfSome, is_none, is_some, false, true};
+ghost use Rattle.std.specs.Prelude.{◌≡◌, ◌≢◌, ◌≤◌, ◌+◌, ◌-◌, ◌^◌, ◌⊎◌, ◌↔◌, ◌&&◌, [], List, ℕ, min, None, Some, Contains, IfSome, is_none, is_some, false, true};
 ghost use Rattle.feed_settings.specs.Limits.{Limits};
 ghost use Rattle.feed_node.specs.States.{NodeState};
 ghost use Rattle.feed_world.specs.Log.{Log};
@@ -125,6 +125,9 @@ impl Live {
         ensures stores { is_some result.saved ≡ limits.has_store }
         ensures at_once { IfSome result.saved (λ saved. saved.retry_at ≡ 0) }
         ensures reported { result.reported ≡ now }
+        // what was restored answers nobody before a server was heard, unless it is to at once
+        ensures heard { start.restored.mirror.node.published ≢ None → start.places.items ≢ []
+            → limits.serves_old ≡ false → result.source.is_heard ≡ false }
         // it may connect at once, and shows what came afresh once that has settled
         ensures connects { result.source.upstream.since ≡ now }
         ensures settles { (result.source.settling.pause ≡ limits.settle)
@@ -270,11 +273,8 @@ impl Live {
         ensures takes { result.takes_input
             ≡ (is_none self.new.ends_at && is_none self.new.screens.saying.waits) }
 
-        // it is the last one only where the relay ends with its input, and that is over
-        ensures over { result.is_over ≡ true → IsRelayOver self.new now }
-
-        // and it is where the time for that has come
-        ensures in_time { IfSome self.new.ends_at (λ at. at ≤ now → result.is_over ≡ true) }
+        // it is the last one exactly where the relay ends with its input, and that is over
+        ensures over { (result.is_over ≡ true) ↔ IsRelayOver self.new now }
     {
         self.desk.begin(alloc, now);
         let held = self.held();
@@ -340,8 +340,7 @@ impl Live {
         ensures saved { SameSaved self.old self.new }
         ensures takes { result.takes_input
             ≡ (is_none self.new.ends_at && is_none self.new.screens.saying.waits) }
-        ensures over { result.is_over ≡ true → IsRelayOver self.new now }
-        ensures in_time { IfSome self.new.ends_at (λ at. at ≤ now → result.is_over ≡ true) }
+        ensures over { (result.is_over ≡ true) ↔ IsRelayOver self.new now }
         ensures pauses { self.new.screens.accept_at ≡ self.old.screens.accept_at }
     {
         self.report(now);
@@ -359,8 +358,7 @@ impl Live {
     }
 
     fn is_over(&self, now: u64) -> bool
-        ensures over { result ≡ true → IsRelayOver self.now now }
-        ensures in_time { IfSome self.now.ends_at (λ at. at ≤ now → result ≡ true) }
+        ensures { (result ≡ true) ↔ IsRelayOver self.now now }
     {
         match self.ends_at {
             Some(at) => at <= now || self.screens.are_none() && self.is_saved(),
@@ -370,7 +368,7 @@ impl Live {
 
     /// Whether the state file has all that was published, as far as it can be written.
     fn is_saved(&self) -> bool
-        ensures { result ≡ true → IfSome self.now.saved (λ saved. saved.has_more ≡ false) }
+        ensures { (result ≡ true) ↔ IfSome self.now.saved (λ saved. saved.has_more ≡ false) }
     {
         match &self.saved {
             Some(saved) => !saved.has_more(),

@@ -18,7 +18,7 @@ use Rattle.feed_node.specs.declared.fault.FeedFault.{FeedFault}
 use Rattle.feed_node.specs.declared.fault.FeedFault.TheVariants.{StageFull}
 use Rattle.feed_node.specs.Sent.{PublishesNothing}
 use Rattle.feed_node.specs.States.{published_tables}
-use Rattle.feed_node.specs.Staging.{Standing, staging, with_changes, then_token, publishes, times_published, step, steps, AllTaken}
+use Rattle.feed_node.specs.Staging.{StagingState, staging, with_changes, then_token, publishes, times_published, step, steps, AllTaken}
 use Rattle.feed_node.proofs.TextLines.{AreShort}
 
 -- the lines of a batch
@@ -64,7 +64,7 @@ fits_by false b true p r = absurd (cc)
 fits_by false true false p r = refl
 fits_by false false false p r = refl
 
-pub taken_batch : WrittenLineMeans → (limits : Limits) (s : Standing) (cs : List Change)
+pub taken_batch : WrittenLineMeans → (limits : Limits) (s : StagingState) (cs : List Change)
     (token : List ℕ) → AllByRecursion IsChange cs → IsName token
     → is_full limits (s.changes ++ cs) ≡ false
     → is_large limits (published_tables (step s (Note cs (Some token))).node.shown) ≡ false
@@ -92,7 +92,7 @@ taken_batch means limits s (c ∷ d ∷ cs) token h n few small =
     )
 
 -- the last line does what one line that said all would
-pub steps_batch : (s : Standing) (cs : List Change) (token : List ℕ) → cs ≢ []
+pub steps_batch : (s : StagingState) (cs : List Change) (token : List ℕ) → cs ≢ []
     → steps s (batch_notes cs token) ≡ step s (Note cs (Some token))
 steps_batch s [] token some = absurd (some refl)
 steps_batch s (c ∷ []) token some = refl
@@ -103,7 +103,7 @@ steps_batch s (c ∷ d ∷ cs) token some =
 
 -- ---- tokens
 
-pub count_batch : (s : Standing) (cs : List Change) (token : List ℕ) → cs ≢ []
+pub count_batch : (s : StagingState) (cs : List Change) (token : List ℕ) → cs ≢ []
     → times_published s (batch_notes cs token) ≡ times_published s (Note cs (Some token) ∷ [])
 count_batch s [] token some = absurd (some refl)
 count_batch s (c ∷ []) token some = refl
@@ -114,7 +114,7 @@ count_batch s (c ∷ d ∷ cs) token some =
     omega arith
 
 -- before the last line nothing is published
-pub part_of_batch : (s : Standing) (cs : List Change) (token : List ℕ) (j : ℕ) → j < length cs
+pub part_of_batch : (s : StagingState) (cs : List Change) (token : List ℕ) (j : ℕ) → j < length cs
     → PublishesNothing s (take j (batch_notes cs token))
 part_of_batch s [] token j h = absurd (omega arith)
 part_of_batch s (c ∷ cs) token zero h = record { node = refl; afresh = refl; count = refl }
@@ -126,7 +126,7 @@ part_of_batch s (c ∷ d ∷ cs) token (suc j) h =
 
 -- ---- lists of lines
 
-pub taken-append : (limits : Limits) (s : Standing) (xs ys : List (List ℕ)) (ns ms : List Line)
+pub taken-append : (limits : Limits) (s : StagingState) (xs ys : List (List ℕ)) (ns ms : List Line)
     → AllTaken limits s xs ns → AllTaken limits (steps s ns) ys ms
     → AllTaken limits s (xs ++ ys) (ns ++ ms)
 taken-append limits s [] ys [] ms h k = k
@@ -135,7 +135,7 @@ taken-append limits s (x ∷ xs) ys [] ms h k = absurd h
 taken-append limits s (x ∷ xs) ys (n ∷ ns) ms h k =
     (h.0, taken-append limits (step s n) xs ys ns ms h.1 k)
 
-pub taken-take : (limits : Limits) (j : ℕ) (s : Standing) (xs : List (List ℕ)) (ns : List Line)
+pub taken-take : (limits : Limits) (j : ℕ) (s : StagingState) (xs : List (List ℕ)) (ns : List Line)
     → AllTaken limits s xs ns → AllTaken limits s (take j xs) (take j ns)
 taken-take limits zero s xs ns h = tt
 taken-take limits (suc j) s [] [] h = tt

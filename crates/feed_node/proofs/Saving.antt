@@ -12,7 +12,7 @@ use Rattle.feed_node.specs.Mirroring.{MirrorState, first_opening, IsRestored, Fa
 use Rattle.feed_node.specs.Reading.{Reads, FaultsAt, reads, keep_latest, awaits_reset}
 use Rattle.feed_node.specs.Saved.{Restores, SavedTextsRestore}
 use Rattle.feed_node.specs.Sent.{TakesText, PublishesAtEnd, fresh_on, renewed_on, SnapshotsPublishAtEnd}
-use Rattle.feed_node.specs.Staging.{Standing, steps, AllTaken}
+use Rattle.feed_node.specs.Staging.{StagingState, steps, AllTaken}
 use Rattle.feed_node.specs.States.{NodeState, Node, nothing_published, published_token}
 use Rattle.feed_node.specs.Steps.{StepsRead, TakenAreGood, ReadingIsOne, standing_after}
 use Rattle.feed_node.specs.Kept.{most_kept}
@@ -29,7 +29,7 @@ cut_at limits shown afresh =
     }
 
 module _ (read : StepsRead) (good : TakenAreGood) (one : ReadingIsOne) (limits : Limits) where
-  abbrev begun : Standing
+  abbrev begun : StagingState
   begun = fresh_on (record { shown = nothing_published; history = limits.history })
 
   opened : begun ≡ standing_after limits.history first_opening []
@@ -57,7 +57,7 @@ module _ (read : StepsRead) (good : TakenAreGood) (one : ReadingIsOne) (limits :
       }
 
   -- so a mirror that is restored is cut off where they lead
-  leads_there : (text : List ℕ) (notes : List Line) (t : Standing) (mirror : MirrorState)
+  leads_there : (text : List ℕ) (notes : List Line) (t : StagingState) (mirror : MirrorState)
       → TakesText limits begun text notes → (steps begun notes).node.shown ≡ t.node.shown
       → (steps begun notes).afresh ≡ t.afresh
       → IsRestored limits text mirror → mirror ≡ cut_at limits t.node.shown t.afresh

@@ -14,7 +14,7 @@ use Rattle.feed_note.specs.Written.{WrittenLineMeans}
 use Rattle.feed_node.specs.Bounds.{is_large}
 use Rattle.feed_node.proofs.Bounds.{large_listing}
 use Rattle.feed_node.specs.Sent.{TakesText, TextsGoOn, PublishesNothing, PublishesAtEnd, FitsBatch, BatchesPublishAtEnd, fresh_on, renewed_on, SnapshotsPublishAtEnd}
-use Rattle.feed_node.specs.Staging.{Standing, step, times_published, AllTaken}
+use Rattle.feed_node.specs.Staging.{StagingState, step, times_published, AllTaken}
 use Rattle.feed_node.specs.States.{reset_to}
 use Rattle.feed_node.proofs.Batches.{batch_lines, batch_notes, ended-batch, length-batch_lines, batch_is_short, taken_batch, steps_batch, count_batch, part_of_batch, taken-append, taken-take}
 use Rattle.feed_node.proofs.TextLines.{AreShort, unbroken, lines_of, lines_behind, prefix_lines}
@@ -33,7 +33,7 @@ texts_go_on cut only_cut limits s text behind notes more none first later =
     }
 
 module _ (cut : LinesCut) (only_cut : LinesAreTheOnlyCut) (means : WrittenLineMeans)
-    (limits : Limits) (s : Standing) (cs : List Change) (token : List ℕ)
+    (limits : Limits) (s : StagingState) (cs : List Change) (token : List ℕ)
     (f : FitsBatch limits s cs token) where
   abbrev ls : List (List ℕ)
   ls = batch_lines cs token

@@ -10,8 +10,8 @@ use Rattle.feed_node.specs.declared.commit.Commit.{Commit}
 use Rattle.feed_node.specs.Log.{PrimaryState}
 use Rattle.feed_node.specs.States.{NodeState, Node}
 use Rattle.feed_node.specs.Shown.{Latest}
-use Rattle.feed_node.specs.Staging.{Standing}
-use Rattle.feed_node.specs.Mirroring.{Connection, MirrorState}
+use Rattle.feed_node.specs.Staging.{StagingState}
+use Rattle.feed_node.specs.Mirroring.{OpenConnection, MirrorState}
 
 abbrev pub published_code : Coded Published
 published_code = code_by
@@ -51,13 +51,13 @@ limits_code = code_by
     (λ l. (l.history, (l.staged, l.memory)))
     (λ p. record { history = p.0; staged = p.1.0; memory = p.1.1 }) (λ _. refl)
 
-abbrev pub standing_code : Coded Standing
+abbrev pub standing_code : Coded StagingState
 standing_code = code_by
     (Node × (Bool × List Change)) (coded× node_code (coded× coded_bool (coded_list change_code)))
     (λ s. (s.node, (s.afresh, s.changes)))
     (λ p. record { node = p.0; afresh = p.1.0; changes = p.1.1 }) (λ _. refl)
 
-abbrev pub connection_code : Coded Connection
+abbrev pub connection_code : Coded OpenConnection
 connection_code = code_by
     (List Change × (List ℕ × Bool)) (coded× (coded_list change_code) (coded× text_code coded_bool))
     (λ c. (c.changes, (c.unfinished, c.awaits_reset)))
@@ -65,7 +65,7 @@ connection_code = code_by
 
 abbrev pub mirror_code : Coded MirrorState
 mirror_code = code_by
-    (Limits × (NodeState × (Option (List ℕ) × Option Connection))) (coded× limits_code
+    (Limits × (NodeState × (Option (List ℕ) × Option OpenConnection))) (coded× limits_code
     (coded× state_code (coded× (coded_option text_code) (coded_option connection_code))))
     (λ m. (m.limits, (m.node, (m.since, m.connection))))
     (λ p. record { limits = p.0; node = p.1.0; since = p.1.1.0; connection = p.1.1.1 }) (λ _. refl)

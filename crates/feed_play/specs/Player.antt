@@ -6,7 +6,7 @@ use Rattle.feed_tables.specs.declared.change.Change.{Change}
 use Rattle.feed_note.specs.Lines.{lines as lines_of}
 use Rattle.feed_node.specs.States.{NodeState, published_token}
 use Rattle.feed_world.specs.States.{IsWorld, WorldState, shown_at}
-use Rattle.feed_world.specs.Step.{Step, IsRefused}
+use Rattle.feed_world.specs.Step.{Step, EventIsRefused}
 use Rattle.feed_world.specs.World.{World, HasShape, new_world, node_of}
 use Rattle.feed_world.specs.declared.event.Event.{Event}
 use Rattle.feed_world.specs.declared.event.Event.TheVariants as event
@@ -84,7 +84,8 @@ node_token w (Some i) = published_token (node_of w i)
 -- the world replies to the event, and that is told
 abbrev pub IsReplied : World → Event → List ℕ → World → Type 0
 IsReplied old what text new =
-    (reply : Reply) × Step old what reply new × PrintsReply (node_token new (restarted_by what)) reply text
+    (reply : Reply) × Step old what reply new
+    × PrintsReply (node_token new (restarted_by what)) reply text
 
 -- what the node of this number shows is printed
 pub record IsShown (w : World) (number : ℕ) (text : List ℕ) : Type 0 where
@@ -117,7 +118,8 @@ DoesAsked None old behind text new left = ⊥
 
 -- the world refuses the event, and not for want of memory
 abbrev pub Refuses : World → Event → PlayCause → Type 0
-Refuses w what (cause.World why) = (cause_of_world why ≡ cause.World why) × IsRefused w what why
+Refuses w what (cause.World why) =
+    (cause_of_world why ≡ cause.World why) × EventIsRefused w what why
 Refuses w what cause.Script = ⊥
 Refuses w what cause.Limits = ⊥
 Refuses w what cause.Shape = ⊥
@@ -176,7 +178,8 @@ LineDone asks old new behind left printed_old printed_new =
 -- why the event stops a script; for want of memory nothing is said
 abbrev pub StopsEvent : WorldState → Event → PlayCause → Type 0
 StopsEvent state event (cause.World why) =
-    (cause_of_world why ≡ cause.World why) × ((w : World) → IsWorld w state → IsRefused w event why)
+    (cause_of_world why ≡ cause.World why)
+    × ((w : World) → IsWorld w state → EventIsRefused w event why)
 StopsEvent state event cause.Memory = Unit {0}
 StopsEvent state event cause.Script = ⊥
 StopsEvent state event cause.Limits = ⊥
@@ -205,8 +208,8 @@ pub record IsNext (lines : LinesLeft) (line : List ℕ) (behind : LinesLeft) : T
   pub read : behind.read ≡ lines.read + 1
 
 -- what the next line asks for is done
-pub record PlaysNext (asked : AskedWorld) (old : World) (lines : LinesLeft) (text : List ℕ) (new : World)
-    (left : LinesLeft) : Type 0 where
+pub record PlaysNext (asked : AskedWorld) (old : World) (lines : LinesLeft) (text : List ℕ)
+    (new : World) (left : LinesLeft) : Type 0 where
   pub line : List ℕ
   pub behind : LinesLeft
   pub next : IsNext lines line behind
@@ -270,7 +273,8 @@ pub record StopsLater (script told : List ℕ) (why : PlayFault) : Type 0 where
   pub behind : LinesLeft
   pub next : IsNext at line behind
   pub stops : why.cause ≢ cause.Memory → StopsAsked (action_in asked line) world behind why
-  pub line_is : IsLineFrom behind.read (behind.read + lines_announced (action_in asked line)) why.line
+  pub line_is : IsLineFrom behind.read (behind.read + lines_announced (action_in asked line))
+      why.line
 
 -- the script stops there, and this is printed before
 abbrev pub StopsScript : List ℕ → List ℕ → PlayFault → Type 0

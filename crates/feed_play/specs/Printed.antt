@@ -24,7 +24,8 @@ PrintsReply token (reply.Sent More) line = line ≡ as_line (codes "sent more")
 PrintsReply token (reply.Sent UpToDate) line = line ≡ as_line (codes "sent up to date")
 PrintsReply token (reply.Sent Gone) line = line ≡ as_line (codes "sent gone")
 PrintsReply token reply.Idled line = line ≡ as_line (codes "idled")
-PrintsReply token (reply.Delivered count) line = line ≡ as_line (codes "delivered " ++ decimal count)
+PrintsReply token (reply.Delivered count) line =
+    line ≡ as_line (codes "delivered " ++ decimal count)
 PrintsReply token (reply.Broke i FollowMemory) line = line ≡ as_line (codes "broke out of memory")
 PrintsReply token (reply.Broke i (Feed Memory)) line = line ≡ as_line (codes "broke out of memory")
 PrintsReply token (reply.Broke i why) line = Unit {0}

@@ -24,7 +24,8 @@ words (b ∷ bs) = if is_space b then [] ∷ words bs else onto_first b (words b
 
 -- 1 to 9 decimal digits
 abbrev pub is_script_number : List ℕ → Bool
-is_script_number word = nat_le 1 (length word) && nat_le (length word) 9 && list_all is_ascii_digit word
+is_script_number word =
+    nat_le 1 (length word) && nat_le (length word) 9 && list_all is_ascii_digit word
 
 -- the number that a word says
 abbrev pub script_number : List ℕ → Option ℕ
@@ -36,7 +37,8 @@ onto_numbers n numbers = option_map (λ ns. n ∷ ns) numbers
 -- the numbers that the words say, where each of them says one
 abbrev pub numbers_in : List (List ℕ) → Option (List ℕ)
 numbers_in [] = Some []
-numbers_in (word ∷ more) = option_and_then (λ n. onto_numbers n (numbers_in more)) (script_number word)
+numbers_in (word ∷ more) =
+    option_and_then (λ n. onto_numbers n (numbers_in more)) (script_number word)
 
 -- ---- a line is a name with numbers behind it
 

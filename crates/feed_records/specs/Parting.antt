@@ -30,7 +30,8 @@ opens_connection line = is_marked line || (is_some (token_on line) || is_some (s
 -- of lines, and of what follows the last: the first, up to the one on which a connection begins
 unfoldable pub body_by : List (List ℕ) → List ℕ → List ℕ
 body_by [] end = end
-body_by (line ∷ later) end = if opens_connection line then [] else line ++ line_feed ∷ body_by later end
+body_by (line ∷ later) end =
+    if opens_connection line then [] else line ++ line_feed ∷ body_by later end
 
 -- how many lines these are
 unfoldable pub count_by : List (List ℕ) → ℕ
@@ -40,7 +41,8 @@ count_by (line ∷ later) = if opens_connection line then 0 else count_by later 
 -- that one, and what follows it
 unfoldable pub next_by : List (List ℕ) → List ℕ → List ℕ
 next_by [] end = []
-next_by (line ∷ later) end = if opens_connection line then ended (line ∷ later) ++ end else next_by later end
+next_by (line ∷ later) end =
+    if opens_connection line then ended (line ∷ later) ++ end else next_by later end
 
 -- what the connection carries that begins at the beginning of a text, how many lines that has, and
 -- what stands behind it
@@ -140,7 +142,8 @@ SaysOpening false line is_direct old new =
 
 -- Behind a connection of so many lines this is left of a record, and another one begins behind
 -- these lines, and was opened like this. The lines are counted with those before.
-pub record OpensNext (end : ℕ × List ℕ) (old new : Opened) (count : ℕ) (behind : List ℕ) : Type 0 where
+pub record OpensNext (end : ℕ × List ℕ) (old new : Opened) (count : ℕ) (behind : List ℕ)
+    : Type 0 where
   pub head : List (List ℕ)
   pub whole : AllByRecursion HasNoLineFeed head
   pub text_is : end.1 ≡ ended head ++ behind

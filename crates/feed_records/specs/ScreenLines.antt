@@ -24,7 +24,8 @@ module _ {L : Type 0} where
   -- how many lines the connection has, and what is left of the record behind it
   abbrev pub beyond_in : (L → Option (List ℕ)) → ScreenLines L → Option (ℕ × List ℕ)
   beyond_in left it =
-      option_map (λ text. (min (it.lines + body_lines text) most, behind_body text)) (left it.source)
+      option_map (λ text. (min (it.lines + body_lines text) most, behind_body text))
+      (left it.source)
 
   abbrev pub front_in : (L → List ℕ) → ScreenLines L → List ℕ
   front_in front it = front_by it.is_over (front it.source)

@@ -55,8 +55,8 @@ module _ {D R W : Type 0} where
 
   -- one attempt at the server of this number; without a connection the mirror is what it was, and a
   -- miss is counted
-  abbrev pub Attempts : Dialer D R W → ℕ → Server → ℕ → DialingMirror D → AttemptEnd → DialingMirror D
-      → Type 0
+  abbrev pub Attempts : Dialer D R W → ℕ → Server → ℕ → DialingMirror D → AttemptEnd
+      → DialingMirror D → Type 0
   Attempts dialer number server most_reads start NoLink end =
       (end.mirror ≡ start.mirror) × HasMissed (dialer number) start.dial end.dial
   Attempts dialer number server most_reads start (Followed followed) end =
@@ -66,8 +66,8 @@ module _ {D R W : Type 0} where
 
   -- all attempts at the server of this number, and what the last one came to: there is one, or,
   -- where the token was refused, another one
-  abbrev pub AsksServer : Dialer D R W → ℕ → Server → ℕ → DialingMirror D → List Attempt → AttemptEnd
-      → DialingMirror D → Type 0
+  abbrev pub AsksServer : Dialer D R W → ℕ → Server → ℕ → DialingMirror D → List Attempt
+      → AttemptEnd → DialingMirror D → Type 0
   AsksServer dialer number server most_reads start attempts outcome end =
       (outcome ≢ Followed followed.TokenRefused)
       × (((attempts ≡ attempt_at number outcome ∷ [])

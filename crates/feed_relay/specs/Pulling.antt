@@ -13,8 +13,10 @@ use Rattle.feed_relay.specs.declared.server.Server.{Server}
 
 -- the request was written; where asking failed, a prefix of it
 abbrev pub WritesRequest : List ℕ → Exchange → Result Followed EngineFault → Type 0
-WritesRequest request spoken (Err Write) = AppendsPrefix spoken.written_old spoken.written_new request
-WritesRequest request spoken (Err Memory) = AppendsPrefix spoken.written_old spoken.written_new request
+WritesRequest request spoken (Err Write) =
+    AppendsPrefix spoken.written_old spoken.written_new request
+WritesRequest request spoken (Err Memory) =
+    AppendsPrefix spoken.written_old spoken.written_new request
 WritesRequest request spoken pulled = Appends spoken.written_old spoken.written_new request
 
 -- nothing was read, and the mirror is what it was
@@ -34,7 +36,8 @@ FollowsReply most_reads spoken start pulled mirror =
 -- many reads, leaves this of the mirror
 pub record PullsOnce (server : Server) (most_reads : ℕ) (spoken : Exchange) (start : MirrorState)
     (pulled : Result Followed EngineFault) (mirror : MirrorState) : Type 0 where
-  pub asked : WritesRequest (request_text_as server.place start.since server.identity.now) spoken pulled
+  pub asked : WritesRequest (request_text_as server.place start.since server.identity.now) spoken
+      pulled
   pub came : FollowsReply most_reads spoken start pulled mirror
   pub reads : RoseAtMost spoken.reads_old spoken.reads_new most_reads
   pub failures : FailuresAreTold spoken pulled

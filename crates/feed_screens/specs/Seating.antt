@@ -1,5 +1,5 @@
 -- Who comes has a seat, where one is free; and who is closed where there is no place.
-use Rattle.std.specs.Prelude.{◌≡◌, ◌≢◌, ℕ, ◌<◌, ◌+◌, ◌-◌, ◌^◌, min, Option, Some, None}
+use Rattle.std.specs.Prelude.{◌≡◌, ◌≢◌, ℕ, ◌<◌, ◌≤◌, ◌+◌, ◌-◌, ◌^◌, min, Option, Some, None}
 use Rattle.slab.specs.Slab.{Slab, get, slab_len, HasRoomFor}
 use Rattle.feed_hub.specs.declared.hub.Hub.{Hub}
 use Rattle.feed_hub.specs.declared.seats.Key.{Key}
@@ -34,6 +34,22 @@ abbrev pub Lingers : Stage → Type 0
 Lingers Asks = ⊥
 Lingers Watches = ⊥
 Lingers (Lingering until left) = Unit {0}
+
+-- from now on all was sent: for two seconds, and for 65,536 bytes, what comes is read and forgotten
+abbrev pub lingers_from : ℕ → Stage
+lingers_from now = Lingering (min (now + 2000) (2 ^ 64 - 1)) 65536
+
+-- so many bytes of that came
+abbrev pub lingers_less : ℕ → Stage → Stage
+lingers_less count Asks = Asks
+lingers_less count Watches = Watches
+lingers_less count (Lingering until left) = Lingering until (left - count)
+
+-- with so many more, no further ones are read
+abbrev pub HasReadAll : ℕ → Stage → Type 0
+HasReadAll count Asks = ⊥
+HasReadAll count Watches = ⊥
+HasReadAll count (Lingering until left) = left ≤ count
 
 -- so it is with the connection
 abbrev pub IsLingering : Option Conn → Type 0

@@ -1,8 +1,8 @@
 //! One screen's connection, as the turn keeps it beside its socket.
 
-ghost use Rattle.std.specs.Prelude.{◌≡◌, ◌⊎◌, None, Some, IsTrue, IfSome};
+ghost use Rattle.std.specs.Prelude.{◌≡◌, ◌⊎◌, ◌↔◌, None, Some, IsTrue, IfSome};
 ghost use Rattle.feed_screens.specs.Held.{HasLingered};
-ghost use Rattle.feed_screens.specs.Seating.{SentEndWithKey, Lingers};
+ghost use Rattle.feed_screens.specs.Seating.{SentEndWithKey, Lingers, lingers_from, lingers_less, HasReadAll};
 ghost use Rattle.feed_screens.specs.Waiting.{HasWaited, TakesSlowly};
 
 use crate::times::{LINGER, PATIENCE, ROOM_TIME, SHARE_TIME};
@@ -112,7 +112,7 @@ impl Conn {
     /// Whether it takes the text that it has yet to take so slowly that it would need more than
     /// `SHARE_TIME` for all of it.
     pub(crate) fn is_slow(&self, now: u64) -> bool
-        ensures { IsTrue result → TakesSlowly self.now now }
+        ensures { IsTrue result ↔ TakesSlowly self.now now }
     {
         let time = now.saturating_sub(self.owed_since);
         let share = (self.owes as u64).saturating_mul(time);
@@ -214,7 +214,8 @@ impl Conn {
 
     /// All was sent; one that had no answer was refused.
     pub(crate) fn linger(&mut self, now: u64)
-        ensures { self.new.key ≡ None }
+        ensures key { self.new.key ≡ None }
+        ensures stage { self.new.stage ≡ lingers_from now }
     {
         self.key = None;
         self.has_more = false;
@@ -230,7 +231,9 @@ impl Conn {
 
     /// So many bytes were read and forgotten. Whether the connection is to be closed.
     pub(crate) fn forget(&mut self, count: usize) -> bool
-        ensures { self.new.key ≡ self.old.key }
+        ensures key { self.new.key ≡ self.old.key }
+        ensures stage { self.new.stage ≡ lingers_less count self.old.stage }
+        ensures enough { IsTrue result ↔ HasReadAll count self.old.stage }
     {
         let Stage::Lingers { until, left } = self.stage else {
             return false;
@@ -244,7 +247,7 @@ impl Conn {
 
     /// Whether it has lingered for long enough.
     pub(crate) fn is_past(&self, now: u64) -> bool
-        ensures { IsTrue result → HasLingered self.now.stage now }
+        ensures { IsTrue result ↔ HasLingered self.now.stage now }
     {
         match self.stage {
             Stage::Lingers { until, .. } => until <= now,

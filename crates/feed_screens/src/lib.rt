@@ -7,6 +7,7 @@
 #![tactic(auto)]
 
 mod conn;
+mod counts;
 mod figures;
 mod hand;
 mod laws;

@@ -1,13 +1,16 @@
 //! What the node has more is said to all screens.
 
-ghost use Rattle.std.specs.Prelude.{◌≡◌, false, ◌≢◌, ◌<◌, ◌≤◌, None, IfSome, IsTrue, true};
+ghost use Rattle.std.specs.Prelude.{◌≡◌, false, ◌≢◌, ◌↔◌, ◌<◌, ◌≤◌, ◌-◌, ◌^◌, min, None, IfSome, IsTrue, true, if◌then◌else◌};
 ghost use Rattle.slab.specs.Slab.{slab_len};
 ghost use Rattle.feed_node.specs.States.{published_token};
 ghost use Rattle.feed_hub.specs.Seats.{KeepsThose, IsOnTime};
 ghost use Rattle.feed_screens.specs.Serving.{StillServesFrom, StillServes, StillStand, SameSeating};
 ghost use Rattle.feed_screens.specs.Serving.{AllEnd, SaysAll, WaitsBriefly, idles_at};
+ghost use Rattle.feed_screens.specs.Waiting.{SameToDo, AreReady, MaySay};
+ghost use Rattle.feed_screens.specs.Counting.{none_counted, IsReportOf};
 
-use crate::screens::{Counts, Screens};
+use crate::counts::Counts;
+use crate::screens::Screens;
 use crate::times::{MEMORY_PAUSE, SAY_PAUSE, STALL};
 use feed_device::{Desk, Report, Sockets};
 use feed_hub::Said;
@@ -64,7 +67,9 @@ impl Screens {
     /// Whether what had to wait can be said now: the time has come, or all took what was said.
     /// After memory ran out only the time counts, or the same would be tried again and again.
     pub fn says_now(&self, now: u64) -> bool
-        ensures { IfSome self.now.saying.waits (λ at. at ≤ now → result ≡ true) }
+        ensures now { IfSome self.now.saying.waits (λ at. at ≤ now → result ≡ true) }
+        // and not before, unless all took what was said
+        ensures waits { result ≡ true → MaySay self.now now }
     {
         match self.saying.waits {
             Some(at) => at <= now || (!self.saying.is_short && !self.is_any_blocked()),
@@ -72,7 +77,9 @@ impl Screens {
         }
     }
 
-    fn is_any_blocked(&self) -> bool {
+    fn is_any_blocked(&self) -> bool
+        ensures { result ≡ false → AreReady self.now.conns }
+    {
         for at in 0..self.conns.capacity() {
             if self.conns.get(at).is_some_and(|conn| conn.is_blocked) {
                 return true;
@@ -85,6 +92,10 @@ impl Screens {
     pub fn due(&self, now: u64) -> u64
         ensures more { self.now.has_more ≡ true → result ≡ now }
         ensures says { IfSome self.now.saying.waits (λ at. now ≤ at → result ≤ at) }
+        // with neither, only whoever waits to be taken wakes it
+        ensures rest { self.now.has_more ≡ false → self.now.saying.waits ≡ None
+            → result ≡ (if self.now.is_waited_for then min (2 ^ 64 - 1) self.now.accept_at
+            else 2 ^ 64 - 1) }
     {
         if self.has_more || self.says_now(now) {
             return now;
@@ -99,7 +110,8 @@ impl Screens {
 
     /// When there is more to say, or never.
     fn says_by(&self) -> u64
-        ensures { IfSome self.now.saying.waits (λ at. result ≡ at) }
+        ensures some { IfSome self.now.saying.waits (λ at. result ≡ at) }
+        ensures none { self.now.saying.waits ≡ None → result ≡ 2 ^ 64 - 1 }
     {
         match self.saying.waits {
             Some(at) => at,
@@ -111,6 +123,10 @@ impl Screens {
     pub fn report(&mut self) -> Option<Report>
         ensures same { SameSeating self.old self.new }
         ensures pauses { self.new.accept_at ≡ self.old.accept_at }
+        // what was counted is reported, once
+        ensures counts { self.new.counts ≡ none_counted }
+        ensures none { result ≡ None ↔ (self.old.counts ≡ none_counted) }
+        ensures some { IfSome result (IsReportOf self.old) }
     {
         self.is_full = false;
         self.is_stuck = false;
@@ -137,7 +153,7 @@ impl Screens {
     /// Whether what is said is as far as the node.
     fn is_at(&self, node: &Node) -> bool
         ensures { IsTrue result
-            → self.now.hub.broadcast.told ≡ published_token node.now.shown }
+            ↔ (self.now.hub.broadcast.told ≡ published_token node.now.shown) }
     {
         match (self.hub.broadcast().told(), node.token()) {
             (Some(told), Some(token)) => told.text() == token.text(),
@@ -155,6 +171,7 @@ impl Screens {
         ensures once { self.old.saying.is_trimmed ≡ true → self.new ≡ self.old }
         ensures most { self.new.hub.most ≡ self.old.hub.most }
         ensures waits { self.new.saying.waits ≡ self.old.saying.waits }
+        ensures to_do { SameToDo self.old self.new }
     {
         if !self.saying.is_trimmed {
             self.hub.trim();
@@ -168,6 +185,10 @@ impl Screens {
         ensures ended { AllEnd self.old.hub → AllEnd self.new.hub }
         ensures says { SaysAll self.new node.now.shown desk.now.time }
         ensures most { self.new.hub.most ≡ self.old.hub.most }
+        // it published where it is at another token than what was said
+        ensures news { (result ≡ false)
+            ↔ (self.old.hub.broadcast.told ≡ published_token node.now.shown) }
+        ensures to_do { SameToDo self.old self.new }
     {
         self.saying.waits = None;
         if self.is_at(node) {
@@ -189,6 +210,7 @@ impl Screens {
         ensures waits { self.new.saying.waits ≡ self.old.saying.waits }
         // where somebody is there nothing is done
         ensures stays { slab_len self.old.conns ≢ 0 → self.new ≡ self.old }
+        ensures to_do { SameToDo self.old self.new }
     {
         if !self.conns.is_empty() {
             return;
@@ -203,6 +225,7 @@ impl Screens {
         ensures most { self.new.hub.most ≡ self.old.hub.most }
         ensures soon { self.old.saying.waits ≡ None
             → WaitsBriefly self.new.saying.waits desk.now.time }
+        ensures to_do { SameToDo self.old self.new }
     {
         for _ in 0..node.kept().saturating_add(2) {
             if !self.say_one(desk, node) {
@@ -217,6 +240,7 @@ impl Screens {
         ensures says { WaitsBriefly self.old.saying.waits now
             → SaysAll self.new node.now.shown now }
         ensures most { self.new.hub.most ≡ self.old.hub.most }
+        ensures to_do { SameToDo self.old self.new }
     {
         if self.saying.waits.is_none() && !self.is_at(node) {
             self.saying.waits = Some(now);
@@ -231,6 +255,7 @@ impl Screens {
         ensures soon { self.old.saying.waits ≡ None
             → WaitsBriefly self.new.saying.waits desk.now.time }
         ensures goes_on { result ≡ true → self.new.saying.waits ≡ self.old.saying.waits }
+        ensures to_do { SameToDo self.old self.new }
     {
         self.saying.is_short = false;
         match self.hub.say_next(desk.alloc, node) {
@@ -259,6 +284,7 @@ impl Screens {
         ensures same { SameSeating self.old self.new }
         ensures spoke { self.new.saying.spoke ≡ now }
         ensures waits { self.new.saying.waits ≡ self.old.saying.waits }
+        ensures to_do { SameToDo self.old self.new }
     {
         self.saying.is_due = true;
         self.saying.spoke = now;
@@ -270,6 +296,7 @@ impl Screens {
         ensures ended { AllEnd self.new.hub }
         ensures most { self.new.hub.most ≡ self.old.hub.most }
         ensures waits { self.new.saying.waits ≡ self.old.saying.waits }
+        ensures to_do { SameToDo self.old self.new }
     {
         let (was_said, bodies) = (self.has_said(), self.following());
         // Who there was no memory for is cut.
@@ -347,6 +374,7 @@ impl Screens {
         ensures serving { StillStand self.old self.new }
         ensures cuts { KeepsThose (IsOnTime now 60000) self.old.hub.seats.slab
             self.new.hub.seats.slab }
+        ensures to_do { SameToDo self.old self.new }
     {
         self.hub.cut_late(now, STALL);
     }

@@ -1,12 +1,12 @@
 //! The screens: each has a socket, a connection at the same place, and a seat in the hub.
 
-ghost use Rattle.std.specs.Prelude.{◌≡◌, ◌==◌, true, ◌≢◌, ◌+◌, ◌-◌, ℕ, List, None, Some, min, false, IsTrue};
+ghost use Rattle.std.specs.Prelude.{◌≡◌, ◌==◌, ◌↔◌, true, ◌≢◌, ◌+◌, ◌-◌, ℕ, List, None, Some, min, false, IsTrue};
 ghost use Rattle.slab.specs.Slab.{get, slab_len};
 ghost use Rattle.feed_node.specs.States.{NodeState};
 ghost use Rattle.feed_hub.specs.Seats.{seat_at};
 ghost use Rattle.feed_device.specs.Calls.{NotCalled};
 ghost use Rattle.feed_device.specs.Sockets.{AllSockets, IsSocket, IsUnused, closed};
-ghost use Rattle.feed_screens.specs.Pending.{AreConnected};
+ghost use Rattle.feed_screens.specs.Pending.{AreConnected, owed_text_at};
 
 mod asking;
 mod coming;
@@ -15,6 +15,7 @@ mod sending;
 mod waiting;
 
 use crate::conn::Conn;
+use crate::counts::Counts;
 use crate::figures::ScreenTotals;
 use crate::limits::ScreenLimits;
 use crate::saying::Saying;
@@ -54,31 +55,6 @@ pub(crate) enum Hearing {
     TooMuch,
     /// They are none of a request, and the connection has lingered for long enough.
     Done,
-}
-
-/// What came and went since that was reported last.
-#[derive(Clone, Copy)]
-pub(crate) struct Counts {
-    /// How many connections were taken.
-    pub(crate) came: u64,
-    /// How many ended that were not cut.
-    pub(crate) ended: u64,
-    /// How many were cut.
-    pub(crate) cut: u64,
-}
-
-impl Counts {
-    pub(crate) fn none() -> Counts {
-        Counts {
-            came: 0,
-            ended: 0,
-            cut: 0,
-        }
-    }
-
-    pub(crate) fn is_none(&self) -> bool {
-        self.came == 0 && self.ended == 0 && self.cut == 0
-    }
 }
 
 /// What requests are answered with, and what those who were answered are sent.
@@ -228,6 +204,9 @@ impl Screens {
             → seat_at self.new.hub.seats.slab key ≡ seat_at self.old.hub.seats.slab key }
         ensures others { (other : ℕ) → other ≢ at
             → get self.new.conns other ≡ get self.old.conns other }
+        ensures owed { (other : ℕ) → other ≢ at
+            → owed_text_at self.new.pending.places.items other
+            ≡ owed_text_at self.old.pending.places.items other }
         ensures time { desk.new.time ≡ desk.old.time }
     {
         sockets.close(at);
@@ -251,6 +230,7 @@ impl Screens {
     fn count(&mut self, how: How)
         ensures same { SameSeating self.old self.new }
         ensures conns { self.new.conns ≡ self.old.conns }
+        ensures pending { self.new.pending ≡ self.old.pending }
     {
         match how {
             How::Cut => {
@@ -263,7 +243,7 @@ impl Screens {
 
     /// Whether the hub cut the connection at a place.
     fn is_cut(&self, at: usize) -> bool
-        ensures { IsTrue result → HasNoSeat self.now.hub (get self.now.conns at) }
+        ensures { IsTrue result ↔ HasNoSeat self.now.hub (get self.now.conns at) }
     {
         match self.conns.get(at) {
             Some(conn) => match conn.key {
@@ -290,6 +270,8 @@ impl Screens {
         // whom the hub didn't cut stays
         ensures stays { (at : ℕ) → ¬ (HasNoSeat self.old.hub (get self.old.conns at))
             → get self.new.conns at ≡ get self.old.conns at }
+        // and of those whom it cut nobody
+        ensures goes { (at : ℕ) → ¬ (HasNoSeat self.new.hub (get self.new.conns at)) }
         ensures time { desk.new.time ≡ desk.old.time }
     {
         for at in 0..self.conns.capacity() {
@@ -301,7 +283,7 @@ impl Screens {
     }
 
     fn is_past(&self, at: usize, now: u64) -> bool
-        ensures { IsTrue result → IsPast (get self.now.conns at) now }
+        ensures { IsTrue result ↔ IsPast (get self.now.conns at) now }
     {
         match self.conns.get(at) {
             Some(conn) => conn.is_past(now),
@@ -316,6 +298,8 @@ impl Screens {
         // whoever has not stays
         ensures stays { (at : ℕ) → ¬ (IsPast (get self.old.conns at) desk.old.time)
             → get self.new.conns at ≡ get self.old.conns at }
+        // and of those who have nobody
+        ensures goes { (at : ℕ) → ¬ (IsPast (get self.new.conns at) desk.old.time) }
         ensures asks { S.asked sockets.new ≡ S.asked sockets.old }
     {
         for at in 0..self.conns.capacity() {

@@ -12,8 +12,8 @@ use Rattle.feed_tables.specs.Walks.{weight, weighed, weighed_in, AreIn}
 use Rattle.feed_tables.specs.declared.change.Change.{Change}
 use Rattle.feed_tables.specs.declared.change.Change.TheVariants.{Set, Remove, Empty, Single, Clear}
 use Rattle.feed_tables.specs.declared.ids.Ids.{Ids}
-use Rattle.feed_tables.specs.declared.tables.Table.{Table}
-use Rattle.feed_tables.specs.declared.tables.Table.TheVariants.{One, Many}
+use Rattle.feed_tables.specs.declared.table.Table.{Table}
+use Rattle.feed_tables.specs.declared.table.Table.TheVariants.{One, Many}
 use Rattle.feed_tables.proofs.Changing.{Changed, step}
 use Rattle.feed_tables.proofs.ChangedSizes.{in_stepped, changed_entry, entries_changed}
 use Rattle.feed_tables.proofs.Entries.{first, second}

@@ -8,7 +8,7 @@ use Rattle.std.specs.declared.boxed.Box.{Box}
 use Rattle.feed_tables.specs.Bytes.{byte_order}
 use Rattle.feed_tables.specs.Walks.{Scale, weight, weighed_in}
 use Rattle.feed_tables.specs.ChangedIds.{HasSet, SetsIn}
-use Rattle.feed_tables.specs.Map.{Exchanges}
+use Rattle.feed_tables.specs.Map.{TakesThePlace}
 use Rattle.feed_tables.specs.declared.tree.Fork.{Fork}
 use Rattle.feed_tables.specs.declared.ids.Ids.{Ids}
 use Rattle.feed_tables.proofs.Order.{total}
@@ -89,15 +89,15 @@ module _ (kind first id object : List ℕ) (i j : Ids) (m n : Changed) (held : a
   absent other = ap (λ (x : Changed). get x kind) (sym held) ∙ get_elsewhere first i kind other
 
   pub swapped_here : kind ≡ first → n ≡ alone first j → (x : Ids) (b : Bool) → x ≡ i → b ≡ true
-      → Exchanges kind m n j x b
+      → TakesThePlace kind m n j x b
   swapped_here same made x b back is =
-      subst (λ (b : Bool). Exchanges kind m n j x b) (sym is)
-      (subst (λ (x : Ids). Exchanges kind m n j x true) (sym back) (exchanged same made))
+      subst (λ (b : Bool). TakesThePlace kind m n j x b) (sym is)
+      (subst (λ (x : Ids). TakesThePlace kind m n j x true) (sym back) (exchanged same made))
 
   pub swapped_nowhere : (byte_order kind first ≡ Equal → ⊥) → n ≡ alone first i → (x : Ids) (b : Bool)
-      → x ≡ j → b ≡ false → Exchanges kind m n j x b
+      → x ≡ j → b ≡ false → TakesThePlace kind m n j x b
   swapped_nowhere other made x b back is =
-      subst (λ (b : Bool). Exchanges kind m n j x b) (sym is) (absent other, made ∙ held, back)
+      subst (λ (b : Bool). TakesThePlace kind m n j x b) (sym is) (absent other, made ∙ held, back)
 
   pub set_here : kind ≡ first → n ≡ alone first j → HasSet i j id object
       → (r : Option (Box (Fork (List ℕ)) Global)) → r ≡ None → SetsIn kind m n id object r
@@ -121,12 +121,12 @@ set_same kind id object m x n y r s a b d set =
     (subst (λ (r : Option (Box (Fork (List ℕ)) Global)). SetsIn kind m n id object r) (sym d) set))
 
 pub swapped_same : (kind : List ℕ) (m x n y : Changed) (j i k : Ids) (a b : Bool)
-    → m ≡ x → y ≡ n → k ≡ i → b ≡ a → Exchanges kind m n j i a → Exchanges kind x y j k b
+    → m ≡ x → y ≡ n → k ≡ i → b ≡ a → TakesThePlace kind m n j i a → TakesThePlace kind x y j k b
 swapped_same kind m x n y j i k a b p q r s swap =
-    subst (λ (m : Changed). Exchanges kind m y j k b) p
-    (subst (λ (n : Changed). Exchanges kind m n j k b) (sym q)
-    (subst (λ (i : Ids). Exchanges kind m n j i b) (sym r)
-    (subst (λ (a : Bool). Exchanges kind m n j i a) (sym s) swap)))
+    subst (λ (m : Changed). TakesThePlace kind m y j k b) p
+    (subst (λ (n : Changed). TakesThePlace kind m n j k b) (sym q)
+    (subst (λ (i : Ids). TakesThePlace kind m n j i b) (sym r)
+    (subst (λ (a : Bool). TakesThePlace kind m n j i a) (sym s) swap)))
 
 -- a type is another one
 pub other_name : (o p : Ordering) → (o ≡ Less) ⊎ (o ≡ Greater) → o ≡ p → p ≡ Equal → ⊥

@@ -16,8 +16,8 @@ use Rattle.feed_tables.specs.declared.tree.Node.{Node}
 use Rattle.feed_tables.specs.declared.tree.Node.TheVariants.{Fork as a_fork}
 use Rattle.feed_tables.specs.Walks.{Scale, weight, weighed, weighed_in, each_one, by_objects, AreIn}
 use Rattle.feed_tables.specs.declared.ids.Ids.{Ids}
-use Rattle.feed_tables.specs.declared.tables.Table.{Table}
-use Rattle.feed_tables.specs.declared.tables.Table.TheVariants.{One, Many}
+use Rattle.feed_tables.specs.declared.table.Table.{Table}
+use Rattle.feed_tables.specs.declared.table.Table.TheVariants.{One, Many}
 use Rattle.feed_tables.proofs.Order.{total}
 use Rattle.feed_tables.proofs.Entries.{first, second, equal}
 use Rattle.feed_tables.proofs.Changing.{Changed, step, get-step, get-changed}

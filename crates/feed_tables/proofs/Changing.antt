@@ -11,8 +11,8 @@ use Rattle.feed_tables.specs.ChangedIds.{over_ids, merged, merged_at, with_ids, 
 use Rattle.feed_tables.specs.Tables.{Objects, Contents, no_objects, objects_or_none, collection_of, with_object, without_id}
 use Rattle.feed_tables.specs.declared.ids.Ids.{Ids}
 use Rattle.feed_tables.specs.declared.patch.Patch.{Patch}
-use Rattle.feed_tables.specs.declared.tables.Table.{Table}
-use Rattle.feed_tables.specs.declared.tables.Table.TheVariants.{One, Many}
+use Rattle.feed_tables.specs.declared.table.Table.{Table}
+use Rattle.feed_tables.specs.declared.table.Table.TheVariants.{One, Many}
 use Rattle.feed_tables.specs.declared.tree.Fork.{Fork}
 use Rattle.feed_tables.proofs.Order.{total}
 use Rattle.feed_tables.proofs.Entries.{first, second, equal, find_below, below_tied}

@@ -15,8 +15,8 @@ use Rattle.feed_tables.specs.Objects.{AreObjects}
 use Rattle.feed_tables.specs.Tables.{Contents, no_objects, no_tables, objects_or_none, without_id, after, after_all, listed, or_clear, listing, object_count, IsTable, AreTypes}
 use Rattle.feed_tables.specs.declared.change.Change.{Change}
 use Rattle.feed_tables.specs.declared.change.Change.TheVariants.{Set, Remove, Empty, Single, Clear}
-use Rattle.feed_tables.specs.declared.tables.Table.{Table}
-use Rattle.feed_tables.specs.declared.tables.Table.TheVariants.{One, Many}
+use Rattle.feed_tables.specs.declared.table.Table.{Table}
+use Rattle.feed_tables.specs.declared.table.Table.TheVariants.{One, Many}
 use Rattle.feed_tables.proofs.Order.{total}
 use Rattle.feed_tables.proofs.Maps.{in_order_without, from_sorted_without}
 use Rattle.feed_tables.proofs.Within.{AllNamed, named_put, all-filter, listing_within}

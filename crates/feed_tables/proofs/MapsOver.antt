@@ -11,7 +11,7 @@ use Rattle.std.specs.declared.alloc.Global.{Global}
 use Rattle.std.specs.declared.boxed.Box.{Box}
 use Rattle.feed_tables.specs.declared.tree.Fork.{Fork}
 use Rattle.feed_tables.specs.Tree.{Swaps, FirstTaken, without_all}
-use Rattle.feed_tables.specs.Map.{Exchanges, TakesFirst, map_over, map_less}
+use Rattle.feed_tables.specs.Map.{TakesThePlace, TakesFirst, map_over, map_less}
 use Rattle.feed_tables.proofs.Order.{total}
 
 -- a map with each item put under its name
@@ -19,7 +19,7 @@ abbrev pub put_all : {V : Type 0} → List (List ℕ × V) → FinMap byte_order
 put_all es m = fold (λ n e. insert n e.0 e.1) m es
 
 -- an exchange, seen in maps
-pub exchanged : {V : Type 0} (id : List ℕ) (es fs : List (List ℕ × V)) (old new : V) (b : Bool) (m : FinMap byte_order V) → IsInOrder es → from_sorted es ≡ m → Swaps id es fs old new b → Exchanges id m (from_sorted fs) old new b
+pub exchanged : {V : Type 0} (id : List ℕ) (es fs : List (List ℕ × V)) (old new : V) (b : Bool) (m : FinMap byte_order V) → IsInOrder es → from_sorted es ≡ m → Swaps id es fs old new b → TakesThePlace id m (from_sorted fs) old new b
 exchanged {V} id es fs old new true m h is s = (
   ap (λ (n : FinMap byte_order V). get n id) (sym is) ∙ get-from_sorted byte_order es id h ∙ s.0,
   ap from_sorted s.1 ∙ from_sorted_put es h id old ∙ ap (λ (n : FinMap byte_order V). insert n id old) is,
@@ -107,7 +107,7 @@ pub get-insert_same : {V : Type 0} (m : FinMap byte_order V) (k : List ℕ) (v :
 get-insert_same {V} m k v = get-insert total m k v k ∙ ap (λ (b : Bool). cond b (Some v) (get m k)) (itself k)
 
 -- an item that was taken out by an exchange, and put back changed by another
-pub put_back : {V : Type 0} (m n o : FinMap byte_order V) (k : List ℕ) (p held other : V) (b : Bool) → n ≡ insert m k p → Exchanges k n o held other b → o ≡ insert m k held
+pub put_back : {V : Type 0} (m n o : FinMap byte_order V) (k : List ℕ) (p held other : V) (b : Bool) → n ≡ insert m k p → TakesThePlace k n o held other b → o ≡ insert m k held
 put_back {V} m n o k p held other true made s = s.1 ∙ ap (λ (x : FinMap byte_order V). insert x k held) made ∙ insert-insert m k p held
 put_back {V} m n o k p held other false made s =
     let there : get n k ≡ Some p = ap (λ (x : FinMap byte_order V). get x k) made ∙ get-insert_same m k p in
@@ -115,6 +115,6 @@ put_back {V} m n o k p held other false made s =
     cc
 
 -- an exchange that found an item
-pub exchanged_some : {V : Type 0} (k : List ℕ) (m n : FinMap byte_order V) (old new : V) (b : Bool) → b ≡ true → Exchanges k m n old new b → (get m k ≡ Some new) × (n ≡ insert m k old)
+pub exchanged_some : {V : Type 0} (k : List ℕ) (m n : FinMap byte_order V) (old new : V) (b : Bool) → b ≡ true → TakesThePlace k m n old new b → (get m k ≡ Some new) × (n ≡ insert m k old)
 exchanged_some k m n old new true is s = s
 exchanged_some k m n old new false is s = cc

@@ -6,7 +6,7 @@ use Rattle.feed_tables.specs.Bytes.{byte_order, IsInOrder}
 use Rattle.feed_tables.specs.Tables.{Contents}
 use Rattle.feed_tables.specs.declared.ids.Ids.{Ids}
 use Rattle.feed_tables.specs.declared.scale.Merged.{Merged}
-use Rattle.feed_tables.specs.declared.tables.Table.{Table}
+use Rattle.feed_tables.specs.declared.table.Table.{Table}
 use Rattle.feed_tables.proofs.MapsOver.{exchanged, in_order_swapped}
 use Rattle.feed_tables.proofs.Swapping.{swaps_before, swaps_after, same_length}
 use Rattle.feed_tables.proofs.TreeFork.{AtFork, find_before, find_after}

@@ -5,10 +5,10 @@ use Rattle.std.specs.Ordering.{eq_by_cmp}
 use Rattle.std.specs.FinMap.{FinMap, empty, get, insert, remove, get-empty, get-insert, get-remove, get_tied}
 use Rattle.feed_tables.specs.AtType.{less_object}
 use Rattle.feed_tables.specs.Bytes.{byte_order}
-use Rattle.feed_tables.specs.Map.{Exchanges, map_over, map_less}
+use Rattle.feed_tables.specs.Map.{TakesThePlace, map_over, map_less}
 use Rattle.feed_tables.specs.Tables.{Contents, object_of, object_at, without_id}
-use Rattle.feed_tables.specs.declared.tables.Table.{Table}
-use Rattle.feed_tables.specs.declared.tables.Table.TheVariants.{One, Many}
+use Rattle.feed_tables.specs.declared.table.Table.{Table}
+use Rattle.feed_tables.specs.declared.table.Table.TheVariants.{One, Many}
 use Rattle.feed_tables.proofs.Order.{total}
 use Rattle.feed_tables.proofs.Entries.{equal}
 use Rattle.feed_tables.proofs.Maps.{remove_absent}
@@ -145,13 +145,13 @@ insert_same {V} m k v is = same_gets _ _ (λ q.
 
 -- an exchange under another name for the same
 renamed : {V : Type 0} (q k : List ℕ) (m n : FinMap byte_order V) (old new : V) (b : Bool)
-    → q ≡ k → Exchanges q m n old new b → Exchanges k m n old new b
-renamed q k m n old new b is e = subst (λ (x : List ℕ). Exchanges x m n old new b) is e
+    → q ≡ k → TakesThePlace q m n old new b → TakesThePlace k m n old new b
+renamed q k m n old new b is e = subst (λ (x : List ℕ). TakesThePlace x m n old new b) is e
 
 -- an item that was taken out, changed and put back
 pub exchanged_twice : {V : Type 0} (q1 q2 k : List ℕ) (m n o : FinMap byte_order V)
     (p held now other : V) (a b : Bool) → q1 ≡ k → q2 ≡ k → a ≡ true
-    → Exchanges q1 m n p held a → Exchanges q2 n o now other b
+    → TakesThePlace q1 m n p held a → TakesThePlace q2 n o now other b
     → (get m k ≡ Some held) × (o ≡ insert m k now)
 exchanged_twice q1 q2 k m n o p held now other a b is1 is2 there e1 e2 =
     let first = exchanged_some k m n p held a there (renamed q1 k m n p held a is1 e1) in
@@ -159,7 +159,7 @@ exchanged_twice q1 q2 k m n o p held now other a b is1 is2 there e1 e2 =
 
 -- an exchange that found nothing
 pub exchanged_none : {V : Type 0} (q k : List ℕ) (m n : FinMap byte_order V) (old new : V) (b : Bool)
-    → q ≡ k → b ≡ false → Exchanges q m n old new b → (get m k ≡ None) × (n ≡ m) × (new ≡ old)
+    → q ≡ k → b ≡ false → TakesThePlace q m n old new b → (get m k ≡ None) × (n ≡ m) × (new ≡ old)
 exchanged_none q k m n old new true is none e = cc
 exchanged_none q k m n old new false is none e = renamed q k m n old new false is e
 

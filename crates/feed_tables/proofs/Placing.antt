@@ -9,8 +9,8 @@ use Rattle.feed_tables.specs.declared.change.Change.TheVariants.{Set, Remove, Em
 use Rattle.feed_tables.specs.ChangedIds.{over_ids, with_ids}
 use Rattle.feed_tables.specs.Tables.{Contents, Objects, collection_of, objects_or_none, size, after, with_object}
 use Rattle.feed_tables.specs.declared.ids.Ids.{Ids}
-use Rattle.feed_tables.specs.declared.tables.Table.{Table}
-use Rattle.feed_tables.specs.declared.tables.Table.TheVariants.{One, Many}
+use Rattle.feed_tables.specs.declared.table.Table.{Table}
+use Rattle.feed_tables.specs.declared.table.Table.TheVariants.{One, Many}
 use Rattle.feed_tables.proofs.Order.{total}
 use Rattle.feed_tables.proofs.Sizes.{size-insert}
 

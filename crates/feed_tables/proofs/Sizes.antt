@@ -9,7 +9,7 @@ use Rattle.feed_tables.proofs.Entries.{first, second, find_below, below_tied, be
 use Rattle.feed_tables.proofs.TablesLaws.{sized_is}
 use Rattle.feed_tables.proofs.Maps.{byte_order_antisymmetric, from_sorted_without, from_sorted_none, in_order_without}
 use Rattle.feed_tables.specs.Tables.{Contents, object_count, size}
-use Rattle.feed_tables.specs.declared.tables.Table.{Table}
+use Rattle.feed_tables.specs.declared.table.Table.{Table}
 use Rattle.feed_tables.specs.Walks.{Scale, weight, weighed, by_objects}
 use Rattle.feed_tables.proofs.Order.{total}
 

@@ -9,8 +9,8 @@ use Rattle.feed_tables.specs.Tables.{Objects, Contents, no_objects, objects_or_n
 use Rattle.feed_tables.specs.Touched.{AgreeIn, AgreeAt, AgreeWhereTouched}
 use Rattle.feed_tables.specs.declared.change.Change.{Change}
 use Rattle.feed_tables.specs.declared.change.Change.TheVariants.{Set, Remove, Empty, Single, Clear}
-use Rattle.feed_tables.specs.declared.tables.Table.{Table}
-use Rattle.feed_tables.specs.declared.tables.Table.TheVariants.{One, Many}
+use Rattle.feed_tables.specs.declared.table.Table.{Table}
+use Rattle.feed_tables.specs.declared.table.Table.TheVariants.{One, Many}
 use Rattle.feed_tables.proofs.Entries.{equal}
 use Rattle.feed_tables.proofs.Maps.{byte_order_antisymmetric}
 use Rattle.feed_tables.proofs.Order.{total}

@@ -19,8 +19,8 @@ use Rattle.feed_tables.specs.Objects.{AreObjects}
 use Rattle.feed_tables.specs.Tables.{Contents, listed, or_clear, listing, IsTable, AreTypes}
 use Rattle.feed_tables.specs.declared.change.Change.{Change}
 use Rattle.feed_tables.specs.declared.change.Change.TheVariants.{Clear}
-use Rattle.feed_tables.specs.declared.tables.Table.{Table}
-use Rattle.feed_tables.specs.declared.tables.Table.TheVariants.{One, Many}
+use Rattle.feed_tables.specs.declared.table.Table.{Table}
+use Rattle.feed_tables.specs.declared.table.Table.TheVariants.{One, Many}
 use Rattle.feed_text.proofs.Lists.{all-append}
 
 module _ {X : Type 0} (P : X → Type 0) where

@@ -3,7 +3,7 @@
 use Rattle.std.specs.Prelude.{◌≡◌, ℕ, ◌+◌, min, Bool, true, false, List, [], ◌∷◌, length, Option, None, Some}
 use Rattle.std.specs.FinMap.{FinMap, find, get, entries}
 use Rattle.feed_tables.specs.Bytes.{byte_order}
-use Rattle.feed_tables.specs.Map.{Exchanges, map_less}
+use Rattle.feed_tables.specs.Map.{TakesThePlace, map_less}
 use Rattle.feed_tables.specs.ChangedIds.{changed_table, merged}
 use Rattle.feed_tables.specs.Tables.{Contents, object_count}
 use Rattle.feed_tables.specs.Tree.{Swaps}
@@ -12,8 +12,8 @@ use Rattle.feed_tables.specs.declared.change.Change.{Change}
 use Rattle.feed_tables.specs.declared.change.Change.TheVariants.{Set, Remove, Empty, Single, Clear}
 use Rattle.feed_tables.specs.declared.ids.Ids.{Ids}
 use Rattle.feed_tables.specs.declared.scale.Merged.{Merged}
-use Rattle.feed_tables.specs.declared.tables.Table.{Table}
-use Rattle.feed_tables.specs.declared.tables.Table.TheVariants.{One, Many}
+use Rattle.feed_tables.specs.declared.table.Table.{Table}
+use Rattle.feed_tables.specs.declared.table.Table.TheVariants.{One, Many}
 
 -- an object of a collection: the name of its type, whose length this is, its id and its text
 abbrev pub in_type : ℕ → Scale (List ℕ)
@@ -93,4 +93,5 @@ MergesAmong kind es fs ids result true =
 abbrev pub MergesIn : List ℕ → Contents → Contents → Ids → Merged → Bool → Type 0
 MergesIn kind m n ids result false = (get m kind ≡ None) × (n ≡ m)
 MergesIn kind m n ids result true =
-    (old : Table) × (new : Table) × Exchanges kind m n new old true × Merges kind ids old new result
+    (old : Table) × (new : Table) × TakesThePlace kind m n new old true
+    × Merges kind ids old new result

@@ -1,8 +1,8 @@
 -- What a removal does to what is held under its type.
 use Rattle.std.specs.Prelude.{List, ℕ}
 use Rattle.std.specs.FinMap.{remove}
-use Rattle.feed_tables.specs.declared.tables.Table.{Table}
-use Rattle.feed_tables.specs.declared.tables.Table.TheVariants.{One, Many}
+use Rattle.feed_tables.specs.declared.table.Table.{Table}
+use Rattle.feed_tables.specs.declared.table.Table.TheVariants.{One, Many}
 
 -- a collection without the id; one object as it is
 abbrev pub less_object : Table → List ℕ → Table

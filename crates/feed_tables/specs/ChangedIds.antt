@@ -4,16 +4,16 @@ use Rattle.std.specs.FinMap.{FinMap, empty, find, get, insert, entries, len}
 use Rattle.std.specs.declared.alloc.Global.{Global}
 use Rattle.std.specs.declared.boxed.Box.{Box}
 use Rattle.feed_tables.specs.Bytes.{byte_order}
-use Rattle.feed_tables.specs.Map.{Exchanges, map_over, map_less}
+use Rattle.feed_tables.specs.Map.{TakesThePlace, map_over, map_less}
 use Rattle.feed_tables.specs.Tree.{Swaps}
 use Rattle.feed_tables.specs.Tables.{Objects, Contents, object_count}
 use Rattle.feed_tables.specs.Walks.{Scale}
 use Rattle.feed_tables.specs.declared.by_type.Types.{Types}
 use Rattle.feed_tables.specs.declared.by_type.Types.TheVariants.{Alone, Several}
 use Rattle.feed_tables.specs.declared.ids.Ids.{Ids}
-use Rattle.feed_tables.specs.declared.tables.Table.{Table}
+use Rattle.feed_tables.specs.declared.table.Table.{Table}
 use Rattle.feed_tables.specs.declared.tree.Fork.{Fork}
-use Rattle.feed_tables.specs.declared.tables.Table.TheVariants.{One, Many}
+use Rattle.feed_tables.specs.declared.table.Table.TheVariants.{One, Many}
 
 -- what becomes of the objects of collections, by their types
 abbrev pub ids_by_type : Types → FinMap byte_order Ids
@@ -68,7 +68,7 @@ SetsAmong kind es fs id object (Some node) =
 abbrev pub SetsIn : List ℕ → FinMap byte_order Ids → FinMap byte_order Ids → List ℕ → List ℕ
     → Option (Box (Fork (List ℕ)) Global) → Type 0
 SetsIn kind m n id object None =
-    (old : Ids) × (new : Ids) × Exchanges kind m n new old true × HasSet old new id object
+    (old : Ids) × (new : Ids) × TakesThePlace kind m n new old true × HasSet old new id object
 SetsIn kind m n id object (Some node) =
     (get m kind ≡ None) × (n ≡ m) × (node.value.id ≡ id) × (node.value.item ≡ object)
 

@@ -5,7 +5,7 @@ use Rattle.std.specs.FinMap.{code as map_code}
 use Rattle.feed_tables.specs.Tables.{Contents, Tables}
 use Rattle.feed_tables.specs.declared.change.Change.{Change}
 use Rattle.feed_tables.specs.contracts.change.Change as change
-use Rattle.feed_tables.specs.contracts.tables.Table as table
+use Rattle.feed_tables.specs.contracts.table.Table as table
 
 abbrev pub text_code : Coded (List ℕ)
 text_code = coded_list coded_ℕ

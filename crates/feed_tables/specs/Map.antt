@@ -7,10 +7,10 @@ use Rattle.feed_tables.specs.Bytes.{byte_order}
 use Rattle.feed_tables.specs.declared.tree.Fork.{Fork}
 
 -- an item took the place of the one under a name; where there is none, nothing changed
-abbrev pub Exchanges : {V : Type 0} → List ℕ → FinMap byte_order V → FinMap byte_order V → V → V
+abbrev pub TakesThePlace : {V : Type 0} → List ℕ → FinMap byte_order V → FinMap byte_order V → V → V
     → Bool → Type 0
-Exchanges id m n old new true = (get m id ≡ Some new) × (n ≡ insert m id old)
-Exchanges id m n old new false = (get m id ≡ None) × (n ≡ m) × (new ≡ old)
+TakesThePlace id m n old new true = (get m id ≡ Some new) × (n ≡ insert m id old)
+TakesThePlace id m n old new false = (get m id ≡ None) × (n ≡ m) × (new ≡ old)
 
 -- the first item was taken out; where there is none, nothing changed
 abbrev pub TakesFirst : {V : Type 0} → FinMap byte_order V → FinMap byte_order V

@@ -5,8 +5,8 @@ use Rattle.std.specs.FinMap.{get}
 use Rattle.feed_tables.specs.Tables.{Contents, after_all}
 use Rattle.feed_tables.specs.declared.change.Change.{Change}
 use Rattle.feed_tables.specs.declared.change.Change.TheVariants.{Set, Remove, Empty, Single, Clear}
-use Rattle.feed_tables.specs.declared.tables.Table.{Table}
-use Rattle.feed_tables.specs.declared.tables.Table.TheVariants.{One, Many}
+use Rattle.feed_tables.specs.declared.table.Table.{Table}
+use Rattle.feed_tables.specs.declared.table.Table.TheVariants.{One, Many}
 
 -- the same is held under a type, but that of a collection nothing is said besides this id
 abbrev pub AgreeIn : List ℕ → Option Table → Option Table → Type 0

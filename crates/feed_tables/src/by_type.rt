@@ -3,7 +3,7 @@
 ghost use Rattle.std.specs.Prelude.{◌≡◌, ◌↔◌, IsTrue, min, OnOk, OnErr, IfOk};
 ghost use Rattle.std.specs.Option.{option_copied};
 ghost use Rattle.std.specs.FinMap as map;
-ghost use Rattle.feed_tables.specs.Map.{Exchanges, map_over, map_less};
+ghost use Rattle.feed_tables.specs.Map.{TakesThePlace, map_over, map_less};
 ghost use Rattle.feed_tables.specs.ChangedIds.{sets_in, SetsIn, with_all_ids};
 ghost use Rattle.feed_tables.specs.Walks.{weighed_in};
 
@@ -11,7 +11,8 @@ use crate::ids::Ids;
 use crate::map::Map;
 use crate::name::{Key, Name};
 use crate::scale::Scale;
-use crate::tables::{Table, Tables};
+use crate::table::Table;
+use crate::tables::Tables;
 use crate::tree::Fork;
 use crate::tree::walks::weight_in;
 use feed_text::ObjectText;
@@ -72,7 +73,7 @@ impl IdsByType {
 
     /// Exchanges what becomes of a type's objects, and answers whether anything does.
     pub fn swap(&mut self, kind: &Key<'_>, ids: &mut Ids) -> bool
-        ensures { Exchanges kind.now self.old self.new ids.old ids.new result }
+        ensures { TakesThePlace kind.now self.old self.new ids.old ids.new result }
     {
         match &mut self.types {
             Types::Alone(first, held) => match kind.compare(first) {

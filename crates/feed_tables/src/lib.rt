@@ -12,6 +12,7 @@ mod numbers;
 mod patch;
 mod placed;
 mod scale;
+mod table;
 mod tables;
 mod tree;
 

@@ -7,7 +7,7 @@ ghost use Rattle.std.specs.FinMap as map;
 ghost use Rattle.feed_tables.specs.Amounts.{lost_in, MergesIn};
 ghost use Rattle.feed_tables.specs.Changes.{sets};
 ghost use Rattle.feed_tables.specs.Listers.{FailsIn};
-ghost use Rattle.feed_tables.specs.Map.{Exchanges, map_over, map_less, TakesFirst};
+ghost use Rattle.feed_tables.specs.Map.{TakesThePlace, map_over, map_less, TakesFirst};
 ghost use Rattle.feed_tables.specs.Objects.{AreObjects};
 ghost use Rattle.feed_tables.specs.ChangedIds.{sets_in, SetsIn};
 ghost use Rattle.feed_tables.specs.Tables.{listed, AreTypes};
@@ -18,7 +18,7 @@ use crate::ids::Ids;
 use crate::lister::Lister;
 use crate::name::{Key, Name};
 use crate::scale::{Merged, Scale, Shift};
-use crate::tables::Table;
+use crate::table::Table;
 use crate::tree::union::let_go;
 use crate::tree::{Fork, Tree, count_node, weigh_node};
 use feed_text::ObjectText;
@@ -83,7 +83,7 @@ impl<V: Drop> Map<V> {
 
     /// Exchanges the item of a name with this one, and answers whether there is one.
     pub fn swap(&mut self, id: &Key<'_>, item: &mut V) -> bool
-        ensures { Exchanges id.now self.old self.new item.old item.new result }
+        ensures { TakesThePlace id.now self.old self.new item.old item.new result }
     {
         self.tree.swap(id, item)
     }

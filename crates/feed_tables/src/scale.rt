@@ -7,7 +7,7 @@ ghost use Rattle.feed_tables.specs.Walks.{each_one, by_objects};
 
 use crate::by_type::IdsByType;
 use crate::name::Key;
-use crate::tables::Table;
+use crate::table::Table;
 use feed_text::ObjectText;
 
 /// Says how much an item weighs.

@@ -12,9 +12,9 @@ use Rattle.feed_world.specs.declared.event.Event.TheVariants.{Connect}
 use Rattle.feed_world.specs.declared.event.Reply.{Reply}
 use Rattle.feed_world.specs.declared.event.WorldFault.{WorldFault}
 use Rattle.feed_world.specs.declared.event.WorldFault.TheVariants.{NoNode, Memory}
-use Rattle.feed_world.specs.Position.{Position, IsPlace, node_where}
+use Rattle.feed_world.specs.Position.{Position, IsPlaceOfLog, node_where}
 use Rattle.feed_world.specs.States.{FollowingMirror, IsMirror, AreNodes, Moves, RefusesMove, NodesMove, IsAsked, IsFramedAs, BreaksConnect, all_shown, event_asking, node_asked, mirror_asks}
-use Rattle.feed_world.specs.Step.{Move, Outcome, outcome, at_node, is_free, IsRefused}
+use Rattle.feed_world.specs.Step.{Move, Outcome, outcome, at_node, is_free, EventIsRefused}
 use Rattle.feed_world.specs.World.{Mirror, World, is_other, place_at}
 use Rattle.feed_world.proofs.Moved.{Keeps, LeadsTo, keeps_connect, keeps_serve, same_length, mirror_of, IsShown, shown, within, nobody, at, leads, event_moves, refusal_broke, move_fails}
 
@@ -43,7 +43,7 @@ Refuses o fault = (o ≡ Err fault) ⊎ ((fault ≡ Memory) × ¬ (IsTrue (is_fr
 
 is_refused : (w : World) (number : ℕ) (asks : Asks) (fault : WorldFault)
     → Refuses (outcome w (event_asking asks number)) fault
-    → IsRefused w (event_asking asks number) fault
+    → EventIsRefused w (event_asking asks number) fault
 is_refused w number (ForConnection j back framing) fault k = k
 is_refused w number ForCommit fault k = k
 
@@ -58,7 +58,7 @@ no_node w i j back true e (inr k) = absurd (cc)
 pub asked_nobody : (w : World) (primary : PrimaryState) (fs : List FollowingMirror)
     → AreNodes w primary fs → (number : ℕ) (asks : Asks)
     → ((place : ℕ) → number ≡ suc place → length fs ≤ place)
-    → IsRefused w (event_asking asks number) NoNode
+    → EventIsRefused w (event_asking asks number) NoNode
 asked_nobody w primary fs h number (ForConnection j back framing) k =
     inl (no_node w number j back (is_other w number j) refl
     (inl (nobody w primary fs h number (act w (ForConnection j back w.framing)) k)))
@@ -110,7 +110,7 @@ module _ (w : World) (primary : PrimaryState) (fs : List FollowingMirror) (h : A
 
     -- what holds of each place of that node holds of the one in the world
     at_server : (P : Mirror → Option Position → Type 0)
-        → ((m : Mirror) (at : Option Position) → IsPlace w.limits (numbered w.log) at
+        → ((m : Mirror) (at : Option Position) → IsPlaceOfLog w.limits (numbered w.log) at
         → node ≡ node_where (numbered w.log) at → IsMirror w.limits (numbered w.log) m f → P m at)
         → (m : Mirror) → IsMirror w.limits (numbered w.log) m (get_or fs place d) → P m (place_at w (node_asked asks m.upstream))
     at_server P k m mirror =
@@ -137,7 +137,7 @@ module _ (w : World) (primary : PrimaryState) (fs : List FollowingMirror) (h : A
 
     pub asked_leads : (new : List FollowingMirror) (g : FollowingMirror) → new ≡ slice_set fs place g
         → (r : Result Reply WorldFault)
-        → ((m : Mirror) (at : Option Position) → IsPlace w.limits (numbered w.log) at
+        → ((m : Mirror) (at : Option Position) → IsPlaceOfLog w.limits (numbered w.log) at
         → node ≡ node_where (numbered w.log) at → IsMirror w.limits (numbered w.log) m f
         → IfOk r (λ reply. IsAsked w.limits (numbered w.log) asks m number at reply g))
         → IfOk r (λ reply. NodesMove w primary (event_asking asks number) reply new)
@@ -153,22 +153,22 @@ module _ (w : World) (primary : PrimaryState) (fs : List FollowingMirror) (h : A
         each (Err fault) q = tt
 
     pub asked_fails : (r : Result Reply WorldFault)
-        → ((m : Mirror) (at : Option Position) → IsPlace w.limits (numbered w.log) at
+        → ((m : Mirror) (at : Option Position) → IsPlaceOfLog w.limits (numbered w.log) at
         → node ≡ node_where (numbered w.log) at → IsMirror w.limits (numbered w.log) m f
         → IfErr r (λ fault. RefusesMove (mirror_asks asks m at) fault))
-        → IfErr r (λ fault. IsRefused w (event_asking asks number) fault)
+        → IfErr r (λ fault. EventIsRefused w (event_asking asks number) fault)
     asked_fails r k =
         each_fault r (move_fails w primary fs h number place same d less (act w asks) r
         (at_server (λ m at. IfErr r (λ fault. RefusesMove (mirror_asks asks m at) fault)) k))
       where
         each_fault : (r : Result Reply WorldFault)
             → IfErr r (λ fault. Refuses (at_node w number (act w asks)) fault)
-            → IfErr r (λ fault. IsRefused w (event_asking asks number) fault)
+            → IfErr r (λ fault. EventIsRefused w (event_asking asks number) fault)
         each_fault (Ok reply) e = tt
         each_fault (Err fault) e = is_refused w number asks fault (subst (λ o. Refuses o fault) (is_event w number asks other framed) e)
 
   -- or there is none: a mirror connected to another node, so it was to connect to one now
-  pub asked_none : (j ≡ suc (length early)) ⊎ (length early + length later + 2 ≤ j) → IsRefused w (event_asking asks number) NoNode
+  pub asked_none : (j ≡ suc (length early)) ⊎ (length early + length later + 2 ≤ j) → EventIsRefused w (event_asking asks number) NoNode
   asked_none out = by asks asked
     where
       past : (j ≡ number) ⊎ (length w.mirrors + 1 ≤ j)
@@ -190,7 +190,7 @@ module _ (w : World) (primary : PrimaryState) (fs : List FollowingMirror) (h : A
           ap (is_other w number) k.upstream ∙ ap (λ i. is_other w i there.0.upstream) same
           ∙ subst (λ o. IfSome o (λ m. is_other w (suc place) m.upstream ≡ true)) there.1 (h.others place)
 
-      by : (a : Asks) → j ≡ node_asked a f.upstream → IsRefused w (event_asking a number) NoNode
+      by : (a : Asks) → j ≡ node_asked a f.upstream → EventIsRefused w (event_asking a number) NoNode
       by (ForConnection i back framing) e = inl (gone (is_other w number i) refl)
         where
           gone : (b : Bool) → is_other w number i ≡ b → outcome w (Connect number i back) ≡ Err NoNode

@@ -26,10 +26,10 @@ use Rattle.feed_answer.specs.Carried.{standing_at}
 use Rattle.feed_world.specs.declared.event.Reply.TheVariants.{Delivered, Broke}
 use Rattle.feed_world.specs.Connection.{Part, Snapshot, Commit, Line_feed, Connection, part_text, part_texts, sent_text, sent_bytes, bytes_sent, come_by, blocks_within, blocks_come, blocks_between, moved, moved_by, is_new, count_new, GoOn, first_parts}
 use Rattle.feed_world.specs.Log.{Log, IsLog, IsDecimal}
-use Rattle.feed_world.specs.Position.{Position, node_where, renewed, IsPosition, IsPlace}
-use Rattle.feed_world.specs.Reading.{opening_at, IsOpened, PrefixesAreRead}
-use Rattle.feed_world.specs.States.{ConnectionState, FollowingMirror, IsConnection, HasAsked, IsReading, AreLinked, IsMirror, asks_with, Moves, BreaksMirror, IsBrought, Brings, next_bytes, delivered_after, published_between}
-use Rattle.feed_world.specs.Step.{reached, delivers, with_connection, mirror_delivers, brought_to, IsMemory}
+use Rattle.feed_world.specs.Position.{Position, node_where, renewed, IsPosition, IsPlaceOfLog}
+use Rattle.feed_world.specs.Reading.{opening_at, IsOpened, SentIsRead}
+use Rattle.feed_world.specs.States.{ConnectionState, FollowingMirror, IsConnection, HasAsked, IsReading, AreLinked, IsMirror, asks_with, Moves, BreaksMirror, IsBrought, IsDelivered, next_bytes, delivered_after, published_between}
+use Rattle.feed_world.specs.Step.{reached, delivers, with_connection, mirror_delivers, brought_to, IsForMemory}
 use Rattle.feed_world.specs.World.{Mirror}
 use Rattle.feed_world.proofs.Commits.{light_here, renewed_is_position}
 use Rattle.feed_world.proofs.Prefixes.{not_zero}
@@ -41,13 +41,13 @@ use Rattle.std.proofs.Math.Bool.{and-true as and_true}
 -- ---- places
 
 module _ (limits : Limits) (log : Log) where
-  choose_place : (place : Option Position) (b : Bool) (bs : List Part) → IsPlace limits log place → IsPlace limits log (moved_by limits.history log place bs)
-      → IsPlace limits log (moved_by limits.history log place (if b then bs else []))
+  choose_place : (place : Option Position) (b : Bool) (bs : List Part) → IsPlaceOfLog limits log place → IsPlaceOfLog limits log (moved_by limits.history log place bs)
+      → IsPlaceOfLog limits log (moved_by limits.history log place (if b then bs else []))
   choose_place place true bs h k = k
   choose_place place false bs h k = h
 
   place_since : (parts : List Part) (p : Position) (k last n : ℕ) → IsPosition limits log p → k ≤ p.at → GoOn k parts last → last ≤ length log.commits
-      → IsPlace limits log (moved_by limits.history log (Some p) (blocks_within log parts n))
+      → IsPlaceOfLog limits log (moved_by limits.history log (Some p) (blocks_within log parts n))
   place_since [] p k last n h to g within = h
   place_since (Line_feed ∷ parts) p k last n h to g within =
       choose_place (Some p) (nat_le 1 n) (blocks_within log parts (n - 1)) h (place_since parts p k last (n - 1) h to g within)
@@ -66,9 +66,9 @@ module _ (limits : Limits) (log : Log) where
       by false is = let less = ltb-false p.at j is in (h, omega (arith, g.0))
   place_since (Snapshot j ∷ parts) p k last n h to g within = absurd g
 
-  place_either : (fresh : Bool) (place : Option Position) (start : ℕ) (more : List Part) (last n : ℕ) → IsPlace limits log place
+  place_either : (fresh : Bool) (place : Option Position) (start : ℕ) (more : List Part) (last n : ℕ) → IsPlaceOfLog limits log place
       → (fresh ≡ false → (own : Position) × (place ≡ Some own) × (own.low ≤ start) × (start ≤ own.at))
-      → GoOn start more last → last ≤ length log.commits → IsPlace limits log (moved_by limits.history log place (blocks_within log (first_parts fresh start ++ more) n))
+      → GoOn start more last → last ≤ length log.commits → IsPlaceOfLog limits log (moved_by limits.history log place (blocks_within log (first_parts fresh start ++ more) n))
   place_either true place start more last n h at g within =
       let up = goes_up start more last g in
       let p : Position = record { at = start; low = start } in
@@ -77,13 +77,13 @@ module _ (limits : Limits) (log : Log) where
       choose_place place (nat_le l n) (Snapshot start ∷ blocks_within log more (n - l)) h (place_since more p start last (n - l) here (omega arith) g within)
   place_either false place start more last n h at g within =
       let own = at refl in
-      subst (λ q. IsPlace limits log (moved_by limits.history log q (blocks_within log more n))) (sym own.1)
-      (place_since more own.0 start last n (subst (IsPlace limits log) own.1 h) own.3 g within)
+      subst (λ q. IsPlaceOfLog limits log (moved_by limits.history log q (blocks_within log more n))) (sym own.1)
+      (place_since more own.0 start last n (subst (IsPlaceOfLog limits log) own.1 h) own.3 g within)
 
   -- the blocks of a connection lead from one position to another
-  pub place_after : (place : Option Position) (c : Connection) (n : ℕ) → IsOpened limits log place c → IsPlace limits log (moved_by limits.history log place (blocks_within log c.parts n))
+  pub place_after : (place : Option Position) (c : Connection) (n : ℕ) → IsOpened limits log place c → IsPlaceOfLog limits log (moved_by limits.history log place (blocks_within log c.parts n))
   place_after place c n o =
-      subst (λ ps. IsPlace limits log (moved_by limits.history log place (blocks_within log ps n))) (sym o.order.parts)
+      subst (λ ps. IsPlaceOfLog limits log (moved_by limits.history log place (blocks_within log ps n))) (sym o.order.parts)
       (place_either c.fresh place c.start o.order.more c.last n o.mirror o.start o.order.go_on o.sent)
 
 -- ---- the token that is asked with
@@ -135,7 +135,7 @@ pub record FollowsTo (limits : Limits) (log : Log) (place : Option Position) (c 
 
 -- where the mirror of the world is then
 record IsBroughtTo (limits : Limits) (log : Log) (m : Mirror) (place : Option Position) (c : Connection) (n : ℕ) (mirror : MirrorState) : Type 0 where
-  within : IsPlace limits log (brought_to limits.history log m c n None).place
+  within : IsPlaceOfLog limits log (brought_to limits.history log m c n None).place
   bounds : mirror.limits ≡ limits
   node : mirror.node ≡ node_where log (brought_to limits.history log m c n None).place
   since : mirror.since ≡ asks_with log (brought_to limits.history log m c n None)
@@ -179,7 +179,7 @@ prefix_is prefix behind text e = ap (take (length prefix)) (sym e) ∙ take_pref
     take_prefix [] ys = refl
     take_prefix (x ∷ xs) ys = ap (λ zs. x ∷ zs) (take_prefix xs ys)
 
-module _ (prefixes : PrefixesAreRead) (one : ReadingIsOne) (responses : ResponsesAreFollowed) (carry : PrefixesCarryMore) (limits : Limits) (log : Log) (is_log : IsLog limits log) where
+module _ (prefixes : SentIsRead) (one : ReadingIsOne) (responses : ResponsesAreFollowed) (carry : PrefixesCarryMore) (limits : Limits) (log : Log) (is_log : IsLog limits log) where
   -- the token of a mirror that was here, after these blocks
   abbrev token_at : Option Position → List Part → Option (List ℕ)
   token_at place blocks = published_token (node_where log (moved_by limits.history log place blocks))
@@ -266,7 +266,7 @@ module _ (prefixes : PrefixesAreRead) (one : ReadingIsOne) (responses : Response
         let less = come_more n further in
         let moves = ap (λ q. moved_by limits.history log q between) r.place ∙ deliveries_compose log limits.history r.before c.parts (come_by log c c.delivered) (come_by log c n) less in
         record {
-          within = subst (IsPlace limits log) (sym moves) (place_after limits log r.before c (come_by log c n) r.opened);
+          within = subst (IsPlaceOfLog limits log) (sym moves) (place_after limits log r.before c (come_by log c n) r.opened);
           bounds = new.bounds;
           node = new.shows ∙ ap (node_where log) (sym moves);
           since = new.since
@@ -352,7 +352,7 @@ module _ (limits : Limits) (log : Log) (is_log : IsLog limits log) (decimal : Is
   number_here mirror number q numbered is e = let few = is_log.count in let within = is.in_log in numbered.some q.at (omega (arith, few, within)) (e ∙ ap Some (decimal q.at))
 
   told_parts : (fresh : Bool) (place : Option Position) (start : ℕ) (more : List Part) (last n : ℕ) (mirror : MirrorState) (number : Option ℕ) → IsNumbered mirror number
-      → IsPlace limits log (moved_by limits.history log place (blocks_within log (first_parts fresh start ++ more) n))
+      → IsPlaceOfLog limits log (moved_by limits.history log place (blocks_within log (first_parts fresh start ++ more) n))
       → mirror.since ≡ (if fresh && (length (blocks_within log (first_parts fresh start ++ more) n) == 0) then None
       else published_token (node_where log (moved_by limits.history log place (blocks_within log (first_parts fresh start ++ more) n))))
       → (fresh ≡ false → (own : Position) × (place ≡ Some own) × (own.low ≤ start) × (start ≤ own.at)) → GoOn start more last
@@ -363,7 +363,7 @@ module _ (limits : Limits) (log : Log) (is_log : IsLog limits log) (decimal : Is
       let c = counts_since log limits.history more o.0 start last n o.3 g in
       let place_is : moved_by limits.history log place (blocks_within log more n) ≡ Some c.0 = ap (λ q. moved_by limits.history log q (blocks_within log more n)) o.1 ∙ c.1 in
       let count : count_new limits.history log place (blocks_within log more n) ≡ count_new limits.history log (Some o.0) (blocks_within log more n) = ap (λ q. count_new limits.history log q (blocks_within log more n)) o.1 in
-      let here = number_here mirror number c.0 numbered (subst (IsPlace limits log) place_is is) (since ∙ ap (λ q. published_token (node_where log q)) place_is) in
+      let here = number_here mirror number c.0 numbered (subst (IsPlaceOfLog limits log) place_is is) (since ∙ ap (λ q. published_token (node_where log q)) place_is) in
       let same : own ≡ o.0.at = named o.0 o.1 in
       let at_is = c.2 in
       let total : c.0.at ≡ own + count_new limits.history log place (blocks_within log more n) = omega (arith, at_is, count, same) in
@@ -377,7 +377,7 @@ module _ (limits : Limits) (log : Log) (is_log : IsLog limits log) (decimal : Is
       left : ℕ
       left = n - length (part_text log (Snapshot start))
 
-      by : (b : Bool) → IsPlace limits log (moved_by limits.history log place (if b then Snapshot start ∷ blocks_within log more (n - length (part_text log (Snapshot start))) else []))
+      by : (b : Bool) → IsPlaceOfLog limits log (moved_by limits.history log place (if b then Snapshot start ∷ blocks_within log more (n - length (part_text log (Snapshot start))) else []))
           → mirror.since ≡ (if true && (length (if b then Snapshot start ∷ blocks_within log more (n - length (part_text log (Snapshot start))) else []) == 0) then None
           else published_token (node_where log (moved_by limits.history log place (if b then Snapshot start ∷ blocks_within log more (n - length (part_text log (Snapshot start))) else []))))
           → IsTold start own true (count_new limits.history log place (if b then Snapshot start ∷ blocks_within log more (n - length (part_text log (Snapshot start))) else [])) number
@@ -387,7 +387,7 @@ module _ (limits : Limits) (log : Log) (is_log : IsLog limits log) (decimal : Is
           let c = counts_since log limits.history more (record { at = start; low = start }) start last (n - length (part_text log (Snapshot start))) (omega arith) g in
           let shown : mirror.since ≡ published_token (node_where log (moved_by limits.history log (Some (record { at = start; low = start })) bs)) =
           since ∙ ap (λ b. if b then None else published_token (node_where log (moved_by limits.history log (Some (record { at = start; low = start })) bs))) (not_zero (length bs)) in
-          let here = number_here mirror number c.0 numbered (subst (IsPlace limits log) c.1 is) (shown ∙ ap (λ q. published_token (node_where log q)) c.1) in
+          let here = number_here mirror number c.0 numbered (subst (IsPlaceOfLog limits log) c.1 is) (shown ∙ ap (λ q. published_token (node_where log q)) c.1) in
           let at_is = c.2 in
           came_fresh (count_new limits.history log (Some (record { at = start; low = start })) bs) refl (omega arith) (here ∙ ap Some at_is)
 
@@ -405,7 +405,7 @@ module _ (limits : Limits) (log : Log) (is_log : IsLog limits log) (decimal : Is
       let parts = o.order.parts in
       subst (λ ps. IsTold c.start (own_number place) c.fresh (count_new limits.history log place (blocks_within log ps k)) number) (sym parts)
       (told_parts c.fresh place c.start o.order.more c.last k mirror number numbered
-      (subst (λ ps. IsPlace limits log (moved_by limits.history log place (blocks_within log ps k))) parts (place_after limits log place c k o))
+      (subst (λ ps. IsPlaceOfLog limits log (moved_by limits.history log place (blocks_within log ps k))) parts (place_after limits log place c k o))
       (subst (λ ps. mirror.since ≡ (if c.fresh && (length (blocks_within log ps k) == 0) then None else published_token (node_where log (moved_by limits.history log place (blocks_within log ps k))))) parts to.since)
       o.start o.order.go_on (own_number place) (named place))
 
@@ -464,11 +464,11 @@ part_of (suc d) (suc e) (x ∷ xs) = let less : suc e - suc d ≡ e - d = omega 
 pub some_pushed : (s : ConnectionState) (bytes : ℕ) (fault : FollowFault) (answer : Progress) → s.delivered ≤ length s.bytes
     → (s.reader.part ≡ NoMore → ◌≡◌ {A = Result Progress FollowFault} (Err fault) (Err Closed))
     → (next_bytes s bytes ≡ [] → s.reader.part ≢ NoMore → ◌≡◌ {A = Result Progress FollowFault} (Err fault) (Ok answer))
-    → IsMemory fault → s.delivered < delivered_after s bytes
+    → IsForMemory fault → s.delivered < delivered_after s bytes
 some_pushed s bytes fault answer within closed nothing memory = by (nat_lt s.delivered (delivered_after s bytes)) refl
   where
     going : s.reader.part ≢ NoMore
-    going e = let same : fault ≡ Closed = err_is (closed e) in subst IsMemory same memory
+    going e = let same : fault ≡ Closed = err_is (closed e) in subst IsForMemory same memory
       where
         err_is : ◌≡◌ {A = Result Progress FollowFault} (Err fault) (Err Closed) → fault ≡ Closed
         err_is e = cc
@@ -485,7 +485,7 @@ some_pushed s bytes fault answer within closed nothing memory = by (nat_lt s.del
 pub brings_more : (s : ConnectionState) (bytes end : ℕ) (piece : List ℕ) (reader : FollowerState) (old new : MirrorState) (answer : Progress) → end ≡ delivered_after s bytes
     → piece ≡ drop s.delivered (take end s.bytes) → new.limits ≡ old.limits
     → ((start : MirrorState) (before : List ℕ) (standing : Standing) → FollowsAt start before standing s.reader old → GoesOn start (before ++ piece) reader new answer)
-    → Brings s bytes old (record { token = s.token; framing = s.framing; reader = reader; bytes = s.bytes; delivered = end; start = s.start; over = s.over }) new
+    → IsDelivered s bytes old (record { token = s.token; framing = s.framing; reader = reader; bytes = s.bytes; delivered = end; start = s.start; over = s.over }) new
 brings_more s bytes end piece reader old new answer at is limits goes =
     let same : piece ≡ next_bytes s bytes = is ∙ ap (λ n. drop s.delivered (take n s.bytes)) at in
     record {
@@ -499,7 +499,7 @@ brings_more s bytes end piece reader old new answer at is limits goes =
 
 -- ---- a delivery
 
-module _ (prefixes : PrefixesAreRead) (one : ReadingIsOne) (responses : ResponsesAreFollowed) (carry : PrefixesCarryMore) (limits : Limits) (log : Log) (is_log : IsLog limits log) (decimal : IsDecimal log)
+module _ (prefixes : SentIsRead) (one : ReadingIsOne) (responses : ResponsesAreFollowed) (carry : PrefixesCarryMore) (limits : Limits) (log : Log) (is_log : IsLog limits log) (decimal : IsDecimal log)
     (m : Mirror) (f : FollowingMirror) (h : IsMirror limits log m f) (s : ConnectionState) (bytes : ℕ) where
   module _ (c : Connection) (k : IsConnection log c s) (r : IsReading limits log m c s.reader f.mirror) (small : length s.bytes < 2 ^ 64) where
     fits : length (sent_bytes log c) < 2 ^ 64
@@ -519,7 +519,7 @@ module _ (prefixes : PrefixesAreRead) (one : ReadingIsOne) (responses : Response
     opened_still : IsOpened limits log r.before c
     opened_still = r.opened
 
-    all_taken : (new : MirrorState) (after : ConnectionState) → Brings s bytes f.mirror after new
+    all_taken : (new : MirrorState) (after : ConnectionState) → IsDelivered s bytes f.mirror after new
         → (old_number new_number : Option ℕ) → IsNumbered f.mirror old_number → IsNumbered new new_number
         → (count : ℕ) → (published_between s.start old_number new_number < 2 ^ 64 → count ≡ published_between s.start old_number new_number)
         → Moves limits log (Ok (delivers limits.history log m c bytes)) (Delivered count) (record f { mirror = new; connection = Some after })
@@ -686,9 +686,9 @@ module _ (prefixes : PrefixesAreRead) (one : ReadingIsOne) (responses : Response
         ]
 
     -- a delivery meets no fault but a want of memory
-    stopped : (fault : FollowFault) (new : MirrorState) → m.connection ≡ Some c → (IsMemory fault → c.delivered < reached log c bytes)
+    stopped : (fault : FollowFault) (new : MirrorState) → m.connection ≡ Some c → (IsForMemory fault → c.delivered < reached log c bytes)
         → Fails r.begun s.reader.had_token (take c.delivered (sent_bytes log c)) (next_bytes s bytes) new fault
-        → IsMemory fault × BreaksMirror limits log m bytes (record f { mirror = new; connection = None })
+        → IsForMemory fault × BreaksMirror limits log m bytes (record f { mirror = new; connection = None })
     stopped FollowMemory new there some l = (tt, lost_some new there (some tt) l)
     stopped (Feed FeedMemory) new there some l = (tt, lost_some new there (some tt) l)
     stopped (Feed NotOpen) new there some l = absurd (good_line NotOpen new l)
@@ -703,7 +703,7 @@ module _ (prefixes : PrefixesAreRead) (one : ReadingIsOne) (responses : Response
     stopped BadLength new there some l = absurd (never_behind (failed BadLength l.0) (λ p. p) l.1)
     stopped BadChunk new there some l = absurd (never_behind (failed BadChunk l.0) (λ p. p) l.1)
 
-  pub brings_all : f.connection ≡ Some s → length s.bytes < 2 ^ 64 → (new : MirrorState) (after : ConnectionState) → Brings s bytes f.mirror after new
+  pub brings_all : f.connection ≡ Some s → length s.bytes < 2 ^ 64 → (new : MirrorState) (after : ConnectionState) → IsDelivered s bytes f.mirror after new
       → (old_number new_number : Option ℕ) → IsNumbered f.mirror old_number → IsNumbered new new_number
       → (count : ℕ) → (published_between s.start old_number new_number < 2 ^ 64 → count ≡ published_between s.start old_number new_number)
       → Moves limits log (mirror_delivers limits.history log bytes m) (Delivered count) (record f { mirror = new; connection = Some after })
@@ -714,7 +714,7 @@ module _ (prefixes : PrefixesAreRead) (one : ReadingIsOne) (responses : Response
       by None l = absurd l
       by (Some c) l = all_taken c l.0 l.1 small new after b old_number new_number was now_is count counted
 
-  pub brings_some : f.connection ≡ Some s → length s.bytes < 2 ^ 64 → (number : ℕ) (fault : FollowFault) (new : MirrorState) → (IsMemory fault → s.delivered < delivered_after s bytes)
+  pub brings_some : f.connection ≡ Some s → length s.bytes < 2 ^ 64 → (number : ℕ) (fault : FollowFault) (new : MirrorState) → (IsForMemory fault → s.delivered < delivered_after s bytes)
       → ((start : MirrorState) (before : List ℕ) (standing : Standing) → FollowsAt start before standing s.reader f.mirror → Fails start s.reader.had_token before (next_bytes s bytes) new fault)
       → (after : Option ConnectionState) → after ≡ None → IsBrought limits log m number bytes (Broke number fault) (record f { mirror = new; connection = after })
   brings_some there small number fault new some fails after is =
@@ -727,6 +727,6 @@ module _ (prefixes : PrefixesAreRead) (one : ReadingIsOne) (responses : Response
       by (Some c) e l =
           let k = l.0 in
           let r = l.1 in
-          let less : IsMemory fault → c.delivered < reached log c bytes = λ memory. subst (λ n. n < reached log c bytes) k.delivered (subst (λ n. s.delivered < n) (after_is c k r small) (some memory)) in
+          let less : IsForMemory fault → c.delivered < reached log c bytes = λ memory. subst (λ n. n < reached log c bytes) k.delivered (subst (λ n. s.delivered < n) (after_is c k r small) (some memory)) in
           let stop = stopped c k r small fault new e less (fails r.begun (take c.delivered (sent_bytes log c)) r.standing r.follows) in
           inr ((fault, refl, stop.0), stop.1)

@@ -32,10 +32,10 @@ use Rattle.feed_world.specs.Connection.{Part, Snapshot, Commit, Line_feed, Conne
 use Rattle.feed_world.specs.Following.{OpensAsked, SessionsOpenAsAsked, number_at, PlacesStay, AllIsReached, IsBroughtBy, CarriesPrefix, CarryFeed, ResponsesCarryFeed, FollowsTo, MirrorsFollow, IsCutInLog, FailsKeepStates, RefusalsKeepNodes}
 use Rattle.feed_world.specs.Laws.{SessionsStartBefore}
 use Rattle.feed_world.specs.Log.{Log, IsLog, IsNamed, tokens_of, state_text}
-use Rattle.feed_world.specs.Position.{Position, IsPosition, IsPlace, node_at, node_where, renewed}
-use Rattle.feed_world.specs.Reading.{opening_at, IsOpened, PrefixesAreRead}
-use Rattle.feed_world.specs.States.{HasAsked, HasReached}
-use Rattle.feed_world.specs.Step.{IsMemory}
+use Rattle.feed_world.specs.Position.{Position, IsPosition, IsPlaceOfLog, node_at, node_where, renewed}
+use Rattle.feed_world.specs.Reading.{opening_at, IsOpened, SentIsRead}
+use Rattle.feed_world.specs.States.{HasAsked, IsAsFarAs}
+use Rattle.feed_world.specs.Step.{IsForMemory}
 use Rattle.feed_world.proofs.Brought.{place_after, prefix_is}
 use Rattle.feed_world.proofs.Growth.{goes_up}
 use Rattle.feed_world.proofs.Reached.{blocks_of, all_blocks, comes_to}
@@ -115,7 +115,7 @@ all_is_reached limits log place c o =
     let blocks : blocks_within log c.parts (length (sent_text log c))
     ≡ blocks_of (first_parts c.fresh c.start ++ order.more) =
     all_blocks log c.parts (length (sent_text log c)) refl ∙ ap blocks_of order.parts in
-    subst (λ bs. HasReached (moved_by limits.history log place bs) c.last) (sym blocks)
+    subst (λ bs. IsAsFarAs (moved_by limits.history log place bs) c.last) (sym blocks)
     (comes_to limits.history log place c.fresh c.start c.last order.more o.start order.go_on)
 
 -- ---- a session that is asked for
@@ -221,7 +221,7 @@ open_as_asked once starts limits log node place head contest minor since framing
     (once head contest answers.asked (feed minor since) answers.asks asks)
     ∙ ap (λ n. answer_opened (framing_for minor framing) (opens n back since)) shown)
   where
-    by : (q : Option Position) (s : Option (List ℕ)) → IsPlace limits log q
+    by : (q : Option Position) (s : Option (List ℕ)) → IsPlaceOfLog limits log q
         → answer ≡ answer_opened (framing_for minor framing) (opens (node_where log q) back s)
         → (p : Position) × (q ≡ Some p) × OpensAsked log p s back answer opened
     by None s is e =
@@ -289,7 +289,7 @@ responses_carry responses ends log c framing had are = (
     ended Close n = cut_prefix Close n (nat_lt n (length (feed_head Close)))
     ended Chunked n = whole n (nat_lt n (length (ended_text Chunked (part_texts log c.parts))))
 
-module _ (prefixes : PrefixesAreRead) (one : ReadingIsOne) (limits : Limits) (log : Log)
+module _ (prefixes : SentIsRead) (one : ReadingIsOne) (limits : Limits) (log : Log)
     (place : Option Position) (c : Connection) (begun : MirrorState) (is_log : IsLog limits log)
     (o : IsOpened limits log place c) (asked : HasAsked limits log place c.fresh begun) where
   -- a mirror that was fed a prefix of the text
@@ -407,7 +407,7 @@ module _ (prefixes : PrefixesAreRead) (one : ReadingIsOne) (limits : Limits) (lo
           prefix_carries (before ++ piece) later (failed fault payload) whole stands
 
       fails_so : (fault : FollowFault) → Fails begun had before piece mirror fault
-          → IsMemory fault × IsCutInLog limits log place c begun mirror
+          → IsForMemory fault × IsCutInLog limits log place c begun mirror
       fails_so FollowMemory l = (tt, lost l)
       fails_so (Feed FeedMemory) l = (tt, lost l)
       fails_so (Feed NotOpen) l = absurd (bad_line NotOpen l)
@@ -424,7 +424,7 @@ module _ (prefixes : PrefixesAreRead) (one : ReadingIsOne) (limits : Limits) (lo
       fails_so BadLength l = absurd (never BadLength l.0 l.1)
       fails_so BadChunk l = absurd (never BadChunk l.0 l.1)
 
-pub mirrors_follow : PrefixesAreRead → ReadingIsOne → MirrorsFollow
+pub mirrors_follow : SentIsRead → ReadingIsOne → MirrorsFollow
 mirrors_follow prefixes one limits log place c begun mirror reader bytes n s is_log o asked carry f =
     by s (prefix_carries prefixes one limits log place c begun is_log o asked reader.had_token bytes
     carry (take n bytes) (drop n bytes) s (take-append-drop n bytes) f.stands) f.leaves
@@ -439,7 +439,7 @@ mirrors_follow prefixes one limits log place c begun mirror reader bytes n s is_
         reached_so prefixes one limits log place c begun is_log o asked payload w.0 mirror w.1 l
     by (failed fault payload) w l = absurd w
 
-pub fails_keep : PrefixesAreRead → ReadingIsOne → FailsKeepStates
+pub fails_keep : SentIsRead → ReadingIsOne → FailsKeepStates
 fails_keep prefixes one limits log place c begun mirror had bytes before piece later fault is_log o
     asked carry whole fails =
     fails_so prefixes one limits log place c begun is_log o asked had bytes carry before piece later
@@ -507,7 +507,7 @@ module _ (refusals : RefusalsAreFollowed) (refusal : Refusal) (begun mirror : Mi
 
   abbrev Keeps : FollowFault → Type 0
   Keeps fault = (mirror.node ≡ begun.node) × (mirror.connection ≡ None)
-      × ((fault ≡ Status (refusal_code refusal)) ⊎ (IsMemory fault ⊎ (fault ≡ Closed)))
+      × ((fault ≡ Status (refusal_code refusal)) ⊎ (IsForMemory fault ⊎ (fault ≡ Closed)))
 
   keeps_node : (fault : FollowFault) → Fails begun had before piece mirror fault → Keeps fault
   keeps_node FollowMemory l =

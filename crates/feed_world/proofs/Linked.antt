@@ -14,9 +14,9 @@ use Rattle.feed_follow.specs.Follower.{FollowerState, FollowsAt}
 use Rattle.feed_answer.specs.Framed.{frame}
 use Rattle.feed_world.specs.declared.event.Reply.{Reply}
 use Rattle.feed_world.specs.declared.event.Reply.TheVariants.{Sent, Idled}
-use Rattle.feed_world.specs.Connection.{Connection, Part, Snapshot, Commit, Line_feed, part_text, parts_text, sent_bytes, bytes_sent, come_by, block_onto, blocks_within, moved_by, first_parts, GoOn, IsInOrder}
+use Rattle.feed_world.specs.Connection.{Connection, Part, Snapshot, Commit, Line_feed, part_text, parts_text, sent_bytes, bytes_sent, come_by, block_onto, blocks_within, moved_by, first_parts, GoOn, IsSentInOrder}
 use Rattle.feed_world.specs.Log.{Log, IsLog, state_after, changes_of_commit}
-use Rattle.feed_world.specs.Position.{Position, IsPlace}
+use Rattle.feed_world.specs.Position.{Position, IsPlaceOfLog}
 use Rattle.feed_world.specs.States.{ConnectionState, FollowingMirror, IsConnection, IsReading, AreLinked, IsMirror, Moves}
 use Rattle.feed_world.specs.Step.{serves, serves_from, idles, with_more, with_line_feed, ended, linked, with_connection, mirror_serves, mirror_idles}
 use Rattle.feed_world.specs.World.{Mirror}
@@ -97,7 +97,7 @@ module _ (limits : Limits) (log : Log) where
       by false e = omega arith
 
   -- there are no more blocks than bytes
-  pub parts_have_text : (c : Connection) → IsLog limits log → IsInOrder c → c.last ≤ length log.commits → (n : ℕ) → length (blocks_within log c.parts n) ≤ n
+  pub parts_have_text : (c : Connection) → IsLog limits log → IsSentInOrder c → c.last ≤ length log.commits → (n : ℕ) → length (blocks_within log c.parts n) ≤ n
   parts_have_text c is_log order sent n =
       subst (λ ps. length (blocks_within log ps n) ≤ n) (sym order.parts) (few_either is_log c.fresh c.start order.more c.last n order.go_on sent)
 
@@ -105,7 +105,7 @@ module _ (limits : Limits) (log : Log) where
   no_block [] h = refl
   no_block (b ∷ bs) h = absurd (omega (arith, h))
 
-  pub none_at_first : (c : Connection) → IsLog limits log → IsInOrder c → c.last ≤ length log.commits → blocks_within log c.parts 0 ≡ []
+  pub none_at_first : (c : Connection) → IsLog limits log → IsSentInOrder c → c.last ≤ length log.commits → blocks_within log c.parts 0 ≡ []
   none_at_first c is_log order sent = no_block (blocks_within log c.parts 0) (parts_have_text c is_log order sent 0)
 
 module _ (limits : Limits) (log : Log) (m : Mirror) (c : Connection) (reader : FollowerState) (mirror : MirrorState) (reading : IsReading limits log m c reader mirror) (next : Option Connection) where
@@ -138,7 +138,7 @@ module _ (limits : Limits) (log : Log) (m : Mirror) (c : Connection) (reader : F
       }
 
   reading_on : (part : Part) (last : ℕ) → c.delivered ≤ bytes_sent log c → 0 < length (part_text log part) → last ≤ length log.commits
-      → IsInOrder (record c { parts = c.parts ++ part ∷ []; last = last })
+      → IsSentInOrder (record c { parts = c.parts ++ part ∷ []; last = last })
       → IsReading limits log (linked m next) (record c { parts = c.parts ++ part ∷ []; last = last }) reader mirror
   reading_on part last within some sent order =
       let opened = reading.opened in
@@ -170,11 +170,11 @@ chosen : {X : Type 0} (P : X → Type 0) (b : Bool) (x y : X) → (b ≡ true �
 chosen P true x y h k = h refl
 chosen P false x y h k = k
 
-served_any : (limits : Limits) (log : Log) (c : Connection) (place : Option Position) (P : Connection → Type 0) → IsPlace limits log place
+served_any : (limits : Limits) (log : Log) (c : Connection) (place : Option Position) (P : Connection → Type 0) → IsPlaceOfLog limits log place
     → P c → P (ended c) → (c.last < length log.commits → P (with_more c)) → P (serves c place).1
 served_any limits log c place P h now over more = chosen (λ (r : Pulled × Connection). P r.1) c.over (Gone, c) (serves_from c place) (λ e. now) (from place h)
   where
-    from : (q : Option Position) → IsPlace limits log q → P (serves_from c q).1
+    from : (q : Option Position) → IsPlaceOfLog limits log q → P (serves_from c q).1
     from None i = over
     from (Some p) i =
         chosen (λ (r : Pulled × Connection). P r.1) (c.last == p.at) (UpToDate, c) (if nat_le p.low c.last && nat_lt c.last p.at then (More, with_more c) else (Gone, ended c)) (λ e. now)
@@ -190,7 +190,7 @@ mirror_on : (limits : Limits) (log : Log) (m : Mirror) (f : FollowingMirror) (ne
 mirror_on limits log m f next other is l = record { place = is.place; upstream = is.upstream; bounds = is.bounds; node = is.node; since = is.since; linked = l; in_log = is.in_log; saved = is.saved }
 
 pub mirror_served : (limits : Limits) (log : Log) (m : Mirror) (place : Option Position) (f : FollowingMirror) (s : ConnectionState) → f.connection ≡ Some s
-    → IsLog limits log → IsPlace limits log place → IsMirror limits log m f → (pulled : Pulled) (t : ConnectionState) → t.reader ≡ s.reader
+    → IsLog limits log → IsPlaceOfLog limits log place → IsMirror limits log m f → (pulled : Pulled) (t : ConnectionState) → t.reader ≡ s.reader
     → ((c : Connection) → c.last ≤ length log.commits → IsConnection log c s → (pulled ≡ (serves c place).0) × IsConnection log (serves c place).1 t)
     → Moves limits log (mirror_serves m place) (Sent pulled) (record f { connection = Some t })
 mirror_served limits log m place f s held is_log is_place is pulled t same serving =

@@ -15,9 +15,9 @@ use Rattle.feed_world.specs.declared.event.WorldFault.{WorldFault}
 use Rattle.feed_world.specs.declared.event.WorldFault.TheVariants.{NoNode, NoConnection, Memory}
 use Rattle.feed_world.specs.Log.{Log, numbered}
 use Rattle.feed_world.specs.Connection.{Connection}
-use Rattle.feed_world.specs.Position.{Position, IsPlace, node_where}
+use Rattle.feed_world.specs.Position.{Position, IsPlaceOfLog, node_where}
 use Rattle.feed_world.specs.States.{FollowingMirror, IsMirror, ConnectionState, AreLinked, AreMirrors, AreNodes, Moves, RefusesMove, BreaksMirror, BreaksConnect, NodesMove, IsBrought, all_shown}
-use Rattle.feed_world.specs.Step.{Move, Outcome, outcome, at_node, with_node, after_move, with_connection, is_free, is_free_reply, IsRefused, Breaks, BreaksRefusal, BrokeForMemory, linked, mirror_connects, mirror_serves, mirror_idles, mirror_delivers, mirror_cuts, mirror_saves, mirror_restarts, turned_to, connects, connects_to, holds_number, brought_to}
+use Rattle.feed_world.specs.Step.{Move, Outcome, outcome, at_node, with_node, after_move, with_connection, is_free, is_free_reply, EventIsRefused, Breaks, BreaksRefusal, BrokeForMemory, linked, mirror_connects, mirror_serves, mirror_idles, mirror_delivers, mirror_cuts, mirror_saves, mirror_restarts, turned_to, connects, connects_to, holds_number, brought_to}
 use Rattle.feed_world.specs.World.{Mirror, World, is_other, mirror_at, with_mirror, place_at}
 
 -- ---- lists of mirrors
@@ -193,11 +193,11 @@ keeps_restart w i n m = still_other w i m.upstream (mirror_restarts (numbered w.
 -- ---- where nodes are
 
 abbrev pub IsShown : World → ℕ → NodeState → Type 0
-IsShown w i node = (node ≡ node_where (numbered w.log) (place_at w i)) × IsPlace w.limits (numbered w.log) (place_at w i)
+IsShown w i node = (node ≡ node_where (numbered w.log) (place_at w i)) × IsPlaceOfLog w.limits (numbered w.log) (place_at w i)
 
 module _ (w : World) (primary : PrimaryState) (fs : List FollowingMirror) (h : AreNodes w primary fs) where
   shown_mirror : (ms : List Mirror) (gs : List FollowingMirror) (i : ℕ) (node : NodeState) → AreMirrors w.limits (numbered w.log) ms gs → slice_get (map (λ f. f.mirror.node) gs) i ≡ Some node
-      → (node ≡ node_where (numbered w.log) (option_and_then (λ m. m.place) (slice_get ms i))) × IsPlace w.limits (numbered w.log) (option_and_then (λ m. m.place) (slice_get ms i))
+      → (node ≡ node_where (numbered w.log) (option_and_then (λ m. m.place) (slice_get ms i))) × IsPlaceOfLog w.limits (numbered w.log) (option_and_then (λ m. m.place) (slice_get ms i))
   shown_mirror [] [] i node k e = absurd (cc)
   shown_mirror [] (g ∷ gs) i node k e = absurd k
   shown_mirror (m ∷ ms) [] i node k e = absurd k
@@ -335,7 +335,7 @@ module _ (w : World) (primary : PrimaryState) (fs : List FollowingMirror) (h : A
   deliver_leads n (Ok reply) f k = delivered n reply f (k at.0 at.2)
   deliver_leads n (Err fault) f k = tt
 
-  pub deliver_fails : (n : ℕ) (r : Result Reply WorldFault) → IfErr r (λ fault. (fault ≡ NoConnection) × ((get_or fs place d).connection ≡ None)) → IfErr r (λ fault. IsRefused w (Deliver number n) fault)
+  pub deliver_fails : (n : ℕ) (r : Result Reply WorldFault) → IfErr r (λ fault. (fault ≡ NoConnection) × ((get_or fs place d).connection ≡ None)) → IfErr r (λ fault. EventIsRefused w (Deliver number n) fault)
   deliver_fails n (Ok reply) k = tt
   deliver_fails n (Err fault) k =
       inl (refused_as (outcome w (Deliver number n)) fault (λ e. let both : NoConnection ≡ Memory = sym k.0 ∙ e in absurd (cc))

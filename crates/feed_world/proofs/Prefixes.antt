@@ -13,12 +13,12 @@ use Rattle.feed_node.specs.Bounds.{is_large}
 use Rattle.feed_node.specs.declared.fault.FeedFault.TheVariants.{StageFull}
 use Rattle.feed_node.specs.Sent.{TakesText, TextsGoOn, PublishesNothing, PublishesAtEnd, BatchesPublishAtEnd, SnapshotsPublishAtEnd, fresh_on, renewed_on}
 use Rattle.feed_node.specs.States.{Node, holds_token, published_tables}
-use Rattle.feed_node.specs.Staging.{Standing, staging, publishing, step, steps, times_published, AllTaken}
+use Rattle.feed_node.specs.Staging.{StagingState, staging, publishing, step, steps, times_published, AllTaken}
 use Rattle.feed_node.specs.Steps.{StepsRead, StepsCount, TakenAreGood, standing_after}
 use Rattle.feed_world.specs.Connection.{Part, Snapshot, Commit, Line_feed, part_text, parts_text, block_onto, blocks_within, moved, moved_by, count_new, GoOn, first_parts}
 use Rattle.feed_world.specs.Log.{Log, changes_of_commit, IsLog, tokens_of}
-use Rattle.feed_world.specs.Position.{Position, commits_after, node_where, renewed, node_at, IsPosition, IsPlace}
-use Rattle.feed_world.specs.Reading.{opening_at, PrefixesAreRead}
+use Rattle.feed_world.specs.Position.{Position, commits_after, node_where, renewed, node_at, IsPosition, IsPlaceOfLog}
+use Rattle.feed_world.specs.Reading.{opening_at, SentIsRead}
 use Rattle.feed_world.proofs.Commits.{light_here, state_one_more, next_not_held, next_position, renewed_is_position, latest_at, state_at, state_is_small, state_is_sendable}
 use Rattle.feed_world.proofs.Growth.{goes_up}
 use Rattle.feed_node.proofs.Bounds.{full_none}
@@ -27,7 +27,7 @@ use Rattle.feed_world.proofs.Served.{holds}
 use Rattle.std.proofs.Math.Bool.{and-true as and_true}
 
 -- a mirror at a place, with nothing staged
-abbrev standing : History → Log → Option Position → Bool → Standing
+abbrev standing : History → Log → Option Position → Bool → StagingState
 standing history log place afresh = record { node = record { shown = node_where log place; history = history }; afresh = afresh; changes = [] }
 
 pub not_zero : (n : ℕ) → (suc n == 0) ≡ false
@@ -37,7 +37,7 @@ not_zero n = by (suc n == 0) refl
     by true e = let same : suc n ≡ 0 = eqb-true (suc n) 0 e in absurd (omega arith)
     by false e = e
 
-times-append : (s : Standing) (ns ms : List Line) → times_published s (ns ++ ms) ≡ times_published s ns + times_published (steps s ns) ms
+times-append : (s : StagingState) (ns ms : List Line) → times_published s (ns ++ ms) ≡ times_published s ns + times_published (steps s ns) ms
 times-append s [] ms = omega arith
 times-append s (n ∷ ns) ms =
     let later = times-append (step s n) ns ms in
@@ -45,7 +45,7 @@ times-append s (n ∷ ns) ms =
 
 -- the lines of one part are taken and publish this many times, and before its end nothing is
 -- published
-record IsTakenPart (limits : Limits) (log : Log) (s : Standing) (part : Part) (t : Standing) (many : ℕ) : Type 0 where
+record IsTakenPart (limits : Limits) (log : Log) (s : StagingState) (part : Part) (t : StagingState) (many : ℕ) : Type 0 where
   notes : List Line
   takes : TakesText limits s (part_text log part) notes
   ended : rest (part_text log part) ≡ []
@@ -68,7 +68,7 @@ record Moves (history : History) (log : Log) (from : Option Position) (afresh : 
   count : (bs : List Part) → many + count_new history log next bs ≡ count_new history log from (block_onto part bs)
 
 -- no bytes have no lines
-no_lines : (limits : Limits) (s : Standing) → TakesText limits s [] []
+no_lines : (limits : Limits) (s : StagingState) → TakesText limits s [] []
 unfolding lines rest
 no_lines limits s = record { taken = tt; short = omega arith }
 
@@ -139,7 +139,7 @@ module _ (goes_on : TextsGoOn) (limits : Limits) (log : Log) where
       record { notes = []; takes = no_lines limits (standing limits.history log place afresh); shown = refl; anew = sym (and_true afresh); count = refl }
 
 module _ (goes_on : TextsGoOn) (batches : BatchesPublishAtEnd) (snapshots : SnapshotsPublishAtEnd) (listed_within : ListingIsWithin) (limits : Limits) (log : Log) (is_log : IsLog limits log) where
-  prefix_of_line_feed : (s : Standing) (prefix behind : List ℕ) → prefix ++ behind ≡ 10 ∷ [] → behind ≢ [] → (some : List Line) × TakesText limits s prefix some × PublishesNothing s some
+  prefix_of_line_feed : (s : StagingState) (prefix behind : List ℕ) → prefix ++ behind ≡ 10 ∷ [] → behind ≢ [] → (some : List Line) × TakesText limits s prefix some × PublishesNothing s some
   prefix_of_line_feed s [] behind e some = ([], no_lines limits s, record { node = refl; afresh = refl; count = refl })
   prefix_of_line_feed s (x ∷ prefix) [] e some = absurd (some refl)
   prefix_of_line_feed s (x ∷ prefix) (y ∷ behind) e some = let l = ap length e in let m = length-append prefix (y ∷ behind) in absurd (omega (arith, l, m))
@@ -156,7 +156,7 @@ module _ (goes_on : TextsGoOn) (batches : BatchesPublishAtEnd) (snapshots : Snap
         before = prefix_of_line_feed (standing limits.history log place afresh);
       }
 
-  at_end : (s t : Standing) (part : Part) (many : ℕ) (end : Standing) (count : ℕ) → PublishesAtEnd limits s (part_text log part) end count → end ≡ t → count ≡ many → IsTakenPart limits log s part t many
+  at_end : (s t : StagingState) (part : Part) (many : ℕ) (end : StagingState) (count : ℕ) → PublishesAtEnd limits s (part_text log part) end count → end ≡ t → count ≡ many → IsTakenPart limits log s part t many
   at_end s t part many end count p e same = record { notes = p.notes; takes = p.takes; ended = p.ended; leads_to = p.leads_to ∙ e; count = p.counted ∙ same; before = p.before }
 
   taken_commit : (p : Position) → IsPosition limits log p → suc p.at ≤ length log.commits
@@ -276,7 +276,7 @@ module _ (goes_on : TextsGoOn) (batches : BatchesPublishAtEnd) (snapshots : Snap
       (record { place = λ bs. refl; anew = λ bs. sym (not_zero (length bs)); count = λ bs. omega arith })
       (since more (record { at = start; low = start }) start last h (omega arith) (omega arith) g within) prefix behind e
 
-  either : (is_fresh : Bool) (place : Option Position) (start : ℕ) (parts : List Part) (last : ℕ) → IsPlace limits log place
+  either : (is_fresh : Bool) (place : Option Position) (start : ℕ) (parts : List Part) (last : ℕ) → IsPlaceOfLog limits log place
       → (is_fresh ≡ false → (own : Position) × (place ≡ Some own) × (own.low ≤ start) × (start ≤ own.at))
       → (more : List Part) → parts ≡ first_parts is_fresh start ++ more → GoOn start more last → last ≤ length log.commits
       → (prefix behind : List ℕ) → prefix ++ behind ≡ parts_text log parts → IsTakenPrefix limits log place is_fresh parts prefix
@@ -286,9 +286,9 @@ module _ (goes_on : TextsGoOn) (batches : BatchesPublishAtEnd) (snapshots : Snap
       let own = at refl in
       subst (λ q. IsTakenPrefix limits log q false parts prefix) (sym own.1)
       (subst (λ ps. IsTakenPrefix limits log (Some own.0) false ps prefix) (sym e)
-      (since more own.0 start last (subst (IsPlace limits log) own.1 p) own.2 own.3 g within prefix behind (f ∙ ap (parts_text log) e)))
+      (since more own.0 start last (subst (IsPlaceOfLog limits log) own.1 p) own.2 own.3 g within prefix behind (f ∙ ap (parts_text log) e)))
 
-pub prefixes_are_read : TextsGoOn → BatchesPublishAtEnd → SnapshotsPublishAtEnd → ListingIsWithin → StepsRead → StepsCount → TakenAreGood → PrefixesAreRead
+pub prefixes_are_read : TextsGoOn → BatchesPublishAtEnd → SnapshotsPublishAtEnd → ListingIsWithin → StepsRead → StepsCount → TakenAreGood → SentIsRead
 prefixes_are_read goes_on batches snapshots listed_within read counted good limits log place c prefix behind is_log opened e =
     let g = either goes_on batches snapshots listed_within limits log is_log c.fresh place c.start c.parts c.last opened.mirror opened.start opened.order.more opened.order.parts opened.order.go_on opened.sent prefix behind e in
     let opening = opening_at log place c.fresh in

@@ -6,7 +6,7 @@ use Rattle.feed_settings.specs.Limits.{Limits, History}
 use Rattle.feed_world.specs.Connection.{Part, Snapshot, Commit, Line_feed, Connection, part_text, parts_text, come_by, block_onto, blocks_within, blocks_come, moved_by, GoOn, first_parts}
 use Rattle.feed_world.specs.Log.{Log, numbered}
 use Rattle.feed_world.specs.Position.{Position, renewed}
-use Rattle.feed_world.specs.States.{ConnectionState, FollowingMirror, WorldState, AreLinked, AreMirrors, IsWorld, HasReached, HasReadAll}
+use Rattle.feed_world.specs.States.{ConnectionState, FollowingMirror, WorldState, AreLinked, AreMirrors, IsWorld, IsAsFarAs, HasReadAll}
 use Rattle.feed_world.specs.World.{Mirror, World, place_at, connection_at}
 use Rattle.feed_world.proofs.Responses.{come_all}
 
@@ -32,7 +32,7 @@ all_blocks log (part ∷ parts) n e =
     (within a b part (blocks_within log parts (n - a)) (blocks_of parts) (all_blocks log parts (n - a) rest))
 
 -- a mirror that has the number of what was sent before, or a later one, has that of the last
-goes_to : (history : History) (log : Log) (parts : List Part) (k last : ℕ) (p : Position) → k ≤ p.at → GoOn k parts last → HasReached (moved_by history log (Some p) (blocks_of parts)) last
+goes_to : (history : History) (log : Log) (parts : List Part) (k last : ℕ) (p : Position) → k ≤ p.at → GoOn k parts last → IsAsFarAs (moved_by history log (Some p) (blocks_of parts)) last
 goes_to history log [] k last p e g = omega (arith, e, g)
 goes_to history log (Line_feed ∷ parts) k last p e g = goes_to history log parts k last p e g
 goes_to history log (Commit n ∷ parts) k last p e g = goes_to history log parts (k + 1) last (if nat_lt p.at n then renewed history log n p.low else p) (by (nat_lt p.at n) refl) g.1
@@ -44,11 +44,11 @@ goes_to history log (Snapshot n ∷ parts) k last p e g = absurd g
 
 pub comes_to : (history : History) (log : Log) (before : Option Position) (fresh : Bool) (start last : ℕ) (more : List Part)
     → (fresh ≡ false → (own : Position) × (before ≡ Some own) × (own.low ≤ start) × (start ≤ own.at)) → GoOn start more last
-    → HasReached (moved_by history log before (blocks_of (first_parts fresh start ++ more))) last
+    → IsAsFarAs (moved_by history log before (blocks_of (first_parts fresh start ++ more))) last
 comes_to history log before true start last more s g = goes_to history log more start last (record { at = start; low = start }) (omega arith) g
 comes_to history log before false start last more s g =
     let own = s refl in
-    subst (λ o. HasReached (moved_by history log o (blocks_of more)) last) (sym own.1) (goes_to history log more start last own.0 own.3 g)
+    subst (λ o. IsAsFarAs (moved_by history log o (blocks_of more)) last) (sym own.1) (goes_to history log more start last own.0 own.3 g)
 
 read_all : (limits : Limits) (log : Log) (m : Mirror) (c : Connection) (f : FollowingMirror) (s : ConnectionState) → AreLinked limits log m (Some c) f (Some s) → HasReadAll log m.place c
 read_all limits log m c f s h all =
@@ -57,7 +57,7 @@ read_all limits log m c f s h all =
     let order = o.order in
     let come : come_by log c c.delivered ≡ length (parts_text log c.parts) = come_all log c c.delivered (omega (arith, all)) in
     let blocks : blocks_come log c c.delivered ≡ blocks_of (first_parts c.fresh c.start ++ order.more) = all_blocks log c.parts (come_by log c c.delivered) come ∙ ap blocks_of order.parts in
-    subst (λ place. HasReached place c.last) (sym (r.place ∙ ap (moved_by limits.history log r.before) blocks)) (comes_to limits.history log r.before c.fresh c.start c.last order.more o.start order.go_on)
+    subst (λ place. IsAsFarAs place c.last) (sym (r.place ∙ ap (moved_by limits.history log r.before) blocks)) (comes_to limits.history log r.before c.fresh c.start c.last order.more o.start order.go_on)
 
 linked_all : (limits : Limits) (log : Log) (m : Mirror) (f : FollowingMirror) (c : Option Connection) (s : Option ConnectionState) → AreLinked limits log m c f s → IfSome c (HasReadAll log m.place)
 linked_all limits log m f None s h = tt

@@ -16,7 +16,7 @@ use Rattle.feed_answer.specs.Opening.{Started, opens, starts_behind}
 use Rattle.feed_answer.specs.Served.{opening_text}
 use Rattle.feed_world.specs.Laws.{opened_text, OpensInLog, NodesOpenInLog, SessionsStartBefore, NodesSendTheNext, PartsGoOn}
 use Rattle.feed_world.specs.Log.{Log, IsNamed, tokens_of, state_text}
-use Rattle.feed_world.specs.Position.{Position, IsPosition, IsPlace, commits_after, node_at, node_where}
+use Rattle.feed_world.specs.Position.{Position, IsPosition, IsPlaceOfLog, commits_after, node_at, node_where}
 use Rattle.feed_world.specs.Step.{holds_number}
 use Rattle.feed_world.proofs.Answered.{Nothing_new, Commit_after, next, or_lost}
 use Rattle.feed_world.proofs.Commits.{commit_of, commits-length}
@@ -145,7 +145,7 @@ behind limits log p back started is (Some token) (Some j) e f =
     }
 
 starts : (limits : Limits) (log : Log) (place : Option Position) (back : ℕ) (since : Option (List ℕ)) (started : Started)
-    → IsPlace limits log place → opens (node_where log place) back since ≡ Ok started → StartsInLog log started
+    → IsPlaceOfLog limits log place → opens (node_where log place) back since ≡ Ok started → StartsInLog log started
 starts limits log None back since started is e = let no : Err NotYet ≡ Ok started = e in absurd (cc)
 starts limits log (Some p) back None started is e =
     let this : Ok (record { token = log.token p.at; text = state_text log p.at }) ≡ Ok started = e in

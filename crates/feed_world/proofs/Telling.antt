@@ -8,10 +8,10 @@ use Rattle.feed_tables.specs.Tables.{no_tables, after_all}
 use Rattle.feed_note.specs.declared.line.Line.{Line}
 use Rattle.feed_note.specs.declared.line.Line.TheVariants.{KeepAlive, Note}
 use Rattle.feed_node.specs.States.{NodeState, holds_token, with_commit, reset_to}
-use Rattle.feed_node.specs.Staging.{Standing, staging, without_changes, publishing, step, steps}
+use Rattle.feed_node.specs.Staging.{StagingState, staging, without_changes, publishing, step, steps}
 use Rattle.feed_node.specs.Steps.{StepsRead, standing_after}
 use Rattle.feed_world.specs.Log.{Log, IsNamed, changes_of_commit, tokens_of}
-use Rattle.feed_world.specs.Position.{Position, IsPosition, IsPlace, commits_after, node_at, node_where, renewed}
+use Rattle.feed_world.specs.Position.{Position, IsPosition, IsPlaceOfLog, commits_after, node_at, node_where, renewed}
 use Rattle.feed_world.specs.Reading.{opening_at}
 use Rattle.feed_world.specs.Telling.{Tells, TellsShow}
 use Rattle.feed_world.proofs.Commits.{light_here, next_not_held, next_position, renewed_is_position, latest_at}
@@ -19,7 +19,7 @@ use Rattle.feed_world.proofs.Served.{holds}
 use Rattle.std.proofs.Math.Bool.{and-true as and_true}
 
 -- a mirror that shows this, for which these changes wait
-abbrev waits : History → NodeState → Bool → List Change → Standing
+abbrev waits : History → NodeState → Bool → List Change → StagingState
 waits history shown fresh changes = record { node = record { shown = shown; history = history }; afresh = fresh; changes = changes }
 
 both : {a b : Bool} → a ≡ true → b ≡ true → (a && b) ≡ true
@@ -73,8 +73,8 @@ module _ (limits : Limits) (log : Log) (named : IsNamed log) where
           let r = go (renewed limits.history log (suc own.at) own.low) there (omega (arith, same, order)) (omega (arith, same)) t.1 in
           (r.0, r.1, ap (λ z. (steps z notes).node.shown) (onward own waiting changes token h within (t.0.1 ∙ ap (λ n. log.token (suc n)) same) (t.0.2 ∙ ap (λ n. changes_of_commit log (suc n)) same)) ∙ r.2)
 
-  anew : (notes : List Line) (place : Option Position) (k : ℕ) (waiting : List Change) → IsPlace limits log place → Tells log true k waiting notes
-      → (q : Option Position) × IsPlace limits log q × ((steps (waits limits.history (node_where log place) true waiting) notes).node.shown ≡ node_where log q)
+  anew : (notes : List Line) (place : Option Position) (k : ℕ) (waiting : List Change) → IsPlaceOfLog limits log place → Tells log true k waiting notes
+      → (q : Option Position) × IsPlaceOfLog limits log q × ((steps (waits limits.history (node_where log place) true waiting) notes).node.shown ≡ node_where log q)
   anew [] place k waiting h t = (place, h, refl)
   anew (KeepAlive ∷ notes) place k waiting h t = anew notes place k waiting h t
   anew (Note changes None ∷ notes) place k waiting h t = anew notes place k (waiting ++ changes) h t
@@ -89,13 +89,13 @@ module _ (limits : Limits) (log : Log) (named : IsNamed log) where
       let r = since notes (record { at = k; low = k }) k [] (record { order = omega arith; kept = omega arith; light = light_here limits log k; in_log = t.0.0 }) (omega arith) (omega arith) t.1 in
       (Some r.0, r.1, ap (λ n. (steps (waits limits.history n false []) notes).node.shown) shown ∙ r.2)
 
-  either : (fresh : Bool) (place : Option Position) (k : ℕ) (notes : List Line) → IsPlace limits log place
+  either : (fresh : Bool) (place : Option Position) (k : ℕ) (notes : List Line) → IsPlaceOfLog limits log place
       → (fresh ≡ false → (own : Position) × (place ≡ Some own) × (own.low ≤ k) × (k ≤ own.at)) → Tells log fresh k [] notes
-      → (q : Option Position) × IsPlace limits log q × ((steps (waits limits.history (node_where log place) fresh []) notes).node.shown ≡ node_where log q)
+      → (q : Option Position) × IsPlaceOfLog limits log q × ((steps (waits limits.history (node_where log place) fresh []) notes).node.shown ≡ node_where log q)
   either true place k notes h start t = anew notes place k [] h t
   either false place k notes h start t =
       let own = start refl in
-      let r = since notes own.0 k [] (subst (IsPlace limits log) own.1 h) own.2 own.3 t in
+      let r = since notes own.0 k [] (subst (IsPlaceOfLog limits log) own.1 h) own.2 own.3 t in
       (Some r.0, r.1, ap (λ p. (steps (waits limits.history (node_where log p) false []) notes).node.shown) own.1 ∙ r.2)
 
 pub tells_show : StepsRead → TellsShow

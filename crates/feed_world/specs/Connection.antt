@@ -119,7 +119,7 @@ first_parts fresh start = if fresh then Snapshot start ∷ [] else []
 
 -- what was sent is a snapshot where the connection is fresh, and then each commit after the start
 -- up to the last
-pub record IsInOrder (connection : Connection) : Type 0 where
+pub record IsSentInOrder (connection : Connection) : Type 0 where
   pub more : List Part
   pub parts : connection.parts ≡ first_parts connection.fresh connection.start ++ more
   pub go_on : GoOn connection.start more connection.last

@@ -21,10 +21,10 @@ use Rattle.feed_answer.specs.Served.{opening_text}
 use Rattle.feed_world.specs.Connection.{Connection, part_texts, sent_text, blocks_within, moved_by}
 use Rattle.feed_world.specs.Laws.{opened_text}
 use Rattle.feed_world.specs.Log.{Log, IsLog, IsNamed}
-use Rattle.feed_world.specs.Position.{Position, IsPlace, node_where}
+use Rattle.feed_world.specs.Position.{Position, IsPlaceOfLog, node_where}
 use Rattle.feed_world.specs.Reading.{IsOpened}
-use Rattle.feed_world.specs.States.{HasAsked, HasReached}
-use Rattle.feed_world.specs.Step.{IsMemory}
+use Rattle.feed_world.specs.States.{HasAsked, IsAsFarAs}
+use Rattle.feed_world.specs.Step.{IsForMemory}
 
 -- ---- what is sent to who asks with a token of its own
 
@@ -47,7 +47,7 @@ abbrev pub SessionsOpenAsAsked : Type 0
 SessionsOpenAsAsked =
     (limits : Limits) (log : Log) (node : NodeState) (place : Option Position)
     (head contest : List ℕ) (minor : ℕ) (since : Option (List ℕ)) (framing : Framing) (back : ℕ)
-    (answer : AnswerParts) (opened : List ℕ) → IsNamed log → IsPlace limits log place
+    (answer : AnswerParts) (opened : List ℕ) → IsNamed log → IsPlaceOfLog limits log place
     → node ≡ node_where log place → Asks head contest (feed minor since)
     → AnswersTo head contest node framing back answer → answer.session ≡ Some opened
     → (p : Position) × (place ≡ Some p) × OpensAsked log p since back answer opened
@@ -68,7 +68,7 @@ abbrev pub PlacesStay : Type 0
 PlacesStay =
     (limits : Limits) (log : Log) (place : Option Position) (c : Connection) (n : ℕ)
     → IsOpened limits log place c
-    → IsPlace limits log (brought_by limits log place c n)
+    → IsPlaceOfLog limits log (brought_by limits log place c n)
     × (number_at (brought_by limits log place c n) ≤ max (number_at place) c.last)
 
 -- and with all of the text it is at the last commit that was sent, or further
@@ -76,7 +76,7 @@ abbrev pub AllIsReached : Type 0
 AllIsReached =
     (limits : Limits) (log : Log) (place : Option Position) (c : Connection)
     → IsOpened limits log place c
-    → HasReached (brought_by limits log place c (length (sent_text log c))) c.last
+    → IsAsFarAs (brought_by limits log place c (length (sent_text log c))) c.last
 
 -- ---- a mirror that follows
 
@@ -147,7 +147,7 @@ FailsKeepStates =
     → IsLog limits log → IsOpened limits log place c → HasAsked limits log place c.fresh begun
     → CarryFeed had_token (sent_text log c) bytes → (before ++ piece) ++ later ≡ bytes
     → Fails begun had_token before piece mirror fault
-    → IsMemory fault × IsCutInLog limits log place c begun mirror
+    → IsForMemory fault × IsCutInLog limits log place c begun mirror
 
 -- Who follows a refusal goes on showing what it showed: the fault is the status, a want of memory,
 -- or that the token was refused before.
@@ -158,4 +158,4 @@ RefusalsKeepNodes =
     → (before ++ piece) ++ later ≡ refusal_text refusal
     → Fails begun had_token before piece mirror fault
     → (mirror.node ≡ begun.node) × (mirror.connection ≡ None)
-    × ((fault ≡ Status (refusal_code refusal)) ⊎ (IsMemory fault ⊎ (fault ≡ Closed)))
+    × ((fault ≡ Status (refusal_code refusal)) ⊎ (IsForMemory fault ⊎ (fault ≡ Closed)))

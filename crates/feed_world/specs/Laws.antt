@@ -9,24 +9,24 @@ use Rattle.feed_node.specs.Serving.{commit_after, token_before}
 use Rattle.feed_node.specs.States.{NodeState}
 use Rattle.feed_answer.specs.Answered.{AnswerParts, AnswersTo}
 use Rattle.feed_answer.specs.Served.{opening_text}
-use Rattle.feed_world.specs.Connection.{Part, Commit, Line_feed, Connection, GoOn, IsInOrder, sent_text, sent_bytes, blocks_within, moved_by}
+use Rattle.feed_world.specs.Connection.{Part, Commit, Line_feed, Connection, GoOn, IsSentInOrder, sent_text, sent_bytes, blocks_within, moved_by}
 use Rattle.feed_world.specs.Log.{Log, IsNamed, further, state_text, changes_of_commit}
-use Rattle.feed_world.specs.Position.{Position, IsPosition, IsPlace, node_at, node_where}
+use Rattle.feed_world.specs.Position.{Position, IsPosition, IsPlaceOfLog, node_at, node_where}
 use Rattle.feed_world.specs.Step.{with_more, with_line_feed}
 
 -- a further commit changes nothing of what a node shows, nor of what was sent
 pub record GrowthKeeps : Type 0 where
   pub nodes : (log : Log) (changes : List Change) (p : Position) → p.low ≤ p.at
       → p.at ≤ length log.commits → node_at (further log changes) p ≡ node_at log p
-  pub texts : (log : Log) (changes : List Change) (c : Connection) → IsInOrder c
+  pub texts : (log : Log) (changes : List Change) (c : Connection) → IsSentInOrder c
       → c.last ≤ length log.commits → sent_text (further log changes) c ≡ sent_text log c
-  pub bytes : (log : Log) (changes : List Change) (c : Connection) → IsInOrder c
+  pub bytes : (log : Log) (changes : List Change) (c : Connection) → IsSentInOrder c
       → c.last ≤ length log.commits → sent_bytes (further log changes) c ≡ sent_bytes log c
 
 -- what is sent next stands in order behind what was sent
 pub record SendingKeepsOrder : Type 0 where
-  pub commit : (c : Connection) → IsInOrder c → IsInOrder (with_more c)
-  pub line_feed : (c : Connection) → IsInOrder c → IsInOrder (with_line_feed c)
+  pub commit : (c : Connection) → IsSentInOrder c → IsSentInOrder (with_more c)
+  pub line_feed : (c : Connection) → IsSentInOrder c → IsSentInOrder (with_line_feed c)
 
 -- a delivery of d bytes and then of those up to e is one of e bytes
 abbrev pub DeliveriesCompose : Type 0
@@ -55,7 +55,7 @@ abbrev pub NodesOpenInLog : Type 0
 NodesOpenInLog =
     (limits : Limits) (log : Log) (node : NodeState) (place : Option Position)
     (head contest : List ℕ) (framing : Framing) (back : ℕ) (answer : AnswerParts)
-    (opened : List ℕ) → IsPlace limits log place → node ≡ node_where log place
+    (opened : List ℕ) → IsPlaceOfLog limits log place → node ≡ node_where log place
     → AnswersTo head contest node framing back answer → answer.session ≡ Some opened
     → OpensInLog log answer opened
 
@@ -77,7 +77,7 @@ pub record IsNextInLog (log : Log) (k : ℕ) (commit : Batch) : Type 0 where
 abbrev pub NodesSendTheNext : Type 0
 NodesSendTheNext =
     (limits : Limits) (log : Log) (place : Option Position) (k : ℕ) (commit : Batch)
-    → IsNamed log → IsPlace limits log place → k ≤ length log.commits
+    → IsNamed log → IsPlaceOfLog limits log place → k ≤ length log.commits
     → commit_after (node_where log place) (log.token k) ≡ Some commit → IsNextInLog log k commit
 
 -- parts that go on to a number still do with the next commit after them, or a line feed

@@ -5,8 +5,8 @@ use Rattle.feed_note.specs.declared.line.Line.{Line}
 use Rattle.feed_node.specs.Mirroring.{publications}
 use Rattle.feed_node.specs.Reading.{Opening, Reads, reads, keep_latest, awaits_reset}
 use Rattle.feed_world.specs.Log.{Log, IsLog, IsNamed, state_after}
-use Rattle.feed_world.specs.Position.{Position, IsPlace, node_where}
-use Rattle.feed_world.specs.Connection.{Connection, IsInOrder, sent_text, blocks_within, moved_by, count_new}
+use Rattle.feed_world.specs.Position.{Position, IsPlaceOfLog, node_where}
+use Rattle.feed_world.specs.Connection.{Connection, IsSentInOrder, sent_text, blocks_within, moved_by, count_new}
 
 -- a connection's opening: where its mirror was, and whether it is fresh
 abbrev pub opening_at : Log → Option Position → Bool → Opening
@@ -16,15 +16,15 @@ opening_at log place fresh = record { before = node_where log place; fresh = fre
 -- in order, what stands in the log
 pub record IsOpened (limits : Limits) (log : Log) (place : Option Position)
     (c : Connection) : Type 0 where
-  pub mirror : IsPlace limits log place
+  pub mirror : IsPlaceOfLog limits log place
   pub start : c.fresh ≡ false → (own : Position) × (place ≡ Some own) × (own.low ≤ c.start)
       × (c.start ≤ own.at)
-  pub order : IsInOrder c
+  pub order : IsSentInOrder c
   pub sent : c.last ≤ length log.commits
 
 -- A prefix of what was sent has nothing bad, and the mirror that reads it is where its whole blocks
 -- bring it: it publishes at each of them that is new, and nothing else.
-pub record IsRead (limits : Limits) (log : Log) (place : Option Position) (c : Connection)
+pub record PrefixIsRead (limits : Limits) (log : Log) (place : Option Position) (c : Connection)
     (prefix : List ℕ) : Type 0 where
   pub notes : List Line
   pub nothing_bad : Reads limits (opening_at log place c.fresh) prefix notes
@@ -37,12 +37,12 @@ pub record IsRead (limits : Limits) (log : Log) (place : Option Position) (c : C
       ≡ count_new limits.history log place (blocks_within log c.parts (length prefix))
 
 -- whatever prefix of what was sent came
-abbrev pub PrefixesAreRead : Type 0
-PrefixesAreRead =
+abbrev pub SentIsRead : Type 0
+SentIsRead =
     (limits : Limits) (log : Log) (place : Option Position) (c : Connection)
     (prefix behind : List ℕ)
     → IsLog limits log → IsOpened limits log place c → prefix ++ behind ≡ sent_text log c
-    → IsRead limits log place c prefix
+    → PrefixIsRead limits log place c prefix
 
 -- numbers of a log have one token each, so nodes at one token have equal tables
 abbrev pub TokensTellStates : Type 0

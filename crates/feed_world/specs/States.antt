@@ -28,9 +28,9 @@ use Rattle.feed_node.specs.States.{NodeState, published_token}
 use Rattle.feed_note.specs.Publishing.{Published}
 use Rattle.feed_world.specs.Connection.{Connection, sent_bytes, bytes_sent, blocks_come, moved_by}
 use Rattle.feed_world.specs.Log.{Log, IsLog, numbered}
-use Rattle.feed_world.specs.Position.{Position, IsPosition, IsPlace, commits_after, node_where}
+use Rattle.feed_world.specs.Position.{Position, IsPosition, IsPlaceOfLog, commits_after, node_where}
 use Rattle.feed_world.specs.Reading.{IsOpened, opening_at}
-use Rattle.feed_world.specs.Step.{Move, Step, Run, RunUpTo, primary_of, mirror_connects, mirror_serves, mirror_delivers, brought_to, reached, connects, linked, turned_to, IsRefusal, IsMemory, BrokeForMemory, is_free_reply}
+use Rattle.feed_world.specs.Step.{Move, Step, Run, RunUpTo, primary_of, mirror_connects, mirror_serves, mirror_delivers, brought_to, reached, connects, linked, turned_to, IsRefusal, IsForMemory, BrokeForMemory, is_free_reply}
 use Rattle.feed_world.specs.World.{Mirror, World, HasShape, is_other, connection_at, saved_text}
 
 -- a connection: the token that its session has come to, how the body of the response is framed, the
@@ -79,7 +79,7 @@ advanced c bytes reader =
     sending c.token c.framing reader c.bytes (delivered_after c bytes) c.start c.over
 
 -- the connection's next bytes were delivered, and the mirror followed them, wherever it stood
-pub record Brings (old : ConnectionState) (bytes : ℕ) (old_mirror : MirrorState)
+pub record IsDelivered (old : ConnectionState) (bytes : ℕ) (old_mirror : MirrorState)
     (new : ConnectionState) (new_mirror : MirrorState) : Type 0 where
   pub reader : FollowerState
   pub is : new ≡ advanced old bytes reader
@@ -168,7 +168,7 @@ asks_with log m = if m.afresh then None else published_token (node_where log m.p
 -- the mirror shows what one at this place shows, connected to the same node, and has the same saved
 -- text, of a state in the log
 pub record IsMirror (limits : Limits) (log : Log) (m : Mirror) (f : FollowingMirror) : Type 0 where
-  pub place : IsPlace limits log m.place
+  pub place : IsPlaceOfLog limits log m.place
   pub upstream : f.upstream ≡ m.upstream
   pub bounds : f.mirror.limits ≡ limits
   pub node : f.mirror.node ≡ node_where log m.place
@@ -181,7 +181,7 @@ pub record IsMirror (limits : Limits) (log : Log) (m : Mirror) (f : FollowingMir
 pub record MeetsNode (limits : Limits) (log : Log) (m : Mirror) (place : Option Position)
     (f : FollowingMirror) (node : NodeState) : Type 0 where
   pub is_log : IsLog limits log
-  pub is_place : IsPlace limits log place
+  pub is_place : IsPlaceOfLog limits log place
   pub shows : node ≡ node_where log place
   pub mirror : IsMirror limits log m f
 
@@ -290,7 +290,7 @@ WorldRunsUpTo w events fault s = (after : World) × RunUpTo w events fault after
 
 -- no mirror stopped feeding but for want of memory
 abbrev pub BreaksForMemory : Reply → Type 0
-BreaksForMemory (Broke i fault) = IsMemory fault
+BreaksForMemory (Broke i fault) = IsForMemory fault
 BreaksForMemory reply = Unit {0}
 
 -- ---- what a mirror asks of another node
@@ -393,11 +393,11 @@ abbrev pub carried_at : World → ℕ → Option Carried
 carried_at w i = option_map (carried_on (numbered w.log)) (connection_at w i)
 
 -- a node at this place has this number, or a later one
-abbrev pub HasReached : Option Position → ℕ → Type 0
-HasReached None k = ⊥
-HasReached (Some p) k = k ≤ p.at
+abbrev pub IsAsFarAs : Option Position → ℕ → Type 0
+IsAsFarAs None k = ⊥
+IsAsFarAs (Some p) k = k ≤ p.at
 
 -- where all that was sent on the connection was delivered, the mirror has the number of the last of
 -- it, or a later one
 abbrev pub HasReadAll : Log → Option Position → Connection → Type 0
-HasReadAll log place c = c.delivered ≡ bytes_sent log c → HasReached place c.last
+HasReadAll log place c = c.delivered ≡ bytes_sent log c → IsAsFarAs place c.last

@@ -311,14 +311,14 @@ pub record BreaksRefusal (old : World) (i j back : ℕ) (new : World) : Type 0 w
   pub after : new ≡ with_mirror old i (linked (turned_to j mirror) None)
 
 -- the fault is that memory ran out: in the head of a response, or in its body
-abbrev pub IsMemory : FollowFault → Type 0
-IsMemory FollowMemory = Unit {0}
-IsMemory (Feed FeedMemory) = Unit {0}
-IsMemory fault = ⊥
+abbrev pub IsForMemory : FollowFault → Type 0
+IsForMemory FollowMemory = Unit {0}
+IsForMemory (Feed FeedMemory) = Unit {0}
+IsForMemory fault = ⊥
 
 -- the reply is that the mirror's connection broke as memory ran out
 abbrev pub BrokeForMemory : ℕ → Reply → Type 0
-BrokeForMemory i reply = (fault : FollowFault) × (reply ≡ Broke i fault) × IsMemory fault
+BrokeForMemory i reply = (fault : FollowFault) × (reply ≡ Broke i fault) × IsForMemory fault
 
 -- the event was a delivery, and its connection broke; or a connect, and following the refusal broke
 abbrev pub Broken : World → Event → Reply → World → Type 0
@@ -369,8 +369,8 @@ LacksMemory world (DoCommit changes) fault =
 LacksMemory world event fault = (fault ≡ Memory) × ¬ (TakesNone world event)
 
 -- The event is refused in this world, for this fault: the outcome, or a want of memory.
-abbrev pub IsRefused : World → Event → WorldFault → Type 0
-IsRefused world event fault = (outcome world event ≡ Err fault) ⊎ LacksMemory world event fault
+abbrev pub EventIsRefused : World → Event → WorldFault → Type 0
+EventIsRefused world event fault = (outcome world event ≡ Err fault) ⊎ LacksMemory world event fault
 
 -- The first refused event ends the run, and those before it stand. The room for the replies may be
 -- refused before the first event, where there is one.
@@ -378,4 +378,4 @@ abbrev pub RunUpTo : World → List Event → WorldFault → World → Type 0
 RunUpTo old events fault new =
     ((fault ≡ Memory) × (events ≢ []) × (new ≡ old))
     ⊎ ((done : List Event) × (event : Event) × (later : List Event) × (replies : List Reply)
-    × (events ≡ done ++ event ∷ later) × Run old done replies new × IsRefused new event fault)
+    × (events ≡ done ++ event ∷ later) × Run old done replies new × EventIsRefused new event fault)

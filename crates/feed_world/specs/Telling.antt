@@ -7,7 +7,7 @@ use Rattle.feed_note.specs.declared.line.Line.{Line}
 use Rattle.feed_note.specs.declared.line.Line.TheVariants.{KeepAlive, Note}
 use Rattle.feed_node.specs.Reading.{reads, keep_latest}
 use Rattle.feed_world.specs.Log.{Log, IsNamed, state_after, changes_of_commit}
-use Rattle.feed_world.specs.Position.{Position, IsPlace, node_where}
+use Rattle.feed_world.specs.Position.{Position, IsPlaceOfLog, node_where}
 use Rattle.feed_world.specs.Reading.{opening_at}
 
 -- The token ends these changes. The first one of a fresh connection has those that make the state
@@ -41,9 +41,9 @@ Tells log fresh k waiting (Note changes (Some token) ∷ notes) =
 abbrev pub TellsShow : Type 0
 TellsShow =
     (limits : Limits) (log : Log) (place : Option Position) (fresh : Bool) (k : ℕ)
-    (notes : List Line) → IsNamed log → IsPlace limits log place
+    (notes : List Line) → IsNamed log → IsPlaceOfLog limits log place
     → (fresh ≡ false → (own : Position) × (place ≡ Some own) × (own.low ≤ k) × (k ≤ own.at))
     → Tells log fresh k [] notes
-    → (at : Option Position) × IsPlace limits log at
+    → (at : Option Position) × IsPlaceOfLog limits log at
     × (keep_latest limits.history (reads limits.history (opening_at log place fresh) notes)
     ≡ node_where log at)

@@ -11,9 +11,9 @@ ghost use Rattle.feed_follow.specs.Following.{Fails};
 ghost use Rattle.feed_follow.specs.Standing.{Standing};
 ghost use Rattle.feed_world.specs.Connection.{Connection as Sending};
 ghost use Rattle.feed_world.specs.Log.{Log, IsLog};
-ghost use Rattle.feed_world.specs.Position.{Position, IsPlace, node_where};
-ghost use Rattle.feed_world.specs.States.{IsConnection, sending, delivered_after, next_bytes, Brings};
-ghost use Rattle.feed_world.specs.Step.{serves, idles, IsMemory};
+ghost use Rattle.feed_world.specs.Position.{Position, IsPlaceOfLog, node_where};
+ghost use Rattle.feed_world.specs.States.{IsConnection, sending, delivered_after, next_bytes, IsDelivered};
+ghost use Rattle.feed_world.specs.Step.{serves, idles, IsForMemory};
 
 use crate::event::Reply;
 use feed_answer::{Framing, frame};
@@ -87,13 +87,13 @@ impl Connection {
     /// more, and the body is not ended, either.
     pub fn serve(&mut self, alloc: Global, server: &Node) -> Result<Pulled, AllocError>
         ensures ok { (limits : Bounds) (log : Log) (c : Sending) (place : Option Position)
-            → IsLog limits log → IsPlace limits log place
+            → IsLog limits log → IsPlaceOfLog limits log place
             → server.now.shown ≡ node_where log place → c.last ≤ length log.commits
             → IsConnection log c self.old
             → IfOk result (λ pulled. (pulled ≡ (serves c place).0)
             × IsConnection log (serves c place).1 self.new) }
         ensures err { (limits : Bounds) (log : Log) (c : Sending) (place : Option Position)
-            → IsLog limits log → IsPlace limits log place
+            → IsLog limits log → IsPlaceOfLog limits log place
             → server.now.shown ≡ node_where log place → c.last ≤ length log.commits
             → IsConnection log c self.old
             → OnErr result ((serves c place).0 ≡ More) }
@@ -149,12 +149,12 @@ impl Connection {
         mirror: &mut Mirror,
         bytes: usize,
     ) -> Result<(), FollowFault>
-        ensures ok { OnOk result (Brings self.old bytes mirror.old self.new mirror.new) }
+        ensures ok { OnOk result (IsDelivered self.old bytes mirror.old self.new mirror.new) }
         ensures err { (start : MirrorState) (before : List ℕ) (standing : Standing)
             → FollowsAt start before standing self.old.reader mirror.old
             → IfErr result (Fails start self.old.reader.had_token before
             (next_bytes self.old bytes) mirror.new) }
-        ensures some { IfErr result (λ fault. IsMemory fault
+        ensures some { IfErr result (λ fault. IsForMemory fault
             → self.old.delivered < delivered_after self.old bytes) }
         ensures limits { mirror.new.limits ≡ mirror.old.limits }
         ensures fits { length self.old.bytes < 2 ^ 64 }

@@ -2,7 +2,7 @@
 
 ghost use Rattle.feed_world.specs.Laws.{GrowthKeeps, SendingKeepsOrder, DeliveriesCompose, NodesOpenInLog, SessionsStartBefore, NodesSendTheNext, PartsGoOn};
 ghost use Rattle.feed_world.specs.Following.{SessionsOpenAsAsked, PlacesStay, AllIsReached, ResponsesCarryFeed, MirrorsFollow, FailsKeepStates, RefusalsKeepNodes};
-ghost use Rattle.feed_world.specs.Reading.{PrefixesAreRead, TokensTellStates};
+ghost use Rattle.feed_world.specs.Reading.{SentIsRead, TokensTellStates};
 ghost use Rattle.feed_world.specs.Telling.{TellsShow};
 
 use feed_answer::{answer_laws, followed_laws};
@@ -13,7 +13,7 @@ use feed_tables::table_laws;
 /// reads it is where its whole blocks bring it, however the prefix was cut. A token names one state
 /// of a log. A further commit changes nothing of what a node shows and of what was sent.
 pub fn world_laws()
-    ensures prefixes { PrefixesAreRead }
+    ensures prefixes { SentIsRead }
     ensures tokens { TokensTellStates }
     ensures growth { GrowthKeeps }
     ensures order { SendingKeepsOrder }

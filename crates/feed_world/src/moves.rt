@@ -6,7 +6,7 @@ ghost use Rattle.feed_node.specs.Log.{PrimaryState};
 ghost use Rattle.feed_world.specs.declared.event.Event.TheVariants.{Idle, Deliver, Cut as DoCut, Save, Restart};
 ghost use Rattle.feed_world.specs.declared.event.WorldFault.TheVariants.{NoNode};
 ghost use Rattle.feed_world.specs.States.{FollowingMirror, AreNodes, NodesMove, IsFramedAs, all_shown, event_asking};
-ghost use Rattle.feed_world.specs.Step.{IsRefused};
+ghost use Rattle.feed_world.specs.Step.{EventIsRefused};
 ghost use Rattle.feed_world.specs.World.{World as Numbers};
 
 use crate::event::{Asks, Reply, WorldFault};
@@ -75,7 +75,7 @@ pub(crate) fn ask(
         → IfOk result (λ reply.
         NodesMove w primary.now (event_asking asks number) reply followers.new) }
     ensures err { (w : Numbers) → AreNodes w primary.now followers.old → IsFramedAs w.framing asks
-        → IfErr result (λ fault. IsRefused w (event_asking asks number) fault) }
+        → IfErr result (λ fault. EventIsRefused w (event_asking asks number) fault) }
     ensures unchanged { OnErr result (followers.new ≡ followers.old) }
 {
     let place = place_of(followers, number)?;
@@ -97,7 +97,7 @@ pub(crate) fn idle(
     ensures ok { (w : Numbers) (primary : PrimaryState) → AreNodes w primary followers.old
         → IfOk result (λ reply. NodesMove w primary (Idle number) reply followers.new) }
     ensures err { (w : Numbers) (primary : PrimaryState) → AreNodes w primary followers.old
-        → IfErr result (λ fault. IsRefused w (Idle number) fault) }
+        → IfErr result (λ fault. EventIsRefused w (Idle number) fault) }
     ensures unchanged { OnErr result (followers.new ≡ followers.old) }
 {
     let place = place_of(followers, number)?;
@@ -114,7 +114,7 @@ pub(crate) fn deliver(
     ensures ok { (w : Numbers) (primary : PrimaryState) → AreNodes w primary followers.old
         → IfOk result (λ reply. NodesMove w primary (Deliver number bytes) reply followers.new) }
     ensures err { (w : Numbers) (primary : PrimaryState) → AreNodes w primary followers.old
-        → IfErr result (λ fault. IsRefused w (Deliver number bytes) fault) }
+        → IfErr result (λ fault. EventIsRefused w (Deliver number bytes) fault) }
     ensures unchanged { OnErr result (followers.new ≡ followers.old) }
 {
     let place = place_of(followers, number)?;
@@ -126,7 +126,7 @@ pub(crate) fn cut(followers: &mut [Follower], number: usize) -> Result<Reply, Wo
     ensures ok { (w : Numbers) (primary : PrimaryState) → AreNodes w primary followers.old
         → IfOk result (λ reply. NodesMove w primary (DoCut number) reply followers.new) }
     ensures err { (w : Numbers) (primary : PrimaryState) → AreNodes w primary followers.old
-        → IfErr result (λ fault. IsRefused w (DoCut number) fault) }
+        → IfErr result (λ fault. EventIsRefused w (DoCut number) fault) }
     ensures unchanged { OnErr result (followers.new ≡ followers.old) }
 {
     let place = place_of(followers, number)?;
@@ -142,7 +142,7 @@ pub(crate) fn save(
     ensures ok { (w : Numbers) (primary : PrimaryState) → AreNodes w primary followers.old
         → IfOk result (λ reply. NodesMove w primary (Save number) reply followers.new) }
     ensures err { (w : Numbers) (primary : PrimaryState) → AreNodes w primary followers.old
-        → IfErr result (λ fault. IsRefused w (Save number) fault) }
+        → IfErr result (λ fault. EventIsRefused w (Save number) fault) }
     ensures unchanged { OnErr result (followers.new ≡ followers.old) }
 {
     let place = place_of(followers, number)?;
@@ -159,7 +159,7 @@ pub(crate) fn restart(
     ensures ok { (w : Numbers) (primary : PrimaryState) → AreNodes w primary followers.old
         → IfOk result (λ reply. NodesMove w primary (Restart number bytes) reply followers.new) }
     ensures err { (w : Numbers) (primary : PrimaryState) → AreNodes w primary followers.old
-        → IfErr result (λ fault. IsRefused w (Restart number bytes) fault) }
+        → IfErr result (λ fault. EventIsRefused w (Restart number bytes) fault) }
     ensures unchanged { OnErr result (followers.new ≡ followers.old) }
 {
     let place = place_of(followers, number)?;

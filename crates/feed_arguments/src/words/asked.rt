@@ -6,7 +6,7 @@ ghost use Rattle.feed_settings.specs.Limits.{Limits as LimitsOf, most_changes, m
 ghost use Rattle.feed_arguments.specs.Addresses.{most_port};
 ghost use Rattle.feed_arguments.specs.Live.{AreBothGiven, kept_bytes};
 ghost use Rattle.feed_arguments.specs.Options.{most_rounds, most_silence};
-ghost use Rattle.feed_arguments.specs.Options.{text_at, IsNumber, IsNumberUpTo, IsNumberIfGiven};
+ghost use Rattle.feed_arguments.specs.Options.{text_at, SaysNumber, IsNumberUpTo, IsNumberIfGiven};
 ghost use Rattle.feed_arguments.specs.Options.{IsGiven, IsFramed, AsksLimits, AsksLimitsOr};
 ghost use Rattle.feed_arguments.specs.Upstream.{AsksUpstream};
 ghost use Rattle.feed_arguments.specs.Words.{AsksTables, AsksCheck, AreOnInput, AsksAudit, AsksCompare, ComparesNone, AsksServe, AsksPull, AsksRelay, AsksBy, AsksAt};
@@ -43,9 +43,10 @@ pub(super) fn number_up_to(matches: &ArgMatches<'_>, name: &str, most: u64) -> O
 
 /// The same of an option whose value is 1 at least.
 pub(super) fn number(matches: &ArgMatches<'_>, name: &str, most: u64) -> Option<u64>
-    ensures some { IfSome result (λ n. IsNumber name.now most (rows_of (found_of matches.now)) n) }
+    ensures some { IfSome result
+        (λ n. SaysNumber name.now most (rows_of (found_of matches.now)) n) }
     ensures none { result ≡ None → (n : ℕ)
-        → ¬ (IsNumber name.now most (rows_of (found_of matches.now)) n) }
+        → ¬ (SaysNumber name.now most (rows_of (found_of matches.now)) n) }
 {
     let number = number_up_to(matches, name, most)?;
     if 1 <= number { Some(number) } else { None }
@@ -75,9 +76,9 @@ pub(super) fn number_if_given(
 /// A port.
 fn port(matches: &ArgMatches<'_>, name: &str) -> Option<u16>
     ensures some { IfSome result
-        (λ n. IsNumber name.now most_port (rows_of (found_of matches.now)) n) }
+        (λ n. SaysNumber name.now most_port (rows_of (found_of matches.now)) n) }
     ensures none { result ≡ None → (n : ℕ)
-        → ¬ (IsNumber name.now most_port (rows_of (found_of matches.now)) n) }
+        → ¬ (SaysNumber name.now most_port (rows_of (found_of matches.now)) n) }
 {
     Some(number(matches, name, MOST_PORT)? as u16)
 }
@@ -137,11 +138,11 @@ pub(super) fn live_limits(matches: &ArgMatches<'_>) -> Option<Limits>
 
 /// The same without a limit in bytes.
 fn limits_of_counts(matches: &ArgMatches<'_>) -> Option<Limits>
-    ensures history { IfSome result (λ limits. IsNumber (codes "history") most_commits
+    ensures history { IfSome result (λ limits. SaysNumber (codes "history") most_commits
         (rows_of (found_of matches.now)) limits.history.commits) }
     ensures bytes { IfSome result (λ limits. limits.history.bytes ≡ None) }
     ensures staged { IfSome result (λ limits.
-        IsNumber (codes "staged") most_changes (rows_of (found_of matches.now)) limits.staged) }
+        SaysNumber (codes "staged") most_changes (rows_of (found_of matches.now)) limits.staged) }
     ensures memory { IfSome result (λ limits. limits.memory ≡ None) }
     ensures none { result ≡ None → (bytes : Option ℕ) (limits : LimitsOf)
         → ¬ (AsksLimitsOr bytes (rows_of (found_of matches.now)) limits) }
@@ -300,11 +301,11 @@ fn serve_options<'a>(matches: &ArgMatches<'a>) -> Option<ServeOptions<'a>>
 /// The most reads of a connection, and the most seconds of silence.
 fn patience(matches: &ArgMatches<'_>) -> Option<(u64, Option<u64>)>
     ensures reads { IfSome result
-        (λ p. IsNumber (codes "turns") most_rounds (rows_of (found_of matches.now)) p.0) }
+        (λ p. SaysNumber (codes "turns") most_rounds (rows_of (found_of matches.now)) p.0) }
     ensures silence { IfSome result
         (λ p. IsNumberIfGiven (codes "silence") most_silence (rows_of (found_of matches.now)) p.1) }
     ensures none { result ≡ None → (reads : ℕ) → (most : Option ℕ)
-        → IsNumber (codes "turns") most_rounds (rows_of (found_of matches.now)) reads
+        → SaysNumber (codes "turns") most_rounds (rows_of (found_of matches.now)) reads
         → ¬ (IsNumberIfGiven (codes "silence") most_silence (rows_of (found_of matches.now)) most) }
 {
     let most_reads = number(matches, "turns", MOST_ROUNDS)?;

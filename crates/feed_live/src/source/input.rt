@@ -23,6 +23,7 @@ impl Source {
         ensures node { self.new.answers.shown.mirror.node ≡ self.old.answers.shown.mirror.node }
         ensures upstream { self.new.upstream ≡ self.old.upstream }
         ensures settling { self.new.settling ≡ self.old.settling }
+        ensures heard { self.new.is_heard ≡ self.old.is_heard }
     {
         if !feeds {
             return;

@@ -9,7 +9,7 @@ ghost use Rattle.feed_device.specs.Calls.{CalledOnce, CalledAtLeastOnce};
 ghost use Rattle.feed_device.specs.Sockets.{opened, former_of, IsSocket, OtherSockets};
 ghost use Rattle.feed_screens.specs.Serving.{StillServesAll, StillServingWith, StillStand, SameSeating, IsSent};
 ghost use Rattle.feed_screens.specs.Serving.{IsGreeted, HasNoSeat, key_at};
-ghost use Rattle.feed_screens.specs.Waiting.{IsSlow, RefusesAt};
+ghost use Rattle.feed_screens.specs.Waiting.{IsSlow, HoldsUp, RefusesAt};
 ghost use Rattle.feed_screens.specs.Seating.{comes_until, HasFreeSeat, HasNewKey, HasSentEnd, IsLingering};
 
 use crate::conn::{Conn, Stage};
@@ -279,6 +279,8 @@ impl Screens {
         // whoever doesn't stays
         ensures stays { (at : ℕ) → ¬ (IsSlow (get self.old.conns at) desk.old.time)
             → get self.new.conns at ≡ get self.old.conns at }
+        // and of those who do nobody
+        ensures goes { (at : ℕ) → ¬ (HoldsUp self.new at desk.old.time) }
         ensures time { desk.new.time ≡ desk.old.time }
         ensures asks { S.asked sockets.new ≡ S.asked sockets.old }
     {

@@ -7,6 +7,7 @@ ghost use Rattle.feed_device.specs.Calls.{CalledOnce, NotCalled};
 ghost use Rattle.slab.specs.Slab.{get};
 ghost use Rattle.feed_screens.specs.declared.conn.Stage.TheVariants.{Asks};
 ghost use Rattle.feed_screens.specs.Held.{IsAt};
+ghost use Rattle.feed_screens.specs.Seating.{lingers_from};
 ghost use Rattle.feed_screens.specs.Serving.{StillServing, StillServesFrom, StillServes, SameSeating};
 ghost use Rattle.feed_screens.specs.Serving.{HasKey, SameKeys, LeavesSeat, IsWritable, key_at, keyless};
 
@@ -202,6 +203,8 @@ impl Screens {
             (S.socket sockets.old) (S.socket sockets.new) }
         ensures offers { NotCalled (S.offered sockets.old) (S.offered sockets.new) }
         ensures asks { S.asked sockets.new ≡ S.asked sockets.old }
+        ensures lingers { IfSome (get self.new.conns keyed.at)
+            (λ conn. conn.stage ≡ lingers_from now) }
     {
         self.hub.leave(keyed.key);
         sockets.shut(keyed.at);
@@ -216,6 +219,7 @@ impl Screens {
         ensures places { (other : ℕ) → other ≢ at
             → get self.new.conns other ≡ get self.old.conns other }
         ensures hub { self.new.hub ≡ self.old.hub }
+        ensures lingers { IfSome (get self.new.conns at) (λ conn. conn.stage ≡ lingers_from now) }
     {
         if let Some(conn) = self.conns.get_mut(at) {
             conn.linger(now);

@@ -1,6 +1,6 @@
 //! Who waits for room: long texts that screens have yet to take have a limit together.
 
-ghost use Rattle.std.specs.Prelude.{◌≡◌, ◌≢◌, ◌<◌, ◌≤◌, ◌↔◌, ◌^◌, ◌-◌, [], ℕ, List, None, Some, min, IsTrue, OnOk};
+ghost use Rattle.std.specs.Prelude.{◌≡◌, ◌≢◌, ◌<◌, ◌≤◌, ◌↔◌, ◌^◌, ◌-◌, [], ℕ, List, None, Some, min, true, IsTrue, OnOk};
 ghost use Rattle.feed_node.specs.States.{NodeState};
 ghost use Rattle.feed_hub.specs.Seats.{seat_at};
 ghost use Rattle.feed_device.specs.Sockets.{AllSockets};
@@ -9,7 +9,7 @@ ghost use Rattle.feed_screens.specs.Pending.{total, Pays, owed_text_at};
 ghost use Rattle.feed_screens.specs.Serving.{StillServesAll, StillAnswers, StillStand, SameSeating};
 ghost use Rattle.feed_screens.specs.Serving.{ServesBut, HasKey, HearsAll};
 ghost use Rattle.feed_screens.specs.Held.{SameMirrors};
-ghost use Rattle.feed_screens.specs.Waiting.{HasNotWaited, IsOverdue, IsSlow, RefusesOne};
+ghost use Rattle.feed_screens.specs.Waiting.{HasNotWaited, IsOverdue, IsSlow, HoldsUp, RefusesOne};
 
 use crate::conn::Wanted;
 use crate::screens::{Answers, Hearing, Keyed, Screens, Shown, TextId};
@@ -71,6 +71,9 @@ impl Screens {
         ensures once { owed_text_at self.new.pending.places.items at ≡ None }
         ensures others { (other : ℕ) → other ≢ at
             → get self.new.conns other ≡ get self.old.conns other }
+        ensures owed { (other : ℕ) → other ≢ at
+            → owed_text_at self.new.pending.places.items other
+            ≡ owed_text_at self.old.pending.places.items other }
     {
         if let Some(conn) = self.conns.get_mut(at) {
             conn.pay();
@@ -83,7 +86,7 @@ impl Screens {
     /// Whether the connection at a place has yet to take a text that counts as pending, and takes
     /// it too slowly.
     pub(crate) fn is_slow(&self, at: usize, now: u64) -> bool
-        ensures { IsTrue result → IsSlow (get self.now.conns at) now }
+        ensures { IsTrue result ↔ HoldsUp self.now at now }
     {
         match self.conns.get(at) {
             Some(conn) => self.pending.has(at) && conn.is_slow(now),
@@ -382,6 +385,9 @@ impl Screens {
         // whoever isn't slow stays
         ensures stays { (at : ℕ) → ¬ (IsSlow (get self.old.conns at) desk.old.time)
             → get self.new.conns at ≡ get self.old.conns at }
+        // and nobody is who holds up those that wait
+        ensures goes { self.old.is_waited ≡ true
+            → (at : ℕ) → ¬ (HoldsUp self.new at desk.old.time) }
         ensures time { desk.new.time ≡ desk.old.time }
         ensures asks { S.asked sockets.new ≡ S.asked sockets.old }
     {

@@ -19,7 +19,7 @@ use crate::lister::Lister;
 use crate::map::{Held, Map, held_in};
 use crate::name::{Key, Name};
 use crate::scale::{InType, Merged, Scale};
-use crate::tables::Table;
+use crate::table::Table;
 use crate::tree::{Fork, Node, Tree};
 use feed_text::ObjectText;
 use std::alloc::{AllocError, Global};

@@ -20,5 +20,4 @@ returns g c =
       ends = c.turn.ensures.ends;
       takes = c.turn.ensures.takes;
       over = c.turn.ensures.over;
-      in_time = c.turn.ensures.in_time;
     }

@@ -2,7 +2,7 @@ use Rattle.std.proofs.Common.{◌≡◌, Option, Some, None, min, sym, ap, ◌�
 use Rattle.std.specs.Option.{option_copied}
 use Rattle.std.specs.FinMap.{get}
 use Rattle.feed_tables.specs.Walks.{weight}
-use Rattle.feed_tables.specs.declared.tables.Table.{Table}
+use Rattle.feed_tables.specs.declared.table.Table.{Table}
 use Rattle.feed_tables.proofs.tables.weight_of.Goals as goal
 
 pub returns-in-Some : goal.returns-in-Some

@@ -62,5 +62,4 @@ returns g c =
       };
       takes = c.next.ensures.takes;
       over = c.next.ensures.over;
-      in_time = c.next.ensures.in_time;
     }

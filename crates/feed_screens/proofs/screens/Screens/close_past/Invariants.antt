@@ -1,4 +1,4 @@
-use Rattle.std.proofs.Common.{◌≡◌, ◌⊎◌, ℕ, List}
+use Rattle.std.proofs.Common.{◌≡◌, ◌⊎◌, ◌<◌, ℕ, List}
 use Rattle.slab.specs.Slab.{get}
 use Rattle.feed_node.specs.States.{NodeState}
 use Rattle.feed_screens.specs.Held.{IsPast}
@@ -13,4 +13,5 @@ invariant-loop-at g l =
       time : l.desk.time ≡ l.initial.desk.time;
       asks : g.S.Sockets.asked l.sockets ≡ g.S.Sockets.asked l.initial.sockets;
       stays : (at : ℕ) → (get l.self.conns at ≡ get l.initial.self.conns at) ⊎ IsPast (get l.initial.self.conns at) l.initial.desk.time;
+      gone : (at : ℕ) → at < l.at → ¬ (IsPast (get l.self.conns at) l.initial.desk.time);
     }

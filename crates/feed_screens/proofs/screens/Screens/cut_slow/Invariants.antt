@@ -1,8 +1,8 @@
-use Rattle.std.proofs.Common.{◌≡◌, ◌⊎◌, ℕ, List}
+use Rattle.std.proofs.Common.{◌≡◌, ◌⊎◌, ◌<◌, ℕ, List}
 use Rattle.slab.specs.Slab.{get}
 use Rattle.feed_node.specs.States.{NodeState}
 use Rattle.feed_screens.specs.Serving.{StillServing}
-use Rattle.feed_screens.specs.Waiting.{IsSlow}
+use Rattle.feed_screens.specs.Waiting.{IsSlow, HoldsUp}
 use Rattle.feed_screens.proofs.screens.Screens.cut_slow.Given as goal
 
 abbrev pub invariant-loop-at : goal.invariant-loop-at
@@ -13,4 +13,5 @@ invariant-loop-at g l =
       time : l.desk.time ≡ l.initial.desk.time;
       asks : g.S.Sockets.asked l.sockets ≡ g.S.Sockets.asked l.initial.sockets;
       stays : (at : ℕ) → (get l.self.conns at ≡ get l.initial.self.conns at) ⊎ IsSlow (get l.initial.self.conns at) l.initial.desk.time;
+      gone : (at : ℕ) → at < l.at → ¬ (HoldsUp l.self at l.initial.desk.time);
     }

@@ -3,6 +3,7 @@ use Rattle.std.specs.Prelude.{Contains}
 use Rattle.feed_node.specs.States.{NodeState}
 use Rattle.feed_device.specs.Sockets.{AllSockets}
 use Rattle.feed_screens.specs.Serving.{StillServing, AllEnd}
+use Rattle.feed_screens.specs.Waiting.{SameToDo}
 use Rattle.feed_screens.proofs.screens.Screens.say_all.Given as goal
 
 abbrev pub invariant-loop : goal.invariant-loop
@@ -13,4 +14,5 @@ invariant-loop l =
       ended : AllEnd l.initial.self.hub → AllEnd l.self.hub;
       waits : l.initial.self.saying.waits ≡ None → l.self.saying.waits ≡ None;
       most : l.self.hub.most ≡ l.initial.self.hub.most;
+      to_do : SameToDo l.initial.self l.self;
     }

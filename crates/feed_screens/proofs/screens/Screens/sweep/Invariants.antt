@@ -1,4 +1,4 @@
-use Rattle.std.proofs.Common.{◌≡◌, ◌⊎◌, ℕ, List}
+use Rattle.std.proofs.Common.{◌≡◌, ◌⊎◌, ◌<◌, ℕ, List}
 use Rattle.slab.specs.Slab.{get}
 use Rattle.feed_node.specs.States.{NodeState}
 use Rattle.feed_hub.specs.declared.seats.Key.{Key}
@@ -14,5 +14,6 @@ invariant-loop-at g l =
       time : l.desk.time ≡ l.initial.desk.time;
       asks : g.S.Sockets.asked l.sockets ≡ g.S.Sockets.asked l.initial.sockets;
       stays : (at : ℕ) → (get l.self.conns at ≡ get l.initial.self.conns at) ⊎ HasNoSeat l.initial.self.hub (get l.initial.self.conns at);
+      gone : (at : ℕ) → at < l.at → ¬ (HasNoSeat l.initial.self.hub (get l.self.conns at));
       seats : (key : Key) → seat_at l.self.hub.seats.slab key ≡ seat_at l.initial.self.hub.seats.slab key;
     }

@@ -2,8 +2,8 @@ use Rattle.std.proofs.Common.{◌≡◌, ap, ◌∙◌, List, ℕ}
 use Rattle.std.specs.FinMap.{insert}
 use Rattle.feed_tables.specs.ChangedIds.{over_ids}
 use Rattle.feed_tables.specs.Tables.{Objects, no_objects}
-use Rattle.feed_tables.specs.declared.tables.Table.{Table}
-use Rattle.feed_tables.specs.declared.tables.Table.TheVariants.{Many}
+use Rattle.feed_tables.specs.declared.table.Table.{Table}
+use Rattle.feed_tables.specs.declared.table.Table.TheVariants.{Many}
 use Rattle.feed_tables.proofs.Changing.{begun}
 use Rattle.feed_tables.proofs.Patching.{over_of, over_put}
 use Rattle.feed_tables.proofs.patch.Patch.begin.Goals as goal

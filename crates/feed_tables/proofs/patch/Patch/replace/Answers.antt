@@ -1,6 +1,6 @@
 use Rattle.std.proofs.Common.{ap, ◌∙◌, List, ℕ}
 use Rattle.std.specs.FinMap.{insert, remove}
-use Rattle.feed_tables.specs.declared.tables.Table.{Table}
+use Rattle.feed_tables.specs.declared.table.Table.{Table}
 use Rattle.feed_tables.proofs.Changing.{changed_replaced}
 use Rattle.feed_tables.proofs.Patching.{over_of, over_put}
 use Rattle.feed_tables.proofs.patch.Patch.replace.Goals as goal

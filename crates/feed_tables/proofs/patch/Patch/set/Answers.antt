@@ -1,6 +1,6 @@
 use Rattle.std.proofs.Common.{◌≡◌, true, None, ap, subst, ◌∙◌, List, ℕ}
 use Rattle.std.specs.FinMap.{get, insert}
-use Rattle.feed_tables.specs.Map.{Exchanges}
+use Rattle.feed_tables.specs.Map.{TakesThePlace}
 use Rattle.feed_tables.specs.ChangedIds.{over_ids}
 use Rattle.feed_tables.specs.Tables.{Objects, collection_of}
 use Rattle.feed_tables.proofs.Changing.{Changed, held_some, held_none, held_after, held_still, set_again}
@@ -24,7 +24,7 @@ returns-in_default-clause-ok c =
     let set = c.in_default.ensures.set in
     let i = set.0 in
     let j = set.1 in
-    let there = subst (λ (q : List ℕ). Exchanges q p.ids c.set_in.new.self j i true) c.key-2.ensures set.2 in
+    let there = subst (λ (q : List ℕ). TakesThePlace q p.ids c.set_in.new.self j i true) c.key-2.ensures set.2 in
     let node = c.in_ok-node.node.value in
     let made : over_ids held.0 j ≡ insert (over_ids held.0 i) c.args.id.now c.args.object.now =
     set.3 held.0

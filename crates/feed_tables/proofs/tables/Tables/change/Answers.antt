@@ -2,7 +2,7 @@ use Rattle.std.proofs.Common.{◌+◌, min, Bool, sym, ap, subst, ◌∙◌, ℕ
 use Rattle.std.specs.FinMap.{insert}
 use Rattle.feed_tables.specs.Amounts.{bytes, bytes_lost, bytes_come, MergesIn}
 use Rattle.feed_tables.specs.Tables.{Contents, object_count, size}
-use Rattle.feed_tables.specs.declared.tables.Table.{Table}
+use Rattle.feed_tables.specs.declared.table.Table.{Table}
 use Rattle.feed_tables.proofs.Amounts.{bytes_changed, lost_within}
 use Rattle.feed_tables.proofs.Sizes.{size_is, size-insert, count_within}
 use Rattle.feed_tables.proofs.tables.Tables.change.Goals as goal

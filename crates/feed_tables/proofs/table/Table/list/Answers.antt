@@ -5,9 +5,9 @@ use Rattle.feed_tables.specs.Changes.{sets}
 use Rattle.feed_tables.specs.Listers.{FailsIn}
 use Rattle.feed_tables.specs.Tables.{listed}
 use Rattle.feed_tables.specs.declared.change.Change.TheVariants.{Empty}
-use Rattle.feed_tables.specs.declared.tables.Table.{Table}
+use Rattle.feed_tables.specs.declared.table.Table.{Table}
 use Rattle.feed_tables.proofs.Listers.{on_any_err, takes_one, fails_one, failed_first, failed_here}
-use Rattle.feed_tables.proofs.tables.Table.list.Goals as goal
+use Rattle.feed_tables.proofs.table.Table.list.Goals as goal
 
 pub returns-in_err-empty-in-Many-clause-fails : goal.returns-in_err-empty-in-Many-clause-fails
 returns-in_err-empty-in-Many-clause-fails g c =
