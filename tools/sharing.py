@@ -3,7 +3,7 @@
 
 The toolchain's gate proves one crate after another, so it decides how long tools/check takes, and must not be slowed
 by what runs beside it. Two things see to that. What runs beside it has the lowest priority; and heavy commands, such
-as builds and proofs, take a slot each, of which there are as many as the machine's processors and its memory bear."""
+as builds and proofs, take a slot each, of which there are half as many as processors, or as many as memory bears."""
 import errno
 import fcntl
 import os
@@ -78,10 +78,9 @@ def shared_slots():
 
 
 def slots():
-    """As many as there are processors, but at least one and no more than there is memory for. Where the lowest priority
-    does nothing, two processors are left to the gate."""
-    bear = processors() if is_priority_kept() else processors() - 2
-    return max(1, min(bear, (memory() - OF_GATE) // OF_ONE))
+    """Half as many as there are processors, but at least one and no more than there is memory for. Two processors mostly
+    share a core, so even what has the lowest priority slows the gate."""
+    return max(1, min(processors() // 2, (memory() - OF_GATE) // OF_ONE))
 
 
 def lanes():
@@ -107,28 +106,18 @@ def is_grouped():
 
 
 def lower_priority():
-    """Gives this process, and what it starts, the lowest priority; says whether that does anything. Where processors are
-    shared among sessions, its session gets the lowest one, too, so it should be the session's first process."""
+    """Gives this process, and what it starts, the lowest priority. Where processors are shared among sessions, its session
+    gets the lowest one, too, so it should be the session's first process."""
     os.nice(19)
     for _ in range(30 if is_grouped() else 0):
         try:
             Path("/proc/self/autogroup").write_text("19")
-            return True
+            return
         except OSError as error:
             # The kernel takes such a wish ten times a second, from all processes together.
             if error.errno != errno.EAGAIN:
-                return False
+                return
             time.sleep(0.1)
-    return not is_grouped()
-
-
-def is_priority_kept():
-    """Whether the lowest priority does anything here, tried by a process that ends at once."""
-    child = os.fork()
-    if child == 0:
-        os.setsid()
-        os._exit(0 if lower_priority() else 1)
-    return os.waitstatus_to_exitcode(os.waitpid(child, 0)[1]) == 0
 
 
 if __name__ == "__main__":
