@@ -23,13 +23,12 @@ mod times;
 mod turn;
 
 pub use feed_device::{Before, Devices, How, Link, Ready, Report, Sockets, Stop, Store, Why};
+pub use feed_figures::{Failure, FeedFigures, Following, LONG_WAIT, Reason};
 pub use feed_files::{FileFigures, Restored, restore};
 pub use feed_screens::{ScreenFigures, ScreenLimits, ScreenRow, ScreenTotals};
-pub use figures::{Failure, FeedFigures, Following, Reason};
 pub use host::{Given, Host};
 pub use laws::{foreign_laws, live_laws, network_laws};
 pub use options::{LiveLimits, Setup, Start};
 pub use running::{RunFault, run};
 pub use starting::restore_from;
-pub use times::LONG_WAIT;
 pub use turn::{Input, Live, Turn};

@@ -10,7 +10,6 @@ mod rechecking;
 mod returning;
 mod settling;
 
-use crate::figures::{FeedFigures, Following};
 use crate::options::LiveLimits;
 use crate::source::rechecking::Rechecking;
 use crate::source::returning::Returning;
@@ -18,6 +17,7 @@ use crate::source::settling::Settling;
 use crate::times::QUIET;
 use feed_answer::{Identity, Place};
 use feed_device::{Desk, Excerpt};
+use feed_figures::{FeedFigures, Following};
 use feed_hub::{Answering, Upstream};
 use feed_node::{Mirror, Node};
 use feed_screens::Answers;
@@ -194,11 +194,7 @@ impl Source {
 
     pub(crate) fn figures(&self) -> FeedFigures {
         let (coming_lines, coming_bytes) = self.come();
-        FeedFigures {
-            coming_lines,
-            coming_bytes,
-            ..self.figures
-        }
+        self.figures.with_coming(coming_lines, coming_bytes)
     }
 
     /// An event came for the connection.

@@ -22,9 +22,6 @@ pub(crate) const REPLAY_REPORT: u64 = 30_000;
 /// less.
 pub(crate) const ROUND_TIME: u64 = 10_000;
 
-/// After so long in which changes waited for a token, there may be none.
-pub const LONG_WAIT: u64 = 10_000;
-
 // ---- turns
 
 /// How often late requests and screens that take nothing are looked for.

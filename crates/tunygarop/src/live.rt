@@ -1,20 +1,19 @@
 //! The command `live`: one relay, in one process and one thread, over sockets that never wait.
 
 mod making;
-mod restoring;
 mod watching;
 
 use feed_commands::{Fault, LiveOptions, Verbosity};
 use feed_device::Devices;
 use feed_host::Failure;
 use feed_live::{Following, Given, Host, Input, Live, Restored, RunFault, Turn, run};
+use feed_process::{Watched, Words, fault_of_system, report_of};
 use feed_state::{About, StateStore};
 use feed_system::{Port, Servers, System};
-use making::{Prepared, fault_of_system, prepare};
-use restoring::report_of;
+use making::{Prepared, prepare};
 use std::alloc::AllocError;
 use std::io;
-use watching::{View, Watched, Words};
+use watching::View;
 
 /// What a relay runs on, beside the devices of its turns.
 #[derive(Drop)]

@@ -2,10 +2,10 @@
 
 ghost use Rattle.std.specs.Prelude.{◌≡◌, ◌++◌, [], List, ℕ, OnOk, false, true, is_ok};
 
-use crate::figures::Following;
 use crate::source::Source;
 use crate::source::reading::line_or_part;
 use feed_device::{Desk, Report};
+use feed_figures::Following;
 use feed_node::FeedFault;
 use feed_screens::Screens;
 

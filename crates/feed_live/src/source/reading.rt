@@ -7,9 +7,9 @@ ghost use Rattle.feed_follow.specs.Standing.{Standing};
 ghost use Rattle.feed_hub.specs.Upstream.{IsFollowing, IsPushed};
 ghost use Rattle.feed_live.specs.Upstream.{wants_memory};
 
-use crate::figures::Following;
 use crate::source::{Reach, Source};
 use feed_device::{Desk, Excerpt, Link, Report, Stop, Why};
+use feed_figures::Following;
 use feed_follow::{FollowFault, Progress};
 use feed_node::{FeedFault, Mirror};
 use feed_screens::Screens;

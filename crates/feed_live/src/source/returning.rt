@@ -5,10 +5,10 @@
 
 ghost use Rattle.std.specs.Prelude.{◌≡◌, ◌+◌, ◌%◌, min};
 
-use crate::figures::Following;
 use crate::source::{Reach, Source};
 use crate::times::ROUND_TIME;
 use feed_device::{Desk, Link, Report};
+use feed_figures::Following;
 use std::mem;
 
 /// For how many times as long the first one is followed, once each was asked, until they are asked

@@ -9,13 +9,13 @@ ghost use Rattle.feed_live.specs.Relaying.{following_mirror};
 
 mod showing;
 
-use crate::figures::Following;
 use crate::source::Source;
 use crate::source::rate::Rate;
 use crate::source::reading::line_or_part;
 use crate::times::{LONGEST_REPLAY, REPLAY_REPORT};
 use feed_audit::{Difference, difference_of};
 use feed_device::{Desk, Excerpt, Link, Report};
+use feed_figures::Following;
 use feed_node::{Mirror, Node};
 use std::alloc::{AllocError, Global};
 

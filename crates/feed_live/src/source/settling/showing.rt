@@ -3,9 +3,9 @@
 ghost use Rattle.std.specs.Prelude.{◌≡◌, ℕ, List, length, None, IfOk};
 ghost use Rattle.feed_node.specs.Saved.{restored_from};
 
-use crate::figures::Following;
 use crate::source::{Reach, Source};
 use feed_device::{Desk, Link, Report, Why};
+use feed_figures::Following;
 use feed_node::Mirror;
 use feed_screens::Screens;
 use std::alloc::{AllocError, Global};

@@ -1,7 +1,7 @@
 //! What is reported of the state file at the start.
 
 use feed_commands::LiveOptions;
-use feed_live::Restored;
+use feed_files::Restored;
 use feed_state::About;
 use feed_system::restored_text;
 use std::alloc::{AllocError, Global};
@@ -21,8 +21,8 @@ fn reason(options: &LiveOptions<'_>, about: About) -> &'static str {
     }
 }
 
-/// What is reported of a state file, where there is one.
-pub(super) fn report_of(
+/// What is reported of a state file at the start; nothing where there is none.
+pub fn report_of(
     alloc: Global,
     options: &LiveOptions<'_>,
     about: Option<About>,

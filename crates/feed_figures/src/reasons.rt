@@ -22,7 +22,7 @@ pub enum Following {
 }
 
 /// How many kinds of reasons are counted.
-pub(crate) const KINDS: usize = 10;
+pub const KINDS: usize = 10;
 
 /// Why an attempt to follow a server failed, as it is counted.
 #[derive(Clone, Copy, PartialEq, Eq)]
@@ -90,7 +90,8 @@ pub enum Failure {
 }
 
 impl Failure {
-    pub(crate) fn reason(&self) -> Reason {
+    /// What it is counted as.
+    pub fn reason(&self) -> Reason {
         match self {
             Failure::TokenRefused => Reason::Token,
             Failure::Left(Why::Late) => Reason::Late,

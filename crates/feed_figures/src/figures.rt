@@ -1,0 +1,188 @@
+//! What is counted of the feed.
+
+ghost use Rattle.std.specs.Prelude.{◌≡◌};
+
+use crate::reasons::{Failure, Following, KINDS, REASONS, Reason};
+use feed_device::{Desk, Report, Why};
+use memchr::memmem;
+
+/// After so many milliseconds in which changes waited for a token, there may be none.
+pub const LONG_WAIT: u64 = 10_000;
+
+/// What was counted of the feed that is followed. Times are in milliseconds.
+#[derive(Clone, Copy)]
+pub struct FeedFigures {
+    /// How things stand with the server.
+    pub following: Following,
+    /// The number of the server that is asked, or was asked last.
+    pub server: usize,
+    /// When `following` became what it is.
+    pub changed: u64,
+    /// When the last byte of a feed came.
+    pub heard: u64,
+    /// How many servers were lost since one answered.
+    pub failures: u64,
+    /// How many commits were published since the start.
+    pub commits: u64,
+    /// How many bytes came since the start, those of heads with them.
+    pub bytes: u64,
+    /// How many lines came on a connection of which nothing is shown until it has settled; zero
+    /// where none is to settle.
+    pub coming_lines: u64,
+    /// How many bytes came on it; zero, too, where none is to settle.
+    pub coming_bytes: u64,
+    /// When the last commit was published, where one was since the start.
+    pub committed: Option<u64>,
+    /// How the last attempt failed, and when.
+    pub failed: Option<(Failure, u64)>,
+    /// How many attempts failed since the start, by their reasons.
+    pub failed_by: [(Reason, u64); KINDS],
+    /// How many lines with a change came since the last one with a token.
+    pub waiting: u64,
+    /// When the first of them came; no matter where there is none.
+    pub waiting_since: u64,
+    /// Whether it was reported of this connection that they wait for long.
+    is_warned: bool,
+}
+
+impl FeedFigures {
+    /// Nothing was counted, and things stand like this.
+    pub fn new(following: Following, now: u64) -> FeedFigures {
+        FeedFigures {
+            following,
+            server: 0,
+            changed: now,
+            heard: now,
+            failures: 0,
+            commits: 0,
+            bytes: 0,
+            coming_lines: 0,
+            coming_bytes: 0,
+            committed: None,
+            failed: None,
+            failed_by: REASONS.map(|reason| (reason, 0)),
+            waiting: 0,
+            waiting_since: now,
+            is_warned: false,
+        }
+    }
+
+    /// The same, with what came on a connection that is to settle.
+    pub fn with_coming(self, coming_lines: u64, coming_bytes: u64) -> FeedFigures {
+        FeedFigures {
+            coming_lines,
+            coming_bytes,
+            ..self
+        }
+    }
+
+    /// So many bytes came: of a feed, or before it is known whether they are.
+    pub fn hear(&mut self, bytes: usize, is_feed: bool, now: u64) {
+        if is_feed {
+            self.heard = now;
+        }
+        self.bytes = self.bytes.saturating_add(bytes as u64);
+    }
+
+    /// A commit was published.
+    pub fn publish(&mut self, now: u64) {
+        self.commits = self.commits.saturating_add(1);
+        self.committed = Some(now);
+        self.waiting = 0;
+    }
+
+    /// A line of a body came, or a part of one. A change begins with a brace, and waits for a token
+    /// unless it has one. One that was sent before has one, too, and publishes nothing.
+    pub fn stage(&mut self, line: &[u8], now: u64) {
+        if has_token(line) {
+            self.waiting = 0;
+        } else if line.first() == Some(&b'{') {
+            if self.waiting == 0 {
+                self.waiting_since = now;
+            }
+            self.waiting = self.waiting.saturating_add(1);
+        }
+    }
+
+    /// Things stand like this with the server, since now where they stood otherwise.
+    pub fn change(&mut self, following: Following, now: u64) {
+        if self.following != following {
+            self.following = following;
+            self.changed = now;
+        }
+    }
+
+    /// A server is asked.
+    pub fn ask(&mut self, server: usize, now: u64) {
+        self.server = server;
+        self.waiting = 0;
+        self.is_warned = false;
+        self.change(Following::Asked, now);
+    }
+
+    /// The server answers, with what is shown at once or is to settle.
+    pub fn find(&mut self, is_to_settle: bool, now: u64) {
+        self.failures = 0;
+        self.heard = now;
+        let following = if is_to_settle {
+            Following::Settling
+        } else {
+            Following::Answered
+        };
+        self.change(following, now);
+    }
+
+    /// The server is lost.
+    pub fn lose(&mut self, why: Why, now: u64) {
+        self.failures = self.failures.saturating_add(1);
+        self.fail(Failure::Left(why), now);
+        self.change(Following::Away, now);
+    }
+
+    /// The server does not hold the token that it was asked with.
+    pub fn refuse_token(&mut self, now: u64) {
+        self.fail(Failure::TokenRefused, now);
+    }
+
+    /// When it is reported that changes wait for a token for long.
+    pub fn warns_at(&self) -> Option<u64> {
+        if self.waiting == 0 || self.is_warned {
+            return None;
+        }
+        Some(self.waiting_since.saturating_add(LONG_WAIT))
+    }
+
+    /// Reports that changes of a server wait for a token for long, once for each connection.
+    pub fn warn(&mut self, desk: &mut Desk, server: usize)
+        ensures { desk.new.time ≡ desk.old.time }
+    {
+        let Some(at) = self.warns_at() else {
+            return;
+        };
+        if at > desk.time {
+            return;
+        }
+        self.is_warned = true;
+        desk.reports.add(Report::NoToken {
+            server,
+            changes: self.waiting,
+            time: desk.time.saturating_sub(self.waiting_since),
+        });
+    }
+
+    fn fail(&mut self, failure: Failure, now: u64) {
+        self.failed = Some((failure, now));
+        let reason = failure.reason();
+        for failed in &mut self.failed_by {
+            if failed.0 == reason {
+                failed.1 = failed.1.saturating_add(1);
+            }
+        }
+        self.waiting = 0;
+    }
+}
+
+/// Whether a line seems to have a token. That of a part of a line may be in another one.
+fn has_token(line: &[u8]) -> bool {
+    memmem::find(line, b"\"token\"").is_some()
+}

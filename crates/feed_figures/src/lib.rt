@@ -1,0 +1,8 @@
+//! What a relay counts of the feed that it follows, for those who watch it.
+#![tactic(auto)]
+
+mod figures;
+mod reasons;
+
+pub use figures::{FeedFigures, LONG_WAIT};
+pub use reasons::{Failure, Following, KINDS, Reason};

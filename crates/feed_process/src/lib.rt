@@ -1,0 +1,11 @@
+//! The process around the turn of `live`: what it is made of before it begins, and what it tells
+//! those who start and watch it.
+#![tactic(auto)]
+
+mod making;
+mod restoring;
+mod watching;
+
+pub use making::{Made, fault_of_system, make};
+pub use restoring::report_of;
+pub use watching::{Watched, Words, file_of, screen_of, screens_of, upstream_of};

@@ -1,0 +1,306 @@
+//! What a relay is made of, before it begins: state files are taken, and ports opened.
+
+use crate::watching::Watched;
+use feed_answer::{Identity, Place};
+use feed_commands::{AddressFault, Fault, LiveOptions, NetworkFault, Server, VERSION, servers_of};
+use feed_host::{Failure, Hosts, identity_of};
+use feed_node::Limits;
+use feed_state::{About, Kept, StateFault, Texts, take_state};
+use feed_system::{Host, OpenFault, Opened, open};
+use std::alloc::{AllocError, Global};
+use std::fs::File;
+use std::io;
+use std::io::ErrorKind;
+use std::time::Instant;
+
+/// The servers: the hosts that they are of, and what each is asked for.
+#[derive(Drop)]
+struct Asked {
+    hosts: Vec<Host>,
+    places: Vec<Place>,
+}
+
+impl Asked {
+    /// One more host, of which each server is asked for the same.
+    fn push(
+        &mut self,
+        rt: &HostRuntime,
+        name: String,
+        port: u16,
+        place: &Place,
+    ) -> Result<(), Fault> {
+        let host = needs_memory(Host::new(rt, name, port))?;
+        for _ in 0..host.servers() {
+            let (name, base, contest) = (place.host(), place.base(), place.contest());
+            push(
+                &mut self.places,
+                Place::new(rt.alloc(), name, base, contest)?,
+            )?;
+        }
+        push(&mut self.hosts, host)
+    }
+}
+
+/// The servers that are asked: none where the feed is the input.
+fn servers(
+    rt: &HostRuntime,
+    options: &LiveOptions<'_>,
+    identity: &Identity,
+) -> Result<Asked, Fault> {
+    let mut asked = Asked {
+        hosts: Vec::new(rt.alloc()),
+        places: Vec::new(rt.alloc()),
+    };
+    let Some(upstream) = &options.upstream else {
+        return Ok(asked);
+    };
+    let hosts = Hosts::new(rt.alloc(), upstream)?;
+    let named = hosts.named(upstream);
+    for server in servers_of(rt.alloc(), &named, options.contest, identity)? {
+        let Server {
+            host,
+            port,
+            place,
+            ..
+        } = server;
+        asked.push(rt, host, port, &place)?;
+    }
+    Ok(asked)
+}
+
+fn push<T: Drop>(list: &mut Vec<T>, item: T) -> Result<(), Fault> {
+    match list.push(item) {
+        Ok(()) => Ok(()),
+        Err(_) => Err(Fault::Memory),
+    }
+}
+
+fn needs_memory<T: Drop>(outcome: Result<T, AllocError>) -> Result<T, Fault> {
+    match outcome {
+        Ok(value) => Ok(value),
+        Err(_) => Err(Fault::Memory),
+    }
+}
+
+/// A call of the system failed.
+pub fn fault_of_system(error: io::Error) -> Fault {
+    match error.kind() {
+        ErrorKind::OutOfMemory => Fault::Memory,
+        _ => Fault::Read,
+    }
+}
+
+fn of_system<T: Drop>(outcome: io::Result<T>) -> Result<T, Fault> {
+    match outcome {
+        Ok(value) => Ok(value),
+        Err(error) => Err(fault_of_system(error)),
+    }
+}
+
+/// Whether several servers have tokens of their own. All addresses of a name are servers of one
+/// log.
+fn are_strange(options: &LiveOptions<'_>) -> bool {
+    match &options.upstream {
+        Some(upstream) => options.fresh && upstream.from.is_some(),
+        None => false,
+    }
+}
+
+/// The limits of what the relay shows. Where several servers have tokens of their own, older tokens
+/// may stand for states of another one: then one commit is kept, with the token before it.
+fn kept_limits(options: &LiveOptions<'_>) -> Limits {
+    let limits = options.limits;
+    if !are_strange(options) {
+        return limits;
+    }
+    let Ok(kept) = Limits::new(1, limits.staged()) else {
+        return limits;
+    };
+    match limits.memory() {
+        Some(bytes) => kept.with_memory(bytes).unwrap_or(kept),
+        None => kept,
+    }
+}
+
+/// Why there is nothing to run on.
+fn failure_of(alloc: Global, fault: OpenFault) -> Failure {
+    match fault {
+        OpenFault::Memory => Failure::from(Fault::Memory),
+        OpenFault::System => Failure::from(Fault::Read),
+        OpenFault::Address(option) => {
+            let fault = Fault::from(AddressFault::BadAddress(0));
+            Failure::about(fault, String::from_str(alloc, option))
+        }
+        OpenFault::List(option, fault) => of_list(alloc, option, fault),
+        OpenFault::Bind(address) => {
+            let fault = Fault::from(NetworkFault::Bind);
+            Failure::about(fault, format!(in alloc; "{address}"))
+        }
+    }
+}
+
+/// The value of an option is no list of addresses or networks.
+fn of_list(alloc: Global, option: &str, fault: AddressFault) -> Failure {
+    match fault {
+        AddressFault::Memory => Failure::from(Fault::Memory),
+        AddressFault::TooMany => {
+            Failure::about(
+                Fault::from(fault),
+                format!(in alloc; "{option} has too many"),
+            )
+        }
+        AddressFault::BadAddress(number) => {
+            let part = number.saturating_add(1);
+            Failure::about(
+                Fault::from(fault),
+                format!(in alloc; "{option}, part {part}"),
+            )
+        }
+    }
+}
+
+/// Why the servers can't be asked.
+fn of_servers(alloc: Global, fault: Fault) -> Failure {
+    match fault {
+        Fault::Address(fault) => of_list(alloc, "--from", fault),
+        _ => Failure::from(fault),
+    }
+}
+
+/// What a relay is set to, before anything is opened.
+#[derive(Drop)]
+struct Plan {
+    contest: String,
+    identity: Identity,
+    places: Vec<Place>,
+    hosts: Vec<Host>,
+    kept: Option<Kept<File>>,
+}
+
+/// Why a state file is not taken.
+fn of_state(alloc: Global, path: &str, fault: &StateFault) -> Failure {
+    match fault {
+        StateFault::Memory => Failure::from(Fault::Memory),
+        _ => Failure::refused_for(fault.report(alloc, path), fault.text()),
+    }
+}
+
+/// What the files had is let go where the feed is the input, which begins again.
+fn to_be_read(rt: &HostRuntime, options: &LiveOptions<'_>, kept: Kept<File>) -> Kept<File> {
+    if options.upstream.is_some() {
+        return kept;
+    }
+    let Kept {
+        state,
+        texts,
+        about,
+    } = kept;
+    drop(texts);
+    Kept {
+        state,
+        texts: Texts {
+            before: Vec::new(rt.alloc()),
+            file: Vec::new(rt.alloc()),
+        },
+        about,
+    }
+}
+
+/// Takes the state file, where there is to be one.
+fn kept(rt: &HostRuntime, options: &LiveOptions<'_>) -> Result<Option<Kept<File>>, Failure> {
+    let Some(path) = options.state else {
+        return Ok(None);
+    };
+    match take_state(rt, path, options.contest, VERSION, options.is_new) {
+        Ok(kept) => Ok(Some(to_be_read(rt, options, kept))),
+        Err(fault) => Err(of_state(rt.alloc(), path, &fault)),
+    }
+}
+
+/// As whom servers are asked: as nobody in particular where the feed is the input.
+fn identity(rt: &HostRuntime, options: &LiveOptions<'_>) -> Result<Identity, Failure> {
+    match &options.upstream {
+        Some(upstream) => identity_of(rt, upstream.host_header, upstream.user_file),
+        None => Ok(Identity::anonymous()),
+    }
+}
+
+/// Takes the state files.
+fn make_plan(rt: &HostRuntime, options: &LiveOptions<'_>) -> Result<Plan, Failure> {
+    let contest = needs_memory(String::from_str(rt.alloc(), options.contest))?;
+    let identity = identity(rt, options)?;
+    let Asked { hosts, places } = match servers(rt, options, &identity) {
+        Ok(asked) => asked,
+        Err(fault) => return Err(of_servers(rt.alloc(), fault)),
+    };
+    let kept = kept(rt, options)?;
+    Ok(Plan {
+        contest,
+        identity,
+        places,
+        hosts,
+        kept,
+    })
+}
+
+/// Listens, and makes what the relay runs on.
+fn system_of<'r>(
+    rt: &'r HostRuntime,
+    options: &LiveOptions<'_>,
+    kept: Option<Kept<File>>,
+    hosts: Vec<Host>,
+    start: Instant,
+) -> Result<Opened<'r>, Failure> {
+    match open(rt, options, kept, hosts, start) {
+        Ok(opened) => Ok(opened),
+        Err(fault) => Err(failure_of(rt.alloc(), fault)),
+    }
+}
+
+/// What a relay is set to, and all that it runs on.
+#[derive(Drop)]
+pub struct Made<'r> {
+    /// The contest whose feed is served.
+    pub contest: String,
+    /// How much is kept of the feed.
+    pub limits: Limits,
+    /// Whether several servers are asked that have tokens of their own.
+    pub are_strange: bool,
+    /// The servers that are asked, in the order of their addresses; none where the feed is the
+    /// input.
+    pub places: Vec<Place>,
+    /// As whom they are asked.
+    pub identity: Identity,
+    /// What is told of the state file, where there is one.
+    pub about: Option<About>,
+    /// What is told to those who watch, beside what the relay counts itself.
+    pub watched: Watched,
+    /// The sockets, the clock, and the devices of its turns.
+    pub opened: Opened<'r>,
+}
+
+/// Makes all that a relay runs on: takes its state files, and listens. Else says why there is
+/// nothing to run on; what was opened is closed then.
+pub fn make<'r>(rt: &'r HostRuntime, options: &LiveOptions<'_>) -> Result<Made<'r>, Failure> {
+    let start = of_system(Instant::now(rt))?;
+    let watched = needs_memory(Watched::new(rt, options))?;
+    let Plan {
+        contest,
+        identity,
+        places,
+        hosts,
+        kept,
+    } = make_plan(rt, options)?;
+    let about = kept.as_ref().map(|kept| kept.about);
+    let opened = system_of(rt, options, kept, hosts, start)?;
+    Ok(Made {
+        contest,
+        limits: kept_limits(options),
+        are_strange: are_strange(options),
+        places,
+        identity,
+        about,
+        watched,
+        opened,
+    })
+}
