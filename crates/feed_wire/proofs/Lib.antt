@@ -1,4 +1,3 @@
-pub mod Beginnings
 pub mod AfterLine
 pub mod ChunkReading
 pub mod ChunkedRuns

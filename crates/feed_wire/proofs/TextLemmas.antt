@@ -1,7 +1,7 @@
 -- Texts that are appended part by part.
 use Rattle.std.proofs.Common.{◌≡◌, List, ℕ, ◌++◌, length, take, ap, ◌∙◌, append_assoc}
 use Rattle.std.proofs.Math.Seq.{take-append_seam}
-use Rattle.feed_wire.specs.Beginnings.{Begins}
+use Rattle.feed_text.specs.Beginnings.{Begins}
 
 -- one part more
 pub appended : (old middle new prefix part : List ℕ) → middle ≡ old ++ prefix → new ≡ middle ++ part

@@ -1,4 +1,3 @@
-pub mod Beginnings
 pub mod HeadSizes
 pub mod ResponseHeads
 pub mod ChunkedBody

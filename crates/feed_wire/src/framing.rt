@@ -1,6 +1,6 @@
 //! How the body of an answer is framed.
 ghost use Rattle.std.specs.Prelude.{◌≡◌, ◌++◌, [], false, IsOk, IfOk, OnOk, OnErr};
-ghost use Rattle.feed_wire.specs.Beginnings.{Begins};
+ghost use Rattle.feed_text.specs.Beginnings.{Begins};
 ghost use Rattle.std.specs.Fmt.{digits};
 ghost use Rattle.httparse.specs.Ascii.{crlf_bytes};
 ghost use Rattle.feed_wire.specs.Framed as framed;

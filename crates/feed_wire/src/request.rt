@@ -3,7 +3,7 @@ ghost use Rattle.std.specs.Prelude.{◌≡◌, ◌++◌, OnOk, OnErr, codes};
 ghost use Rattle.std.specs.Option.{option_copied};
 ghost use Rattle.httparse.specs.Ascii.{crlf_bytes};
 ghost use Rattle.form_urlencoded.specs.Form as form;
-ghost use Rattle.feed_wire.specs.Beginnings.{Begins};
+ghost use Rattle.feed_text.specs.Beginnings.{Begins};
 ghost use Rattle.feed_wire.specs.Identity.{anonymous};
 ghost use Rattle.feed_wire.specs.RequestText as texts;
 

@@ -1,8 +1,8 @@
-use Rattle.std.proofs.Common.{◌≡◌, ◌++◌, List, ℕ, [], ◌∷◌, ap, ◌∙◌, codes, append_assoc}
+use Rattle.std.proofs.Common.{◌≡◌, ◌++◌, List, ℕ, ◌∷◌, ap, ◌∙◌, codes, append_assoc}
 use Rattle.std.specs.Option.{option_copied}
 use Rattle.httparse.specs.Ascii.{crlf_bytes}
 use Rattle.feed_wire.specs.RequestText.{lines_text, request_line, credentials_lines}
-use Rattle.feed_wire.proofs.Beginnings.{Begins-append}
+use Rattle.feed_text.proofs.Beginnings.{Begins-append}
 use Rattle.feed_wire.proofs.TextLemmas.{appended, begun}
 use Rattle.feed_wire.proofs.request.append_request.Goals as goal
 

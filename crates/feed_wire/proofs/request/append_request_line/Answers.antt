@@ -1,6 +1,6 @@
 use Rattle.std.proofs.Common.{◌++◌, ◌∙◌, codes}
 use Rattle.std.specs.Option.{option_copied}
-use Rattle.feed_wire.proofs.Beginnings.{Begins-append}
+use Rattle.feed_text.proofs.Beginnings.{Begins-append}
 use Rattle.feed_wire.specs.RequestText.{feed_path, since_query}
 use Rattle.feed_wire.proofs.TextLemmas.{appended, begun}
 use Rattle.feed_wire.proofs.request.append_request_line.Goals as goal

@@ -1,5 +1,5 @@
-use Rattle.std.proofs.Common.{◌≡◌, refl, rules, List, ℕ, true, ap, ◌∙◌, sym}
-use Rattle.std.specs.Prelude.{Option, Ok, option_map, string_bytes}
+use Rattle.std.proofs.Common.{◌≡◌, rules, List, ℕ, true}
+use Rattle.std.specs.Prelude.{Option, Ok, option_map}
 use Rattle.std.specs.Option.{option_copied}
 use Rattle.feed_settings.specs.Place.{is_host}
 use Rattle.feed_wire.specs.Identity.{basic, identity_of, is_user_pass, passes}

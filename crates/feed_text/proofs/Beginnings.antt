@@ -1,9 +1,9 @@
 -- What texts begin with.
-use Rattle.std.proofs.Common.{◌≡◌, ◌≤◌, sym, ap, ◌∙◌, ℕ, List, ◌++◌, length, take, drop, append_assoc, Bool, true, false, arith}
+use Rattle.std.proofs.Common.{◌≡◌, sym, ap, ◌∙◌, ℕ, List, ◌++◌, length, take, drop, append_assoc, Bool, true, false, arith}
 use Rattle.std.specs.Prelude.{if◌then◌else◌, Result, Ok, Err, OnOk, OnErr}
 use Rattle.std.proofs.Math.Seq.{take-append_seam}
 use Rattle.std.proofs.lemmas.List.{take-append-drop, take_all}
-use Rattle.feed_wire.specs.Beginnings.{Begins}
+use Rattle.feed_text.specs.Beginnings.{Begins}
 
 -- what begins with p and more begins with p
 pub Begins-append : (p x y q : List ℕ) → q ≡ p ++ x → Begins q y → Begins p y
