@@ -10,18 +10,21 @@ use Rattle.httparse.specs.Grammar.{ResponseHead, print_response, ReadsResponse}
 use Rattle.httparse.proofs.GrammarLemmas.{response_prefix_free}
 use Rattle.feed_settings.specs.declared.framing.Framing.{Framing}
 use Rattle.feed_settings.specs.declared.framing.Framing.TheVariants.{Close, Chunked}
-use Rattle.feed_follow.specs.Heads.{line_count, IsHeadSize, IsPastLimits, BeginsWithResponse, HasNoWholeResponse}
+use Rattle.feed_wire.specs.HeadSizes.{line_count, IsHeadSize, IsPastLimits}
+use Rattle.feed_wire.specs.ResponseHeads.{BeginsWithResponse, HasNoWholeResponse}
 use Rattle.feed_follow.specs.Laws.{StandsOnce}
 use Rattle.feed_follow.specs.Standing.{Standing, in_head, in_body, done, verdict, Stands, StandsBehind}
-use Rattle.feed_answer.specs.Answer.{feed_head, refusal_head, refusal_body, refusal_text}
-use Rattle.feed_answer.specs.Framed.{frame, frame_end}
-use Rattle.feed_answer.specs.FrameLaws.{AreTexts, IsUnfinished, joined}
-use Rattle.feed_answer.specs.Carried.{response_text, ended_text, carried_by, standing_at, ended_at, refusal_standing}
+use Rattle.feed_wire.specs.Answer.{feed_head, refusal_head, refusal_body, refusal_text}
+use Rattle.feed_wire.specs.Framed.{frame, frame_end}
+use Rattle.feed_wire.specs.FrameLaws.{AreTexts, IsUnfinished, joined}
+use Rattle.feed_wire.specs.CarriedBytes.{response_text, ended_text, carried_by}
+use Rattle.feed_answer.specs.Carried.{standing_at, ended_at, refusal_standing}
 use Rattle.feed_answer.specs.FollowLaws.{StandsOnly, HeadsAreRead, ResponsesAreFollowed, EndsAreFollowed, PrefixesCarryMore, WholeCarriesAll, RefusalsAreFollowed}
-use Rattle.feed_answer.proofs.FrameLemmas.{frames_end}
-use Rattle.feed_answer.proofs.PrefixLemmas.{take_past, prefix_carried, chunks_prefix, plain_prefix, ended_prefix, all_carried, more_carried}
-use Rattle.feed_answer.proofs.OurHeads.{IsWritten, feed_tree, feed_written, feed_codings, feed_lengths, feed_behind, feed_done, refusal_tree, refusal_written, refusal_status, refusal_codings, refusal_lengths, refusal_behind, below as less_so}
-use Rattle.feed_follow.proofs.HeadLemmas.{line_count-append}
+use Rattle.feed_wire.proofs.FrameLemmas.{frames_end}
+use Rattle.feed_wire.proofs.PrefixLemmas.{take_past, prefix_carried, chunks_prefix, plain_prefix, ended_prefix, all_carried, more_carried}
+use Rattle.feed_wire.proofs.OurHeads.{IsWritten, feed_tree, feed_written, refusal_tree, refusal_written, refusal_status, below as less_so}
+use Rattle.feed_answer.proofs.HeadsFollowed.{feed_codings, feed_lengths, feed_behind, feed_done, refusal_codings, refusal_lengths, refusal_behind}
+use Rattle.feed_wire.proofs.ResponseLemmas.{line_count-append}
 
 -- ---- the heads
 

@@ -1,10 +1,4 @@
-pub mod AskedLemmas
 pub mod FollowedLemmas
-pub mod FrameLemmas
-pub mod PrefixLemmas
 pub mod OpeningLemmas
-pub mod OurHeads
-pub mod RefusalTexts
 pub mod ReplyLemmas
-pub mod RequestLemmas
-pub mod TextLemmas
+pub mod HeadsFollowed

@@ -5,7 +5,7 @@ use Rattle.feed_node.specs.Publishing.{Published}
 use Rattle.feed_node.specs.Texts.{published_text}
 use Rattle.feed_node.specs.States.{NodeState, token_of}
 use Rattle.feed_answer.specs.Answered.{AnswersTo, answer_to, answer_opened}
-use Rattle.feed_answer.specs.Asked.{Asked, refused, feed, framing_for}
+use Rattle.feed_wire.specs.Asked.{Asked, refused, feed, framing_for}
 use Rattle.feed_answer.specs.Opening.{opens_from}
 use Rattle.feed_answer.specs.Replied.{Replied, replies_fresh, reply_to, with_snapshot, RepliesTo}
 

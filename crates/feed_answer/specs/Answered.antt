@@ -6,10 +6,10 @@ use Rattle.feed_node.specs.declared.session.OpenFault.{OpenFault}
 use Rattle.feed_node.specs.declared.session.OpenFault.TheVariants.{NotYet, NotHeld, Memory}
 use Rattle.feed_node.specs.States.{NodeState}
 use Rattle.feed_answer.specs.Opening.{Started, opens}
-use Rattle.feed_answer.specs.declared.refusal.Refusal.{Refusal}
-use Rattle.feed_answer.specs.declared.refusal.Refusal.TheVariants.{NothingPublished, TokenNotHeld}
-use Rattle.feed_answer.specs.Answer.{refusal_code, refusal_text}
-use Rattle.feed_answer.specs.Asked.{Asked, refused, feed, framing_for, Asks}
+use Rattle.feed_wire.specs.declared.refusal.Refusal.{Refusal}
+use Rattle.feed_wire.specs.declared.refusal.Refusal.TheVariants.{NothingPublished, TokenNotHeld}
+use Rattle.feed_wire.specs.Answer.{refusal_code, refusal_text}
+use Rattle.feed_wire.specs.Asked.{Asked, refused, feed, framing_for, Asks}
 use Rattle.feed_answer.specs.Served.{opening_text}
 
 -- an answer: its status code, the framing of its body, its text, and the token of the session that

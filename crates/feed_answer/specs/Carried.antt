@@ -1,38 +1,13 @@
 -- How far the first bytes of a response have come (RFC 9112, sections 6.3 and 7.1).
-use Rattle.std.specs.Prelude.{ℕ, ◌+◌, ◌-◌, ◌==◌, min, nat_lt, Bool, false, ◌&&◌, if◌then◌else◌, List, [], ◌∷◌, ◌++◌, length, take}
-use Rattle.std.specs.Fmt.{digits}
-use Rattle.std.specs.List.{flat_map}
+use Rattle.std.specs.Prelude.{ℕ, ◌==◌, nat_lt, Bool, ◌&&◌, if◌then◌else◌, List, [], length, take}
 use Rattle.feed_settings.specs.declared.framing.Framing.{Framing}
 use Rattle.feed_settings.specs.declared.framing.Framing.TheVariants.{Close, Chunked}
+use Rattle.feed_wire.specs.declared.refusal.Refusal.{Refusal}
+use Rattle.feed_wire.specs.Answer.{feed_head, refusal_code, refusal_head}
+use Rattle.feed_wire.specs.CarriedBytes.{carried_by, ended_text}
+use Rattle.feed_wire.specs.FrameLaws.{joined}
 use Rattle.feed_follow.specs.declared.fault.FollowFault.TheVariants.{Status}
 use Rattle.feed_follow.specs.Standing.{Standing, in_head, token_refused, in_body, done, failed}
-use Rattle.feed_answer.specs.declared.refusal.Refusal.{Refusal}
-use Rattle.feed_answer.specs.Answer.{feed_head, refusal_code, refusal_head}
-use Rattle.feed_answer.specs.Framed.{frame, frame_end}
-use Rattle.feed_answer.specs.FrameLaws.{joined}
-
--- how many bytes of a frame stand before those that it carries: in chunks, the size line
-abbrev pub bytes_before : Framing → List ℕ → ℕ
-bytes_before Close text = 0
-bytes_before Chunked text = length (digits 16 false (length text)) + 2
-
--- how many bytes of these texts stand in the first n bytes of their frames
-abbrev pub carried_in : Framing → List (List ℕ) → ℕ → ℕ
-carried_in framing [] n = 0
-carried_in framing (text ∷ texts) n =
-    min (n - bytes_before framing text) (length text)
-    + carried_in framing texts (n - length (frame framing text))
-
--- an answer with the feed, as far as these texts; and with the end of its body
-abbrev pub response_text : Framing → List (List ℕ) → List ℕ
-response_text framing texts = feed_head framing ++ flat_map (frame framing) texts
-
-abbrev pub ended_text : Framing → List (List ℕ) → List ℕ
-ended_text framing texts = response_text framing texts ++ frame_end framing
-
--- how many bytes of the texts stand in the first n bytes of the answer
-abbrev pub carried_by : Framing → List (List ℕ) → ℕ → ℕ
-carried_by framing texts n = carried_in framing texts (n - length (feed_head framing))
 
 -- how far these first n bytes have come: they stand in the head, or carry so much of the texts
 abbrev pub standing_at : Framing → List (List ℕ) → ℕ → Standing

@@ -5,12 +5,13 @@ use Rattle.httparse.specs.Spans.{name_and_value}
 use Rattle.feed_settings.specs.declared.framing.Framing.{Framing}
 use Rattle.feed_settings.specs.declared.framing.Framing.TheVariants.{Close, Chunked}
 use Rattle.feed_follow.specs.Coding.{values_of}
-use Rattle.feed_follow.specs.Heads.{BeginsWithResponse}
+use Rattle.feed_wire.specs.ResponseHeads.{BeginsWithResponse}
 use Rattle.feed_follow.specs.Standing.{Standing, in_body, Stands}
-use Rattle.feed_answer.specs.declared.refusal.Refusal.{Refusal}
-use Rattle.feed_answer.specs.Answer.{feed_head, refusal_code, refusal_head, refusal_body, refusal_text}
-use Rattle.feed_answer.specs.FrameLaws.{AreTexts, joined}
-use Rattle.feed_answer.specs.Carried.{response_text, ended_text, carried_by, standing_at, ended_at, refusal_at}
+use Rattle.feed_wire.specs.declared.refusal.Refusal.{Refusal}
+use Rattle.feed_wire.specs.Answer.{feed_head, refusal_code, refusal_head, refusal_body, refusal_text}
+use Rattle.feed_wire.specs.FrameLaws.{AreTexts, joined}
+use Rattle.feed_wire.specs.CarriedBytes.{response_text, ended_text, carried_by}
+use Rattle.feed_answer.specs.Carried.{standing_at, ended_at, refusal_at}
 
 -- the bytes of a response stand so, and in no other way
 pub record StandsOnly (had_token : Bool) (bytes : List ℕ) (standing : Standing) : Type 0 where

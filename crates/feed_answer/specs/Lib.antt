@@ -1,17 +1,7 @@
-pub mod Answer
 pub mod Answered
-pub mod Asked
-pub mod AskedFor
-pub mod Brackets
 pub mod Carried
 pub mod FollowLaws
-pub mod FrameLaws
-pub mod Framed
-pub mod HeadRead
-pub mod Heads
-pub mod Identity
 pub mod Laws
 pub mod Opening
 pub mod Replied
-pub mod RequestText
 pub mod Served

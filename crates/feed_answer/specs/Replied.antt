@@ -5,9 +5,9 @@ use Rattle.feed_settings.specs.declared.framing.Framing.{Framing}
 use Rattle.feed_node.specs.States.{NodeState, published_token}
 use Rattle.feed_answer.specs.declared.answering.Reply.{Reply}
 use Rattle.feed_answer.specs.declared.answering.Reply.TheVariants.{Whole, Snapshot}
-use Rattle.feed_answer.specs.declared.refusal.Refusal.TheVariants.{NothingPublished}
+use Rattle.feed_wire.specs.declared.refusal.Refusal.TheVariants.{NothingPublished}
 use Rattle.feed_answer.specs.Answered.{AnswerParts, parts_of, refusing, answer_opened}
-use Rattle.feed_answer.specs.Asked.{Asked, refused, feed, framing_for, Asks}
+use Rattle.feed_wire.specs.Asked.{Asked, refused, feed, framing_for, Asks}
 use Rattle.feed_answer.specs.Opening.{opens}
 use Rattle.feed_answer.specs.Served.{opening_text}
 

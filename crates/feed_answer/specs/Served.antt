@@ -3,8 +3,8 @@ use Rattle.std.specs.Prelude.{ℕ, List, [], ◌∷◌, ◌++◌, Bool, true, fa
 use Rattle.std.specs.List.{flat_map}
 use Rattle.httparse.specs.Ascii.{line_feed}
 use Rattle.feed_settings.specs.declared.framing.Framing.{Framing}
-use Rattle.feed_answer.specs.Framed.{frame, frame_end}
-use Rattle.feed_answer.specs.Answer.{feed_head}
+use Rattle.feed_wire.specs.Framed.{frame, frame_end}
+use Rattle.feed_wire.specs.Answer.{feed_head}
 
 -- the answer with the feed: its head, and the text with which the session opened
 abbrev pub opening_text : Framing → List ℕ → List ℕ

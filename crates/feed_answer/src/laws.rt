@@ -1,6 +1,7 @@
 //! Laws of the definitions.
-ghost use Rattle.feed_answer.specs.FrameLaws.{FramesCarry, FramesEnd};
-ghost use Rattle.feed_answer.specs.Laws.{AskedOnce, RequestIsRead, RequestIsAnswered};
+ghost use Rattle.feed_wire.specs.FrameLaws.{FramesCarry, FramesEnd};
+ghost use Rattle.feed_wire.specs.RequestLaws.{AskedOnce, RequestIsRead};
+ghost use Rattle.feed_answer.specs.Laws.{RequestIsAnswered};
 ghost use Rattle.feed_answer.specs.FollowLaws.{HeadsAreRead, ResponsesAreFollowed, WholeCarriesAll, PrefixesCarryMore, EndsAreFollowed, RefusalsAreFollowed};
 
 use feed_follow::follow_laws;

@@ -8,7 +8,7 @@ use Rattle.feed_settings.specs.Place.{Place, RefusesPlace, place_of}
 use Rattle.feed_settings.specs.declared.place.PlaceFault.{PlaceFault}
 use Rattle.feed_node.specs.Texts.{published_text}
 use Rattle.feed_node.specs.Mirroring.{MirrorState, IsRestored, FailsToRestore, new_mirror}
-use Rattle.feed_answer.specs.Identity.{Identity}
+use Rattle.feed_wire.specs.Identity.{Identity}
 use Rattle.feed_follow.specs.declared.fault.FollowFault.TheVariants.{BadHead}
 use Rattle.feed_http.specs.Device.{HasFailed, AppendsPrefix}
 use Rattle.feed_http.specs.declared.fault.EngineFault.TheVariants.{Follow}

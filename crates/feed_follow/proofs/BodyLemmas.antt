@@ -5,20 +5,20 @@ use Rattle.std.proofs.lemmas.Bool.{cases_lt}
 use Rattle.feed_node.specs.declared.fault.FeedFault.{FeedFault}
 use Rattle.feed_node.specs.declared.fault.FeedFault.TheVariants.{Memory as FeedMemory}
 use Rattle.feed_node.specs.Mirroring.{MirrorState}
-use Rattle.feed_follow.specs.declared.chunk.Chunking.{Chunking}
-use Rattle.feed_follow.specs.declared.chunk.Chunking.TheVariants.{LineStart, InBytes, Whole}
+use Rattle.feed_wire.specs.declared.chunk.Chunking.{Chunking}
+use Rattle.feed_wire.specs.declared.chunk.Chunking.TheVariants.{LineStart, InBytes, Whole}
 use Rattle.feed_follow.specs.declared.coding.BodyFraming.{BodyFraming}
 use Rattle.feed_follow.specs.declared.coding.BodyFraming.TheVariants as framed
 use Rattle.feed_follow.specs.declared.fault.FollowFault.{FollowFault}
 use Rattle.feed_follow.specs.declared.fault.FollowFault.TheVariants.{BadChunk, Feed}
 use Rattle.feed_follow.specs.declared.follower.Part.{Part}
 use Rattle.feed_follow.specs.declared.follower.Part.TheVariants.{Head, ToEnd, Sized, InChunks, Done, Closed}
-use Rattle.feed_follow.specs.ChunkReading.{ReadsChunks, stays, goes, next}
+use Rattle.feed_wire.specs.ChunkReading.{ReadsChunks, stays, goes, next}
 use Rattle.feed_follow.specs.Bodies.{IsBody, IsBodyPrefix}
 use Rattle.feed_follow.specs.Following.{HasReached, IsCutAfter, IsCutAtFault}
 use Rattle.feed_follow.specs.Follower.{ReadsBody}
 use Rattle.feed_follow.specs.Feeding.{HasFed, StopsAt, StopsBehind, StopsFeeding, FeedsChunks, FeedsToEnd, StopsInChunks, BodyGoesOn, BringsBody, BodyFails, BodyStops}
-use Rattle.feed_follow.proofs.ChunkedRuns.{reads_both, refused_byte, run_is_whole, run_breaks_off, data_run, brings_nothing}
+use Rattle.feed_wire.proofs.ChunkedRuns.{reads_both, refused_byte, run_is_whole, run_breaks_off, data_run, brings_nothing}
 
 -- a slice to the end
 pub to_the_end : (n : ℕ) (bytes : List ℕ) → take (length bytes - n) (drop n bytes) ≡ drop n bytes

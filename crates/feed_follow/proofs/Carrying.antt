@@ -4,15 +4,15 @@ use Rattle.std.specs.Prelude.{Option, Some, None, nat_lt, if◌then◌else◌, o
 use Rattle.std.proofs.lemmas.List.{take_all}
 use Rattle.httparse.specs.Grammar.{ReadsResponse}
 use Rattle.httparse.proofs.GrammarLemmas.{response_prefix_free}
-use Rattle.feed_follow.specs.declared.chunk.Chunking.{Chunking}
+use Rattle.feed_wire.specs.declared.chunk.Chunking.{Chunking}
 use Rattle.feed_follow.specs.declared.coding.BodyFraming.{BodyFraming}
 use Rattle.feed_follow.specs.declared.coding.BodyFraming.TheVariants.{ToEnd, Sized, InChunks}
-use Rattle.feed_follow.specs.declared.chunk.Chunking.TheVariants.{LineStart}
+use Rattle.feed_wire.specs.declared.chunk.Chunking.TheVariants.{LineStart}
 use Rattle.feed_follow.specs.declared.fault.FollowFault.TheVariants.{LongHead, BadHead, BadChunk}
-use Rattle.feed_follow.specs.ChunkReading.{next, brought_by}
+use Rattle.feed_wire.specs.ChunkReading.{next, brought_by}
 use Rattle.feed_follow.specs.Standing.{Standing, in_head, token_refused, in_body, done, failed, Stands, StandsInHead, StandsInBody, StandsBehind, verdict}
 use Rattle.feed_follow.specs.Carrying.{HasPayload, BodyBrings, FeedsCarryText}
-use Rattle.feed_follow.proofs.ChunkReading.{below}
+use Rattle.feed_wire.proofs.ChunkReading.{below}
 use Rattle.feed_follow.proofs.OnceLemmas.{behind, is_end, comes_to, body_comes_to, body_is}
 
 -- the text begins with the payload

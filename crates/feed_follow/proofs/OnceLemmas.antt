@@ -5,19 +5,19 @@ use Rattle.std.proofs.Math.Seq.{take-append_seam}
 use Rattle.std.proofs.lemmas.Bool.Decides.{nat_tests}
 use Rattle.httparse.specs.Grammar.{ReadsResponse, NeverHasResponse}
 use Rattle.httparse.proofs.GrammarLemmas.{response_unique}
-use Rattle.feed_follow.specs.declared.chunk.Chunking.{Chunking}
-use Rattle.feed_follow.specs.declared.chunk.Chunking.TheVariants.{LineStart, InDigits, InPad, InExtension, LineCr, InBytes, BytesEnd, BytesCr, TrailerStart, InTrailer, TrailerCr, EndCr, Whole}
+use Rattle.feed_wire.specs.declared.chunk.Chunking.{Chunking}
+use Rattle.feed_wire.specs.declared.chunk.Chunking.TheVariants.{LineStart, InDigits, InPad, InExtension, LineCr, InBytes, BytesEnd, BytesCr, TrailerStart, InTrailer, TrailerCr, EndCr, Whole}
 use Rattle.feed_follow.specs.declared.coding.BodyFraming.{BodyFraming}
 use Rattle.feed_follow.specs.declared.coding.BodyFraming.TheVariants.{ToEnd, Sized, InChunks}
 use Rattle.feed_follow.specs.declared.fault.FollowFault.{FollowFault}
 use Rattle.feed_follow.specs.declared.fault.FollowFault.TheVariants.{LongHead, BadHead, BadChunk}
 use Rattle.feed_follow.specs.declared.heads.Verdict.{Verdict}
 use Rattle.feed_follow.specs.declared.heads.Verdict.TheVariants.{Body, Refusal}
-use Rattle.feed_follow.specs.ChunkReading.{ReadsChunks, stays, goes, next, brought_by}
-use Rattle.feed_follow.specs.ChunkedBody.{IsChunkedPrefix, HasBadChunk}
-use Rattle.feed_follow.specs.Heads.{HasBadHead}
+use Rattle.feed_wire.specs.ChunkReading.{ReadsChunks, stays, goes, next, brought_by}
+use Rattle.feed_wire.specs.ChunkedBody.{IsChunkedPrefix, HasBadChunk}
+use Rattle.feed_wire.specs.ResponseHeads.{HasBadHead}
 use Rattle.feed_follow.specs.Standing.{Standing, in_head, token_refused, in_body, done, failed, verdict, Stands, StandsInHead, StandsInBody, StandsBehind}
-use Rattle.feed_follow.proofs.ChunkedRuns.{stands_on, starts, is_prefix, body_run, breaks_off_leads, reads_more}
+use Rattle.feed_wire.proofs.ChunkedRuns.{stands_on, starts, is_prefix, body_run, breaks_off_leads, reads_more}
 
 -- ---- a chunked body, by what comes of its bytes
 

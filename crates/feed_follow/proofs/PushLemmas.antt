@@ -10,7 +10,7 @@ use Rattle.feed_node.specs.declared.fault.FeedFault.{FeedFault}
 use Rattle.feed_node.specs.declared.fault.FeedFault.TheVariants.{Memory as FeedMemory}
 use Rattle.feed_node.specs.Reading.{Reads as ReadsLines}
 use Rattle.feed_node.specs.Mirroring.{MirrorState, cut_off, refused_off, mirror_after, present_opening}
-use Rattle.feed_follow.specs.declared.chunk.Chunking.TheVariants.{LineStart}
+use Rattle.feed_wire.specs.declared.chunk.Chunking.TheVariants.{LineStart}
 use Rattle.feed_follow.specs.declared.coding.BodyFraming.{BodyFraming}
 use Rattle.feed_follow.specs.declared.coding.BodyFraming.TheVariants as framed
 use Rattle.feed_follow.specs.declared.fault.FollowFault.{FollowFault}
@@ -19,18 +19,19 @@ use Rattle.feed_follow.specs.declared.heads.Verdict.{Verdict}
 use Rattle.feed_follow.specs.declared.heads.Verdict.TheVariants.{Body, Refusal}
 use Rattle.feed_follow.specs.declared.follower.Part.{Part}
 use Rattle.feed_follow.specs.declared.follower.Part.TheVariants.{Head, ToEnd, Sized, InChunks, Done, Closed}
-use Rattle.feed_follow.specs.ChunkReading.{stays}
-use Rattle.feed_follow.specs.Heads.{BeginsWithResponse, HasNoWholeResponse}
+use Rattle.feed_wire.specs.ChunkReading.{stays}
+use Rattle.feed_wire.specs.ResponseHeads.{BeginsWithResponse, HasNoWholeResponse}
 use Rattle.feed_follow.specs.HeadRead.{IsUnfinished, IsNoHead}
 use Rattle.feed_follow.specs.Standing.{Standing, in_head, token_refused, in_body, done, failed, verdict, Stands, StandsInBody, StandsBehind}
 use Rattle.feed_follow.specs.Following.{HasReached, IsCutAfter, IsCutAtFault, Leaves, Brings, Fails}
 use Rattle.feed_follow.specs.Follower.{FollowerState, ReadsBody, standing_with, IsInBody, FollowsAt, first_part, progress, GoesOnOrRefuses}
 use Rattle.feed_follow.specs.Feeding.{BringsBody, BodyGoesOn, BodyFails, BodyStops}
 use Rattle.feed_follow.specs.Keeping.{HeadBrings, HeadRefuses, HeadGoesOn, HeadStops}
-use Rattle.feed_follow.proofs.ChunkedRuns.{run_breaks_off}
+use Rattle.feed_wire.proofs.ChunkedRuns.{run_breaks_off}
 use Rattle.feed_follow.specs.declared.heads.WholeHead.{WholeHead}
 use Rattle.feed_follow.specs.HeadRead.{IsHeadRead}
-use Rattle.feed_follow.proofs.HeadLemmas.{longer, whole_at, found_in_piece}
+use Rattle.feed_wire.proofs.ResponseLemmas.{longer}
+use Rattle.feed_follow.proofs.HeadLemmas.{whole_at, found_in_piece}
 use Rattle.feed_follow.proofs.BodyLemmas.{to_the_end}
 
 -- ---- the mirror

@@ -2,7 +2,7 @@
 use Rattle.std.specs.Prelude.{◌≡◌, ℕ, ◌<◌, List, length}
 use Rattle.feed_follow.specs.declared.coding.BodyFraming.{BodyFraming}
 use Rattle.feed_follow.specs.declared.coding.BodyFraming.TheVariants.{ToEnd, Sized, InChunks}
-use Rattle.feed_follow.specs.ChunkedBody.{IsChunkedBody, BreaksOff}
+use Rattle.feed_wire.specs.ChunkedBody.{IsChunkedBody, BreaksOff}
 
 -- the bytes are a whole body so framed, with this payload; one to the end of the connection has no
 -- end of its own

@@ -3,7 +3,7 @@ use Rattle.std.specs.Prelude.{◌≡◌, ℕ, Bool, List, ◌++◌, Ok}
 use Rattle.httparse.specs.Grammar.{ResponseHead}
 use Rattle.feed_follow.specs.declared.coding.BodyFraming.{BodyFraming}
 use Rattle.feed_follow.specs.declared.heads.Verdict.TheVariants.{Body}
-use Rattle.feed_follow.specs.Heads.{BeginsWithResponse}
+use Rattle.feed_wire.specs.ResponseHeads.{BeginsWithResponse}
 use Rattle.feed_follow.specs.Standing.{Standing, in_head, token_refused, in_body, done, failed, Stands, StandsInBody, verdict}
 
 -- a response that stands so brought this payload

@@ -3,15 +3,15 @@ use Rattle.std.specs.Prelude.{◌≡◌, ◌≢◌, ◌≤◌, ◌⊎◌, ℕ, L
 use Rattle.feed_node.specs.declared.fault.FeedFault.{FeedFault}
 use Rattle.feed_node.specs.declared.fault.FeedFault.TheVariants.{Memory as FeedMemory}
 use Rattle.feed_node.specs.Mirroring.{MirrorState}
-use Rattle.feed_follow.specs.declared.chunk.Chunking.{Chunking}
-use Rattle.feed_follow.specs.declared.chunk.Chunking.TheVariants.{Whole, InBytes}
+use Rattle.feed_wire.specs.declared.chunk.Chunking.{Chunking}
+use Rattle.feed_wire.specs.declared.chunk.Chunking.TheVariants.{Whole, InBytes}
 use Rattle.feed_follow.specs.declared.coding.BodyFraming.{BodyFraming}
 use Rattle.feed_follow.specs.declared.coding.BodyFraming.TheVariants as framed
 use Rattle.feed_follow.specs.declared.fault.FollowFault.{FollowFault}
 use Rattle.feed_follow.specs.declared.fault.FollowFault.TheVariants.{BadChunk, Feed}
 use Rattle.feed_follow.specs.declared.follower.Part.{Part}
-use Rattle.feed_follow.specs.ChunkReading.{ReadsChunks, next}
-use Rattle.feed_follow.specs.ChunkedBody.{HasBadChunk}
+use Rattle.feed_wire.specs.ChunkReading.{ReadsChunks, next}
+use Rattle.feed_wire.specs.ChunkedBody.{HasBadChunk}
 use Rattle.feed_follow.specs.Standing.{in_body, done, StandsInBody}
 use Rattle.feed_follow.specs.Following.{HasReached, IsCutAfter, IsCutAtFault}
 use Rattle.feed_follow.specs.Follower.{ReadsBody}

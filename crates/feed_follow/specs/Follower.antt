@@ -2,7 +2,7 @@
 use Rattle.std.specs.Prelude.{◌≡◌, ◌≢◌, ◌<◌, ◌≤◌, ◌+◌, ℕ, Bool, List, [], ◌++◌, None, length, is_some, Result, Ok, Err, OnErr, ◌==◌, if◌then◌else◌}
 use Rattle.httparse.specs.Grammar.{ResponseHead}
 use Rattle.feed_node.specs.Mirroring.{MirrorState, cut_off, refused_off}
-use Rattle.feed_follow.specs.declared.chunk.Chunking.TheVariants.{LineStart, Whole}
+use Rattle.feed_wire.specs.declared.chunk.Chunking.TheVariants.{LineStart, Whole}
 use Rattle.feed_follow.specs.declared.coding.BodyFraming.{BodyFraming}
 use Rattle.feed_follow.specs.declared.coding.BodyFraming.TheVariants as framed
 use Rattle.feed_follow.specs.declared.heads.Verdict.TheVariants.{Body}
@@ -13,8 +13,9 @@ use Rattle.feed_follow.specs.declared.fault.Progress.TheVariants as reached
 use Rattle.feed_follow.specs.declared.follower.Part.{Part}
 use Rattle.feed_follow.specs.declared.follower.Part.TheVariants.{Head, ToEnd, Sized, InChunks, Done, Closed}
 use Rattle.feed_follow.specs.Bodies.{IsBody}
-use Rattle.feed_follow.specs.ChunkReading as chunks
-use Rattle.feed_follow.specs.Heads.{BeginsWithResponse, head_bytes}
+use Rattle.feed_wire.specs.ChunkReading as chunks
+use Rattle.feed_wire.specs.HeadSizes.{head_bytes}
+use Rattle.feed_wire.specs.ResponseHeads.{BeginsWithResponse}
 use Rattle.feed_follow.specs.Standing.{Standing, in_head, token_refused, in_body, done, Stands, verdict}
 use Rattle.feed_follow.specs.Following.{Leaves, Answers}
 

@@ -4,7 +4,8 @@ use Rattle.httparse.specs.Grammar.{ResponseHead}
 use Rattle.feed_follow.specs.declared.fault.FollowFault.{FollowFault}
 use Rattle.feed_follow.specs.declared.fault.FollowFault.TheVariants.{LongHead, BadHead, Status, BadCoding, BadLength}
 use Rattle.feed_follow.specs.declared.heads.WholeHead.{WholeHead}
-use Rattle.feed_follow.specs.Heads.{IsPastLimits, BeginsWithResponse, HasNoWholeResponse}
+use Rattle.feed_wire.specs.HeadSizes.{IsPastLimits}
+use Rattle.feed_wire.specs.ResponseHeads.{BeginsWithResponse, HasNoWholeResponse}
 use Rattle.feed_follow.specs.Standing.{failed, verdict, StandsInHead}
 
 -- a head of this length stands at the start, and says this

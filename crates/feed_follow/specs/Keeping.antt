@@ -8,7 +8,8 @@ use Rattle.feed_follow.specs.declared.fault.FollowFault.TheVariants.{Closed as I
 use Rattle.feed_follow.specs.declared.heads.Verdict.TheVariants.{Body, Refusal}
 use Rattle.feed_follow.specs.declared.follower.Part.{Part}
 use Rattle.feed_follow.specs.declared.follower.Part.TheVariants.{Head, Closed}
-use Rattle.feed_follow.specs.Heads.{head_bytes, BeginsWithResponse}
+use Rattle.feed_wire.specs.HeadSizes.{head_bytes}
+use Rattle.feed_wire.specs.ResponseHeads.{BeginsWithResponse}
 use Rattle.feed_follow.specs.HeadRead.{IsUnfinished, IsNoHead}
 use Rattle.feed_follow.specs.Standing.{verdict}
 use Rattle.feed_follow.specs.Following.{HasReached}

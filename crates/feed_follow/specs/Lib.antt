@@ -1,7 +1,4 @@
 pub mod Bodies
-pub mod ChunkLaws
-pub mod ChunkReading
-pub mod ChunkedBody
 pub mod Codes
 pub mod Coding
 pub mod Feeding
@@ -9,7 +6,6 @@ pub mod Fields
 pub mod Follower
 pub mod Following
 pub mod HeadRead
-pub mod Heads
 pub mod Keeping
 pub mod Laws
 pub mod Standing

@@ -8,10 +8,11 @@ use Rattle.feed_follow.specs.declared.coding.BodyFraming.{BodyFraming}
 use Rattle.feed_follow.specs.declared.coding.BodyFraming.TheVariants.{InChunks}
 use Rattle.feed_follow.specs.declared.heads.Verdict.{Verdict}
 use Rattle.feed_follow.specs.declared.heads.Verdict.TheVariants.{Body, Refusal}
-use Rattle.feed_follow.specs.Heads.{IsPastLimits, BeginsWithResponse, HasNoWholeResponse, HasBadHead}
+use Rattle.feed_wire.specs.HeadSizes.{IsPastLimits}
+use Rattle.feed_wire.specs.ResponseHeads.{BeginsWithResponse, HasNoWholeResponse, HasBadHead}
 use Rattle.feed_follow.specs.Coding.{body_framing}
 use Rattle.feed_follow.specs.Bodies.{IsBody, IsBodyPrefix}
-use Rattle.feed_follow.specs.ChunkedBody.{HasBadChunk}
+use Rattle.feed_wire.specs.ChunkedBody.{HasBadChunk}
 
 -- how the body is framed, as what a head says
 abbrev pub with_body : Result BodyFraming FollowFault → Result Verdict FollowFault

@@ -1,14 +1,14 @@
 //! The body of a response, whose payload goes to a mirror.
-ghost use Rattle.feed_follow.specs.declared.chunk.Chunking.{Chunking as Place};
+ghost use Rattle.feed_wire.specs.declared.chunk.Chunking.{Chunking as Place};
 ghost use Rattle.std.specs.Prelude.{◌≡◌, ◌≢◌, ◌<◌, ◌≤◌, ℕ, List, [], length, take, IfOk, IfErr, OnOk};
-ghost use Rattle.feed_follow.specs.ChunkReading.{IsChunkPlace};
+ghost use Rattle.feed_wire.specs.ChunkReading.{IsChunkPlace};
 ghost use Rattle.feed_follow.specs.Follower.{IsPart};
 ghost use Rattle.feed_follow.specs.Feeding.{HasFed, StopsFeeding, FeedsChunks, FeedsToEnd, StopsInChunks, BodyGoesOn, BodyStops};
 
 use crate::FollowFault;
-use crate::chunk::{Chunking, after_byte};
 use crate::follower::Part;
 use feed_node::Mirror;
+use feed_wire::{Chunking, after_byte};
 use std::alloc::Global;
 
 /// Feeds bytes of the payload.

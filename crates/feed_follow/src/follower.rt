@@ -6,15 +6,15 @@ ghost use Rattle.feed_follow.specs.Standing.{Standing, in_head};
 ghost use Rattle.feed_follow.specs.Following.{Fails};
 ghost use Rattle.feed_follow.specs.Follower.{FollowsAt, GoesOn, GoesOnOrRefuses, IsPart, IsPush, first_part as part_for, progress as reached};
 ghost use Rattle.feed_follow.specs.HeadRead.{IsHeadRead, IsNoHead, IsUnfinished};
-ghost use Rattle.feed_follow.specs.Heads.{head_bytes};
+ghost use Rattle.feed_wire.specs.HeadSizes.{head_bytes};
 ghost use Rattle.feed_follow.specs.Keeping.{kept_bytes, follower_of, KeepsLittle, HeadGoesOn, HeadStops};
 
 use crate::body::feed_body;
-use crate::chunk::Chunking;
 use crate::coding::BodyFraming;
-use crate::heads::{HEAD_BYTES, Verdict, WholeHead, look_at_head};
+use crate::heads::{Verdict, WholeHead, look_at_head};
 use crate::{FollowFault, Progress};
 use feed_node::Mirror;
+use feed_wire::{Chunking, HEAD_BYTES};
 use std::alloc::{AllocError, Global};
 use std::marker::Model;
 

@@ -1,23 +1,15 @@
 //! The head of a response.
-ghost use Rattle.std.specs.Prelude.{◌≡◌, ◌≢◌, ℕ, ◌≤◌, ◌↔◌, ◌==◌, List, [], length, drop, IsTrue, count_by, IfOk, IfErr, IfSome, IfNone, OnOk, OnErr, None, Ok, Err, map, Bool};
+ghost use Rattle.std.specs.Prelude.{◌≡◌, IfOk, IfErr, IfSome, IfNone, None, map};
 ghost use Rattle.httparse.specs.Grammar.{NeverHasResponse};
 ghost use Rattle.httparse.specs.Borrowed.{header_parts, HoldsSomeResponse};
-ghost use Rattle.feed_follow.specs.Heads.{line_count, IsHeadSize, IsPastLimits, HasNoWholeResponse};
+ghost use Rattle.feed_wire.specs.ResponseHeads.{HasNoWholeResponse};
 ghost use Rattle.feed_follow.specs.Standing.{verdict_of};
 ghost use Rattle.feed_follow.specs.HeadRead.{IsHeadRead, IsHeadFault, IsUnfinished, IsNoHead};
 
 use crate::FollowFault;
 use crate::coding::{BodyFraming, body_framing};
+use feed_wire::{HEAD_FIELDS, is_head_size, is_past_limits};
 use httparse::{EMPTY_HEADER, Error, Header, Response, Status};
-
-/// The most bytes of a head, with the empty lines before.
-pub const HEAD_BYTES: usize = 8192;
-
-/// The most lines of a head: a start line, the fields, and the empty line.
-pub const HEAD_LINES: usize = 66;
-
-/// The most fields of a head.
-pub const HEAD_FIELDS: usize = 64;
 
 /// What a whole head says of its response, where it can be followed.
 #[derive(Clone, Copy)]
@@ -31,28 +23,6 @@ pub(crate) enum Verdict {
 pub(crate) struct WholeHead {
     pub len: usize,
     pub says: Verdict,
-}
-
-fn count_lines(bytes: &[u8]) -> usize
-    ensures { result ≡ line_count bytes.now }
-{
-    bytes.iter().filter(|b| **b == b'\n').count()
-}
-
-/// Whether no head that is not whole yet can end within the limits.
-pub fn is_past_limits(bytes: &[u8]) -> bool
-    ensures past { IsTrue result → IsPastLimits bytes.now }
-    ensures within { ¬ (IsTrue result) → ¬ (IsPastLimits bytes.now) }
-{
-    bytes.len() > HEAD_BYTES || count_lines(bytes) >= HEAD_LINES
-}
-
-/// Whether a head of this text and so many fields is short enough.
-pub fn is_head_size(text: &[u8], fields: usize) -> bool
-    ensures size { IsTrue result → IsHeadSize text.now fields }
-    ensures other { ¬ (IsTrue result) → ¬ (IsHeadSize text.now fields) }
-{
-    text.len() <= HEAD_BYTES && count_lines(text) <= HEAD_LINES && fields <= HEAD_FIELDS
 }
 
 /// What a head of this status and with these fields says.

@@ -1,16 +1,6 @@
 //! Laws of the definitions.
 ghost use Rattle.feed_follow.specs.Carrying.{FeedsCarryText};
 ghost use Rattle.feed_follow.specs.Laws.{StandsOnce};
-ghost use Rattle.feed_follow.specs.ChunkLaws.{ReadsArePrefixes, PrefixesAreRead, BodiesAreRead, OthersAreRefused, ReadsOnce};
-
-/// Chunked bodies are read byte by byte exactly.
-pub fn chunk_laws()
-    ensures prefixes { ReadsArePrefixes }
-    ensures read { PrefixesAreRead }
-    ensures whole { BodiesAreRead }
-    ensures refused { OthersAreRefused }
-    ensures once { ReadsOnce }
-{}
 
 /// How far a response has come is one thing.
 pub fn follow_laws()

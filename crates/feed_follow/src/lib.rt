@@ -2,7 +2,6 @@
 #![tactic(auto)]
 
 mod body;
-mod chunk;
 mod coding;
 mod fault;
 mod follower;
@@ -11,5 +10,4 @@ mod laws;
 
 pub use fault::{FollowFault, Progress};
 pub use follower::Follower;
-pub use heads::{HEAD_BYTES, HEAD_FIELDS, HEAD_LINES, is_head_size, is_past_limits};
-pub use laws::{carry_laws, chunk_laws, follow_laws};
+pub use laws::{carry_laws, follow_laws};

@@ -22,8 +22,8 @@ use Rattle.feed_node.specs.Kept.{kept_of, most_kept}
 use Rattle.feed_node.specs.States.{NodeState, nothing_published, token_of, place_of, keep_last, HoldsItsTokens, IsConsistent}
 use Rattle.feed_node.specs.Serving.{is_published, token_before, commit_text}
 use Rattle.feed_answer.specs.Answered.{AnswersTo, parts_of, answer_to, answer_opened}
-use Rattle.feed_answer.specs.Asked.{Asked, refused, feed, framing_for}
-use Rattle.feed_answer.specs.Framed.{frame_end}
+use Rattle.feed_wire.specs.Asked.{Asked, refused, feed, framing_for}
+use Rattle.feed_wire.specs.Framed.{frame_end}
 use Rattle.feed_answer.specs.Opening.{starts_behind, opens_from}
 use Rattle.feed_answer.specs.Served.{farewell, behind_opening}
 use Rattle.feed_http.specs.Device.{counted}

@@ -7,7 +7,7 @@ use Rattle.feed_node.specs.declared.session.OpenFault.{OpenFault}
 use Rattle.feed_node.specs.declared.session.OpenFault.TheVariants.{NotYet, NotHeld, Memory}
 use Rattle.feed_node.specs.States.{NodeState}
 use Rattle.feed_answer.specs.Answered.{AnswerParts, AnswersTo, answer_to, answer_opened}
-use Rattle.feed_answer.specs.Asked.{Asked, refused, feed, framing_for}
+use Rattle.feed_wire.specs.Asked.{Asked, refused, feed, framing_for}
 use Rattle.feed_answer.specs.Opening.{Started, opens}
 use Rattle.feed_http.specs.declared.fault.Served.{Served}
 use Rattle.feed_http.specs.Live.{Intake, IsOver, MayLoseTokens, LosesItsToken, SendsLiveTo, SendsLive, TakesAll}

@@ -21,7 +21,7 @@ use Rattle.feed_http.specs.Sessions.{Next, Nothing_new, Lost, Commit_after, next
 use Rattle.feed_node.specs.declared.session.Pulled.{Pulled}
 use Rattle.feed_node.specs.declared.session.Pulled.TheVariants.{More, UpToDate, Gone}
 use Rattle.feed_http.specs.Device.{AppendsPrefix, counted}
-use Rattle.feed_answer.specs.Framed.{frame, frame_end}
+use Rattle.feed_wire.specs.Framed.{frame, frame_end}
 use Rattle.feed_answer.specs.Served.{behind_opening, farewell}
 use Rattle.feed_answer.specs.Answered.{parts_of}
 use Rattle.feed_http.specs.Serving.{Sends, up_to_date, lost, sends, commit_frames, HasAll, BeginsCommit, SendsAnswer}

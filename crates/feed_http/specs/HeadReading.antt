@@ -2,8 +2,8 @@
 use Rattle.std.specs.Prelude.{ℕ, ◌-◌, ◌≤◌, ◌⊎◌, min, nat_lt, if◌then◌else◌, List, [], ◌++◌, length, Result, Ok, Err}
 use Rattle.std.specs.Io.KnownBytes.{Consumes, IsAtEnd}
 use Rattle.httparse.specs.Grammar.{RequestHead, NeverHasRequest}
-use Rattle.feed_follow.specs.Heads.{head_bytes, IsPastLimits}
-use Rattle.feed_answer.specs.Heads.{BeginsWithRequest, HasNoWholeRequest, IsTooLargeRequest}
+use Rattle.feed_wire.specs.HeadSizes.{head_bytes, IsPastLimits}
+use Rattle.feed_wire.specs.Heads.{BeginsWithRequest, HasNoWholeRequest, IsTooLargeRequest}
 use Rattle.feed_http.specs.declared.fault.EngineFault.{EngineFault}
 use Rattle.feed_http.specs.declared.fault.EngineFault.TheVariants as fault
 use Rattle.feed_http.specs.Device.{RoseBy}

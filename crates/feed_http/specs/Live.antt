@@ -8,7 +8,7 @@ use Rattle.feed_node.specs.declared.primary.CommitFault.{CommitFault}
 use Rattle.feed_node.specs.Log.{PrimaryState, commits, commit_fault, RefusesBatch, last_count}
 use Rattle.feed_node.specs.States.{NodeState}
 use Rattle.feed_answer.specs.Answered.{AnswerParts, AnswersTo}
-use Rattle.feed_answer.specs.Framed.{frame_end}
+use Rattle.feed_wire.specs.Framed.{frame_end}
 use Rattle.feed_answer.specs.Served.{farewell}
 use Rattle.feed_http.specs.declared.fault.EngineFault.{EngineFault}
 use Rattle.feed_http.specs.declared.fault.EngineFault.TheVariants as fault

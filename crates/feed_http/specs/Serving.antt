@@ -15,7 +15,7 @@ use Rattle.feed_answer.specs.Answered.{AnswerParts, AnswersTo}
 use Rattle.feed_http.specs.Device.{counted, AppendsPrefix, RoseBy, RoseAtMost}
 use Rattle.feed_http.specs.Exchange.{Exchange, FailuresAreTold}
 use Rattle.feed_http.specs.HeadReading.{IsReadAsNeeded, IsStillNeeded, IsEnough}
-use Rattle.feed_answer.specs.Framed.{frame}
+use Rattle.feed_wire.specs.Framed.{frame}
 use Rattle.feed_answer.specs.Served.{behind_opening}
 
 -- the commits that a session at this token is sent, and whether its token is then no longer held

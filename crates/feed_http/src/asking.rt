@@ -1,6 +1,6 @@
 //! The request for what a mirror lacks.
 ghost use Rattle.std.specs.Prelude.{◌≡◌, IfOk};
-ghost use Rattle.feed_answer.specs.RequestText as texts;
+ghost use Rattle.feed_wire.specs.RequestText as texts;
 ghost use Rattle.feed_http.specs.Exchange.{wrote_by};
 ghost use Rattle.feed_http.specs.Writing.{Writes};
 

@@ -1,7 +1,7 @@
 //! What a server sends on one connection.
 ghost use Rattle.std.specs.Prelude.{◌≡◌, ◌++◌, IfOk, IfSome};
 ghost use Rattle.feed_node.specs.States.{IsConsistent};
-ghost use Rattle.feed_answer.specs.Framed as framed;
+ghost use Rattle.feed_wire.specs.Framed as framed;
 ghost use Rattle.feed_answer.specs.Served.{farewell};
 ghost use Rattle.feed_answer.specs.Answered.{parts_of};
 ghost use Rattle.feed_http.specs.Exchange.{devices_of, exchange, wrote_by};

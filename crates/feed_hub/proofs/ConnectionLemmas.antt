@@ -13,12 +13,12 @@ use Rattle.feed_node.specs.declared.primary.CommitFault.{CommitFault}
 use Rattle.feed_node.specs.Mirroring.{MirrorState}
 use Rattle.feed_node.specs.Serving.{commit_after, commit_text, is_published}
 use Rattle.feed_node.specs.States.{NodeState, published_token}
-use Rattle.feed_answer.specs.declared.refusal.Refusal.{Refusal}
-use Rattle.feed_answer.specs.declared.refusal.Refusal.TheVariants.{LargeHead, Unreadable, NotGet, OtherPath, NothingPublished, TokenNotHeld}
-use Rattle.feed_answer.specs.Answer.{refusal_code}
+use Rattle.feed_wire.specs.declared.refusal.Refusal.{Refusal}
+use Rattle.feed_wire.specs.declared.refusal.Refusal.TheVariants.{LargeHead, Unreadable, NotGet, OtherPath, NothingPublished, TokenNotHeld}
+use Rattle.feed_wire.specs.Answer.{refusal_code}
 use Rattle.feed_answer.specs.Answered.{AnswerParts, AnswersTo}
-use Rattle.feed_answer.specs.Framed.{frame, frame_end}
-use Rattle.feed_answer.specs.FrameLaws.{AreTexts}
+use Rattle.feed_wire.specs.Framed.{frame, frame_end}
+use Rattle.feed_wire.specs.FrameLaws.{AreTexts}
 use Rattle.feed_answer.specs.FollowLaws.{WholeCarriesAll, ResponsesAreFollowed, EndsAreFollowed, RefusalsAreFollowed}
 use Rattle.feed_answer.specs.Served.{behind_opening}
 use Rattle.feed_http.specs.declared.fault.Served.{Served}

@@ -18,7 +18,7 @@ use Rattle.feed_node.specs.Serving.{commit_text}
 use Rattle.feed_node.specs.Reading.{Reads, reads}
 use Rattle.feed_node.specs.States.{NodeState, published_token}
 use Rattle.feed_node.specs.Steps.{ReadingIsOne}
-use Rattle.feed_answer.specs.FrameLaws.{joined}
+use Rattle.feed_wire.specs.FrameLaws.{joined}
 use Rattle.feed_world.proofs.Responses.{joined_parts}
 use Rattle.feed_world.specs.Connection.{Connection, Part, Snapshot, Commit, Line_feed, part_text, part_texts, parts_text, sent_text, block_onto, blocks_within, count_new, moved_by}
 use Rattle.feed_world.specs.Following.{PlacesStay, AllIsReached, number_at}

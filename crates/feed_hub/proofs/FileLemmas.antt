@@ -10,7 +10,7 @@ use Rattle.feed_node.specs.Mirroring.{MirrorState, StandsAt, HasStopped, HasLost
 use Rattle.feed_node.specs.Reading.{Reads, FaultsAt, reads, keep_latest}
 use Rattle.feed_node.specs.States.{NodeState}
 use Rattle.feed_node.specs.Steps.{ReadingIsOne}
-use Rattle.feed_answer.specs.FrameLaws.{joined}
+use Rattle.feed_wire.specs.FrameLaws.{joined}
 use Rattle.feed_world.specs.Laws.{opened_text}
 use Rattle.feed_world.specs.Log.{Log, IsLog, state_after}
 use Rattle.feed_world.specs.Position.{Position, IsPlaceOfLog, node_where}

@@ -16,15 +16,16 @@ use Rattle.feed_follow.specs.declared.fault.FollowFault.TheVariants.{Closed, Lon
 use Rattle.feed_follow.specs.Follower.{FollowerState, FollowsAt}
 use Rattle.feed_follow.specs.Following.{Leaves, Fails}
 use Rattle.feed_follow.specs.Standing.{Standing, in_head, token_refused, in_body, done, failed, Stands}
-use Rattle.feed_answer.specs.declared.refusal.Refusal.{Refusal}
-use Rattle.feed_answer.specs.declared.refusal.Refusal.TheVariants.{NothingPublished, TokenNotHeld}
-use Rattle.feed_answer.specs.Answer.{feed_head, refusal_code, refusal_head, refusal_text}
+use Rattle.feed_wire.specs.declared.refusal.Refusal.{Refusal}
+use Rattle.feed_wire.specs.declared.refusal.Refusal.TheVariants.{NothingPublished, TokenNotHeld}
+use Rattle.feed_wire.specs.Answer.{feed_head, refusal_code, refusal_head, refusal_text}
 use Rattle.feed_answer.specs.Answered.{AnswerParts, AnswersTo, answer_to, answer_opened, refusing}
-use Rattle.feed_answer.specs.Asked.{Asked, refused, feed, framing_for}
-use Rattle.feed_answer.specs.Carried.{response_text, ended_text, carried_by, standing_at, ended_at, refusal_at}
-use Rattle.feed_answer.specs.Framed.{frame, frame_end}
+use Rattle.feed_wire.specs.Asked.{Asked, refused, feed, framing_for}
+use Rattle.feed_wire.specs.CarriedBytes.{response_text, ended_text, carried_by}
+use Rattle.feed_answer.specs.Carried.{standing_at, ended_at, refusal_at}
+use Rattle.feed_wire.specs.Framed.{frame, frame_end}
 use Rattle.feed_answer.specs.Served.{opening_text}
-use Rattle.feed_answer.specs.FrameLaws.{AreTexts, joined}
+use Rattle.feed_wire.specs.FrameLaws.{AreTexts, joined}
 use Rattle.feed_answer.specs.FollowLaws.{StandsOnly, WholeCarriesAll, ResponsesAreFollowed, EndsAreFollowed, RefusalsAreFollowed}
 use Rattle.feed_answer.specs.Opening.{Started, opens}
 use Rattle.feed_world.specs.Connection.{Connection, sent_text}

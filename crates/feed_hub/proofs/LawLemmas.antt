@@ -22,9 +22,10 @@ use Rattle.feed_world.specs.Reading.{SentIsRead, IsOpened}
 use Rattle.feed_hub.specs.Told.{Told, told_none, told_commit, told_line_feed}
 use Rattle.feed_hub.specs.Laws.{StandInOrder, ScreensAreConnections, ShowsState, ScreensShowStates, ScreensReach, StandsWell, ScreensAreFollowed}
 use Rattle.feed_follow.specs.Standing.{in_head, in_body, done}
-use Rattle.feed_answer.specs.Answer.{feed_head}
-use Rattle.feed_answer.specs.Carried.{carried_by, standing_at, ended_at, ended_text}
-use Rattle.feed_answer.specs.FrameLaws.{joined}
+use Rattle.feed_wire.specs.Answer.{feed_head}
+use Rattle.feed_wire.specs.CarriedBytes.{carried_by, ended_text}
+use Rattle.feed_answer.specs.Carried.{standing_at, ended_at}
+use Rattle.feed_wire.specs.FrameLaws.{joined}
 use Rattle.feed_answer.specs.FollowLaws.{ResponsesAreFollowed, EndsAreFollowed}
 use Rattle.std.proofs.Common.{take, drop, nat_lt}
 use Rattle.std.proofs.lemmas.List.{take-append-drop}

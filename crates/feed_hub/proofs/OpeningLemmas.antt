@@ -3,9 +3,9 @@ use Rattle.std.proofs.Common.{ap, ◌∙◌, ℕ, List, ◌++◌, Option, Some, 
 use Rattle.std.specs.Prelude.{Contains}
 use Rattle.std.specs.List.{flat_map}
 use Rattle.feed_node.specs.States.{NodeState}
-use Rattle.feed_answer.specs.Answer.{feed_head}
+use Rattle.feed_wire.specs.Answer.{feed_head}
 use Rattle.feed_answer.specs.Answered.{AnswerParts}
-use Rattle.feed_answer.specs.Framed.{frame}
+use Rattle.feed_wire.specs.Framed.{frame}
 use Rattle.feed_world.specs.Laws.{opened_text}
 use Rattle.feed_hub.specs.Screen.{token_at}
 use Rattle.feed_hub.specs.Told.{Told, told_none, told_commit, told_line_feed, IsGoing, IsDue}

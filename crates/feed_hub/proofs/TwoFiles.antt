@@ -25,7 +25,7 @@ use Rattle.feed_node.specs.Serving.{HeldTokensStand}
 use Rattle.feed_node.specs.States.{NodeState, holds_token, place_of, published_tables, published_token, token_of}
 use Rattle.feed_node.specs.Staging.{StagingState, step, steps, times_published, staging, publishing, without_changes, AllTaken}
 use Rattle.feed_node.specs.Steps.{StepsRead, TakenAreGood, ReadingIsOne, standing_after}
-use Rattle.feed_answer.specs.FrameLaws.{joined}
+use Rattle.feed_wire.specs.FrameLaws.{joined}
 use Rattle.feed_world.specs.Connection.{Connection, Part, Snapshot, Commit, Line_feed, part_text, block_onto, blocks_within, moved_by, GoOn, sent_text}
 use Rattle.feed_world.specs.Following.{PlacesStay, AllIsReached}
 use Rattle.feed_world.specs.Laws.{NodesSendTheNext, PartsGoOn}

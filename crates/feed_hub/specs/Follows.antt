@@ -11,7 +11,7 @@ use Rattle.feed_follow.specs.Follower.{FollowerState, FollowsAt}
 use Rattle.feed_follow.specs.Following.{Fails}
 use Rattle.feed_follow.specs.Standing.{Standing}
 use Rattle.feed_answer.specs.Answered.{AnswerParts, AnswersTo}
-use Rattle.feed_answer.specs.Asked.{Asks, feed}
+use Rattle.feed_wire.specs.Asked.{Asks, feed}
 use Rattle.feed_answer.specs.FollowLaws.{StandsOnly}
 use Rattle.feed_world.specs.Log.{Log, IsLog}
 use Rattle.feed_world.specs.Position.{Position, IsPlaceOfLog, node_where}

@@ -12,8 +12,8 @@ use Rattle.feed_world.specs.Position.{Position, IsPlaceOfLog, node_where}
 use Rattle.feed_world.specs.Reading.{opening_at}
 use Rattle.feed_world.specs.States.{IsAsFarAs}
 use Rattle.feed_follow.specs.Standing.{Standing, in_head, token_refused, in_body, done, failed}
-use Rattle.feed_answer.specs.Carried.{response_text, ended_text}
-use Rattle.feed_answer.specs.FrameLaws.{AreTexts, joined}
+use Rattle.feed_wire.specs.CarriedBytes.{response_text, ended_text}
+use Rattle.feed_wire.specs.FrameLaws.{AreTexts, joined}
 use Rattle.feed_answer.specs.FollowLaws.{StandsOnly}
 use Rattle.feed_answer.specs.Answered.{AnswerParts}
 use Rattle.feed_answer.specs.Served.{opening_text}

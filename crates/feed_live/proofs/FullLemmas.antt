@@ -11,7 +11,8 @@ use Rattle.std.proofs.Math.Seq.{take-append-add}
 use Rattle.httparse.specs.Grammar.{ResponseHead, IsResponseHead, Field, IsField, crlf, is_token_byte, is_value_byte, print_response, ReadsResponse}
 use Rattle.httparse.proofs.GrammarLemmas.{response_prefix_free}
 use Rattle.feed_follow.specs.declared.fault.FollowFault.TheVariants.{Status}
-use Rattle.feed_follow.specs.Heads.{line_count, IsHeadSize, IsPastLimits, BeginsWithResponse, HasNoWholeResponse}
+use Rattle.feed_wire.specs.HeadSizes.{line_count, IsHeadSize, IsPastLimits}
+use Rattle.feed_wire.specs.ResponseHeads.{BeginsWithResponse, HasNoWholeResponse}
 use Rattle.feed_follow.specs.Laws.{StandsOnce}
 use Rattle.feed_follow.specs.Standing.{Standing, in_head, failed, verdict, Stands, StandsBehind}
 use Rattle.feed_answer.specs.FollowLaws.{StandsOnly}

@@ -7,14 +7,14 @@ use Rattle.feed_settings.specs.Limits.{Limits}
 use Rattle.feed_node.specs.Mirroring.{MirrorState}
 use Rattle.feed_node.specs.States.{NodeState}
 use Rattle.feed_follow.specs.Laws.{StandsOnce}
-use Rattle.feed_answer.specs.declared.refusal.Refusal.{Refusal}
-use Rattle.feed_answer.specs.Answer.{refusal_text}
+use Rattle.feed_wire.specs.declared.refusal.Refusal.{Refusal}
+use Rattle.feed_wire.specs.Answer.{refusal_text}
 use Rattle.feed_answer.specs.Answered.{answer_to, refusing}
-use Rattle.feed_answer.specs.Asked.{Asked, refused, feed, Asks, Requests}
+use Rattle.feed_wire.specs.Asked.{Asked, refused, feed, Asks, Requests}
 use Rattle.feed_answer.specs.FollowLaws.{RefusalsAreFollowed}
-use Rattle.feed_answer.specs.Laws.{RequestIsRead, MayBeAskedWith}
-use Rattle.feed_answer.specs.RequestText.{feed_path, request_text, request_text_as}
-use Rattle.feed_answer.proofs.AskedLemmas.{one_request}
+use Rattle.feed_wire.specs.RequestLaws.{RequestIsRead, MayBeAskedWith}
+use Rattle.feed_wire.specs.RequestText.{feed_path, request_text, request_text_as}
+use Rattle.feed_wire.proofs.AskedLemmas.{one_request}
 use Rattle.httparse.proofs.GrammarLemmas.{ReadsRequest-append}
 use Rattle.feed_world.specs.Log.{Log, IsLog}
 use Rattle.feed_world.specs.Position.{Position, IsPlaceOfLog, node_where}

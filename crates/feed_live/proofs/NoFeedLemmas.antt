@@ -9,8 +9,8 @@ use Rattle.feed_follow.specs.declared.fault.FollowFault.{FollowFault}
 use Rattle.feed_follow.specs.declared.fault.FollowFault.TheVariants.{Closed, LongHead, BadHead, Status, BadCoding, BadLength, BadChunk, Feed, Memory}
 use Rattle.feed_follow.specs.Following.{Leaves, Fails, Brings, HasBadLine, HasLostSome, IsCutAfter}
 use Rattle.feed_follow.specs.Standing.{Standing, in_head, token_refused, in_body, done, failed, Stands}
-use Rattle.feed_answer.specs.declared.refusal.Refusal.{Refusal}
-use Rattle.feed_answer.specs.Answer.{refusal_code, refusal_head, refusal_text}
+use Rattle.feed_wire.specs.declared.refusal.Refusal.{Refusal}
+use Rattle.feed_wire.specs.Answer.{refusal_code, refusal_head, refusal_text}
 use Rattle.feed_answer.specs.Carried.{refusal_at}
 use Rattle.feed_answer.specs.FollowLaws.{StandsOnly, RefusalsAreFollowed}
 use Rattle.feed_world.specs.Log.{Log}

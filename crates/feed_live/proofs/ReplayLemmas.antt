@@ -10,7 +10,7 @@ use Rattle.feed_follow.specs.Carrying.{HasPayload, IsFeedOf, FeedsCarryText}
 use Rattle.feed_follow.specs.declared.fault.FollowFault.{FollowFault}
 use Rattle.feed_follow.specs.declared.fault.FollowFault.TheVariants.{Closed, LongHead, BadHead, Status, BadCoding, BadLength, BadChunk, Feed, Memory as FollowMemory}
 use Rattle.feed_follow.specs.Following.{HasReached, IsCutAfter, Leaves, Brings, HasBadLine, Fails}
-use Rattle.feed_follow.specs.Heads.{BeginsWithResponse}
+use Rattle.feed_wire.specs.ResponseHeads.{BeginsWithResponse}
 use Rattle.feed_follow.specs.Laws.{StandsOnce}
 use Rattle.feed_follow.specs.Standing.{Standing, in_head, token_refused, in_body, done, failed, Stands, StandsBehind}
 use Rattle.feed_world.specs.Log.{Log}

@@ -5,8 +5,8 @@ use Rattle.std.specs.List.{AllByRecursion}
 use Rattle.feed_settings.specs.Limits.{Limits}
 use Rattle.feed_settings.specs.Place.{Place, IsPlace}
 use Rattle.feed_node.specs.Mirroring.{MirrorState}
-use Rattle.feed_answer.specs.Asked.{Asks, feed}
-use Rattle.feed_answer.specs.Identity.{anonymous}
+use Rattle.feed_wire.specs.Asked.{Asks, feed}
+use Rattle.feed_wire.specs.Identity.{anonymous}
 use Rattle.feed_world.specs.Log.{Log, IsLog}
 use Rattle.feed_device.specs.Links.{Exchange}
 use Rattle.feed_device.specs.Sockets.{AllSockets, Socket, Traffic, traffic_of}

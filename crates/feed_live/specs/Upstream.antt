@@ -13,8 +13,8 @@ use Rattle.feed_follow.specs.declared.fault.FollowFault.TheVariants.{Feed, Memor
 use Rattle.feed_follow.specs.Follower.{FollowerState, FollowsAt}
 use Rattle.feed_follow.specs.Following.{Fails}
 use Rattle.feed_follow.specs.Standing.{Standing}
-use Rattle.feed_answer.specs.Identity.{Identity}
-use Rattle.feed_answer.specs.RequestText.{request_text_as}
+use Rattle.feed_wire.specs.Identity.{Identity}
+use Rattle.feed_wire.specs.RequestText.{request_text_as}
 use Rattle.feed_world.specs.Log.{Log, state_after}
 use Rattle.feed_world.specs.Position.{Position, IsPlaceOfLog}
 use Rattle.feed_world.specs.States.{HasAsked}

@@ -2,7 +2,7 @@
 use Rattle.std.specs.Prelude.{◌≡◌, ℕ, List, Result, Err}
 use Rattle.std.specs.Io.KnownBytes.{Appends}
 use Rattle.feed_node.specs.Mirroring.{MirrorState}
-use Rattle.feed_answer.specs.RequestText.{request_text_as}
+use Rattle.feed_wire.specs.RequestText.{request_text_as}
 use Rattle.feed_http.specs.declared.fault.EngineFault.{EngineFault}
 use Rattle.feed_http.specs.declared.fault.EngineFault.TheVariants.{Write, Memory}
 use Rattle.feed_http.specs.declared.fault.Followed.{Followed}

@@ -19,8 +19,8 @@ use Rattle.feed_follow.specs.declared.fault.Progress.{Progress}
 use Rattle.feed_follow.specs.declared.follower.Part.TheVariants.{Closed as NoMore}
 use Rattle.feed_follow.specs.Following.{HasReached, IsCutAfter, Leaves, HasBadLine, HasLostSome, Fails}
 use Rattle.feed_follow.specs.Standing.{Standing, in_head, token_refused, in_body, done, failed, Stands}
-use Rattle.feed_answer.specs.Answer.{feed_head}
-use Rattle.feed_answer.specs.FrameLaws.{joined as joined_texts}
+use Rattle.feed_wire.specs.Answer.{feed_head}
+use Rattle.feed_wire.specs.FrameLaws.{joined as joined_texts}
 use Rattle.feed_answer.specs.FollowLaws.{ResponsesAreFollowed, PrefixesCarryMore}
 use Rattle.feed_answer.specs.Carried.{standing_at}
 use Rattle.feed_world.specs.declared.event.Reply.TheVariants.{Delivered, Broke}

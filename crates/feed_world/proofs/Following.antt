@@ -18,14 +18,15 @@ use Rattle.feed_follow.specs.declared.fault.FollowFault.{FollowFault}
 use Rattle.feed_follow.specs.declared.fault.FollowFault.TheVariants.{Closed, LongHead, BadHead, Status, BadCoding, BadLength, BadChunk, Feed, Memory as FollowMemory}
 use Rattle.feed_follow.specs.Following.{HasReached as Reached, IsCutAfter, Leaves, HasBadLine, HasLostSome, Fails}
 use Rattle.feed_follow.specs.Standing.{Standing, in_head, token_refused, in_body, done, failed, Stands}
-use Rattle.feed_answer.specs.declared.refusal.Refusal.{Refusal}
-use Rattle.feed_answer.specs.Answer.{feed_head, refusal_code, refusal_head, refusal_text}
+use Rattle.feed_wire.specs.declared.refusal.Refusal.{Refusal}
+use Rattle.feed_wire.specs.Answer.{feed_head, refusal_code, refusal_head, refusal_text}
 use Rattle.feed_answer.specs.Answered.{AnswerParts, answer_to, answer_opened}
-use Rattle.feed_answer.specs.Asked.{feed, framing_for}
-use Rattle.feed_answer.specs.Carried.{ended_text, carried_by, standing_at, ended_at, refusal_at}
-use Rattle.feed_answer.specs.FrameLaws.{joined}
+use Rattle.feed_wire.specs.Asked.{feed, framing_for}
+use Rattle.feed_wire.specs.CarriedBytes.{ended_text, carried_by}
+use Rattle.feed_answer.specs.Carried.{standing_at, ended_at, refusal_at}
+use Rattle.feed_wire.specs.FrameLaws.{joined}
 use Rattle.feed_answer.specs.FollowLaws.{ResponsesAreFollowed, EndsAreFollowed, RefusalsAreFollowed}
-use Rattle.feed_answer.specs.Laws.{AskedOnce}
+use Rattle.feed_wire.specs.RequestLaws.{AskedOnce}
 use Rattle.feed_answer.specs.Opening.{opens, starts_behind}
 use Rattle.feed_answer.specs.Served.{opening_text}
 use Rattle.feed_world.specs.Connection.{Part, Snapshot, Commit, Line_feed, Connection, part_text, part_texts, sent_text, blocks_within, moved_by, GoOn, first_parts}

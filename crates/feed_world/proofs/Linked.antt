@@ -11,7 +11,7 @@ use Rattle.feed_node.specs.declared.session.Pulled.TheVariants.{More, UpToDate, 
 use Rattle.feed_node.specs.Mirroring.{MirrorState}
 use Rattle.feed_tables.specs.Tables.{listing}
 use Rattle.feed_follow.specs.Follower.{FollowerState, FollowsAt}
-use Rattle.feed_answer.specs.Framed.{frame}
+use Rattle.feed_wire.specs.Framed.{frame}
 use Rattle.feed_world.specs.declared.event.Reply.{Reply}
 use Rattle.feed_world.specs.declared.event.Reply.TheVariants.{Sent, Idled}
 use Rattle.feed_world.specs.Connection.{Connection, Part, Snapshot, Commit, Line_feed, part_text, parts_text, sent_bytes, bytes_sent, come_by, block_onto, blocks_within, moved_by, first_parts, GoOn, IsSentInOrder}

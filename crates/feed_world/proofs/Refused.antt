@@ -11,8 +11,8 @@ use Rattle.feed_follow.specs.declared.fault.Progress.{Progress}
 use Rattle.feed_follow.specs.Follower.{FollowerState, GoesOn}
 use Rattle.feed_follow.specs.Following.{Leaves, Answers, HasBadLine, HasLostSome, Fails}
 use Rattle.feed_follow.specs.Standing.{Standing, in_head, token_refused, in_body, done, failed, Stands}
-use Rattle.feed_answer.specs.declared.refusal.Refusal.{Refusal}
-use Rattle.feed_answer.specs.Answer.{refusal_code, refusal_head, refusal_body, refusal_text}
+use Rattle.feed_wire.specs.declared.refusal.Refusal.{Refusal}
+use Rattle.feed_wire.specs.Answer.{refusal_code, refusal_head, refusal_body, refusal_text}
 use Rattle.feed_answer.specs.Carried.{refusal_standing, refusal_at}
 use Rattle.feed_answer.specs.FollowLaws.{RefusalsAreFollowed}
 use Rattle.feed_world.specs.declared.event.Reply.TheVariants.{Refused, NotYet}

@@ -6,13 +6,13 @@ use Rattle.std.specs.List.{AllByRecursion, flat_map}
 use Rattle.httparse.specs.Ascii.{crlf_bytes}
 use Rattle.feed_settings.specs.declared.framing.Framing.{Framing}
 use Rattle.feed_settings.specs.declared.framing.Framing.TheVariants.{Close, Chunked}
-use Rattle.feed_answer.specs.Answer.{feed_head}
-use Rattle.feed_answer.specs.Framed.{frame}
-use Rattle.feed_answer.specs.FrameLaws.{AreTexts, joined}
-use Rattle.feed_answer.specs.Carried.{bytes_before, carried_in, response_text, carried_by}
+use Rattle.feed_wire.specs.Answer.{feed_head}
+use Rattle.feed_wire.specs.Framed.{frame}
+use Rattle.feed_wire.specs.FrameLaws.{AreTexts, joined}
+use Rattle.feed_wire.specs.CarriedBytes.{bytes_before, carried_in, response_text, carried_by}
 use Rattle.feed_world.specs.Connection.{Part, Connection, part_text, part_texts, parts_text, sent_bytes, bytes_sent, come_by}
 use Rattle.feed_world.specs.Log.{Log}
-use Rattle.feed_answer.proofs.PrefixLemmas.{nothing_carried as carried_none, all_carried}
+use Rattle.feed_wire.proofs.PrefixLemmas.{nothing_carried as carried_none, all_carried}
 
 -- ---- frames
 

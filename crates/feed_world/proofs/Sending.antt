@@ -11,7 +11,7 @@ use Rattle.feed_node.specs.declared.session.OpenFault.TheVariants.{NotYet, NotHe
 use Rattle.feed_node.specs.Serving.{commit_after, token_before}
 use Rattle.feed_node.specs.States.{place_of}
 use Rattle.feed_answer.specs.Answered.{AnswerParts, answer_to, answer_opened}
-use Rattle.feed_answer.specs.Asked.{Asked, refused, feed, framing_for}
+use Rattle.feed_wire.specs.Asked.{Asked, refused, feed, framing_for}
 use Rattle.feed_answer.specs.Opening.{Started, opens, starts_behind}
 use Rattle.feed_answer.specs.Served.{opening_text}
 use Rattle.feed_world.specs.Laws.{opened_text, OpensInLog, NodesOpenInLog, SessionsStartBefore, NodesSendTheNext, PartsGoOn}

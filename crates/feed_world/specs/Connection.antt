@@ -4,7 +4,7 @@ use Rattle.std.specs.Prelude.{◌≡◌, ℕ, ◌+◌, ◌-◌, Bool, true, fals
 use Rattle.feed_settings.specs.Limits.{History}
 use Rattle.feed_settings.specs.declared.framing.Framing.{Framing}
 use Rattle.feed_text.specs.Ascii.{line_feed}
-use Rattle.feed_answer.specs.Carried.{response_text, carried_by}
+use Rattle.feed_wire.specs.CarriedBytes.{response_text, carried_by}
 use Rattle.feed_world.specs.Log.{Log, state_text, commit_text}
 use Rattle.feed_world.specs.Position.{Position, renewed}
 

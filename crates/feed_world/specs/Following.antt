@@ -10,12 +10,12 @@ use Rattle.feed_follow.specs.declared.fault.FollowFault.TheVariants.{Closed, Sta
 use Rattle.feed_follow.specs.Follower.{FollowerState, FollowsAt}
 use Rattle.feed_follow.specs.Following.{Fails}
 use Rattle.feed_follow.specs.Standing.{Standing, in_head, token_refused, in_body, done, failed}
-use Rattle.feed_answer.specs.declared.refusal.Refusal.{Refusal}
-use Rattle.feed_answer.specs.Answer.{refusal_code, refusal_text}
+use Rattle.feed_wire.specs.declared.refusal.Refusal.{Refusal}
+use Rattle.feed_wire.specs.Answer.{refusal_code, refusal_text}
 use Rattle.feed_answer.specs.Answered.{AnswerParts, AnswersTo}
-use Rattle.feed_answer.specs.Asked.{Asks, feed}
-use Rattle.feed_answer.specs.Carried.{response_text, ended_text}
-use Rattle.feed_answer.specs.FrameLaws.{AreTexts}
+use Rattle.feed_wire.specs.Asked.{Asks, feed}
+use Rattle.feed_wire.specs.CarriedBytes.{response_text, ended_text}
+use Rattle.feed_wire.specs.FrameLaws.{AreTexts}
 use Rattle.feed_answer.specs.FollowLaws.{StandsOnly}
 use Rattle.feed_answer.specs.Served.{opening_text}
 use Rattle.feed_world.specs.Connection.{Connection, part_texts, sent_text, blocks_within, moved_by}

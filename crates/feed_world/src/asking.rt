@@ -3,8 +3,8 @@
 ghost use Rattle.std.specs.Prelude.{◌≡◌, [], IfOk, codes};
 ghost use Rattle.std.specs.Option.{option_copied};
 ghost use Rattle.feed_settings.specs.Place.{make_place};
-ghost use Rattle.feed_answer.specs.RequestText.{request_text as text_of_request};
-ghost use Rattle.feed_answer.specs.Laws.{MayBeAskedWith};
+ghost use Rattle.feed_wire.specs.RequestText.{request_text as text_of_request};
+ghost use Rattle.feed_wire.specs.RequestLaws.{MayBeAskedWith};
 ghost use Rattle.feed_answer.specs.Opening.{opens};
 ghost use Rattle.feed_answer.specs.Answered.{parts_of, answer_opened};
 

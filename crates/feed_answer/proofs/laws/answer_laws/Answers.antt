@@ -2,14 +2,14 @@ use Rattle.std.proofs.Common.{ap, ◌∙◌, refl, List, ℕ}
 use Rattle.std.specs.List.{flat_map}
 use Rattle.feed_settings.specs.declared.framing.Framing.{Framing}
 use Rattle.feed_settings.specs.declared.framing.Framing.TheVariants.{Close, Chunked}
-use Rattle.feed_answer.specs.Framed.{frame}
-use Rattle.feed_answer.specs.FrameLaws.{AreTexts, joined, IsUnfinished}
-use Rattle.feed_answer.proofs.FrameLemmas.{frames_end, frames_so_far}
+use Rattle.feed_wire.specs.Framed.{frame}
+use Rattle.feed_wire.specs.FrameLaws.{AreTexts, joined, IsUnfinished}
+use Rattle.feed_wire.proofs.FrameLemmas.{frames_end, frames_so_far}
 use Rattle.feed_answer.specs.Answered.{answer_to}
-use Rattle.feed_answer.specs.Asked.{feed}
-use Rattle.feed_answer.specs.RequestText.{request_text}
-use Rattle.feed_answer.proofs.AskedLemmas.{asked_once}
-use Rattle.feed_answer.proofs.RequestLemmas.{request_is_read}
+use Rattle.feed_wire.specs.Asked.{feed}
+use Rattle.feed_wire.specs.RequestText.{request_text}
+use Rattle.feed_wire.proofs.AskedLemmas.{asked_once}
+use Rattle.feed_wire.proofs.RequestLemmas.{request_is_read}
 use Rattle.feed_answer.proofs.laws.answer_laws.Goals as goal
 
 carries : (framing : Framing) (texts : List (List ℕ)) → AreTexts texts

@@ -2,9 +2,9 @@ use Rattle.std.proofs.Common.{◌≡◌, [], get_or, drop, sym, ◌∙◌, subst
 use Rattle.std.proofs.lemmas.List.{take_more}
 use Rattle.std.proofs.Math.Seq.{split_at}
 use Rattle.std.specs.Prelude.{Some}
-use Rattle.feed_follow.specs.ChunkReading.{next}
+use Rattle.feed_wire.specs.ChunkReading.{next}
 use Rattle.feed_follow.specs.Feeding.{FeedsChunks}
-use Rattle.feed_follow.proofs.ChunkedRuns.{place_stays}
+use Rattle.feed_wire.proofs.ChunkedRuns.{place_stays}
 use Rattle.feed_follow.proofs.BodyLemmas.{feeds_byte, feeds_nothing}
 use Rattle.feed_follow.proofs.body.feed_chunk.Goals as goal
 

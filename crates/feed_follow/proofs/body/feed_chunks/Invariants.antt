@@ -1,6 +1,6 @@
 -- The bytes so far were read, and what they carry was fed.
 use Rattle.std.proofs.Common.{◌≡◌, ◌≤◌, ◌-◌, length, take}
-use Rattle.feed_follow.specs.ChunkReading.{IsChunkPlace}
+use Rattle.feed_wire.specs.ChunkReading.{IsChunkPlace}
 use Rattle.feed_follow.specs.Feeding.{FeedsChunks}
 use Rattle.feed_follow.proofs.body.feed_chunks.Given as goal
 

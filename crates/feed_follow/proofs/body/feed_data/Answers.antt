@@ -1,8 +1,8 @@
 use Rattle.std.proofs.Common.{◌≡◌, ◌<◌, ◌≤◌, ◌-◌, length, take, drop, subst, arith, take-append-drop, length-take}
 use Rattle.std.proofs.lemmas.Result.{err_from_is_err_and}
-use Rattle.feed_follow.specs.declared.chunk.Chunking.TheVariants.{InBytes, BytesEnd}
+use Rattle.feed_wire.specs.declared.chunk.Chunking.TheVariants.{InBytes, BytesEnd}
 use Rattle.feed_follow.specs.Feeding.{StopsInChunks}
-use Rattle.feed_follow.proofs.ChunkedRuns.{some_run, all_run}
+use Rattle.feed_wire.proofs.ChunkedRuns.{some_run, all_run}
 use Rattle.feed_follow.proofs.BodyLemmas.{stops_in_data, feeds_data}
 use Rattle.feed_follow.proofs.body.feed_data.Goals as goal
 

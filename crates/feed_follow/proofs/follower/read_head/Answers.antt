@@ -3,7 +3,8 @@ use Rattle.std.specs.Prelude.{min}
 use Rattle.std.proofs.lemmas.Result.{err_from_is_err_and, IfOk-weaker, MatchResult-weaker}
 use Rattle.feed_follow.specs.Keeping.{kept_bytes, HeadGoesOn}
 use Rattle.feed_follow.specs.Feeding.{BodyGoesOn}
-use Rattle.feed_follow.proofs.HeadLemmas.{looked_end, in_piece, too_long}
+use Rattle.feed_wire.proofs.ResponseLemmas.{looked_end}
+use Rattle.feed_follow.proofs.HeadLemmas.{in_piece, too_long}
 use Rattle.feed_follow.proofs.PushLemmas.{stops_in_head, refuses, whole_goes_on, whole_stops}
 use Rattle.feed_follow.proofs.follower.read_head.Goals as goal
 

@@ -2,8 +2,9 @@ use Rattle.std.proofs.Common.{◌≡◌, ◌∙◌, sym, ap, length, take, drop,
 use Rattle.std.specs.Prelude.{unwrap_or}
 use Rattle.std.proofs.lemmas.Result.{err_from_is_err_and}
 use Rattle.httparse.specs.Grammar.{status_code}
-use Rattle.feed_follow.specs.Heads.{IsHeadSize}
-use Rattle.feed_follow.proofs.HeadLemmas.{other_size, sized_to, sized_from, verdict_is, len_fits}
+use Rattle.feed_wire.specs.HeadSizes.{IsHeadSize}
+use Rattle.feed_wire.proofs.ResponseLemmas.{other_size, sized_to, sized_from, len_fits}
+use Rattle.feed_follow.proofs.HeadLemmas.{verdict_is}
 use Rattle.feed_follow.proofs.heads.parsed.Goals as goal
 
 pub unfinished-requires : goal.unfinished-requires

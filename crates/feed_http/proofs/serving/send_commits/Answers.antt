@@ -2,7 +2,7 @@ use Rattle.std.proofs.Common.{◌≡◌, refl, sym, ap, ◌∙◌, [], ◌∷◌
 use Rattle.std.specs.Io.KnownBytes.{Appends}
 use Rattle.std.proofs.KnownBytes.{Appends-nil}
 use Rattle.std.proofs.lemmas.Result.{err_from_is_err_and}
-use Rattle.feed_answer.specs.Framed.{frame}
+use Rattle.feed_wire.specs.Framed.{frame}
 use Rattle.feed_http.specs.Device.{AppendsPrefix}
 use Rattle.feed_node.specs.Serving.{commit_text}
 use Rattle.feed_http.specs.Sessions.{next}

@@ -1,7 +1,7 @@
 use Rattle.std.proofs.Common.{◌++◌, ◌∙◌, refl}
 use Rattle.std.proofs.KnownBytes.{Appends-trans}
 use Rattle.std.proofs.lemmas.Result.{err_from_is_err_and}
-use Rattle.feed_answer.specs.Framed.{frame_end}
+use Rattle.feed_wire.specs.Framed.{frame_end}
 use Rattle.feed_answer.specs.Served.{farewell}
 use Rattle.feed_http.specs.Serving.{commit_frames}
 use Rattle.feed_http.proofs.ServingLemmas.{all_sent, wrote_part, wrote_to_end}

@@ -1,5 +1,5 @@
 use Rattle.feed_http.specs.Exchange.{devices_of, exchange}
-use Rattle.feed_answer.specs.RequestText.{request_text_as}
+use Rattle.feed_wire.specs.RequestText.{request_text_as}
 use Rattle.feed_relay.proofs.PullingLemmas.{answered, told_reads}
 use Rattle.feed_relay.proofs.pulling.pull_once.Goals as goal
 

@@ -1,7 +1,7 @@
 use Rattle.std.proofs.Common.{◌∙◌, refl, sym, ap, ◌++◌, length, slice_get}
 use Rattle.std.proofs.lemmas.Option.{slice_get_read}
 use Rattle.std.specs.Option.{option_copied}
-use Rattle.feed_answer.specs.RequestText.{request_text_as}
+use Rattle.feed_wire.specs.RequestText.{request_text_as}
 use Rattle.feed_live.proofs.source.Source.request.Goals as goal
 
 pub returns-clause-asks : goal.returns-clause-asks

@@ -1,7 +1,7 @@
 use Rattle.std.proofs.Common.{sym, ap, ◌∙◌, subst, ◌++◌}
 use Rattle.std.specs.Prelude.{Result, Ok, Err, OnErr}
 use Rattle.feed_node.specs.Serving.{SendsCommit, commit_after}
-use Rattle.feed_answer.specs.Framed.{frame}
+use Rattle.feed_wire.specs.Framed.{frame}
 use Rattle.feed_world.specs.States.{IsConnection}
 use Rattle.feed_world.specs.Step.{serves}
 use Rattle.feed_world.proofs.Answered.{commit_comes}

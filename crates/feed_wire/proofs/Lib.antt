@@ -1,0 +1,11 @@
+pub mod AfterLine
+pub mod ChunkReading
+pub mod ChunkedRuns
+pub mod ResponseLemmas
+pub mod TextLemmas
+pub mod AskedLemmas
+pub mod RequestLemmas
+pub mod RefusalTexts
+pub mod OurHeads
+pub mod FrameLemmas
+pub mod PrefixLemmas

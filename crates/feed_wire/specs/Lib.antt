@@ -1,0 +1,17 @@
+pub mod HeadSizes
+pub mod ResponseHeads
+pub mod ChunkedBody
+pub mod ChunkReading
+pub mod ChunkLaws
+pub mod Brackets
+pub mod Identity
+pub mod RequestText
+pub mod Heads
+pub mod HeadRead
+pub mod Asked
+pub mod AskedFor
+pub mod RequestLaws
+pub mod Answer
+pub mod Framed
+pub mod FrameLaws
+pub mod CarriedBytes
