@@ -1,8 +1,8 @@
 -- A reply is an answer without its snapshot.
 use Rattle.std.proofs.Common.{◌≡◌, refl, ap, ◌∙◌, ℕ, List, Option, Some, None}
 use Rattle.feed_settings.specs.declared.framing.Framing.{Framing}
-use Rattle.feed_note.specs.Publishing.{Published}
-use Rattle.feed_note.specs.Texts.{published_text}
+use Rattle.feed_node.specs.Publishing.{Published}
+use Rattle.feed_node.specs.Texts.{published_text}
 use Rattle.feed_node.specs.States.{NodeState, token_of}
 use Rattle.feed_answer.specs.Answered.{AnswersTo, answer_to, answer_opened}
 use Rattle.feed_answer.specs.Asked.{Asked, refused, feed, framing_for}

@@ -4,7 +4,7 @@ use Rattle.std.specs.List.{AllByRecursion}
 use Rattle.feed_settings.specs.Limits.{Limits}
 use Rattle.feed_note.specs.Lines.{HasNoLineFeed, lines, ended}
 use Rattle.feed_note.specs.Meaning.{OnlyOne}
-use Rattle.feed_note.specs.Publishing.{Published}
+use Rattle.feed_node.specs.Publishing.{Published}
 use Rattle.feed_note.specs.declared.line.Line.{Line}
 use Rattle.feed_node.specs.Mirroring.{MirrorState}
 use Rattle.feed_node.specs.Reading.{Opening, AllGood, AllGoodAfter}

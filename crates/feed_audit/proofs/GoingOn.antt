@@ -2,7 +2,7 @@
 use Rattle.std.proofs.Common.{◌≡◌, ◌≢◌, ◌⊎◌, inl, inr, refl, sym, subst, ℕ, List, [], Bool, true, false, true≢false}
 use Rattle.std.specs.Prelude.{IfSome}
 use Rattle.feed_settings.specs.Limits.{Limits}
-use Rattle.feed_note.specs.Publishing.{Published}
+use Rattle.feed_node.specs.Publishing.{Published}
 use Rattle.feed_node.specs.Mirroring.{MirrorState, mirror_after, new_mirror, present_opening}
 use Rattle.feed_node.specs.Reading.{Opening}
 use Rattle.feed_audit.specs.Answers.{AgreementFrom, StrayingFrom, PrimaryFaults, ScreenFaults, IsVerdictFrom, IsVerdictOn, FailsFrom, begun_by}

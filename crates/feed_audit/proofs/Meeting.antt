@@ -1,7 +1,7 @@
 -- What both made of the tables that they last had in common.
 use Rattle.std.proofs.Common.{◌≡◌, refl, sym, ap, ◌∙◌, ℕ, ◌≤◌, List, [], ◌∷◌, ◌++◌, length, take, Some, arith, zero, suc}
 use Rattle.std.proofs.lemmas.List.Sums.{fold-append}
-use Rattle.feed_tables.specs.declared.change.Change.{Change}
+use Rattle.feed_changes.specs.declared.change.Change.{Change}
 use Rattle.feed_tables.specs.Tables.{Contents, after, after_all}
 use Rattle.feed_node.specs.declared.commit.Commit.{Commit}
 use Rattle.feed_node.specs.States.{NodeState, published_tables, last_item}

@@ -13,14 +13,14 @@ use Rattle.std.specs.FinMap.{entries, entries_sorted, find, get-entries, is_sort
 use Rattle.std.specs.FinMap.Entries.{below_all}
 use Rattle.std.proofs.lemmas.Cmp.{tied_itself}
 use Rattle.feed_tables.specs.Bytes.{byte_order}
-use Rattle.feed_tables.specs.Changes.{sets}
+use Rattle.feed_changes.specs.Changes.{sets}
 use Rattle.feed_tables.specs.Tables.{Contents, listed, listing, or_clear, as_singleton, object_of, collection_of}
-use Rattle.feed_tables.specs.declared.change.Change.{Change}
-use Rattle.feed_tables.specs.declared.change.Change.TheVariants.{Set, Remove, Empty, Single, Clear}
+use Rattle.feed_changes.specs.declared.change.Change.{Change}
+use Rattle.feed_changes.specs.declared.change.Change.TheVariants.{Set, Remove, Empty, Single, Clear}
 use Rattle.feed_tables.specs.declared.table.Table.{Table}
 use Rattle.feed_tables.specs.declared.table.Table.TheVariants.{One, Many}
 use Rattle.feed_tables.proofs.Entries.{first, second, less, equal, earlier, find_below, find_skip, find_stop, find_here, find_before, below_right, below_trans}
-use Rattle.feed_tables.proofs.Order.{total}
+use Rattle.feed_changes.proofs.Order.{total}
 use Rattle.feed_tables.proofs.Maps.{byte_order_antisymmetric}
 use Rattle.feed_audit.specs.Differences.{object_side, type_side, side_at, DifferFirst}
 use Rattle.feed_audit.specs.Places.{PlaceAt, place_order, place_changed, put_by, BeginsFirst, IsFirstOf, PartAt}

@@ -5,7 +5,7 @@ use Rattle.feed_settings.specs.Limits.{Limits}
 use Rattle.feed_tables.specs.Tables.{after_all}
 use Rattle.feed_note.specs.Meaning.{OnlyOne}
 use Rattle.feed_note.specs.Lines.{ended, lines, rest}
-use Rattle.feed_note.specs.Publishing.{Published}
+use Rattle.feed_node.specs.Publishing.{Published}
 use Rattle.feed_note.proofs.LinesCut.{lines_are_the_only_cut}
 use Rattle.feed_note.specs.declared.line.Line.{Line}
 use Rattle.feed_text.specs.Limits.{line_bytes}

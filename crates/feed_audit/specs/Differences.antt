@@ -5,7 +5,7 @@ use Rattle.std.specs.FinMap.{get}
 use Rattle.feed_settings.specs.Limits.{Limits}
 use Rattle.feed_tables.specs.Tables.{Contents, object_at, singleton_at, collection_of}
 use Rattle.feed_note.specs.Lines.{lines, ended}
-use Rattle.feed_note.specs.Publishing.{Published}
+use Rattle.feed_node.specs.Publishing.{Published}
 use Rattle.feed_audit.specs.Places.{PlaceAt, place_order}
 use Rattle.feed_audit.specs.States.{IsStateOf}
 use Rattle.feed_audit.specs.declared.difference.Side.{Side}

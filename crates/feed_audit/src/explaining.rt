@@ -1,7 +1,7 @@
 //! Why a state is none of the primary's.
 
 ghost use Rattle.std.specs.Prelude.{◌≡◌, ℕ, List, IfOk, IfErr, IsTrue, Some};
-ghost use Rattle.feed_note.specs.Publishing.{Published};
+ghost use Rattle.feed_node.specs.Publishing.{Published};
 ghost use Rattle.feed_audit.specs.Answers.{FailsToLocate, IsStrange};
 ghost use Rattle.feed_audit.specs.Differences.{Explains, TellsDifference};
 ghost use Rattle.feed_audit.specs.Stops.{IsUnread};

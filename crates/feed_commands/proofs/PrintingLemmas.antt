@@ -7,12 +7,13 @@ use Rattle.std.proofs.lemmas.List.{take_more}
 use Rattle.std.proofs.lemmas.Grind.{flat_map-append}
 use Rattle.feed_text.specs.Ascii.{quotation_mark, line_feed}
 use Rattle.feed_text.specs.Strings.{written_byte, written_string}
-use Rattle.feed_note.specs.Texts.{batch_text, snapshot_text}
+use Rattle.feed_note.specs.Texts.{batch_text}
+use Rattle.feed_node.specs.Texts.{snapshot_text}
 use Rattle.feed_note.specs.Written.{written_members, written_change, written_token}
 use Rattle.std.proofs.KnownBytes.{Appends-nil, Appends-trans}
 use Rattle.feed_http.specs.Device.{AppendsPrefix, HasFailed}
-use Rattle.feed_tables.specs.declared.change.Change.{Change}
-use Rattle.feed_tables.specs.declared.change.Change.TheVariants.{Clear}
+use Rattle.feed_changes.specs.declared.change.Change.{Change}
+use Rattle.feed_changes.specs.declared.change.Change.TheVariants.{Clear}
 use Rattle.feed_tables.specs.Listers.{FailsIn}
 use Rattle.feed_tables.specs.Tables.{Contents, or_clear, listed, listing}
 use Rattle.feed_commands.specs.Openings.{beginning}

@@ -4,8 +4,8 @@ use Rattle.std.specs.Prelude.{if◌then◌else◌, option_map, unwrap_or}
 use Rattle.std.specs.Io.KnownBytes.{Appends, Keeps}
 use Rattle.feed_http.specs.Device.{HasFailed}
 use Rattle.feed_http.specs.Exchange.{Wrote}
-use Rattle.feed_note.specs.Publishing.{Published}
-use Rattle.feed_note.specs.Texts.{published_text}
+use Rattle.feed_node.specs.Publishing.{Published}
+use Rattle.feed_node.specs.Texts.{published_text}
 use Rattle.feed_node.specs.States.{token_of}
 use Rattle.feed_node.specs.Mirroring.{MirrorState}
 use Rattle.feed_http.specs.declared.fault.Followed.TheVariants as followed

@@ -1,7 +1,7 @@
 -- Lemmas on rounds that are made one after another.
 use Rattle.std.proofs.Common.{◌≡◌, inl, inr, refl, sym, subst, ◌<◌, true, false, IfErr, OnOk, List, ℕ, Option, None, Some, Result, Ok, Err}
 use Rattle.std.specs.Io.KnownBytes.{Keeps}
-use Rattle.feed_note.specs.Texts.{published_text}
+use Rattle.feed_node.specs.Texts.{published_text}
 use Rattle.feed_node.specs.Mirroring.{MirrorState}
 use Rattle.feed_node.specs.States.{NodeState}
 use Rattle.feed_http.specs.Serving.{ServesOnce}

@@ -8,8 +8,8 @@ use Rattle.feed_text.specs.Ascii.{line_feed}
 use Rattle.feed_text.specs.Members.{MemberSpelling, last_spelt}
 use Rattle.feed_text.specs.Scan.{HoldsMembers, HoldsLast}
 use Rattle.feed_text.specs.Strings.{says}
-use Rattle.feed_tables.specs.declared.change.Change.{Change}
-use Rattle.feed_tables.specs.declared.change.Change.TheVariants.{Set, Remove, Empty, Single, Clear}
+use Rattle.feed_changes.specs.declared.change.Change.{Change}
+use Rattle.feed_changes.specs.declared.change.Change.TheVariants.{Set, Remove, Empty, Single, Clear}
 use Rattle.feed_note.specs.Counts.{IsRead, is_note, has_token}
 use Rattle.feed_note.specs.Lines.{lines}
 use Rattle.feed_note.specs.Notes.{changes_in, token_in}

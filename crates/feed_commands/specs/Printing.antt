@@ -2,7 +2,7 @@
 use Rattle.std.specs.Prelude.{◌≡◌, ℕ, Bool, true, false, List, [], ◌++◌, Option, Some, codes}
 use Rattle.std.specs.Io.KnownBytes.{Appends}
 use Rattle.feed_http.specs.Device.{AppendsPrefix, HasFailed}
-use Rattle.feed_tables.specs.declared.change.Change.{Change}
+use Rattle.feed_changes.specs.declared.change.Change.{Change}
 use Rattle.feed_note.specs.Written.{written_change, written_token}
 use Rattle.feed_commands.specs.declared.printing.Printer.{Printer}
 use Rattle.feed_commands.specs.declared.printing.Waiting.{Waiting}

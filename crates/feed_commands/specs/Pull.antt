@@ -6,7 +6,7 @@ use Rattle.std.specs.Io.KnownBytes.{Appends, Keeps}
 use Rattle.feed_settings.specs.Limits.{Limits}
 use Rattle.feed_settings.specs.Place.{Place, RefusesPlace, place_of}
 use Rattle.feed_settings.specs.declared.place.PlaceFault.{PlaceFault}
-use Rattle.feed_note.specs.Texts.{published_text}
+use Rattle.feed_node.specs.Texts.{published_text}
 use Rattle.feed_node.specs.Mirroring.{MirrorState, IsRestored, FailsToRestore, new_mirror}
 use Rattle.feed_answer.specs.Identity.{Identity}
 use Rattle.feed_follow.specs.declared.fault.FollowFault.TheVariants.{BadHead}

@@ -1,7 +1,7 @@
 -- What the command `relay` follows, serves and prints.
 use Rattle.std.specs.Prelude.{◌≡◌, ◌⊎◌, ◌<◌, ℕ, true, false, List, length, Result}
 use Rattle.std.specs.Io.KnownBytes.{Appends, Keeps}
-use Rattle.feed_note.specs.Texts.{published_text}
+use Rattle.feed_node.specs.Texts.{published_text}
 use Rattle.feed_http.specs.Serving.{ServesOnce}
 use Rattle.feed_http.specs.declared.fault.Served.{Served}
 use Rattle.feed_http.specs.declared.service.Service.{Service}

@@ -4,7 +4,7 @@ use Rattle.feed_settings.specs.Limits.{Limits}
 use Rattle.feed_note.specs.Batches.{batch_changes}
 use Rattle.feed_note.specs.Counts.{AreRead}
 use Rattle.feed_note.specs.declared.line.Line.{Line}
-use Rattle.feed_tables.specs.declared.change.Change.{Change}
+use Rattle.feed_changes.specs.declared.change.Change.{Change}
 use Rattle.feed_node.specs.Log.{new_primary, RefusesBatch}
 use Rattle.feed_node.specs.declared.primary.CommitFault.{CommitFault}
 use Rattle.feed_node.specs.declared.primary.CommitFault.TheVariants as commit

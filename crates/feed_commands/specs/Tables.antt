@@ -3,8 +3,8 @@ use Rattle.std.specs.Prelude.{◌≡◌, ℕ, ◌≤◌, Bool, true, false, List
 use Rattle.std.specs.Io.KnownBytes.{Appends, Consumes, IsAtEnd, Keeps}
 use Rattle.feed_settings.specs.Limits.{Limits}
 use Rattle.feed_note.specs.declared.line.Line.{Line}
-use Rattle.feed_note.specs.Publishing.{Published}
-use Rattle.feed_note.specs.Texts.{published_text}
+use Rattle.feed_node.specs.Publishing.{Published}
+use Rattle.feed_node.specs.Texts.{published_text}
 use Rattle.feed_node.specs.Mirroring.{MirrorState, StandsAt, first_opening}
 use Rattle.feed_node.specs.Reading.{Reads, FaultsAt, reads}
 use Rattle.feed_http.specs.Device.{AppendsPrefix}

@@ -3,7 +3,7 @@ ghost use Rattle.std.specs.Prelude.{◌≡◌, true, false, [], OnOk, OnErr, ◌
 ghost use Rattle.std.specs.Io.KnownBytes.{Appends};
 ghost use Rattle.feed_text.specs.Strings.{written_string, written_byte as byte_text};
 ghost use Rattle.feed_http.specs.Device.{AppendsPrefix, HasFailed};
-ghost use Rattle.feed_note.specs.Texts.{snapshot_text};
+ghost use Rattle.feed_node.specs.Texts.{snapshot_text};
 ghost use Rattle.feed_note.specs.Written.{written_members};
 ghost use Rattle.feed_commands.specs.Openings.{beginning};
 ghost use Rattle.feed_commands.specs.Printing.{WritesText, PrintsText, PrintsChange, end_before, end_with};

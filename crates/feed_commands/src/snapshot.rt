@@ -2,7 +2,7 @@
 ghost use Rattle.std.specs.Prelude.{◌≡◌, IfErr, OnOk, OnErr};
 ghost use Rattle.std.specs.Io.KnownBytes.{Appends};
 ghost use Rattle.feed_http.specs.Device.{AppendsPrefix, HasFailed};
-ghost use Rattle.feed_note.specs.Texts.{published_text};
+ghost use Rattle.feed_node.specs.Texts.{published_text};
 ghost use Rattle.feed_commands.specs.Tables.{outcome_of};
 
 use crate::fault::Fault;

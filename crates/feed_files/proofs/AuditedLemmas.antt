@@ -1,7 +1,7 @@
 -- The states of a state file are those of the log that the relay followed.
 use Rattle.std.proofs.Common.{◌≡◌, sym, ap, ◌∙◌, subst, ℕ, ◌≤◌, ◌++◌, append_assoc, length, Option, None, Some}
 use Rattle.feed_settings.specs.Limits.{Limits}
-use Rattle.feed_note.specs.Publishing.{Published}
+use Rattle.feed_node.specs.Publishing.{Published}
 use Rattle.feed_node.specs.Mirroring.{first_opening}
 use Rattle.feed_node.specs.Steps.{ReadingIsOne}
 use Rattle.feed_node.specs.States.{NodeState}

@@ -1,7 +1,7 @@
 -- What an audit of a state file finds: its states are those of the log that the relay followed.
 use Rattle.std.specs.Prelude.{◌≡◌, ℕ, ◌≤◌, List, ◌++◌, length}
 use Rattle.feed_settings.specs.Limits.{Limits}
-use Rattle.feed_note.specs.Publishing.{Published}
+use Rattle.feed_node.specs.Publishing.{Published}
 use Rattle.feed_node.specs.States.{NodeState}
 use Rattle.feed_world.specs.Log.{Log, IsLog, state_after}
 use Rattle.feed_laws.specs.Laws.{AreInLog}

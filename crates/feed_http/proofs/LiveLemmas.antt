@@ -14,8 +14,8 @@ use Rattle.std.proofs.lemmas.Bool.Decides.{nat_tests}
 use Rattle.std.proofs.lemmas.Slice.Eq.{bytes_eq-Decides}
 use Rattle.feed_settings.specs.Limits.{History}
 use Rattle.feed_settings.specs.declared.framing.Framing.{Framing}
-use Rattle.feed_tables.specs.declared.change.Change.{Change}
-use Rattle.feed_note.specs.Publishing.{Published}
+use Rattle.feed_changes.specs.declared.change.Change.{Change}
+use Rattle.feed_node.specs.Publishing.{Published}
 use Rattle.feed_node.specs.declared.commit.Commit.{Commit}
 use Rattle.feed_node.specs.Log.{PrimaryState, token_after}
 use Rattle.feed_node.specs.Kept.{kept_of, most_kept}

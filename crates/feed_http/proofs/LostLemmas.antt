@@ -7,8 +7,8 @@ use Rattle.std.proofs.lemmas.Fmt.{decimal_injective}
 use Rattle.std.proofs.lemmas.Bool.{cases_Bool}
 use Rattle.std.proofs.lemmas.Bool.Decides.{nat_tests}
 use Rattle.std.proofs.lemmas.Slice.Eq.{bytes_eq-Decides}
-use Rattle.feed_tables.specs.declared.change.Change.{Change}
-use Rattle.feed_note.specs.Publishing.{Published}
+use Rattle.feed_changes.specs.declared.change.Change.{Change}
+use Rattle.feed_node.specs.Publishing.{Published}
 use Rattle.feed_node.specs.declared.commit.Commit.{Commit}
 use Rattle.feed_node.specs.Log.{PrimaryState, IsPrimary, token_after, tokens_from, commit_fault, last_count}
 use Rattle.feed_node.specs.States.{NodeState, nothing_published, published_token, token_of, place_of, HoldsItsTokens, IsConsistent}

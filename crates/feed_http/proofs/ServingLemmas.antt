@@ -12,7 +12,7 @@ use Rattle.std.proofs.lemmas.Slice.Eq.{bytes_eq-Decides}
 use Rattle.std.proofs.lemmas.Grind.{flat_map-append}
 use Rattle.std.proofs.lemmas.List.{map-append}
 use Rattle.feed_settings.specs.declared.framing.Framing.{Framing}
-use Rattle.feed_note.specs.Publishing.{Published}
+use Rattle.feed_node.specs.Publishing.{Published}
 use Rattle.feed_node.specs.declared.commit.Commit.{Commit}
 use Rattle.feed_node.specs.States.{NodeState, nothing_published, published_token, place_of, HoldsItsTokens, IsConsistent, tokens}
 use Rattle.feed_node.specs.Serving.{is_published, commit_after, commit_text}

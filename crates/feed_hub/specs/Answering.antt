@@ -1,7 +1,7 @@
 -- A mirror that answers many.
 use Rattle.std.specs.Prelude.{◌≡◌, ◌≢◌, ◌⊎◌, ℕ, ◌+◌, ◌%◌, ◌^◌, Bool, true, false, List, Option, Some, None}
 use Rattle.feed_settings.specs.declared.framing.Framing.{Framing}
-use Rattle.feed_note.specs.Texts.{published_text}
+use Rattle.feed_node.specs.Texts.{published_text}
 use Rattle.feed_node.specs.States.{NodeState}
 use Rattle.feed_answer.specs.Replied.{Replied, whole, snapshot, RepliesTo}
 use Rattle.feed_answer.specs.Served.{opening_text}

@@ -1,7 +1,7 @@
 //! A mirror that answers many.
 
 ghost use Rattle.std.specs.Prelude.{◌≡◌, ◌↔◌, ◌<◌, ◌^◌, None, Some, IsTrue, IfOk, is_some, length};
-ghost use Rattle.feed_note.specs.Texts.{published_text};
+ghost use Rattle.feed_node.specs.Texts.{published_text};
 ghost use Rattle.feed_answer.specs.Served.{opening_text};
 ghost use Rattle.feed_answer.specs.Replied.{reply_of};
 ghost use Rattle.feed_hub.specs.Answering.{IsOpeningOf, NumbersText, NeedsText, TellsText};

@@ -6,9 +6,10 @@ use Rattle.std.proofs.lemmas.Grind.{flat_map-append}
 use Rattle.std.proofs.lemmas.List.{map-append}
 use Rattle.feed_settings.specs.Limits.{Limits}
 use Rattle.feed_text.specs.Ascii.{line_feed}
-use Rattle.feed_tables.specs.declared.change.Change.{Change}
+use Rattle.feed_changes.specs.declared.change.Change.{Change}
 use Rattle.feed_note.specs.Lines.{HasNoLineFeed, is_line_feed}
-use Rattle.feed_note.specs.Texts.{batch_text, snapshot_text}
+use Rattle.feed_note.specs.Texts.{batch_text}
+use Rattle.feed_node.specs.Texts.{snapshot_text}
 use Rattle.feed_note.specs.Written.{written_line}
 use Rattle.feed_note.specs.declared.line.Line.{Line}
 use Rattle.feed_node.proofs.TextLines.{cuts_of_one}

@@ -1,8 +1,8 @@
 -- What a mirror makes of a file.
 use Rattle.std.proofs.Common.{◌≡◌, refl, sym, ap, ◌∙◌, subst, ℕ, ◌≤◌, Bool, true, false, List, [], ◌++◌, length, Option, Some, None, append_assoc, append-nil}
 use Rattle.feed_settings.specs.Limits.{Limits}
-use Rattle.feed_note.specs.Publishing.{Published}
-use Rattle.feed_note.specs.Texts.{snapshot_text}
+use Rattle.feed_node.specs.Publishing.{Published}
+use Rattle.feed_node.specs.Texts.{snapshot_text}
 use Rattle.feed_note.specs.declared.line.Line.{Line}
 use Rattle.feed_node.specs.declared.fault.FeedFault.{FeedFault}
 use Rattle.feed_node.specs.declared.fault.FeedFault.TheVariants.{NotOpen, LongLine, Line as BadLine, StageFull, Memory}

@@ -6,15 +6,15 @@ use Rattle.std.specs.Option.{option_and_then}
 use Rattle.std.proofs.lemmas.List.Sums.{fold-append}
 use Rattle.feed_settings.specs.Limits.{Limits, History}
 use Rattle.feed_settings.specs.declared.framing.Framing.TheVariants.{Close}
-use Rattle.feed_tables.specs.Changes.{IsChange}
+use Rattle.feed_changes.specs.Changes.{IsChange}
 use Rattle.feed_tables.specs.Listings.{ListingHasSize, ListingHasBytes, ListingIsWithin}
 use Rattle.feed_tables.specs.Tables.{listing, size}
-use Rattle.feed_tables.specs.declared.change.Change.{Change}
+use Rattle.feed_changes.specs.declared.change.Change.{Change}
 use Rattle.feed_note.specs.declared.line.Line.{Line}
 use Rattle.feed_note.specs.declared.line.Line.TheVariants.{Note}
 use Rattle.feed_note.specs.Lines.{lines, rest}
-use Rattle.feed_note.specs.Publishing.{Published}
-use Rattle.feed_note.specs.Texts.{snapshot_text}
+use Rattle.feed_node.specs.Publishing.{Published}
+use Rattle.feed_node.specs.Texts.{snapshot_text}
 use Rattle.feed_node.specs.declared.commit.Commit.{Commit as Batch}
 use Rattle.feed_node.specs.declared.fault.FeedFault.TheVariants.{StageFull}
 use Rattle.feed_node.specs.Bounds.{is_full, is_large}

@@ -3,7 +3,7 @@ use Rattle.std.proofs.Common.{◌≡◌, sym, ◌∙◌, subst, ℕ, zero, suc, 
 use Rattle.std.specs.Prelude.{Bool, false, true, None, Some, IfSome, MatchOption, IsSome, Contains, slice_get, Result, Ok, Err, option_map}
 use Rattle.std.specs.Result.{is_err}
 use Rattle.feed_settings.specs.Limits.{Limits}
-use Rattle.feed_note.specs.Publishing.{Published}
+use Rattle.feed_node.specs.Publishing.{Published}
 use Rattle.feed_node.specs.Mirroring.{MirrorState}
 use Rattle.feed_node.specs.States.{NodeState, nothing_published, published_token, IsConsistent, HoldsItsTokens}
 use Rattle.feed_follow.specs.Follower.{FollowerState}

@@ -3,8 +3,8 @@ use Rattle.std.proofs.Common.{◌≡◌, ◌≢◌, refl, sym, ap, subst, ℕ, z
 use Rattle.std.specs.Prelude.{codes, AllPairs, IsAscii}
 use Rattle.std.proofs.lemmas.Str.{IsUtf8-from_ascii}
 use Rattle.feed_text.specs.Strings.{written_string}
-use Rattle.feed_tables.specs.Changes.{IsChange}
-use Rattle.feed_tables.specs.Names.{IsName}
+use Rattle.feed_changes.specs.Changes.{IsChange}
+use Rattle.feed_changes.specs.Names.{IsName}
 use Rattle.feed_node.specs.Mirroring.{new_mirror}
 use Rattle.feed_live.specs.Examples.{text, one, other, TheirFeedIsHonest}
 use Rattle.feed_live.specs.Telling.{tokened_text, tokened_log, TokenedIsHonest}

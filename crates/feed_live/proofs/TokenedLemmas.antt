@@ -2,9 +2,9 @@
 use Rattle.std.proofs.Common.{◌≡◌, ◌≢◌, refl, sym, ap, ◌∙◌, subst, ℕ, zero, suc, ◌+◌, ◌<◌, ◌≤◌, Bool, true, false, arith, List, [], ◌∷◌, ◌++◌, append-nil, length, map, Some, None, nat_lt, ltb-true, ltb-false}
 use Rattle.std.specs.Prelude.{get_or, AllPairs}
 use Rattle.std.specs.List.{AllByRecursion}
-use Rattle.feed_tables.specs.declared.change.Change.{Change}
-use Rattle.feed_tables.specs.Changes.{IsChange}
-use Rattle.feed_tables.specs.Names.{IsName}
+use Rattle.feed_changes.specs.declared.change.Change.{Change}
+use Rattle.feed_changes.specs.Changes.{IsChange}
+use Rattle.feed_changes.specs.Names.{IsName}
 use Rattle.feed_note.specs.declared.line.Line.{Line}
 use Rattle.feed_note.specs.declared.line.Line.TheVariants.{Note}
 use Rattle.feed_note.specs.Lines.{HasNoLineFeed, IsCutInto, LinesAreTheOnlyCut, lines, ended}

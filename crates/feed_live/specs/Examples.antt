@@ -2,8 +2,8 @@
 use Rattle.std.specs.Prelude.{codes, ℕ, List, [], ◌∷◌, Some}
 use Rattle.feed_settings.specs.Limits.{Limits}
 use Rattle.feed_text.specs.Objects.{IsObjectText}
-use Rattle.feed_tables.specs.declared.change.Change.{Change}
-use Rattle.feed_tables.specs.declared.change.Change.TheVariants.{Set}
+use Rattle.feed_changes.specs.declared.change.Change.{Change}
+use Rattle.feed_changes.specs.declared.change.Change.TheVariants.{Set}
 use Rattle.feed_note.specs.declared.line.Line.{Line}
 use Rattle.feed_note.specs.declared.line.Line.TheVariants.{Note}
 use Rattle.feed_note.specs.Lines.{lines}

@@ -2,9 +2,9 @@
 use Rattle.std.specs.Prelude.{◌≡◌, ℕ, ◌≤◌, Bool, false, List, [], ◌∷◌, ◌++◌, length, map, flat_map, get_or, Option, Some, is_none, is_some, AllPairs, ◌≢◌}
 use Rattle.std.specs.List.{AllByRecursion}
 use Rattle.feed_settings.specs.Limits.{Limits}
-use Rattle.feed_tables.specs.declared.change.Change.{Change}
-use Rattle.feed_tables.specs.Changes.{IsChange}
-use Rattle.feed_tables.specs.Names.{IsName}
+use Rattle.feed_changes.specs.declared.change.Change.{Change}
+use Rattle.feed_changes.specs.Changes.{IsChange}
+use Rattle.feed_changes.specs.Names.{IsName}
 use Rattle.feed_note.specs.declared.line.Line.{Line}
 use Rattle.feed_note.specs.Lines.{lines}
 use Rattle.feed_note.specs.Meaning.{Means}

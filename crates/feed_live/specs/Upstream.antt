@@ -3,7 +3,7 @@
 use Rattle.std.specs.Prelude.{◌≡◌, ℕ, ◌≤◌, Bool, true, false, if◌then◌else◌, List, [], ◌∷◌, ◌++◌, length, Option, Some, None, is_none, is_some, slice_get}
 use Rattle.feed_settings.specs.Limits.{Limits}
 use Rattle.feed_settings.specs.Place.{Place}
-use Rattle.feed_note.specs.Publishing.{Published}
+use Rattle.feed_node.specs.Publishing.{Published}
 use Rattle.std.specs.Option.{option_and_then}
 use Rattle.feed_node.specs.States.{former_token}
 use Rattle.feed_node.specs.Mirroring.{MirrorState}

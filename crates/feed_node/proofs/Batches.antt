@@ -4,9 +4,9 @@ use Rattle.std.specs.Prelude.{if◌then◌else◌, ◌≢◌}
 use Rattle.std.specs.List.{AllByRecursion}
 use Rattle.feed_settings.specs.Limits.{Limits}
 use Rattle.feed_text.specs.Limits.{line_bytes}
-use Rattle.feed_tables.specs.declared.change.Change.{Change}
-use Rattle.feed_tables.specs.Changes.{IsChange}
-use Rattle.feed_tables.specs.Names.{IsName}
+use Rattle.feed_changes.specs.declared.change.Change.{Change}
+use Rattle.feed_changes.specs.Changes.{IsChange}
+use Rattle.feed_changes.specs.Names.{IsName}
 use Rattle.feed_note.specs.declared.line.Line.{Line}
 use Rattle.feed_note.specs.declared.line.Line.TheVariants.{Note}
 use Rattle.feed_note.specs.Lines.{ended}

@@ -1,6 +1,6 @@
 -- The batches of a connection are those of a feed.
 use Rattle.std.proofs.Common.{◌≡◌, refl, ap, ◌∙◌, List, [], ◌∷◌, None, Some, map}
-use Rattle.feed_tables.specs.declared.change.Change.{Change}
+use Rattle.feed_changes.specs.declared.change.Change.{Change}
 use Rattle.feed_note.specs.Batches as feed
 use Rattle.feed_note.specs.declared.line.Line.{Line}
 use Rattle.feed_note.specs.declared.line.Line.TheVariants.{KeepAlive, Note}

@@ -20,3 +20,4 @@ pub mod Sending
 pub mod SentOnce
 pub mod Starting
 pub mod TextLines
+pub mod WrittenSnapshots

@@ -3,13 +3,14 @@ use Rattle.std.proofs.Common.{◌≡◌, refl, sym, ap, ◌∙◌, subst, ℕ, �
 use Rattle.std.specs.Prelude.{◌≢◌}
 use Rattle.feed_settings.specs.Limits.{Limits}
 use Rattle.feed_text.specs.Limits.{line_bytes}
-use Rattle.feed_tables.specs.declared.change.Change.{Change}
+use Rattle.feed_changes.specs.declared.change.Change.{Change}
 use Rattle.feed_tables.specs.Listings.{ListingRestores, ListingHasSize, ListingHasBytes}
 use Rattle.feed_tables.specs.Tables.{listing}
 use Rattle.feed_note.specs.declared.line.Line.{Line}
 use Rattle.feed_note.specs.declared.line.Line.TheVariants.{Note}
 use Rattle.feed_note.specs.Lines.{lines, rest, ended, LinesCut, LinesAreTheOnlyCut}
-use Rattle.feed_note.specs.Texts.{batch_text, snapshot_text}
+use Rattle.feed_note.specs.Texts.{batch_text}
+use Rattle.feed_node.specs.Texts.{snapshot_text}
 use Rattle.feed_note.specs.Written.{WrittenLineMeans}
 use Rattle.feed_node.specs.Bounds.{is_large}
 use Rattle.feed_node.proofs.Bounds.{large_listing}

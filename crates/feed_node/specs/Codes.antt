@@ -2,10 +2,10 @@
 use Rattle.std.specs.Prelude.{refl, ℕ, Bool, List, Option}
 use Rattle.std.specs.Coded.{Coded, code_by, coded×, coded_list, coded_option, coded_ℕ, coded_bool}
 use Rattle.feed_settings.specs.Limits.{Limits, History}
-use Rattle.feed_tables.specs.declared.change.Change.{Change}
+use Rattle.feed_changes.specs.declared.change.Change.{Change}
 use Rattle.feed_tables.specs.Tables.{Contents}
 use Rattle.feed_tables.specs.Codes.{text_code, change_code, contents_code}
-use Rattle.feed_note.specs.Publishing.{Published}
+use Rattle.feed_node.specs.Publishing.{Published}
 use Rattle.feed_node.specs.declared.commit.Commit.{Commit}
 use Rattle.feed_node.specs.Log.{PrimaryState}
 use Rattle.feed_node.specs.States.{NodeState, Node}

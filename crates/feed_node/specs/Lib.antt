@@ -6,6 +6,8 @@ pub mod Kept
 pub mod Log
 pub mod Mirroring
 pub mod Numbered
+pub mod OpenLines
+pub mod Publishing
 pub mod Reading
 pub mod Saved
 pub mod Sent
@@ -16,3 +18,4 @@ pub mod Staged
 pub mod Staging
 pub mod States
 pub mod Steps
+pub mod Texts

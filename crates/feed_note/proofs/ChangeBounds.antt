@@ -6,7 +6,7 @@ use Rattle.std.proofs.lemmas.List.{length-map}
 use Rattle.feed_text.specs.Json.{Value, Elements, Members, Member, kind_of, print, print_elements, print_members, elements_list, members_list, items_of, members_of, HoldsObject, null_literal, true_literal, false_literal, number, string, empty_array, array, empty_object, object, last_element, element, last_member, member}
 use Rattle.feed_text.specs.declared.Kind.TheVariants.{Object}
 use Rattle.feed_text.specs.Strings.{says, last_member_named}
-use Rattle.feed_tables.specs.declared.change.Change.TheVariants.{Set}
+use Rattle.feed_changes.specs.declared.change.Change.TheVariants.{Set}
 use Rattle.feed_note.specs.Meaning.{Content, one_object, all_objects, nothing, content_of, identified, told, notification, changes_of, member_text, Means}
 use Rattle.feed_note.specs.Notes.{changes_in}
 use Rattle.feed_note.specs.declared.line.Line.{Line}

@@ -8,7 +8,6 @@ pub mod LineRead
 pub mod AtOnce
 pub mod WrittenBatches
 pub mod WrittenLines
-pub mod WrittenSnapshots
 pub mod WrittenStrings
 pub mod WrittenTrees
 pub mod Sizes

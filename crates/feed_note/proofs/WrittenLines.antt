@@ -9,9 +9,9 @@ use Rattle.feed_text.specs.Limits.{line_depth as most_depth, name_bytes, object_
 use Rattle.feed_text.specs.Nesting.{ObjectNestsToItsDepth}
 use Rattle.feed_text.specs.Strings.{written_string, WrittenStringSays}
 use Rattle.feed_text.specs.declared.Kind.TheVariants.{Object}
-use Rattle.feed_tables.specs.Names.{IsName}
-use Rattle.feed_tables.specs.declared.change.Change.{Change}
-use Rattle.feed_tables.specs.declared.change.Change.TheVariants.{Set, Remove, Empty, Single, Clear}
+use Rattle.feed_changes.specs.Names.{IsName}
+use Rattle.feed_changes.specs.declared.change.Change.{Change}
+use Rattle.feed_changes.specs.declared.change.Change.TheVariants.{Set, Remove, Empty, Single, Clear}
 use Rattle.feed_note.specs.declared.line.Line.TheVariants.{Note}
 use Rattle.feed_note.specs.declared.line.LineFault.TheVariants.{NoType, BadMember, BadData, NoMeaning, BadElement, LongName, BigObject}
 use Rattle.feed_note.specs.Meaning.{IsKeepAlive, NestsTooDeep, Notification, notification, member_text, element_id, is_string, is_object, is_array, is_text_or_null, is_big_object, fault_of, first_fault, conditions, content_of, one_object, told, changes_of, token_of}

@@ -7,7 +7,7 @@ use Rattle.feed_text.specs.Limits.{line_bytes, name_bytes, object_bytes, object_
 use Rattle.feed_text.specs.Objects.{IsObjectText, IsUnbroken}
 use Rattle.feed_text.specs.Strings.{written_string}
 use Rattle.feed_text.specs.declared.Kind.TheVariants.{Object}
-use Rattle.feed_tables.specs.Names.{IsName}
+use Rattle.feed_changes.specs.Names.{IsName}
 use Rattle.feed_note.specs.Meaning.{is_null, is_object, is_array}
 use Rattle.feed_note.specs.Written.{written_members, written_name, written_token, IsToken}
 use Rattle.feed_note.proofs.WrittenStrings.{written_is_string, written_unbroken, length-written, IsUtf8-written, IsUtf8-are_ascii}

@@ -2,8 +2,6 @@ pub mod Lines
 pub mod Meaning
 pub mod Naming
 pub mod Notes
-pub mod OpenLines
-pub mod Publishing
 pub mod Reading
 pub mod Texts
 pub mod Written

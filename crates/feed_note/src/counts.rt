@@ -7,7 +7,7 @@ ghost use Rattle.feed_note.specs.Steps.{HasRoom, with_note};
 
 use crate::line::Line;
 use crate::stop::{LineStop, read_first};
-use feed_tables::Change;
+use feed_changes::Change;
 use std::alloc::Global;
 use thiserror::Error;
 

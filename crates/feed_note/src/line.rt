@@ -3,7 +3,7 @@
 ghost use Rattle.std.specs.Prelude.{◌≡◌};
 ghost use Rattle.feed_note.specs.declared.line.LineFault.TheVariants.{Memory};
 
-use feed_tables::{Changes, Name};
+use feed_changes::{Changes, Name};
 use std::alloc::{AllocError, AllocFailed};
 use thiserror::Error;
 

@@ -6,7 +6,7 @@ ghost use Rattle.feed_text.specs.Json.{IsString};
 ghost use Rattle.feed_text.specs.Strings.{decoded};
 ghost use Rattle.feed_note.specs.Naming.{naming_of, spelled_text, spelled_or_null, IsSpeltValue};
 
-use feed_tables::{Name, NameFault};
+use feed_changes::{Name, NameFault};
 use feed_text::{Item, Kind, decode_string, plain_text, text_laws};
 use std::alloc::{AllocError, Global};
 

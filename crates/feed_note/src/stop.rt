@@ -7,7 +7,7 @@ ghost use Rattle.feed_note.specs.declared.stop.LineStop.TheVariants.{Memory};
 use crate::cut::{LINE_BYTES, split_line};
 use crate::line::{Line, LineFault};
 use crate::read::read_line_in;
-use feed_tables::Change;
+use feed_changes::Change;
 use std::alloc::{AllocError, Global};
 use thiserror::Error;
 

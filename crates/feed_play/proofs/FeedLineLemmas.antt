@@ -2,7 +2,7 @@
 use Rattle.std.proofs.Common.{◌≡◌, sym, ap, ◌∙◌, ℕ, ◌+◌, List, [], ◌∷◌, ◌++◌, arith, length-append, append_assoc}
 use Rattle.std.proofs.lemmas.List.{append-nil}
 use Rattle.std.specs.List.{AllZip}
-use Rattle.feed_tables.specs.declared.change.Change.{Change}
+use Rattle.feed_changes.specs.declared.change.Change.{Change}
 use Rattle.feed_note.specs.Counts.{IsRead}
 use Rattle.feed_note.specs.Notes.{all_changes, changes_in}
 use Rattle.feed_note.specs.declared.line.Line.{Line as Note}

@@ -2,7 +2,7 @@
 use Rattle.std.specs.Prelude.{◌≡◌, ℕ, ◌<◌, ◌≤◌, ◌+◌, ◌⊎◌, List, ◌∷◌, ◌++◌, length}
 use Rattle.std.specs.List.{AllZip}
 use Rattle.feed_text.specs.Limits.{line_bytes}
-use Rattle.feed_tables.specs.declared.change.Change.{Change}
+use Rattle.feed_changes.specs.declared.change.Change.{Change}
 use Rattle.feed_note.specs.Counts.{IsRead}
 use Rattle.feed_note.specs.Meaning.{Reason}
 use Rattle.feed_note.specs.Notes.{all_changes}

@@ -1,8 +1,8 @@
 -- What is printed of a world: its replies, and what its nodes show.
 use Rattle.std.specs.Prelude.{◌≡◌, ℕ, List, [], ◌∷◌, ◌++◌, codes, decimal, Option, None, Some, unwrap_or}
 use Rattle.feed_text.specs.Ascii.{line_feed}
-use Rattle.feed_note.specs.Publishing.{Published}
-use Rattle.feed_note.specs.Texts.{snapshot_text}
+use Rattle.feed_node.specs.Publishing.{Published}
+use Rattle.feed_node.specs.Texts.{snapshot_text}
 use Rattle.feed_node.specs.declared.fault.FeedFault.TheVariants.{Memory}
 use Rattle.feed_follow.specs.declared.fault.FollowFault.TheVariants.{Feed, Memory as FollowMemory}
 use Rattle.feed_node.specs.declared.session.Pulled.TheVariants.{More, UpToDate, Gone}

@@ -1,7 +1,7 @@
 -- Lemmas on batches that wait.
 use Rattle.std.proofs.Common.{◌≡◌, sym, ap, ◌∙◌, subst, List, ◌∷◌, [], ◌++◌, append_assoc}
 use Rattle.std.specs.Prelude.{None, Vec}
-use Rattle.feed_tables.specs.declared.change.Change.{Change}
+use Rattle.feed_changes.specs.declared.change.Change.{Change}
 use Rattle.feed_node.specs.Log.{PrimaryState, commits, commit_fault}
 use Rattle.feed_http.specs.Live.{intake_of, Accepts, accepts_one}
 

@@ -1,16 +1,16 @@
 -- The bytes of objects, before and after some change.
 use Rattle.std.proofs.Common.{◌≡◌, ◌≤◌, ◌<◌, min, ℕ, ◌+◌, ◌-◌, List, [], ◌∷◌, ◌++◌, length, map, fold, flat_map, Option, None, Some, ap, sym, ◌∙◌, refl, arith}
 use Rattle.std.specs.FinMap.{FinMap, empty, get, insert, remove, entries, entries_sorted, len, len-entries}
-use Rattle.feed_tables.specs.Amounts.{in_type, by_bytes, bytes, change_bytes, changes_bytes, bytes_lost, bytes_come, lost_at, come_at, by_lost, by_come, by_bytes_after}
+use Rattle.feed_tables.specs.Amounts.{in_type, by_bytes, bytes, changes_bytes, bytes_lost, bytes_come, lost_at, come_at, by_lost, by_come, by_bytes_after}
 use Rattle.feed_tables.specs.Bytes.{byte_order, IsInOrder}
-use Rattle.feed_tables.specs.Changes.{sets}
+use Rattle.feed_changes.specs.Changes.{sets, change_bytes}
 use Rattle.feed_tables.specs.Listings.{ListingHasBytes, ChangesAddBytes}
 use Rattle.feed_tables.specs.Map.{map_over, map_less}
 use Rattle.feed_tables.specs.ChangedIds.{merged, with_ids, with_all_ids}
 use Rattle.feed_tables.specs.Tables.{Contents, no_objects, objects_or_none, without_id, after, listed, or_clear}
 use Rattle.feed_tables.specs.Walks.{weight, weighed, weighed_in, AreIn}
-use Rattle.feed_tables.specs.declared.change.Change.{Change}
-use Rattle.feed_tables.specs.declared.change.Change.TheVariants.{Set, Remove, Empty, Single, Clear}
+use Rattle.feed_changes.specs.declared.change.Change.{Change}
+use Rattle.feed_changes.specs.declared.change.Change.TheVariants.{Set, Remove, Empty, Single, Clear}
 use Rattle.feed_tables.specs.declared.ids.Ids.{Ids}
 use Rattle.feed_tables.specs.declared.table.Table.{Table}
 use Rattle.feed_tables.specs.declared.table.Table.TheVariants.{One, Many}

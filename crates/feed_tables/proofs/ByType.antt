@@ -11,7 +11,7 @@ use Rattle.feed_tables.specs.ChangedIds.{HasSet, SetsIn}
 use Rattle.feed_tables.specs.Map.{TakesThePlace}
 use Rattle.feed_tables.specs.declared.tree.Fork.{Fork}
 use Rattle.feed_tables.specs.declared.ids.Ids.{Ids}
-use Rattle.feed_tables.proofs.Order.{total}
+use Rattle.feed_changes.proofs.Order.{total}
 use Rattle.feed_tables.proofs.Maps.{byte_order_antisymmetric, from_sorted_none, remove_absent}
 use Rattle.feed_tables.proofs.MapsOver.{same_gets, get-insert_same, insert-insert}
 

@@ -18,7 +18,7 @@ use Rattle.feed_tables.specs.Walks.{Scale, weight, weighed, weighed_in, each_one
 use Rattle.feed_tables.specs.declared.ids.Ids.{Ids}
 use Rattle.feed_tables.specs.declared.table.Table.{Table}
 use Rattle.feed_tables.specs.declared.table.Table.TheVariants.{One, Many}
-use Rattle.feed_tables.proofs.Order.{total}
+use Rattle.feed_changes.proofs.Order.{total}
 use Rattle.feed_tables.proofs.Entries.{first, second, equal}
 use Rattle.feed_tables.proofs.Changing.{Changed, step, get-step, get-changed}
 use Rattle.feed_tables.proofs.Held.{in_same}

@@ -14,7 +14,7 @@ use Rattle.feed_tables.specs.declared.patch.Patch.{Patch}
 use Rattle.feed_tables.specs.declared.table.Table.{Table}
 use Rattle.feed_tables.specs.declared.table.Table.TheVariants.{One, Many}
 use Rattle.feed_tables.specs.declared.tree.Fork.{Fork}
-use Rattle.feed_tables.proofs.Order.{total}
+use Rattle.feed_changes.proofs.Order.{total}
 use Rattle.feed_tables.proofs.Entries.{first, second, equal, find_below, below_tied}
 use Rattle.feed_tables.proofs.MapsOver.{same_gets, get-map_less}
 use Rattle.feed_tables.proofs.Patching.{insert_same}

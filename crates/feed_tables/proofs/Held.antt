@@ -4,7 +4,7 @@ use Rattle.std.specs.Ordering.{eq_by_cmp}
 use Rattle.std.specs.FinMap.{FinMap, find, get, get-entries, entries, entries_sorted}
 use Rattle.feed_tables.specs.Bytes.{byte_order, IsInOrder}
 use Rattle.feed_tables.specs.Walks.{AreIn}
-use Rattle.feed_tables.proofs.Order.{total}
+use Rattle.feed_changes.proofs.Order.{total}
 use Rattle.feed_tables.proofs.Entries.{first, second, equal, find_below, below_tied}
 use Rattle.feed_tables.proofs.MapsOver.{same_gets, itself}
 use Rattle.feed_tables.proofs.Patching.{tied}

@@ -8,16 +8,16 @@ use Rattle.std.specs.FinMap.{FinMap, get, insert, remove, entries, entries_sorte
 use Rattle.std.proofs.lemmas.List.Elements.{recursion_from_All}
 use Rattle.feed_text.specs.Objects.{IsObjectText}
 use Rattle.feed_tables.specs.Bytes.{byte_order, without}
-use Rattle.feed_tables.specs.Changes.{IsChange, sets}
+use Rattle.feed_changes.specs.Changes.{IsChange, sets}
 use Rattle.feed_tables.specs.Listings.{ListingHasSize}
-use Rattle.feed_tables.specs.Names.{IsName}
+use Rattle.feed_changes.specs.Names.{IsName}
 use Rattle.feed_tables.specs.Objects.{AreObjects}
 use Rattle.feed_tables.specs.Tables.{Contents, no_objects, no_tables, objects_or_none, without_id, after, after_all, listed, or_clear, listing, object_count, IsTable, AreTypes}
-use Rattle.feed_tables.specs.declared.change.Change.{Change}
-use Rattle.feed_tables.specs.declared.change.Change.TheVariants.{Set, Remove, Empty, Single, Clear}
+use Rattle.feed_changes.specs.declared.change.Change.{Change}
+use Rattle.feed_changes.specs.declared.change.Change.TheVariants.{Set, Remove, Empty, Single, Clear}
 use Rattle.feed_tables.specs.declared.table.Table.{Table}
 use Rattle.feed_tables.specs.declared.table.Table.TheVariants.{One, Many}
-use Rattle.feed_tables.proofs.Order.{total}
+use Rattle.feed_changes.proofs.Order.{total}
 use Rattle.feed_tables.proofs.Maps.{in_order_without, from_sorted_without}
 use Rattle.feed_tables.proofs.Within.{AllNamed, named_put, all-filter, listing_within}
 use Rattle.feed_tables.specs.Walks.{weighed, by_objects}

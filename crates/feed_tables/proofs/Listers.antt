@@ -4,13 +4,13 @@ use Rattle.std.proofs.lemmas.Grind.{flat_map-append}
 use Rattle.std.specs.List.{FoldsTo}
 use Rattle.std.specs.declared.alloc.Global.{Global}
 use Rattle.std.specs.declared.boxed.Box.{Box}
-use Rattle.feed_tables.specs.declared.change.Change.{Change}
-use Rattle.feed_tables.specs.declared.change.Change.TheVariants.{Set}
+use Rattle.feed_changes.specs.declared.change.Change.{Change}
+use Rattle.feed_changes.specs.declared.change.Change.TheVariants.{Set}
 use Rattle.feed_tables.specs.declared.table.Table.{Table}
 use Rattle.feed_tables.specs.declared.tree.Fork.{Fork}
 use Rattle.feed_tables.specs.declared.tree.Node.{Node}
 use Rattle.feed_tables.specs.declared.tree.Node.TheVariants.{Fork as a_fork}
-use Rattle.feed_tables.specs.Changes.{sets}
+use Rattle.feed_changes.specs.Changes.{sets}
 use Rattle.feed_tables.specs.Listers.{FailsIn}
 use Rattle.feed_tables.specs.Tables.{listed}
 use Rattle.feed_tables.specs.Tree.{entries_of}

@@ -5,13 +5,13 @@ use Rattle.std.specs.FinMap.{FinMap, empty, get, insert, remove, entries, entrie
 use Rattle.std.proofs.lemmas.Cmp.{tied_itself}
 use Rattle.std.proofs.lemmas.List.Sums.{fold-append}
 use Rattle.feed_tables.specs.Bytes.{byte_order}
-use Rattle.feed_tables.specs.Changes.{sets, with_change}
-use Rattle.feed_tables.specs.declared.change.Change.{Change}
-use Rattle.feed_tables.specs.declared.change.Change.TheVariants.{Set, Clear}
+use Rattle.feed_changes.specs.Changes.{sets, with_change}
+use Rattle.feed_changes.specs.declared.change.Change.{Change}
+use Rattle.feed_changes.specs.declared.change.Change.TheVariants.{Set, Clear}
 use Rattle.feed_tables.specs.declared.table.Table.{Table}
 use Rattle.feed_tables.specs.declared.table.Table.TheVariants.{One, Many}
 use Rattle.feed_tables.specs.Tables.{Objects, Contents, no_objects, no_tables, objects_or_none, after, after_all, listed, or_clear, listing}
-use Rattle.feed_tables.proofs.Order.{total}
+use Rattle.feed_changes.proofs.Order.{total}
 use Rattle.feed_tables.proofs.Entries.{first, second, equal, find_below}
 use Rattle.feed_tables.proofs.Maps.{byte_order_antisymmetric}
 

@@ -12,7 +12,7 @@ use Rattle.std.specs.declared.boxed.Box.{Box}
 use Rattle.feed_tables.specs.declared.tree.Fork.{Fork}
 use Rattle.feed_tables.specs.Tree.{Swaps, FirstTaken, without_all}
 use Rattle.feed_tables.specs.Map.{TakesThePlace, TakesFirst, map_over, map_less}
-use Rattle.feed_tables.proofs.Order.{total}
+use Rattle.feed_changes.proofs.Order.{total}
 
 -- a map with each item put under its name
 abbrev pub put_all : {V : Type 0} → List (List ℕ × V) → FinMap byte_order V → FinMap byte_order V

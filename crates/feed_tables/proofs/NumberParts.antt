@@ -12,7 +12,7 @@ use Rattle.feed_tables.specs.Map.{map_over}
 use Rattle.feed_tables.specs.Numbers.{part_of, joined, AreApart, AreParts}
 use Rattle.feed_tables.proofs.Maps.{byte_order_antisymmetric}
 use Rattle.feed_tables.proofs.MapsOver.{get-map_over, same_gets}
-use Rattle.feed_tables.proofs.Order.{total}
+use Rattle.feed_changes.proofs.Order.{total}
 
 -- the names of a part are of that alone
 abbrev Own : {V : Type 0} → ℕ → ℕ → FinMap byte_order V → Type 0

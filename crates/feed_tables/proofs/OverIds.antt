@@ -6,7 +6,7 @@ use Rattle.std.specs.FinMap.{empty, get, insert, remove, get-empty, get-insert, 
 use Rattle.feed_tables.specs.Bytes.{byte_order}
 use Rattle.feed_tables.specs.Map.{map_over, map_less}
 use Rattle.feed_tables.specs.Tables.{Objects}
-use Rattle.feed_tables.proofs.Order.{total}
+use Rattle.feed_changes.proofs.Order.{total}
 use Rattle.feed_tables.proofs.MapsOver.{get-map_over, get-map_less, same_gets}
 use Rattle.feed_tables.proofs.Patching.{Gone, tied}
 

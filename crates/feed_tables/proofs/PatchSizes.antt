@@ -8,8 +8,8 @@ use Rattle.std.proofs.lemmas.List.Elements.{filter-append}
 use Rattle.feed_tables.specs.Bytes.{byte_order, IsInOrder}
 use Rattle.feed_tables.specs.Map.{map_over, map_less}
 use Rattle.feed_tables.specs.Walks.{Scale, weight, weighed, weighed_in, is_besides, besides}
-use Rattle.feed_tables.proofs.Order.{total}
-use Rattle.feed_tables.proofs.Entries.{first, second, less, later}
+use Rattle.feed_changes.proofs.Order.{total, later}
+use Rattle.feed_tables.proofs.Entries.{first, second, less}
 use Rattle.feed_tables.proofs.MapsOver.{get-map_less, same_gets}
 use Rattle.feed_tables.proofs.Patching.{less_none, over_empty}
 use Rattle.feed_tables.proofs.Sizes.{weighed-insert, weighed-remove}

@@ -9,7 +9,7 @@ use Rattle.feed_tables.specs.Map.{TakesThePlace, map_over, map_less}
 use Rattle.feed_tables.specs.Tables.{Contents, object_of, object_at, without_id}
 use Rattle.feed_tables.specs.declared.table.Table.{Table}
 use Rattle.feed_tables.specs.declared.table.Table.TheVariants.{One, Many}
-use Rattle.feed_tables.proofs.Order.{total}
+use Rattle.feed_changes.proofs.Order.{total}
 use Rattle.feed_tables.proofs.Entries.{equal}
 use Rattle.feed_tables.proofs.Maps.{remove_absent}
 use Rattle.feed_tables.proofs.MapsOver.{get-map_over, get-map_less, same_gets, put_back, exchanged_some}

@@ -2,16 +2,16 @@
 use Rattle.std.proofs.Common.{◌≡◌, ℕ, ◌+◌, ◌≤◌, ◌<◌, min, Bool, true, false, true≢false, cond, List, Option, None, Some, sym, ap, subst, ◌∙◌, arith}
 use Rattle.std.specs.Prelude.{IsSome}
 use Rattle.std.specs.FinMap.{get, insert, len, len-insert, contains_key}
-use Rattle.feed_tables.specs.Changes.{type_of}
+use Rattle.feed_changes.specs.Changes.{type_of}
 use Rattle.feed_tables.specs.Placing.{PutsObject, HasPlace, Fits}
-use Rattle.feed_tables.specs.declared.change.Change.{Change}
-use Rattle.feed_tables.specs.declared.change.Change.TheVariants.{Set, Remove, Empty, Single, Clear}
+use Rattle.feed_changes.specs.declared.change.Change.{Change}
+use Rattle.feed_changes.specs.declared.change.Change.TheVariants.{Set, Remove, Empty, Single, Clear}
 use Rattle.feed_tables.specs.ChangedIds.{over_ids, with_ids}
 use Rattle.feed_tables.specs.Tables.{Contents, Objects, collection_of, objects_or_none, size, after, with_object}
 use Rattle.feed_tables.specs.declared.ids.Ids.{Ids}
 use Rattle.feed_tables.specs.declared.table.Table.{Table}
 use Rattle.feed_tables.specs.declared.table.Table.TheVariants.{One, Many}
-use Rattle.feed_tables.proofs.Order.{total}
+use Rattle.feed_changes.proofs.Order.{total}
 use Rattle.feed_tables.proofs.Sizes.{size-insert}
 
 -- objects that change by one that is put in are the collection with it

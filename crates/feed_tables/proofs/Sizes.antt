@@ -11,7 +11,7 @@ use Rattle.feed_tables.proofs.Maps.{byte_order_antisymmetric, from_sorted_withou
 use Rattle.feed_tables.specs.Tables.{Contents, object_count, size}
 use Rattle.feed_tables.specs.declared.table.Table.{Table}
 use Rattle.feed_tables.specs.Walks.{Scale, weight, weighed, by_objects}
-use Rattle.feed_tables.proofs.Order.{total}
+use Rattle.feed_changes.proofs.Order.{total}
 
 module _ {V : Type 0} where
   from_entries_of : (m : FinMap byte_order V) → from_sorted (entries m) ≡ m

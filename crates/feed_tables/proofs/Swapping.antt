@@ -4,7 +4,7 @@ use Rattle.std.specs.Option.{is_some}
 use Rattle.std.specs.FinMap.Entries.{length-put}
 use Rattle.feed_tables.specs.Bytes.{byte_order, IsInOrder}
 use Rattle.feed_tables.specs.Tree.{Swaps}
-use Rattle.feed_tables.proofs.Order.{total}
+use Rattle.feed_changes.proofs.Order.{total}
 use Rattle.feed_tables.proofs.TreeFork.{AtFork, find_before, find_after, put_before, put_after}
 
 pub same_length : {V : Type 0} (id : List ℕ) (es fs : List (List ℕ × V)) (old new : V) (b : Bool) → IsInOrder es → Swaps id es fs old new b → length fs ≡ length es

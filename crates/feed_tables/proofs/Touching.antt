@@ -7,13 +7,13 @@ use Rattle.std.specs.FinMap.{FinMap, get, insert, remove, get-insert, get-remove
 use Rattle.feed_tables.specs.Bytes.{byte_order}
 use Rattle.feed_tables.specs.Tables.{Objects, Contents, no_objects, objects_or_none, after, after_all, without_id}
 use Rattle.feed_tables.specs.Touched.{AgreeIn, AgreeAt, AgreeWhereTouched}
-use Rattle.feed_tables.specs.declared.change.Change.{Change}
-use Rattle.feed_tables.specs.declared.change.Change.TheVariants.{Set, Remove, Empty, Single, Clear}
+use Rattle.feed_changes.specs.declared.change.Change.{Change}
+use Rattle.feed_changes.specs.declared.change.Change.TheVariants.{Set, Remove, Empty, Single, Clear}
 use Rattle.feed_tables.specs.declared.table.Table.{Table}
 use Rattle.feed_tables.specs.declared.table.Table.TheVariants.{One, Many}
 use Rattle.feed_tables.proofs.Entries.{equal}
 use Rattle.feed_tables.proofs.Maps.{byte_order_antisymmetric}
-use Rattle.feed_tables.proofs.Order.{total}
+use Rattle.feed_changes.proofs.Order.{total}
 
 -- a name is another one, or the map is not changed there
 same_name : (q k : List ℕ) → eq_by_cmp byte_order q k ≡ true → q ≡ k

@@ -9,7 +9,7 @@ use Rattle.feed_tables.specs.declared.tree.Node.{Node}
 use Rattle.feed_tables.specs.declared.tree.Node.TheVariants.{Fork as a_fork}
 use Rattle.feed_tables.specs.declared.tree.Fork.{Fork}
 use Rattle.std.specs.FinMap.{find, put}
-use Rattle.feed_tables.proofs.Order.{total}
+use Rattle.feed_changes.proofs.Order.{total}
 use Rattle.feed_tables.proofs.Entries.{sorted_left, sorted_right, find_left, find_here, find_right, put_left, put_here, put_right, without_left, without_here, without_right}
 
 pub record AtFork {V : Type 0} (d l : List (List ℕ × V)) (e : List ℕ × V) (r : List (List ℕ × V)) : Type 0 where

@@ -9,8 +9,8 @@ use Rattle.std.specs.FinMap.Entries.{by_order, below_all}
 use Rattle.feed_tables.specs.Bytes.{byte_order, IsInOrder}
 use Rattle.feed_tables.specs.Unions.{put_each, entry_in, item_or, AreBefore, AreAfter, AreAt, Parts}
 use Rattle.feed_tables.specs.declared.tree.Fork.{Fork}
-use Rattle.feed_tables.proofs.Order.{total}
-use Rattle.feed_tables.proofs.Entries.{first, second, less, later, earlier, below_middle, sorted_left, sorted_from, below_right, put_left, put_here, put_right}
+use Rattle.feed_changes.proofs.Order.{total, later}
+use Rattle.feed_tables.proofs.Entries.{first, second, less, earlier, below_middle, sorted_left, sorted_from, below_right, put_left, put_here, put_right}
 use Rattle.feed_tables.proofs.Maps.{byte_order_antisymmetric, in_order_put, from_sorted_put}
 use Rattle.feed_tables.specs.Tree.{entries_of, handed, named}
 use Rattle.feed_tables.specs.Map.{map_over}

@@ -6,8 +6,8 @@ use Rattle.std.proofs.lemmas.List.Elements.{All-from_recursion}
 use Rattle.std.specs.FinMap.{entries, put}
 use Rattle.std.specs.FinMap.Entries.{by_order}
 use Rattle.feed_tables.specs.Bytes.{byte_order, without}
-use Rattle.feed_tables.specs.Changes.{IsChange, sets}
-use Rattle.feed_tables.specs.Names.{IsName}
+use Rattle.feed_changes.specs.Changes.{IsChange, sets}
+use Rattle.feed_changes.specs.Names.{IsName}
 use Rattle.feed_text.specs.Objects.{IsObjectText}
 use Rattle.feed_tables.specs.Tree.{entries_of}
 use Rattle.feed_tables.specs.declared.tree.Fork.{Fork}
@@ -17,8 +17,8 @@ use Rattle.std.specs.declared.alloc.Global.{Global}
 use Rattle.std.specs.declared.boxed.Box.{Box}
 use Rattle.feed_tables.specs.Objects.{AreObjects}
 use Rattle.feed_tables.specs.Tables.{Contents, listed, or_clear, listing, IsTable, AreTypes}
-use Rattle.feed_tables.specs.declared.change.Change.{Change}
-use Rattle.feed_tables.specs.declared.change.Change.TheVariants.{Clear}
+use Rattle.feed_changes.specs.declared.change.Change.{Change}
+use Rattle.feed_changes.specs.declared.change.Change.TheVariants.{Clear}
 use Rattle.feed_tables.specs.declared.table.Table.{Table}
 use Rattle.feed_tables.specs.declared.table.Table.TheVariants.{One, Many}
 use Rattle.feed_text.proofs.Lists.{all-append}

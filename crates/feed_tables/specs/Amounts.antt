@@ -2,14 +2,14 @@
 -- objects that changed.
 use Rattle.std.specs.Prelude.{◌≡◌, ℕ, ◌+◌, min, Bool, true, false, List, [], ◌∷◌, length, Option, None, Some}
 use Rattle.std.specs.FinMap.{FinMap, find, get, entries}
+use Rattle.feed_changes.specs.Changes.{change_bytes}
 use Rattle.feed_tables.specs.Bytes.{byte_order}
 use Rattle.feed_tables.specs.Map.{TakesThePlace, map_less}
 use Rattle.feed_tables.specs.ChangedIds.{changed_table, merged}
 use Rattle.feed_tables.specs.Tables.{Contents, object_count}
 use Rattle.feed_tables.specs.Tree.{Swaps}
 use Rattle.feed_tables.specs.Walks.{Scale, weighed, weighed_in}
-use Rattle.feed_tables.specs.declared.change.Change.{Change}
-use Rattle.feed_tables.specs.declared.change.Change.TheVariants.{Set, Remove, Empty, Single, Clear}
+use Rattle.feed_changes.specs.declared.change.Change.{Change}
 use Rattle.feed_tables.specs.declared.ids.Ids.{Ids}
 use Rattle.feed_tables.specs.declared.scale.Merged.{Merged}
 use Rattle.feed_tables.specs.declared.table.Table.{Table}
@@ -28,14 +28,7 @@ by_bytes kind (Many objects) = weighed (in_type (length kind)) (entries objects)
 abbrev pub bytes : Contents → ℕ
 bytes contents = weighed by_bytes (entries contents)
 
--- the object that a change puts in, with its names; none where it puts in no object
-abbrev pub change_bytes : Change → ℕ
-change_bytes (Set kind id object) = length kind + length id + length object
-change_bytes (Remove kind id) = 0
-change_bytes (Empty kind) = 0
-change_bytes (Single kind object) = length kind + length object
-change_bytes (Clear kind) = 0
-
+-- the objects that changes put in
 abbrev pub changes_bytes : List Change → ℕ
 changes_bytes [] = 0
 changes_bytes (change ∷ changes) = change_bytes change + changes_bytes changes

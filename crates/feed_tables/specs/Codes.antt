@@ -3,8 +3,8 @@ use Rattle.std.specs.Prelude.{ℕ, List, refl}
 use Rattle.std.specs.Coded.{Coded, code_by, coded×, coded_ℕ, coded_list}
 use Rattle.std.specs.FinMap.{code as map_code}
 use Rattle.feed_tables.specs.Tables.{Contents, Tables}
-use Rattle.feed_tables.specs.declared.change.Change.{Change}
-use Rattle.feed_tables.specs.contracts.change.Change as change
+use Rattle.feed_changes.specs.declared.change.Change.{Change}
+use Rattle.feed_changes.specs.contracts.change.Change as change
 use Rattle.feed_tables.specs.contracts.table.Table as table
 
 abbrev pub text_code : Coded (List ℕ)

@@ -1,9 +1,9 @@
 -- Laws of listings: what the changes of a snapshot are to the tables that it lists.
 use Rattle.std.specs.Prelude.{◌≡◌, ◌≤◌, ◌+◌, max, List, length}
 use Rattle.std.specs.List.{AllByRecursion}
-use Rattle.feed_tables.specs.declared.change.Change.{Change}
+use Rattle.feed_changes.specs.declared.change.Change.{Change}
 use Rattle.feed_tables.specs.Amounts.{bytes, changes_bytes}
-use Rattle.feed_tables.specs.Changes.{IsChange}
+use Rattle.feed_changes.specs.Changes.{IsChange}
 use Rattle.feed_tables.specs.Tables.{Contents, no_tables, after_all, listing, size}
 
 -- a listing, taken from empty tables, restores its tables

@@ -1,10 +1,10 @@
 -- Objects that are about to be put in a collection.
 use Rattle.std.specs.Prelude.{ℕ, ◌≤◌, ⊤, IsSome}
 use Rattle.std.specs.FinMap.{get}
-use Rattle.feed_tables.specs.Changes.{type_of}
+use Rattle.feed_changes.specs.Changes.{type_of}
 use Rattle.feed_tables.specs.Tables.{Contents, after, collection_of, size}
-use Rattle.feed_tables.specs.declared.change.Change.{Change}
-use Rattle.feed_tables.specs.declared.change.Change.TheVariants.{Set, Remove, Empty, Single, Clear}
+use Rattle.feed_changes.specs.declared.change.Change.{Change}
+use Rattle.feed_changes.specs.declared.change.Change.TheVariants.{Set, Remove, Empty, Single, Clear}
 
 -- the change puts an object in a collection
 abbrev pub PutsObject : Change → Type 0

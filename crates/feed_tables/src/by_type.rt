@@ -9,12 +9,12 @@ ghost use Rattle.feed_tables.specs.Walks.{weighed_in};
 
 use crate::ids::Ids;
 use crate::map::Map;
-use crate::name::{Key, Name};
 use crate::scale::Scale;
 use crate::table::Table;
 use crate::tables::Tables;
 use crate::tree::Fork;
 use crate::tree::walks::weight_in;
+use feed_changes::{Key, Name};
 use feed_text::ObjectText;
 use std::alloc::{AllocError, Global};
 use std::cmp::Ordering;

@@ -8,9 +8,9 @@ ghost use Rattle.feed_tables.specs.Tables.{Objects};
 ghost use Rattle.feed_tables.specs.Walks.{weighed};
 
 use crate::map::{Map, weigh_lost, weigh_names, weigh_over};
-use crate::name::Name;
 use crate::scale::{EachOne, InType, Shift};
 use crate::tree::Fork;
+use feed_changes::Name;
 use feed_text::ObjectText;
 use std::alloc::{AllocError, Global};
 

@@ -1,13 +1,10 @@
-//! Names, changes and tables of contest objects.
+//! Tables of contest objects, and what changes make of them.
 #![tactic(auto)]
 
 mod by_type;
-mod change;
 mod ids;
 mod laws;
-mod lister;
 mod map;
-mod name;
 mod numbers;
 mod patch;
 mod placed;
@@ -16,10 +13,8 @@ mod table;
 mod tables;
 mod tree;
 
-pub use change::{Change, Changes};
+pub use feed_changes::{Change, Changes, Lister, NAME_BYTES, Name, NameFault};
 pub use laws::{table_laws, touched_law};
-pub use lister::Lister;
-pub use name::{NAME_BYTES, Name, NameFault};
 pub use numbers::{Numbers, Slot};
 pub use patch::Patch;
 pub use placed::Placed;

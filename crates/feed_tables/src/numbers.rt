@@ -5,8 +5,8 @@ ghost use Rattle.std.specs.FinMap as map;
 ghost use Rattle.feed_tables.specs.Numbers.{decimal as decimal_in, mixed as mixed_in, stirred as stirred_in, part_of as part_by};
 
 use crate::map::Map;
-use crate::name::{Key, Name};
 use crate::tree::Fork;
+use feed_changes::{Key, Name};
 use std::alloc::{AllocError, Global};
 use std::marker::Model;
 

@@ -10,14 +10,13 @@ ghost use Rattle.feed_tables.specs.Patches.{below, over, adds};
 ghost use Rattle.feed_tables.specs.Tables.{Contents, after, with_object, without_id, size, collection_of};
 
 use crate::by_type::IdsByType;
-use crate::change::Change;
 use crate::ids::Ids;
 use crate::map::{Map, held_in};
-use crate::name::{Key, Name};
 use crate::scale::{AfterIds, ByObjects, BytesAfter, BytesCome, BytesLost};
 use crate::table::Table;
 use crate::tables::Tables;
 use crate::tree::Fork;
+use feed_changes::{Change, Key, Name};
 use feed_text::ObjectText;
 use std::alloc::{AllocError, Global};
 

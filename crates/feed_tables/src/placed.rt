@@ -1,13 +1,12 @@
 //! An object that is about to be put in a collection.
 
 ghost use Rattle.std.specs.Prelude.{◌≡◌, IfOk, IfSome, Some};
-ghost use Rattle.feed_tables.specs.Changes.{type_of};
+ghost use Rattle.feed_changes.specs.Changes.{type_of};
 ghost use Rattle.feed_tables.specs.Placing.{PutsObject};
-ghost use Rattle.feed_tables.specs.declared.change.Change.TheVariants.{Set};
+ghost use Rattle.feed_changes.specs.declared.change.Change.TheVariants.{Set};
 
-use crate::change::Change;
-use crate::name::Name;
 use crate::tree::Fork;
+use feed_changes::{Change, Name};
 use feed_text::ObjectText;
 use std::alloc::{AllocError, Global};
 use std::marker::Model;
@@ -30,8 +29,8 @@ impl Drop for Placed {
 
 impl Model for Placed {
     ghost use Rattle.feed_tables.specs.Codes.{change_code};
-    ghost use Rattle.feed_tables.specs.declared.change.Change.{Change};
-    ghost use Rattle.feed_tables.specs.declared.change.Change.TheVariants.{Set};
+    ghost use Rattle.feed_changes.specs.declared.change.Change.{Change};
+    ghost use Rattle.feed_changes.specs.declared.change.Change.TheVariants.{Set};
 
     ghost Value = { Change };
 

@@ -6,8 +6,8 @@ ghost use Rattle.feed_tables.specs.ChangedIds.{after_ids};
 ghost use Rattle.feed_tables.specs.Walks.{each_one, by_objects};
 
 use crate::by_type::IdsByType;
-use crate::name::Key;
 use crate::table::Table;
+use feed_changes::Key;
 use feed_text::ObjectText;
 
 /// Says how much an item weighs.

@@ -7,10 +7,9 @@ ghost use Rattle.feed_tables.specs.Listers.{FailsIn};
 ghost use Rattle.feed_tables.specs.Tables.{object_of};
 
 use crate::ids::Ids;
-use crate::lister::Lister;
 use crate::map::{Held, Map, are_same};
-use crate::name::{Key, Name};
 use crate::scale::{InType, Merged, Shift};
+use feed_changes::{Key, Lister, Name};
 use feed_text::ObjectText;
 use std::alloc::{AllocError, Global};
 

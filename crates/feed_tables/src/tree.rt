@@ -10,9 +10,9 @@ ghost use Rattle.feed_tables.specs.Unions.{entry_in};
 ghost use Rattle.feed_tables.specs.Walks.{weighed};
 
 use crate::map::Map;
-use crate::name::{Key, Name};
 use crate::scale::Scale;
 use crate::tree::balance::{Growth, grow_left, grow_right, settle, settle_left, settle_right};
+use feed_changes::{Key, Name};
 use std::alloc::{AllocError, Global};
 use std::cmp::Ordering;
 use std::marker::Model;

@@ -3,7 +3,7 @@ use Rattle.std.proofs.Common.{◌≡◌, refl, sym, ap, ◌∙◌, subst, ℕ, �
 use Rattle.std.specs.Prelude.{if◌then◌else◌, ◌==◌, ◌≢◌}
 use Rattle.std.proofs.lemmas.List.{take-append-le}
 use Rattle.feed_settings.specs.Limits.{Limits}
-use Rattle.feed_tables.specs.declared.change.Change.{Change}
+use Rattle.feed_changes.specs.declared.change.Change.{Change}
 use Rattle.feed_note.specs.Texts.{batch_text}
 use Rattle.feed_note.specs.Written.{written, written_line}
 use Rattle.feed_node.specs.declared.session.Pulled.{Pulled}

@@ -3,7 +3,7 @@ use Rattle.std.proofs.Common.{◌≡◌, refl, ℕ, false, arith, List, [], ◌�
 use Rattle.std.specs.Prelude.{◌≢◌}
 use Rattle.std.specs.FinMap.{entries}
 use Rattle.feed_tables.specs.Tables.{Contents, listed, or_clear, listing, size}
-use Rattle.feed_tables.specs.declared.change.Change.{Change}
+use Rattle.feed_changes.specs.declared.change.Change.{Change}
 use Rattle.feed_node.specs.Bounds.{passes}
 use Rattle.feed_node.proofs.Mirrored.{none_large}
 use Rattle.feed_node.proofs.Bounds.{not_under, full_none}

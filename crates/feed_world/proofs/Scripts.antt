@@ -11,9 +11,9 @@ use Rattle.feed_settings.specs.declared.framing.Framing.TheVariants.{Close}
 use Rattle.feed_text.specs.Strings.{written_string}
 use Rattle.feed_tables.specs.Bytes.{byte_order, without}
 use Rattle.feed_tables.specs.Tables.{after}
-use Rattle.feed_tables.specs.declared.change.Change.{Change}
-use Rattle.feed_tables.specs.declared.change.Change.TheVariants.{Set, Remove, Single, Clear}
-use Rattle.feed_note.specs.Texts.{published_text}
+use Rattle.feed_changes.specs.declared.change.Change.{Change}
+use Rattle.feed_changes.specs.declared.change.Change.TheVariants.{Set, Remove, Single, Clear}
+use Rattle.feed_node.specs.Texts.{published_text}
 use Rattle.feed_node.specs.Bounds.{is_full, is_large}
 use Rattle.feed_node.specs.declared.primary.CommitFault.TheVariants.{EmptyBatch}
 use Rattle.feed_node.specs.declared.session.Pulled.TheVariants.{More, UpToDate, Gone}

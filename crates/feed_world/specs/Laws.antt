@@ -3,7 +3,7 @@
 use Rattle.std.specs.Prelude.{◌≡◌, ℕ, ◌+◌, ◌-◌, ◌<◌, ◌≤◌, max, Bool, List, [], ◌∷◌, ◌++◌, length, drop, Option, Some, if◌then◌else◌}
 use Rattle.feed_settings.specs.Limits.{Limits, History}
 use Rattle.feed_settings.specs.declared.framing.Framing.{Framing}
-use Rattle.feed_tables.specs.declared.change.Change.{Change}
+use Rattle.feed_changes.specs.declared.change.Change.{Change}
 use Rattle.feed_node.specs.declared.commit.Commit.{Commit as Batch}
 use Rattle.feed_node.specs.Serving.{commit_after, token_before}
 use Rattle.feed_node.specs.States.{NodeState}

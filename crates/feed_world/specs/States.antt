@@ -25,7 +25,7 @@ use Rattle.feed_node.specs.declared.commit.Commit.{Commit}
 use Rattle.feed_node.specs.Log.{PrimaryState, token_after}
 use Rattle.feed_node.specs.Mirroring.{MirrorState, present_opening, new_mirror, cut_off, refused_off}
 use Rattle.feed_node.specs.States.{NodeState, published_token}
-use Rattle.feed_note.specs.Publishing.{Published}
+use Rattle.feed_node.specs.Publishing.{Published}
 use Rattle.feed_world.specs.Connection.{Connection, sent_bytes, bytes_sent, blocks_come, moved_by}
 use Rattle.feed_world.specs.Log.{Log, IsLog, numbered}
 use Rattle.feed_world.specs.Position.{Position, IsPosition, IsPlaceOfLog, commits_after, node_where}

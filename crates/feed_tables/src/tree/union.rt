@@ -7,9 +7,9 @@ ghost use Rattle.feed_tables.specs.Tree.{with_item};
 ghost use Rattle.feed_tables.specs.Unions.{put_each, entry_in, item_or, AreBefore, AreAfter, AreAt, Stand, Parts};
 ghost use Rattle.feed_tables.specs.Walks.{Scale as ScaleOf, weighed};
 
-use crate::name::Name;
 use crate::scale::Scale;
 use crate::tree::{Fork, Node, Tree};
+use feed_changes::Name;
 use std::cmp::Ordering;
 use std::mem;
 

@@ -1,6 +1,6 @@
 -- What was read so far published no such token.
 use Rattle.std.proofs.Common.{◌≡◌, ◌≢◌, ℕ, List, Some}
-use Rattle.feed_note.specs.Publishing.{Published}
+use Rattle.feed_node.specs.Publishing.{Published}
 use Rattle.feed_note.specs.declared.line.Line.{Line}
 use Rattle.feed_records.specs.Fronts.{IsLeft}
 use Rattle.feed_audit.specs.States.{afresh}

@@ -1,6 +1,6 @@
 -- So many batches were taken from the start and accepted.
 use Rattle.std.proofs.Common.{◌-◌, ◌≡◌, ◌≤◌, List, ◌++◌, length}
-use Rattle.feed_tables.specs.declared.change.Change.{Change}
+use Rattle.feed_changes.specs.declared.change.Change.{Change}
 use Rattle.feed_http.specs.Live.{intake_of, Accepts}
 use Rattle.feed_http.proofs.live.take_turn.Given as goal
 

@@ -1,6 +1,6 @@
 use Rattle.std.proofs.Common.{rules, ◌≡◌, ◌≢◌, Err, refl, sym, ap, ◌∙◌, is_some}
 use Rattle.feed_node.specs.States.{published_token}
-use Rattle.feed_note.specs.Texts.{published_text}
+use Rattle.feed_node.specs.Texts.{published_text}
 use Rattle.feed_commands.proofs.TablesLemmas.{is_some_kept, printed_ok, printed_err, came_of_feeding, feeding_writes_nothing}
 use Rattle.feed_commands.specs.declared.fault.Fault.TheVariants as fault
 use Rattle.feed_commands.proofs.commands.tables.print_tables.Goals as goal

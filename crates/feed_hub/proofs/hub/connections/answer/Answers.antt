@@ -1,5 +1,5 @@
 use Rattle.std.proofs.Common.{rules, ◌<◌, ◌^◌, ◌∙◌, sym, subst, ap, refl, length, Some}
-use Rattle.feed_note.specs.Texts.{published_text}
+use Rattle.feed_node.specs.Texts.{published_text}
 use Rattle.feed_answer.specs.Answered.{parts_of, AnswersTo}
 use Rattle.feed_answer.specs.Served.{opening_text}
 use Rattle.feed_hub.specs.Steps.{opened}

@@ -1,10 +1,10 @@
 use Rattle.std.proofs.Common.{◌≡◌, ◌∷◌, [], ◌++◌, sym, ap, ◌∙◌, subst, append-nil}
 use Rattle.std.proofs.lemmas.Result.{on_err_weaker}
 use Rattle.std.specs.FinMap.{entries}
-use Rattle.feed_tables.specs.Changes.{sets}
+use Rattle.feed_changes.specs.Changes.{sets}
 use Rattle.feed_tables.specs.Listers.{FailsIn}
 use Rattle.feed_tables.specs.Tables.{listed}
-use Rattle.feed_tables.specs.declared.change.Change.TheVariants.{Empty}
+use Rattle.feed_changes.specs.declared.change.Change.TheVariants.{Empty}
 use Rattle.feed_tables.specs.declared.table.Table.{Table}
 use Rattle.feed_tables.proofs.Listers.{on_any_err, takes_one, fails_one, failed_first, failed_here}
 use Rattle.feed_tables.proofs.table.Table.list.Goals as goal

@@ -2,11 +2,11 @@ use Rattle.std.proofs.Common.{◌≡◌, ◌<◌, ap, ◌∙◌, sym, subst, Lis
 use Rattle.std.proofs.lemmas.Result.{on_ok_weaker, on_err_weaker}
 use Rattle.std.specs.FinMap.{entries, len}
 use Rattle.std.specs.List.{All, FoldsTo}
-use Rattle.feed_tables.specs.Changes.{IsChange}
+use Rattle.feed_changes.specs.Changes.{IsChange}
 use Rattle.feed_tables.specs.Listers.{FailsIn}
 use Rattle.feed_tables.specs.Tables.{Contents, Tables, AreTypes, listed, listing}
-use Rattle.feed_tables.specs.declared.change.Change.{Change}
-use Rattle.feed_tables.specs.declared.change.Change.TheVariants.{Clear}
+use Rattle.feed_changes.specs.declared.change.Change.{Change}
+use Rattle.feed_changes.specs.declared.change.Change.TheVariants.{Clear}
 use Rattle.feed_tables.proofs.Listers.{takes_one, fails_one}
 use Rattle.feed_tables.proofs.Listing.{listing_of_some, listing_of_none}
 use Rattle.feed_tables.proofs.Within.{listing_within, clear_within}

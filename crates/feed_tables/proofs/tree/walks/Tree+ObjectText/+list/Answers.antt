@@ -1,7 +1,7 @@
 use Rattle.std.proofs.Common.{[], ◌∷◌}
 use Rattle.std.proofs.lemmas.Result.{on_ok_weaker, on_err_weaker}
-use Rattle.feed_tables.specs.Changes.{sets}
-use Rattle.feed_tables.specs.declared.change.Change.TheVariants.{Set}
+use Rattle.feed_changes.specs.Changes.{sets}
+use Rattle.feed_changes.specs.declared.change.Change.TheVariants.{Set}
 use Rattle.feed_tables.proofs.Listers.{on_any_err, takes_one, fails_one, took_whole, failed_first, failed_here, failed_rest, parts_are, sets_at}
 use Rattle.feed_tables.proofs.Within.{objects_at}
 use Rattle.feed_tables.proofs.tree.walks.Tree+ObjectText.+list.Goals as goal

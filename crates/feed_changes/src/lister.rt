@@ -1,9 +1,9 @@
 //! What takes the changes that make tables.
 
 ghost use Rattle.std.specs.Prelude.{◌≡◌, codes, OnOk, OnErr};
-ghost use Rattle.feed_tables.specs.declared.change.Change.{Change};
-ghost use Rattle.feed_tables.specs.declared.change.Change.TheVariants.{Set, Empty, Single, Clear};
-ghost use Rattle.feed_tables.specs.Changes.{with_change};
+ghost use Rattle.feed_changes.specs.declared.change.Change.{Change};
+ghost use Rattle.feed_changes.specs.declared.change.Change.TheVariants.{Set, Empty, Single, Clear};
+ghost use Rattle.feed_changes.specs.Changes.{with_change};
 
 use crate::change::{Change, Changes};
 use crate::name::Name;

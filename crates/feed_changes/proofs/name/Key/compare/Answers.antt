@@ -1,6 +1,6 @@
 use Rattle.std.proofs.Common.{arith, sym}
-use Rattle.feed_tables.proofs.Heads.{before, after}
-use Rattle.feed_tables.proofs.name.Key.compare.Goals as goal
+use Rattle.feed_changes.proofs.Heads.{before, after}
+use Rattle.feed_changes.proofs.name.Key.compare.Goals as goal
 
 pub returns-then-self-name : goal.returns-then-self-name
 returns-then-self-name c =

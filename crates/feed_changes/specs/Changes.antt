@@ -1,9 +1,9 @@
 -- What a notification does (CLICS Contest API 2023-06, notification format).
-use Rattle.std.specs.Prelude.{ℕ, List, [], ◌∷◌, ◌++◌, map}
+use Rattle.std.specs.Prelude.{ℕ, ◌+◌, List, [], ◌∷◌, ◌++◌, map, length}
 use Rattle.feed_text.specs.Objects.{IsObjectText}
-use Rattle.feed_tables.specs.Names.{IsName}
-use Rattle.feed_tables.specs.declared.change.Change.{Change}
-use Rattle.feed_tables.specs.declared.change.Change.TheVariants.{Set, Remove, Empty, Single, Clear}
+use Rattle.feed_changes.specs.Names.{IsName}
+use Rattle.feed_changes.specs.declared.change.Change.{Change}
+use Rattle.feed_changes.specs.declared.change.Change.TheVariants.{Set, Remove, Empty, Single, Clear}
 
 -- the type that a change is about
 abbrev pub type_of : Change → List ℕ
@@ -20,6 +20,14 @@ IsChange (Remove kind id) = IsName kind × IsName id
 IsChange (Empty kind) = IsName kind
 IsChange (Single kind object) = IsName kind × IsObjectText object
 IsChange (Clear kind) = IsName kind
+
+-- the object that a change puts in, with its names; none where it puts in no object
+abbrev pub change_bytes : Change → ℕ
+change_bytes (Set kind id object) = length kind + length id + length object
+change_bytes (Remove kind id) = 0
+change_bytes (Empty kind) = 0
+change_bytes (Single kind object) = length kind + length object
+change_bytes (Clear kind) = 0
 
 -- one Set for each object of a collection, in the order of the entries
 abbrev pub sets : List ℕ → List (List ℕ × List ℕ) → List Change

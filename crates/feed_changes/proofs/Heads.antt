@@ -7,10 +7,9 @@ use Rattle.std.proofs.lemmas.Bool.{cases_lt, cases_order, and_parts}
 use Rattle.std.proofs.lemmas.Str.{encode_ascii}
 use Rattle.std.proofs.Math.Nat.{mul-le-mul_right}
 use lib.Utf8.{scalar, scalars, encode, encodes, next, scalar_cases}
-use Rattle.feed_tables.specs.Bytes.{byte_order}
-use Rattle.feed_tables.specs.NameTexts.{head_of}
-use Rattle.feed_tables.proofs.Entries.{later}
-use Rattle.feed_tables.proofs.Order.{total}
+use Rattle.feed_changes.specs.ByteOrder.{byte_order}
+use Rattle.feed_changes.specs.NameTexts.{head_of}
+use Rattle.feed_changes.proofs.Order.{total, later}
 
 -- ---- a text's bytes
 

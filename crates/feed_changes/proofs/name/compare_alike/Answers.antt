@@ -1,6 +1,6 @@
 use Rattle.std.proofs.Common.{arith, sym, ◌∙◌}
-use Rattle.feed_tables.proofs.Heads.{by_length}
-use Rattle.feed_tables.proofs.name.compare_alike.Goals as goal
+use Rattle.feed_changes.proofs.Heads.{by_length}
+use Rattle.feed_changes.proofs.name.compare_alike.Goals as goal
 
 pub returns-then-other-le8 : goal.returns-then-other-le8
 returns-then-other-le8 c =

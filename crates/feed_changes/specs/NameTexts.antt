@@ -2,8 +2,8 @@
 use Rattle.std.specs.Prelude.{ℕ, List}
 use Rattle.std.specs.Int.{w64, from_be_bytes}
 use Rattle.std.specs.Rc.{rc_str_bytes}
-use Rattle.feed_tables.specs.declared.name.Text.{Text}
-use Rattle.feed_tables.specs.declared.name.Text.TheVariants.{Short, Long}
+use Rattle.feed_changes.specs.declared.name.Text.{Text}
+use Rattle.feed_changes.specs.declared.name.Text.TheVariants.{Short, Long}
 
 abbrev pub bytes_of : Text → List ℕ
 bytes_of (Short text) = text

@@ -1,6 +1,6 @@
 use Rattle.std.proofs.Common.{arith, sym}
-use Rattle.feed_tables.proofs.Heads.{before, after}
-use Rattle.feed_tables.proofs.name.Name.compare.Goals as goal
+use Rattle.feed_changes.proofs.Heads.{before, after}
+use Rattle.feed_changes.proofs.name.Name.compare.Goals as goal
 
 pub returns-then-self-other : goal.returns-then-self-other
 returns-then-self-other c =

@@ -1,0 +1,4 @@
+pub mod ByteOrder
+pub mod Changes
+pub mod NameTexts
+pub mod Names
