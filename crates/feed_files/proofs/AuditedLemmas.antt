@@ -7,7 +7,7 @@ use Rattle.feed_node.specs.Steps.{ReadingIsOne}
 use Rattle.feed_node.specs.States.{NodeState}
 use Rattle.feed_world.specs.Log.{Log}
 use Rattle.feed_world.specs.Position.{Position, IsPlaceOfLog, node_where}
-use Rattle.feed_hub.specs.Files.{FilesRestore}
+use Rattle.feed_laws.specs.Files.{FilesRestore}
 use Rattle.feed_audit.specs.States.{IsStateOf, StatesArePublished, published_after}
 use Rattle.feed_files.specs.Audited.{state_at, FilesAreOfLog, FilesAgree}
 

@@ -1,7 +1,7 @@
 -- What is left of state files is honest.
 use Rattle.std.proofs.Common.{refl, sym, ap, ◌∙◌, subst, ◌++◌, append_assoc}
 use Rattle.feed_node.specs.Mirroring.{StandsAt, Faulted}
-use Rattle.feed_hub.specs.Files.{FilesRestore, FilesFollow}
+use Rattle.feed_laws.specs.Files.{FilesRestore, FilesFollow}
 use Rattle.feed_files.specs.Laws.{FilesAreHonest, FilesGoOnHonestly}
 
 pub files_are_honest : FilesRestore → FilesAreHonest

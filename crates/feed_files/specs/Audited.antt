@@ -4,7 +4,7 @@ use Rattle.feed_settings.specs.Limits.{Limits}
 use Rattle.feed_node.specs.Publishing.{Published}
 use Rattle.feed_node.specs.States.{NodeState}
 use Rattle.feed_world.specs.Log.{Log, IsLog, state_after}
-use Rattle.feed_hub.specs.Laws.{AreInLog}
+use Rattle.feed_laws.specs.Laws.{AreInLog}
 use Rattle.feed_hub.specs.Record.{IsRecorded}
 use Rattle.feed_hub.specs.declared.record.Record.{Record}
 use Rattle.feed_audit.specs.States.{IsStateOf, AgreesWith}

@@ -3,7 +3,7 @@
 ghost use Rattle.feed_files.specs.Audited.{FilesAreOfLog, FilesAgree};
 
 use feed_audit::state_laws;
-use feed_hub::hub_laws;
+use feed_laws::hub_laws;
 use feed_node::reading_laws;
 
 /// Each state of a relay's state file, and of any beginning of it, is one of the log that the relay

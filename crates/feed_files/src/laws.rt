@@ -2,7 +2,7 @@
 
 ghost use Rattle.feed_files.specs.Laws.{FilesAreHonest, FilesGoOnHonestly};
 
-use feed_hub::hub_laws;
+use feed_laws::hub_laws;
 
 /// What is left of a state file, up to any byte, is an honest input to a mirror that has published
 /// nothing; and one that goes on from a former file to a mirror that was fed any prefix of that.

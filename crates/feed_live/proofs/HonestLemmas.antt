@@ -13,12 +13,12 @@ use Rattle.feed_answer.specs.Answered.{AnswerParts}
 use Rattle.feed_world.specs.Log.{Log}
 use Rattle.feed_world.specs.Position.{Position}
 use Rattle.feed_world.specs.Reading.{opening_at}
-use Rattle.feed_hub.specs.Follows.{FollowsInLog}
-use Rattle.feed_hub.specs.Laws.{IsInLog, ShowsState, ScreensShowStates}
+use Rattle.feed_laws.specs.Follows.{FollowsInLog}
+use Rattle.feed_laws.specs.Laws.{IsInLog, ShowsState, ScreensShowStates}
 use Rattle.feed_live.specs.Laws.{RelaysShowTheLog, FollowedIsHonest, InputShowsTheLog, ShownIsHonest, SentIsHonest}
 use Rattle.feed_live.specs.States.{states_of}
 use Rattle.feed_live.specs.Upstream.{StaysInLog}
-use Rattle.feed_screens.proofs.ServingLemmas.{sockets_are_faithful}
+use Rattle.feed_live.proofs.ScreenLemmas.{sockets_are_faithful}
 use Rattle.feed_live.proofs.StateLemmas.{states_in_log, states_within, honest_however}
 
 pub begins : (before behind text : List ℕ) → before ++ behind ≡ text → take (length before) text ≡ before

@@ -2,6 +2,7 @@ pub mod SourceLemmas
 pub mod StateLemmas
 pub mod RelayLemmas
 pub mod TurnLemmas
+pub mod ScreenLemmas
 pub mod HonestLemmas
 pub mod NoFeedLemmas
 pub mod FullLemmas

@@ -18,14 +18,14 @@ use Rattle.feed_wire.proofs.AskedLemmas.{one_request}
 use Rattle.httparse.proofs.GrammarLemmas.{ReadsRequest-append}
 use Rattle.feed_world.specs.Log.{Log, IsLog}
 use Rattle.feed_world.specs.Position.{Position, IsPlaceOfLog, node_where}
-use Rattle.feed_hub.proofs.FollowLemmas.{held_among}
-use Rattle.feed_hub.specs.Follows.{MayAskWith}
-use Rattle.feed_hub.specs.Laws.{IsInLog, AreInLog}
+use Rattle.feed_laws.proofs.FollowLemmas.{held_among}
+use Rattle.feed_laws.specs.Follows.{MayAskWith}
+use Rattle.feed_laws.specs.Laws.{IsInLog, AreInLog}
 use Rattle.feed_hub.specs.Screen.{pending, token_at}
 use Rattle.feed_hub.specs.Told.{IsDue}
 use Rattle.feed_device.specs.Links.{Exchange}
 use Rattle.feed_device.specs.Sockets.{traffic_of}
-use Rattle.feed_screens.specs.Laws.{HandedIsFollowed}
+use Rattle.feed_live.specs.ScreenLaws.{HandedIsFollowed}
 use Rattle.feed_live.specs.Laws.{RelaysShowTheLog, ShowsTheLog}
 use Rattle.feed_live.specs.Network.{Relay, Network, IsOfNetwork, inside, outside, OthersStay, IsRelayNetwork, no_relays, one_starts, one_turns, NetworksShowTheLog, RelayedIsHonest, RequestsAreMeant}
 use Rattle.feed_live.specs.Relaying.{IsRelaying}

@@ -14,7 +14,7 @@ use Rattle.feed_wire.specs.Answer.{refusal_code, refusal_head, refusal_text}
 use Rattle.feed_answer.specs.Carried.{refusal_at}
 use Rattle.feed_answer.specs.FollowLaws.{StandsOnly, RefusalsAreFollowed}
 use Rattle.feed_world.specs.Log.{Log}
-use Rattle.feed_hub.specs.Laws.{IsInLog}
+use Rattle.feed_laws.specs.Laws.{IsInLog}
 use Rattle.feed_live.specs.Upstream.{StaysInLog}
 use Rattle.feed_live.proofs.HonestLemmas.{begins}
 

@@ -20,7 +20,7 @@ use Rattle.feed_world.specs.Log.{Log, state_after, tokens_of}
 use Rattle.feed_world.specs.Position.{Position, node_at, commits_after}
 use Rattle.feed_world.proofs.Commits.{light_here}
 use Rattle.feed_hub.specs.declared.hub.Hub.{Hub}
-use Rattle.feed_hub.specs.Laws.{IsInLog}
+use Rattle.feed_laws.specs.Laws.{IsInLog}
 use Rattle.feed_hub.specs.Upstream.{IsFollowing, IsPushed}
 use Rattle.feed_device.specs.Links.{Exchange, Exchanges, Shown, nothing_shown, once_at, all_from, shown_first, shown_so, one_more, asked_more, received_more}
 use Rattle.feed_device.specs.Sockets.{AllSockets}

@@ -8,7 +8,7 @@ use Rattle.feed_node.specs.States.{NodeState, nothing_published}
 use Rattle.feed_follow.specs.declared.fault.FollowFault.{FollowFault}
 use Rattle.feed_world.specs.Log.{Log}
 use Rattle.feed_world.specs.Position.{Position, commits_after, node_at}
-use Rattle.feed_hub.specs.Laws.{IsInLog, AreInLog}
+use Rattle.feed_laws.specs.Laws.{IsInLog, AreInLog}
 use Rattle.feed_node.specs.Mirroring.{MirrorState}
 use Rattle.feed_device.specs.Links.{Shown, nothing_shown, once_at, all_from}
 use Rattle.feed_live.specs.States.{unless_heavy, states_at, states_to, states_of}

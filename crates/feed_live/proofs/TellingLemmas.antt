@@ -19,7 +19,7 @@ use Rattle.feed_world.specs.Log.{Log, IsNamed}
 use Rattle.feed_world.specs.Position.{Position, IsPlaceOfLog}
 use Rattle.feed_world.specs.Reading.{opening_at}
 use Rattle.feed_world.specs.Telling.{Tells, TellsShow, told_to}
-use Rattle.feed_hub.specs.Laws.{IsInLog}
+use Rattle.feed_laws.specs.Laws.{IsInLog}
 use Rattle.feed_device.specs.Links.{Exchange}
 use Rattle.feed_live.specs.Upstream.{AsksInLog}
 use Rattle.feed_live.proofs.StateLemmas.{honest_however}

@@ -9,7 +9,7 @@ use Rattle.feed_node.specs.Mirroring.{MirrorState}
 use Rattle.feed_node.specs.States.{NodeState, published_token}
 use Rattle.feed_world.specs.Log.{Log}
 use Rattle.feed_hub.specs.declared.hub.Hub.{Hub}
-use Rattle.feed_hub.specs.Laws.{IsInLog}
+use Rattle.feed_laws.specs.Laws.{IsInLog}
 use Rattle.feed_device.specs.Calls.{CalledAtLeastOnce}
 use Rattle.feed_device.specs.Links.{Exchanges}
 use Rattle.feed_device.specs.Sockets.{AllSockets}

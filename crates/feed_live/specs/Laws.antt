@@ -11,8 +11,8 @@ use Rattle.feed_world.specs.Laws.{opened_text}
 use Rattle.feed_world.specs.Log.{Log, IsLog}
 use Rattle.feed_world.specs.Position.{Position, IsPlaceOfLog}
 use Rattle.feed_world.specs.Reading.{opening_at}
-use Rattle.feed_hub.specs.Follows.{HasAskedSo, FollowsInLog}
-use Rattle.feed_hub.specs.Laws.{IsInLog, AreInLog, ShowsState}
+use Rattle.feed_laws.specs.Follows.{HasAskedSo, FollowsInLog}
+use Rattle.feed_laws.specs.Laws.{IsInLog, AreInLog, ShowsState}
 use Rattle.feed_hub.specs.Told.{Told}
 use Rattle.feed_device.specs.Links.{Exchange, Exchanges}
 use Rattle.feed_live.specs.declared.turn.Live.{Live}

@@ -1,5 +1,6 @@
 pub mod Answering
 pub mod Laws
+pub mod ScreenLaws
 pub mod Network
 pub mod States
 pub mod Upstream

@@ -10,7 +10,7 @@ use Rattle.feed_follow.specs.Follower.{FollowerState, FollowsAt}
 use Rattle.feed_follow.specs.Standing.{Standing}
 use Rattle.feed_world.specs.Log.{Log}
 use Rattle.feed_hub.specs.declared.hub.Hub.{Hub}
-use Rattle.feed_hub.specs.Laws.{IsInLog}
+use Rattle.feed_laws.specs.Laws.{IsInLog}
 use Rattle.feed_hub.specs.Upstream.{next_place, counted_on, asked_next, later}
 use Rattle.feed_device.specs.Links.{Exchange, Exchanges, Shown, nothing_shown, once_at, all_from, shown_so}
 use Rattle.feed_device.specs.Sockets.{AllSockets}

@@ -7,7 +7,7 @@ use Rattle.feed_node.specs.declared.fault.FeedFault.{FeedFault}
 use Rattle.feed_node.specs.Mirroring.{MirrorState, new_mirror}
 use Rattle.feed_node.specs.States.{NodeState}
 use Rattle.feed_world.specs.Log.{Log, IsLog}
-use Rattle.feed_hub.specs.Laws.{AreInLog}
+use Rattle.feed_laws.specs.Laws.{AreInLog}
 use Rattle.feed_device.specs.Calls.{CalledOnce}
 use Rattle.feed_device.specs.Files.{StateFiles, IsKnown}
 use Rattle.feed_device.specs.Links.{Exchanges}

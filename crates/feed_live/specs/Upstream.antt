@@ -18,8 +18,8 @@ use Rattle.feed_wire.specs.RequestText.{request_text_as}
 use Rattle.feed_world.specs.Log.{Log, state_after}
 use Rattle.feed_world.specs.Position.{Position, IsPlaceOfLog}
 use Rattle.feed_world.specs.States.{HasAsked}
-use Rattle.feed_hub.specs.Follows.{MayAskWith}
-use Rattle.feed_hub.specs.Laws.{IsInLog}
+use Rattle.feed_laws.specs.Follows.{MayAskWith}
+use Rattle.feed_laws.specs.Laws.{IsInLog}
 use Rattle.feed_device.specs.Links.{Exchange, Exchanges, Shown, nothing_shown, once_at, all_from}
 
 -- the mirror is at a place of the log, and has the token of that to ask with, or none

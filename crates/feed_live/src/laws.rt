@@ -2,17 +2,29 @@
 
 ghost use Rattle.feed_live.specs.Laws.{RelaysShowTheLog, FollowedIsHonest};
 ghost use Rattle.feed_live.specs.Laws.{InputShowsTheLog, ShownIsHonest, SentIsHonest};
+ghost use Rattle.feed_live.specs.ScreenLaws.{SocketsAreFaithful, HandedIsFollowed};
+ghost use Rattle.feed_screens.specs.Owed.{OwesAlwaysWhatIsKept};
 ghost use Rattle.feed_live.specs.Examples.{TheirFeedIsHonest, TheirReplayEnds};
 ghost use Rattle.feed_live.specs.Network.{NetworksShowTheLog, RelayedIsHonest, RequestsAreMeant};
 ghost use Rattle.feed_live.specs.Telling.{MeaningTells, ToldIsHonest, TellingIsHonest, FeedIsHonest, ReplayIsHonest, TokenedIsHonest};
 
 use feed_answer::{answer_laws, followed_laws};
 use feed_follow::{carry_laws, follow_laws};
-use feed_hub::hub_laws;
+use feed_laws::hub_laws;
 use feed_node::reading_laws;
 use feed_note::{line_laws, written_lines_law};
-use feed_screens::screen_laws;
 use feed_world::telling_laws;
+
+/// What was written to a socket is a prefix of what is due to it, and what a screen was handed
+/// leaves a mirror that reads any prefix of it at a place of the log. What counts as owed to
+/// screens is what connections have yet to take.
+pub fn screen_laws()
+    ensures sockets { SocketsAreFaithful }
+    ensures handed { HandedIsFollowed }
+    ensures owed { OwesAlwaysWhatIsKept }
+{
+    hub_laws();
+}
 
 /// A relay whose servers are honest shows states of the log, and what it writes to each socket is
 /// faithful to those. What is followed so is an honest response again. The same holds of a relay

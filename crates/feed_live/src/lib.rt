@@ -27,7 +27,7 @@ pub use feed_figures::{Failure, FeedFigures, Following, LONG_WAIT, Reason};
 pub use feed_files::{FileFigures, Restored, restore};
 pub use feed_screens::{ScreenFigures, ScreenLimits, ScreenRow, ScreenTotals};
 pub use host::{Given, Host};
-pub use laws::{foreign_laws, live_laws, network_laws};
+pub use laws::{foreign_laws, live_laws, network_laws, screen_laws};
 pub use options::{LiveLimits, Setup, Start};
 pub use running::{RunFault, run};
 pub use starting::restore_from;

@@ -4,7 +4,7 @@ ghost use Rattle.std.specs.Prelude.{◌≡◌, List, ℕ, Some, [], true, IfOk, 
 ghost use Rattle.feed_node.specs.Mirroring.{new_mirror};
 ghost use Rattle.feed_node.specs.States.{NodeState};
 ghost use Rattle.feed_world.specs.Log.{Log, IsLog};
-ghost use Rattle.feed_hub.specs.Laws.{IsInLog, AreInLog};
+ghost use Rattle.feed_laws.specs.Laws.{IsInLog, AreInLog};
 ghost use Rattle.feed_live.specs.Running.{BeginsInLog, AreFilesOfLog, BeginsAsSetUp, CountsHostFault};
 ghost use Rattle.feed_files.specs.Saved.{ArePartsOfRecords, EndsAsRecorded, OrNothing};
 

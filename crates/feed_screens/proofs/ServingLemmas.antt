@@ -24,7 +24,6 @@ use Rattle.feed_screens.specs.declared.screens.Screens.{Screens}
 use Rattle.feed_screens.specs.declared.screens.Hearing.{Hearing}
 use Rattle.feed_device.specs.Sockets.{Socket, Traffic, AllSockets, IsSocket, IsUnused, opened, closed, traffic_of, with_current, former_of, goes_on_with, came_to, written_to, on_current, GivesBytes, IsWrite, SameSockets, OtherSockets}
 use Rattle.feed_screens.specs.Held.{answerer}
-use Rattle.feed_screens.specs.Laws.{SocketsAreFaithful}
 use Rattle.feed_screens.specs.Serving.{IsAnswerOf, WasServed, IsFaithful, WasFaithful, WereFaithful, nothing, refused, served, IsSent, Sits, asks, watches, cut, key_of, key_at, SocketStands, ServesScreens, SameKeys, LeavesSeat, keyless, IsGreeted, SameSeating, full_text, ServesBut, HearsSo, HearsSome, HearsAll}
 
 -- ---- numbers and keys
@@ -339,7 +338,7 @@ stands_current nodes contest hub None known stands = subst (λ c. IfSome c (WasF
 stands_current nodes contest hub (Some None) known stands = sent_current known stands
 stands_current nodes contest hub (Some (Some key)) known stands = sent_current known (sent_of stands)
 
-stands_all : (nodes : List NodeState) (contest : List ℕ) (hub : Hub) (held : Option (Option Key)) (known : Socket) → SocketStands nodes contest hub held (Some known) → WereFaithful nodes contest (Some known)
+pub stands_all : (nodes : List NodeState) (contest : List ℕ) (hub : Hub) (held : Option (Option Key)) (known : Socket) → SocketStands nodes contest hub held (Some known) → WereFaithful nodes contest (Some known)
     → AllByRecursion (WasFaithful nodes contest) (traffic_of known)
 stands_all nodes contest hub held known stands were = current_faithful nodes contest known.current known.former (stands_current nodes contest hub held known stands) were
 
@@ -887,7 +886,3 @@ serving_none {nodes} {contest} hub conns sockets empty unused =
       one = λ at other key is _. let no : None ≡ Some (Some key) = sym (ap key_of (empty at)) ∙ is in absurd (cc);
       below = λ at key is. let no : None ≡ Some (Some key) = sym (ap key_of (empty at)) ∙ is in absurd (cc);
     }
-
-pub sockets_are_faithful : SocketsAreFaithful
-sockets_are_faithful nodes contest hub conns sockets at socket serving is =
-    stands_all nodes contest hub (key_at conns at) socket (subst (SocketStands nodes contest hub (key_at conns at)) is (serving.each at)) (subst (WereFaithful nodes contest) is (serving.former at))

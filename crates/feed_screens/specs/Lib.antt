@@ -5,4 +5,3 @@ pub mod Seating
 pub mod Counting
 pub mod Pending
 pub mod Owed
-pub mod Laws

@@ -10,13 +10,11 @@ mod conn;
 mod counts;
 mod figures;
 mod hand;
-mod laws;
 mod limits;
 mod saying;
 mod screens;
 mod times;
 
 pub use figures::{ScreenFigures, ScreenRow, ScreenTotals};
-pub use laws::screen_laws;
 pub use limits::ScreenLimits;
 pub use screens::{Answers, Screens, Shown};

@@ -4,7 +4,7 @@
 
 ghost use Rattle.std.specs.Prelude.{◌≡◌, List, ℕ, IfSome, None};
 ghost use Rattle.std.specs.Option.{option_copied};
-ghost use Rattle.feed_hub.specs.Follows.{MayAskWith};
+ghost use Rattle.feed_laws.specs.Follows.{MayAskWith};
 ghost use Rattle.feed_live.specs.Upstream.{asked_with};
 
 use crate::source::Source;

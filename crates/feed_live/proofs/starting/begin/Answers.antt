@@ -1,6 +1,6 @@
 use Rattle.std.proofs.Common.{◌∙◌, None, [], refl, sym, ap, subst}
 use Rattle.feed_world.specs.Log.{Log}
-use Rattle.feed_hub.specs.Laws.{IsInLog}
+use Rattle.feed_laws.specs.Laws.{IsInLog}
 use Rattle.feed_device.specs.Files.{StateFiles, IsKnown}
 use Rattle.feed_live.specs.Running.{servers_of_setup}
 use Rattle.feed_live.specs.Taking.{IsTakingInput}

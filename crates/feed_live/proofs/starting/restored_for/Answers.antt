@@ -1,6 +1,6 @@
 use Rattle.std.proofs.Common.{◌∙◌, None, ap, refl, sym, subst, true≢false}
 use Rattle.feed_node.specs.Mirroring.{MirrorState}
-use Rattle.feed_hub.specs.Laws.{IsInLog}
+use Rattle.feed_laws.specs.Laws.{IsInLog}
 use Rattle.feed_live.proofs.starting.restored_for.Goals as goal
 
 pub returns-then-reads_files : goal.returns-then-reads_files

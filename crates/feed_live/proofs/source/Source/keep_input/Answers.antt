@@ -1,6 +1,6 @@
 use Rattle.std.proofs.Common.{◌≡◌, sym, ap, ◌∙◌, subst, ◌++◌}
 use Rattle.feed_node.specs.Mirroring.{cut_off}
-use Rattle.feed_hub.specs.Laws.{IsInLog}
+use Rattle.feed_laws.specs.Laws.{IsInLog}
 use Rattle.feed_files.proofs.InputLemmas.{takes_so}
 use Rattle.feed_live.proofs.InputLemmas.{shows_kept, stops_cut, when_ok}
 use Rattle.feed_live.proofs.RelayLemmas.{shows_at}

@@ -9,7 +9,7 @@ use Rattle.feed_wire.specs.Framed.{frame}
 use Rattle.feed_world.specs.Laws.{opened_text}
 use Rattle.feed_hub.specs.Screen.{token_at}
 use Rattle.feed_hub.specs.Told.{Told, told_none, told_commit, told_line_feed, IsGoing, IsDue}
-use Rattle.feed_hub.specs.Laws.{DueIsResponse, ServedGrows}
+use Rattle.feed_laws.specs.Laws.{DueIsResponse, ServedGrows}
 
 pub due_is_response : DueIsResponse
 due_is_response log answer texts fresh k e =

@@ -7,8 +7,8 @@ use Rattle.feed_node.specs.Mirroring.{MirrorState}
 use Rattle.feed_node.specs.States.{NodeState}
 use Rattle.feed_world.specs.Log.{Log, IsLog}
 use Rattle.feed_hub.specs.declared.hub.Hub.{Hub}
-use Rattle.feed_hub.specs.Follows.{HasAskedSo, FollowsInLog}
-use Rattle.feed_hub.specs.Laws.{AreInLog}
+use Rattle.feed_laws.specs.Follows.{HasAskedSo, FollowsInLog}
+use Rattle.feed_laws.specs.Laws.{AreInLog}
 use Rattle.feed_screens.specs.declared.conn.Conn.{Conn}
 use Rattle.feed_screens.specs.Serving.{WasServed, WasFaithful, ServesScreens}
 use Rattle.feed_device.specs.Sockets.{Socket, AllSockets, traffic_of}

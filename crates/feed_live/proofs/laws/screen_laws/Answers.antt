@@ -1,6 +1,6 @@
-use Rattle.feed_screens.proofs.ServingLemmas.{sockets_are_faithful}
+use Rattle.feed_live.proofs.ScreenLemmas.{sockets_are_faithful}
 use Rattle.feed_screens.proofs.OwedLemmas.{owes_what_is_kept}
-use Rattle.feed_screens.proofs.laws.screen_laws.Goals as goal
+use Rattle.feed_live.proofs.laws.screen_laws.Goals as goal
 
 pub returns-clause-sockets : goal.returns-clause-sockets
 returns-clause-sockets c = sockets_are_faithful

@@ -1,5 +1,5 @@
-use Rattle.feed_hub.proofs.ConnectionLemmas.{nodes_followed, primaries_followed, broken_off_followed}
-use Rattle.feed_hub.proofs.connections.connection_laws.Goals as goal
+use Rattle.feed_laws.proofs.ConnectionLemmas.{nodes_followed, primaries_followed, broken_off_followed}
+use Rattle.feed_laws.proofs.connections.connection_laws.Goals as goal
 
 pub returns-clause-nodes : goal.returns-clause-nodes
 returns-clause-nodes c =

@@ -17,8 +17,8 @@ use Rattle.feed_http.specs.Live.{Intake, HasSent, SendsLive, WroteLive, WroteRef
 use Rattle.feed_http.specs.Serving.{Serves}
 use Rattle.feed_http.specs.Sessions.{Commit_after, next}
 use Rattle.feed_world.specs.Log.{Log, IsLog}
-use Rattle.feed_hub.specs.Follows.{HasAskedSo, FollowsInLog, ArrivesInLog}
-use Rattle.feed_hub.specs.Laws.{StandsInLog}
+use Rattle.feed_laws.specs.Follows.{HasAskedSo, FollowsInLog, ArrivesInLog}
+use Rattle.feed_laws.specs.Laws.{StandsInLog}
 
 -- Whatever prefix of the text came to the mirror, in any pieces, it shows nothing or a state of the
 -- log at its token. With all of it, after a 200 whose session kept its token, it is as far as the

@@ -20,7 +20,7 @@ use Rattle.feed_world.specs.Step.{IsForMemory}
 use Rattle.feed_hub.specs.declared.screen.Screen.{Screen}
 use Rattle.feed_hub.specs.Backlog.{Backlog}
 use Rattle.feed_hub.specs.Screen.{pending, token_at, IsServed}
-use Rattle.feed_hub.specs.Laws.{IsInLog, StandsInLog, AreInLog}
+use Rattle.feed_laws.specs.Laws.{IsInLog, StandsInLog, AreInLog}
 
 -- What a mirror may ask with: a token that it holds, its newest or one before that; or with none,
 -- where it asks for everything.

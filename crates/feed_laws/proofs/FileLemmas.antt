@@ -18,8 +18,8 @@ use Rattle.feed_world.specs.Reading.{opening_at}
 use Rattle.feed_hub.specs.declared.record.Record.{Record}
 use Rattle.feed_hub.specs.Told.{Told}
 use Rattle.feed_hub.specs.Record.{IsRecorded}
-use Rattle.feed_hub.specs.Laws.{IsInLog, AreInLog, ShowsState, ReachesState, ScreensShowStates, ScreensReach}
-use Rattle.feed_hub.specs.Files.{RestoresInLog, ReadsOnInLog, FilesRestore, FilesReach}
+use Rattle.feed_laws.specs.Laws.{IsInLog, AreInLog, ShowsState, ReachesState, ScreensShowStates, ScreensReach}
+use Rattle.feed_laws.specs.Files.{RestoresInLog, ReadsOnInLog, FilesRestore, FilesReach}
 
 -- ---- bytes of which each prefix shows a state of the log
 

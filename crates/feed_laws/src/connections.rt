@@ -1,6 +1,6 @@
 //! What a mirror makes of what was written for its request on one connection.
 
-ghost use Rattle.feed_hub.specs.Connections.{NodesAreFollowed, PrimariesAreFollowed, BrokenOffIsFollowed};
+ghost use Rattle.feed_laws.specs.Connections.{NodesAreFollowed, PrimariesAreFollowed, BrokenOffIsFollowed};
 
 use crate::laws::hub_laws;
 use feed_answer::followed_laws;

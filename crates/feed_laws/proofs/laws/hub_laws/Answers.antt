@@ -1,11 +1,11 @@
-use Rattle.feed_hub.proofs.LawLemmas.{screens_connect, screens_show, screens_reach, screens_follow}
-use Rattle.feed_hub.proofs.OpeningLemmas.{due_is_response, served_grows}
-use Rattle.feed_hub.proofs.FileLemmas.{files_restore, files_reach}
-use Rattle.feed_hub.proofs.FileBegins.{files_begin}
-use Rattle.feed_hub.proofs.FileBreaks.{files_break_off}
-use Rattle.feed_hub.proofs.TwoFiles.{files_follow, files_follow_on}
-use Rattle.feed_hub.proofs.FollowLemmas.{screens_are_safe, screens_arrive}
-use Rattle.feed_hub.proofs.laws.hub_laws.Goals as goal
+use Rattle.feed_laws.proofs.LawLemmas.{screens_connect, screens_show, screens_reach, screens_follow}
+use Rattle.feed_laws.proofs.OpeningLemmas.{due_is_response, served_grows}
+use Rattle.feed_laws.proofs.FileLemmas.{files_restore, files_reach}
+use Rattle.feed_laws.proofs.FileBegins.{files_begin}
+use Rattle.feed_laws.proofs.FileBreaks.{files_break_off}
+use Rattle.feed_laws.proofs.TwoFiles.{files_follow, files_follow_on}
+use Rattle.feed_laws.proofs.FollowLemmas.{screens_are_safe, screens_arrive}
+use Rattle.feed_laws.proofs.laws.hub_laws.Goals as goal
 
 pub returns-clause-connections : goal.returns-clause-connections
 returns-clause-connections c = screens_connect c.sending_laws.ensures.commits c.sending_laws.ensures.order

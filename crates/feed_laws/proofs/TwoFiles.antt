@@ -37,10 +37,10 @@ use Rattle.feed_world.specs.Reading.{opening_at, IsOpened, PrefixIsRead, SentIsR
 use Rattle.feed_hub.specs.declared.record.Record.{Record}
 use Rattle.feed_hub.specs.Told.{Told}
 use Rattle.feed_hub.specs.Record.{IsRecorded}
-use Rattle.feed_hub.specs.Laws.{AreInLog, StandInOrder, ShowsState, ScreensShowStates}
-use Rattle.feed_hub.specs.Files.{ReachesOn, FollowsFile, FilesFollow, FilesFollowOn}
-use Rattle.feed_hub.proofs.LawLemmas.{screens_connect, connection, its_text, is_opened}
-use Rattle.feed_hub.proofs.FileLemmas.{begun, files_restore, reads_on_in_log}
+use Rattle.feed_laws.specs.Laws.{AreInLog, StandInOrder, ShowsState, ScreensShowStates}
+use Rattle.feed_laws.specs.Files.{ReachesOn, FollowsFile, FilesFollow, FilesFollowOn}
+use Rattle.feed_laws.proofs.LawLemmas.{screens_connect, connection, its_text, is_opened}
+use Rattle.feed_laws.proofs.FileLemmas.{begun, files_restore, reads_on_in_log}
 use Rattle.feed_node.proofs.Bounds.{large_listing}
 
 -- ---- lines that are good are taken

@@ -38,10 +38,10 @@ use Rattle.feed_world.specs.States.{HasAsked, IsAsFarAs}
 use Rattle.feed_world.specs.Step.{IsForMemory}
 use Rattle.feed_hub.specs.Told.{Told, IsGoing, IsDue}
 use Rattle.feed_hub.specs.Screen.{pending, token_at}
-use Rattle.feed_hub.specs.Laws.{IsInLog, StandsInLog, AreInLog, StandInOrder, ScreensAreConnections}
-use Rattle.feed_hub.specs.Follows.{MayAskWith, HasAskedSo, MayStop, FollowsInLog, ScreensFollow, ArrivesInLog, ScreensArrive}
-use Rattle.feed_hub.proofs.LawLemmas.{connection, its_text, is_opened}
-use Rattle.feed_hub.proofs.OpeningLemmas.{due_is_response}
+use Rattle.feed_laws.specs.Laws.{IsInLog, StandsInLog, AreInLog, StandInOrder, ScreensAreConnections}
+use Rattle.feed_laws.specs.Follows.{MayAskWith, HasAskedSo, MayStop, FollowsInLog, ScreensFollow, ArrivesInLog, ScreensArrive}
+use Rattle.feed_laws.proofs.LawLemmas.{connection, its_text, is_opened}
+use Rattle.feed_laws.proofs.OpeningLemmas.{due_is_response}
 use Rattle.feed_world.proofs.Responses.{frame_length}
 
 -- a prefix of bytes is one of them and more

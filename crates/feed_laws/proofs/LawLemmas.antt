@@ -20,7 +20,7 @@ use Rattle.feed_world.specs.Log.{Log, state_text, changes_of_commit}
 use Rattle.feed_world.specs.Position.{Position, IsPlaceOfLog, node_where}
 use Rattle.feed_world.specs.Reading.{SentIsRead, IsOpened}
 use Rattle.feed_hub.specs.Told.{Told, told_none, told_commit, told_line_feed}
-use Rattle.feed_hub.specs.Laws.{StandInOrder, ScreensAreConnections, ShowsState, ScreensShowStates, ScreensReach, StandsWell, ScreensAreFollowed}
+use Rattle.feed_laws.specs.Laws.{StandInOrder, ScreensAreConnections, ShowsState, ScreensShowStates, ScreensReach, StandsWell, ScreensAreFollowed}
 use Rattle.feed_follow.specs.Standing.{in_head, in_body, done}
 use Rattle.feed_wire.specs.Answer.{feed_head}
 use Rattle.feed_wire.specs.CarriedBytes.{carried_by, ended_text}

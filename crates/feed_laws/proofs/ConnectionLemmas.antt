@@ -27,11 +27,11 @@ use Rattle.feed_http.specs.Serving.{commit_frames, Sends, up_to_date, lost, send
 use Rattle.feed_http.specs.Sessions.{Nothing_new, Lost, Commit_after, next, or_lost}
 use Rattle.feed_world.specs.Following.{SessionsOpenAsAsked, PlacesStay, AllIsReached, MirrorsFollow, FailsKeepStates, RefusalsKeepNodes}
 use Rattle.feed_world.specs.Log.{Log, IsLog}
-use Rattle.feed_hub.specs.Connections.{FollowsServed, NodesAreFollowed, MeetsLog, PrimariesAreFollowed, BrokenOffIsFollowed}
-use Rattle.feed_hub.specs.Follows.{HasAskedSo, FollowsInLog, ArrivesInLog}
-use Rattle.feed_hub.specs.Laws.{StandsInLog, AreInLog, ScreensAreConnections}
+use Rattle.feed_laws.specs.Connections.{FollowsServed, NodesAreFollowed, MeetsLog, PrimariesAreFollowed, BrokenOffIsFollowed}
+use Rattle.feed_laws.specs.Follows.{HasAskedSo, FollowsInLog, ArrivesInLog}
+use Rattle.feed_laws.specs.Laws.{StandsInLog, AreInLog, ScreensAreConnections}
 use Rattle.feed_hub.specs.Told.{Told, told_none, told_commit, told_line_feed, told_text, IsGoing}
-use Rattle.feed_hub.proofs.FollowLemmas.{begun_in_log, is_refusal, refusal_follows, ended_follows, ended_arrives}
+use Rattle.feed_laws.proofs.FollowLemmas.{begun_in_log, is_refusal, refusal_follows, ended_follows, ended_arrives}
 use Rattle.feed_world.proofs.Responses.{frame_length}
 use Rattle.feed_http.proofs.RestLemmas.{commit_is_other as commit_is}
 

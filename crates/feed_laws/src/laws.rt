@@ -1,8 +1,8 @@
 //! Laws of the definitions.
 
-ghost use Rattle.feed_hub.specs.Laws.{ScreensAreConnections, ScreensShowStates, ScreensReach, ScreensAreFollowed, DueIsResponse, ServedGrows};
-ghost use Rattle.feed_hub.specs.Files.{FilesRestore, FilesReach, FilesBegin, FilesBreakOff, FilesFollow, FilesFollowOn};
-ghost use Rattle.feed_hub.specs.Follows.{ScreensFollow, ScreensArrive};
+ghost use Rattle.feed_laws.specs.Laws.{ScreensAreConnections, ScreensShowStates, ScreensReach, ScreensAreFollowed, DueIsResponse, ServedGrows};
+ghost use Rattle.feed_laws.specs.Files.{FilesRestore, FilesReach, FilesBegin, FilesBreakOff, FilesFollow, FilesFollowOn};
+ghost use Rattle.feed_laws.specs.Follows.{ScreensFollow, ScreensArrive};
 
 use feed_answer::followed_laws;
 use feed_node::{node_laws, reading_laws};

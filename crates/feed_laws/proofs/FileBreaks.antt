@@ -28,10 +28,10 @@ use Rattle.feed_world.specs.Position.{Position, node_where}
 use Rattle.feed_world.specs.Reading.{IsOpened, PrefixIsRead, SentIsRead}
 use Rattle.feed_world.specs.States.{IsAsFarAs}
 use Rattle.feed_hub.specs.Told.{Told, told_none, told_commit, told_line_feed}
-use Rattle.feed_hub.specs.Laws.{AreInLog, StandInOrder}
-use Rattle.feed_hub.specs.Files.{PublishesAsRecorded, FilesBreakOff}
-use Rattle.feed_hub.proofs.FileLemmas.{begun}
-use Rattle.feed_hub.proofs.LawLemmas.{screens_connect, connection, its_text, is_opened}
+use Rattle.feed_laws.specs.Laws.{AreInLog, StandInOrder}
+use Rattle.feed_laws.specs.Files.{PublishesAsRecorded, FilesBreakOff}
+use Rattle.feed_laws.proofs.FileLemmas.{begun}
+use Rattle.feed_laws.proofs.LawLemmas.{screens_connect, connection, its_text, is_opened}
 
 -- ---- the first texts that a session was told
 

@@ -1,0 +1,4 @@
+pub mod Laws
+pub mod Files
+pub mod Follows
+pub mod Connections
