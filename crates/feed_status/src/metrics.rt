@@ -376,11 +376,21 @@ fn of_process<'a>(process: &Process) -> [Metric<'a>; 4] {
     ]
 }
 
+/// Appends what stands before the values of a metric.
+fn put_family<W: fmt::Write>(family: Family, f: &mut fmt::Formatter<W>) -> fmt::Result {
+    write!(f, "{family}")
+}
+
+/// Appends a value of a metric.
+fn put_sample<W: fmt::Write>(sample: Sample<'_>, f: &mut fmt::Formatter<W>) -> fmt::Result {
+    write!(f, "{sample}")
+}
+
 /// Appends metrics, one after another.
 fn put_all<W: fmt::Write>(metrics: &[Metric<'_>], f: &mut fmt::Formatter<W>) -> fmt::Result {
     for metric in metrics {
-        let (family, value) = (metric.family, metric.value);
-        write!(f, "{family}{}", Sample(family.name, metric.labels, value))?;
+        put_family(metric.family, f)?;
+        put_sample(Sample(metric.family.name, metric.labels, metric.value), f)?;
     }
     Ok(())
 }
@@ -417,10 +427,10 @@ fn put_failures<W: fmt::Write>(
     let name = "tunygarop_upstream_failures_total";
     let help = "Attempts to follow that failed, by reason.";
     let kind = "counter";
-    write!(f, "{}", Family { name, kind, help })?;
+    put_family(Family { name, kind, help }, f)?;
     for failed in &upstream.failed_by {
         let labels = Labels::One("reason", failed.reason);
-        write!(f, "{}", Sample(name, labels, Value::Count(failed.count)))?;
+        put_sample(Sample(name, labels, Value::Count(failed.count)), f)?;
     }
     put_all(&of_waiting(upstream), f)
 }
@@ -430,10 +440,10 @@ fn put_refusals<W: fmt::Write>(status: &Status<'_>, f: &mut fmt::Formatter<W>) -
     let name = "tunygarop_screens_refused_total";
     let help = "Requests refused, by the status of the answer.";
     let kind = "counter";
-    write!(f, "{}", Family { name, kind, help })?;
+    put_family(Family { name, kind, help }, f)?;
     for refused in &status.screens.refused_by {
         let labels = Labels::Number("status", Value::Count(u64::from(refused.status)));
-        write!(f, "{}", Sample(name, labels, Value::Count(refused.count)))?;
+        put_sample(Sample(name, labels, Value::Count(refused.count)), f)?;
     }
     put_all(&of_ends(status), f)
 }
@@ -443,22 +453,28 @@ fn put_latency<W: fmt::Write>(latency: &Latency, f: &mut fmt::Formatter<W>) -> f
     let name = "tunygarop_latency_seconds";
     let help = "From a commit's end to its last write.";
     let kind = "histogram";
-    write!(f, "{}", Family { name, kind, help })?;
+    put_family(Family { name, kind, help }, f)?;
     let bucket = "tunygarop_latency_seconds_bucket";
     for (bound, count) in BOUNDS.iter().zip(latency.at_most.iter()) {
         let labels = Labels::Number("le", Value::FineTime(*bound));
-        write!(f, "{}", Sample(bucket, labels, Value::Count(*count)))?;
+        put_sample(Sample(bucket, labels, Value::Count(*count)), f)?;
     }
-    let (sum, commits) = (
-        Value::FineTime(latency.sum_us),
-        Value::Count(latency.commits),
-    );
-    write!(
-        f,
-        "{}{}{}",
-        Sample(bucket, Labels::One("le", "+Inf"), commits),
+    let commits = Value::Count(latency.commits);
+    put_sample(Sample(bucket, Labels::One("le", "+Inf"), commits), f)?;
+    put_totals(latency, f)
+}
+
+/// Appends how long all commits took together, and how many they were.
+fn put_totals<W: fmt::Write>(latency: &Latency, f: &mut fmt::Formatter<W>) -> fmt::Result {
+    let sum = Value::FineTime(latency.sum_us);
+    put_sample(
         Sample("tunygarop_latency_seconds_sum", Labels::None, sum),
-        Sample("tunygarop_latency_seconds_count", Labels::None, commits)
+        f,
+    )?;
+    let commits = Value::Count(latency.commits);
+    put_sample(
+        Sample("tunygarop_latency_seconds_count", Labels::None, commits),
+        f,
     )
 }
 
