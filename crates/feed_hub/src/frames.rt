@@ -2,7 +2,7 @@
 
 ghost use Rattle.std.specs.Prelude.{◌≡◌, ◌+◌, ◌≤◌, None, Some, false, IfSome, IfNone, Contains, length};
 ghost use Rattle.feed_hub.specs.declared.frames.Frame.{Frame};
-ghost use Rattle.feed_hub.specs.Frames.{IsKeptAs, GivesNumber};
+ghost use Rattle.feed_hub.specs.Frames.{IsKeptAs, KeepsOneMore, GivesNumber};
 
 use bytes::Bytes;
 use std::alloc::Global;
@@ -71,6 +71,8 @@ impl Frames {
     fn keep(&mut self, text: &Bytes) -> Option<u64>
         ensures number { IfSome result
             (λ number. (number ≡ self.old.next) × (self.new.next ≡ self.old.next + 1)) }
+        ensures kept { IfSome result
+            (λ number. KeepsOneMore self.old.kept.items self.new.kept.items text.now number) }
         ensures none { IfNone result (self.new.next ≡ self.old.next) }
     {
         let text = text.clone().ok()?;

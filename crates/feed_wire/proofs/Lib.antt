@@ -1,4 +1,3 @@
-pub mod AfterLine
 pub mod ChunkReading
 pub mod ChunkedRuns
 pub mod ResponseLemmas

@@ -203,6 +203,7 @@ impl Screens {
             (S.socket sockets.old) (S.socket sockets.new) }
         ensures offers { NotCalled (S.offered sockets.old) (S.offered sockets.new) }
         ensures asks { S.asked sockets.new ≡ S.asked sockets.old }
+        ensures stays { HasKey self.old.conns keyed → key_at self.new.conns keyed.at ≡ Some None }
         ensures lingers { IfSome (get self.new.conns keyed.at)
             (λ conn. conn.stage ≡ lingers_from now) }
     {
