@@ -59,11 +59,15 @@ def function_at(text, found):
     return None if brace is None else Function(found[1], found.start(), clauses, slice(brace, closed(text, brace)))
 
 
+def functions_of(text, name):
+    """The functions of this name, in their order, each of which has a body."""
+    plain = COMMENT.sub(lambda comment: " " * len(comment[0]), text)
+    return [made for it in FUNCTION.finditer(plain) if it[1] == name and (made := function_at(plain, it))]
+
+
 def function_with(text, name, part):
     """The function of this name whose body has a text, or nothing."""
-    plain = COMMENT.sub(lambda comment: " " * len(comment[0]), text)
-    functions = [function_at(plain, it) for it in FUNCTION.finditer(plain) if it[1] == name]
-    return next((it for it in functions if it and part in text[it.body]), None)
+    return next((it for it in functions_of(text, name) if part in text[it.body]), None)
 
 
 def head_of(text, function):

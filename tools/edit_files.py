@@ -18,8 +18,6 @@ class Edit:
         self.crate, self.name, self.pairs = path.parent.parent.name, path.stem, []
         self.function = self.clause = self.set = file = old = None
         self.unknown = []
-        # Whether its function keeps all its clauses.
-        self.keeps_all = False
         for line in path.read_text().split("\n"):
             word, _, text = line.partition(": ")
             if word == "function":
@@ -38,6 +36,8 @@ class Edit:
                 self.unknown.append(line)
         if not all([self.function, self.clause, self.pairs, *[it for pair in self.pairs for it in pair[:2]]]):
             sys.exit(f"edits: {path} lacks a function, a clause, a file or a text")
+        # The function that is tried for it, and whether that keeps all its clauses.
+        self.tried, self.keeps_all = self.function, False
 
     def __str__(self):
         return f"{self.crate}/{self.name}"
