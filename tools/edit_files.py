@@ -152,9 +152,13 @@ def asked_of(trait):
 
 @cache
 def asking():
-    """The names of the functions of the repository that ask something of their callers."""
-    texts = [file.read_text() for file in TOP.glob("crates/*/src/**/*.rt")]
-    return {it[1] for text in texts for it in FUNCTION.finditer(text) if asks(text, it)}
+    """For the name of each function of the repository whether one of that name asks something of its callers."""
+    found = {}
+    for file in TOP.glob("crates/*/src/**/*.rt"):
+        text = file.read_text()
+        for it in FUNCTION.finditer(text):
+            found[it[1]] = found.get(it[1], False) or asks(text, it)
+    return found
 
 
 def asks(text, found):
@@ -169,7 +173,7 @@ def has_clause(clause, function, text, code, sources):
         return len(labels) == 1 or "" in labels
     callee, is_asked, _ = clause.rpartition("-requires")
     if is_asked:
-        return callee in asking() and re.search(rf"\b{callee}\b", code) is not None
+        return asking().get(callee, True) and re.search(rf"\b{callee}\b", code) is not None
     if clause.startswith("invariant_of-"):
         value = clause.removeprefix("invariant_of-")
         of_self = value != "self" or has_invariant(owner(text, function)[0], sources)
