@@ -7,6 +7,7 @@ import os
 import random
 import socket
 import sys
+from collections import deque
 from contextlib import suppress
 from pathlib import Path
 
@@ -25,13 +26,21 @@ def loaded(name):
     return module
 
 
+# What holds the latest ports that this process was given: a name each, which nobody else can have meanwhile.
+HELD = deque(maxlen=256)
+
+
 def free_port():
-    """A port of 127.0.0.1 where nobody listens, of those that the system gives to no connection by itself."""
+    """A port of 127.0.0.1 where nobody listens, of those that the system gives to no connection by itself. Tools run side
+    by side: none is given it again, in any process, until this one ends or was given many more."""
     while True:
         with socket.socket() as it, suppress(OSError):
             it.setsockopt(socket.SOL_SOCKET, socket.SO_REUSEADDR, 1)
             port = random.SystemRandom().randrange(20_000, 32_000)
+            held = socket.socket(socket.AF_UNIX)
+            held.bind(f"\0tunygarop-port-{port}")
             it.bind(("127.0.0.1", port))
+            HELD.append(held)
             return port
 
 

@@ -36,8 +36,8 @@ def closed(text, at):
     return len(text)
 
 
-def function_at(text, found):
-    """The function whose name was found; nothing if it has no body."""
+def contract_at(text, found):
+    """The clauses of the function whose name was found, and the place of its body, or nothing if it has none."""
     at, clauses = found.end(), []
     if text[at] == "<":
         at = closed(text, at)
@@ -45,28 +45,41 @@ def function_at(text, found):
     while True:
         brace, end = text.find("{", at), text.find(";", at)
         if brace < 0 or 0 <= end < brace:
-            return None
+            return clauses, None
         clause = CLAUSE.search(text, at, brace)
         if not clause:
-            return Function(found[1], found.start(), clauses, slice(brace, closed(text, brace)))
+            return clauses, brace
         at = closed(text, brace)
         clauses.append(Clause(clause, clause.start(), at))
 
 
-def function_around(text, place):
-    """The innermost function whose body has a place, or nothing."""
-    found, text = None, COMMENT.sub(lambda comment: " " * len(comment[0]), text)
-    for name in FUNCTION.finditer(text, 0, place):
-        function = function_at(text, name)
-        if function and function.body.start <= place < function.body.stop:
-            found = function
-    return found
+def function_at(text, found):
+    """The function whose name was found; nothing if it has no body."""
+    clauses, brace = contract_at(text, found)
+    return None if brace is None else Function(found[1], found.start(), clauses, slice(brace, closed(text, brace)))
+
+
+def functions_of(text, name):
+    """The functions of this name, in their order, each of which has a body."""
+    plain = COMMENT.sub(lambda comment: " " * len(comment[0]), text)
+    return [made for it in FUNCTION.finditer(plain) if it[1] == name and (made := function_at(plain, it))]
+
+
+def function_with(text, name, part):
+    """The function of this name whose body has a text, or nothing."""
+    return next((it for it in functions_of(text, name) if part in text[it.body]), None)
+
+
+def head_of(text, function):
+    """The line that begins the impl or the trait that a function is of; nothing if it is of none."""
+    heads = re.findall(r"^(?:unsafe |pub )?(?:impl|trait)\b.*|^\}", text[: function.start], re.M)
+    return heads[-1] if heads and heads[-1] != "}" else None
 
 
 def is_of_trait(text, function):
     """Whether a function is one that a trait asks for."""
-    heads = [line for line in text[: function.start].split("\n") if re.match(r"(unsafe )?(impl|trait)\b", line)]
-    return bool(heads) and (" for " in heads[-1] or "trait" in heads[-1])
+    head = head_of(text, function) or ""
+    return " for " in head or "trait" in head
 
 
 def without(text, clauses):
