@@ -1,7 +1,8 @@
 """The functions of a Rattle file, each with its clauses and its body: enough to take clauses out of a copy."""
 import re
 
-COMMENT = re.compile(r"^\s*//[^\n]*", re.M)
+# What says nothing of where a function ends: a comment, a text, a character.
+QUOTED = re.compile(r"""//[^\n]*|b?"(?:\\.|[^"\\])*"|b?'(?:\\.|[^'\\\n])'""", re.S)
 FUNCTION = re.compile(r"\bfn (\w+)")
 CLAUSE = re.compile(r"\b(requires|ensures|ghost)(\*?)\s*(\w*)\s*:?\s*$")
 PAIRS = {"(": ")", "{": "}", "<": ">"}
@@ -61,7 +62,7 @@ def function_at(text, found):
 
 def functions_of(text, name):
     """The functions of this name, in their order, each of which has a body."""
-    plain = COMMENT.sub(lambda comment: " " * len(comment[0]), text)
+    plain = QUOTED.sub(lambda found: re.sub(r"[^\n]", " ", found[0]), text)
     return [made for it in FUNCTION.finditer(plain) if it[1] == name and (made := function_at(plain, it))]
 
 
