@@ -1,6 +1,6 @@
 //! Long texts that several screens are sent, each kept once.
 
-ghost use Rattle.std.specs.Prelude.{◌≡◌, ◌+◌, ◌≤◌, None, Some, false, IfSome, IfNone, Contains, length};
+ghost use Rattle.std.specs.Prelude.{◌≡◌, ◌⊎◌, ◌+◌, ◌≤◌, None, Some, false, IfSome, IfNone, Contains, length};
 ghost use Rattle.feed_hub.specs.declared.frames.Frame.{Frame};
 ghost use Rattle.feed_hub.specs.Frames.{IsKeptAs, KeepsOneMore, GivesNumber};
 
@@ -73,7 +73,8 @@ impl Frames {
             (λ number. (number ≡ self.old.next) × (self.new.next ≡ self.old.next + 1)) }
         ensures kept { IfSome result
             (λ number. KeepsOneMore self.old.kept.items self.new.kept.items text.now number) }
-        ensures none { IfNone result (self.new.next ≡ self.old.next) }
+        ensures none { IfNone result
+            ((self.new.next ≡ self.old.next) × (self.new.kept.items ≡ self.old.kept.items)) }
     {
         let text = text.clone().ok()?;
         let number = self.next;
@@ -103,6 +104,8 @@ impl Frames {
         // its number is that of the same text, or the next one, so that no other text gets it
         ensures number { IfSome result
             (λ shared. GivesNumber self.old self.new text shared.number) }
+        ensures kept { (frame : Frame) → Contains self.new.kept.items frame
+            → Contains self.old.kept.items frame ⊎ (frame.text ≡ text) × (frame.number ≡ self.old.next) }
     {
         if text.len() < LONG {
             return Some(Shared { text, number: None });
