@@ -1,8 +1,9 @@
 //! Long texts that several screens are sent, each kept once.
 
 ghost use Rattle.std.specs.Prelude.{◌≡◌, ◌⊎◌, ◌+◌, ◌≤◌, None, Some, false, IfSome, IfNone, Contains, length};
+ghost use Rattle.std.specs.List.{list_any};
 ghost use Rattle.feed_hub.specs.declared.frames.Frame.{Frame};
-ghost use Rattle.feed_hub.specs.Frames.{IsKeptAs, KeepsOneMore, GivesNumber};
+ghost use Rattle.feed_hub.specs.Frames.{is_since, IsKeptAs, KeepsOneMore, GivesNumber};
 
 use bytes::Bytes;
 use std::alloc::Global;
@@ -85,12 +86,16 @@ impl Frames {
     }
 
     /// How many texts were kept so far.
-    pub(crate) fn made(&self) -> u64 {
+    pub(crate) fn made(&self) -> u64
+        ensures { result ≡ self.now.next }
+    {
         self.next
     }
 
     /// Whether a text of so many bytes is kept that was made after so many others.
-    pub(crate) fn has_since(&self, made: u64, length: usize) -> bool {
+    pub(crate) fn has_since(&self, made: u64, length: usize) -> bool
+        ensures { result ≡ list_any (is_since made length) self.now.kept.items }
+    {
         self.kept
             .iter()
             .any(|frame| frame.number >= made && frame.text.len() == length)

@@ -1,6 +1,7 @@
 //! What comes on connections, and goes to them.
 
 ghost use Rattle.std.specs.Prelude.{◌≡◌, ◌⊎◌, ◌+◌, ◌-◌, ◌<◌, ◌≤◌, ◌↔◌, ◌^◌, ◌++◌, [], List, ℕ, None, Some, IsTrue, IsSome, IsOk, IfOk, OnOk, OnErr, Contains, length, take};
+ghost use Rattle.std.specs.List.{list_any};
 ghost use Rattle.slab.specs.Slab.{slab_len, HasRoomFor};
 ghost use Rattle.feed_node.specs.States.{NodeState};
 ghost use Rattle.feed_answer.specs.Answered.{AnswerParts};
@@ -8,6 +9,7 @@ ghost use Rattle.feed_hub.specs.Steps.{idled, taken, HasNext, IsCatchingUp, IsWa
 ghost use Rattle.feed_hub.specs.Answering.{NumbersText};
 ghost use Rattle.feed_hub.specs.Asking.{IsSeatFull};
 ghost use Rattle.feed_hub.specs.Seats.{seat_at, Others, SameSeats, KeepsThose, IsOnTime, Watched, IsWatcher, IsAskingSeat, IsOverSeat};
+ghost use Rattle.feed_hub.specs.Frames.{is_since};
 ghost use Rattle.feed_hub.specs.Hub.{IsSeated, IsStillSeated, IsAnsweredBy, prefix_at, SameLimits, ChangesOnly, IsNew, TakesOfHead, IsAnswered, SharesTheText, HearsOf, HearsAt, HoldsAt, TellsTextAt, Refills};
 
 use crate::answering::Answering;
@@ -267,13 +269,17 @@ impl Hub {
     }
 
     /// How many long commits were made for those who catch up.
-    pub fn commits_made(&self) -> u64 {
+    pub fn commits_made(&self) -> u64
+        ensures { result ≡ self.now.frames.next }
+    {
         self.frames.made()
     }
 
     /// Whether one of so many bytes was made after so many others, and some screen has yet to take
     /// it, or had it lately.
-    pub fn has_made(&self, made: u64, length: usize) -> bool {
+    pub fn has_made(&self, made: u64, length: usize) -> bool
+        ensures { result ≡ list_any (is_since made length) self.now.frames.kept.items }
+    {
         self.frames.has_since(made, length)
     }
 
