@@ -65,10 +65,10 @@ def free_slot(folder):
 
 
 @contextmanager
-def shared_slots():
-    """Slots that are shared by what is started from now on."""
+def shared_slots(is_beside):
+    """Slots that are shared by what is started from now on, beside the toolchain's gate or without it."""
     with tempfile.TemporaryDirectory(prefix="slots-") as folder:
-        for number in range(slots()):
+        for number in range(slots(is_beside)):
             (Path(folder) / str(number)).touch()
         os.environ[SLOTS] = folder
         try:
@@ -77,9 +77,11 @@ def shared_slots():
             del os.environ[SLOTS]
 
 
-def slots():
-    """Half as many as there are processors, but at least one and no more than there is memory for. Two processors mostly
-    share a core, so even what has the lowest priority slows the gate."""
+def slots(is_beside):
+    """As many as there are processors, but at least one and no more than there is memory for. Beside the gate half as many:
+    two processors mostly share a core, so even what has the lowest priority slows it."""
+    if not is_beside:
+        return max(1, min(processors(), memory() // OF_ONE))
     return max(1, min(processors() // 2, (memory() - OF_GATE) // OF_ONE))
 
 

@@ -119,7 +119,7 @@ impl<'r> Comparison<'r> {
     }
 
     /// Tells which server was lost, once for each loss.
-    fn tell_losses(&mut self) {
+    fn report_losses(&mut self) {
         if self.of.take_loss() {
             let _ = eprintln!(self.rt; "audit: no feed from the server of --of: it is asked again");
         }
@@ -136,7 +136,7 @@ impl<'r> Comparison<'r> {
         let ours = needs_memory(self.of.step(alloc, &mut self.pair.first, now))?;
         let theirs = needs_memory(self.against.step(alloc, &mut self.pair.second, now))?;
         self.has_more = ours || theirs;
-        self.tell_losses();
+        self.report_losses();
         for _ in 0..u64::MAX {
             let Some((ours, theirs)) = self.of.common(&self.against) else {
                 break;
@@ -249,7 +249,7 @@ pub fn compare_servers(rt: &HostRuntime, options: &CompareOptions<'_>) -> Result
     };
     let ended = match comparison.run(until) {
         Ok(()) => comparison.end(),
-        Err(Fault::Differs) => Err(Failure::told_as(Fault::Differs, "the servers differ")),
+        Err(Fault::Differs) => Err(Failure::reported_as(Fault::Differs, "the servers differ")),
         Err(fault) => Err(Failure::from(fault)),
     };
     drop(comparison);

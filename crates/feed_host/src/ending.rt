@@ -85,7 +85,7 @@ impl Failure {
     }
 
     /// A fault that this text tells, in place of its own.
-    pub fn told_as(fault: Fault, text: &'static str) -> Failure
+    pub fn reported_as(fault: Fault, text: &'static str) -> Failure
         ensures { status_for result.why ≡ status_of fault }
     {
         Failure {

@@ -110,7 +110,8 @@ impl Frames {
         ensures number { IfSome result
             (λ shared. GivesNumber self.old self.new text shared.number) }
         ensures kept { (frame : Frame) → Contains self.new.kept.items frame
-            → Contains self.old.kept.items frame ⊎ (frame.text ≡ text) × (frame.number ≡ self.old.next) }
+            → Contains self.old.kept.items frame
+            ⊎ (frame.text ≡ text) × (frame.number ≡ self.old.next) }
     {
         if text.len() < LONG {
             return Some(Shared { text, number: None });
