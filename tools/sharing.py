@@ -3,7 +3,8 @@
 
 The toolchain's gate proves one crate after another, so it decides how long tools/check takes, and must not be slowed
 by what runs beside it. Two things see to that. What runs beside it has the lowest priority; and heavy commands, such
-as builds and proofs, take a slot each, of which there are half as many as processors, or as many as memory bears."""
+as builds and proofs, take a slot each, of which there are half as many as processors, or as many as memory bears.
+Without the gate there is one a processor."""
 import errno
 import fcntl
 import os
