@@ -116,7 +116,7 @@ FailsTaking (network.Engine (engine.Commit why)) start now = TakesAndDrops start
 FailsTaking (network.Engine (engine.Follow why)) start now = ⊥
 FailsTaking (network.Engine engine.Memory) start now = TakesBatches start now
 FailsTaking (network.Engine engine.Read) start now = now ≡ start
-FailsTaking (network.Engine engine.Turns) start now = now ≡ start
+FailsTaking (network.Engine engine.TooManyReads) start now = now ≡ start
 FailsTaking (network.Engine engine.Write) start now = TakesBatches start now
 FailsTaking network.Connect start now = ⊥
 FailsTaking network.Bind start now = ⊥
@@ -134,7 +134,7 @@ fails_served : (turn : ℕ) (service : Service) (spoken : Exchange) (start : Int
     → FailsTaking (network.Engine why) start now
 fails_served turn service spoken start engine.Read now live =
     let (broke, same) = live.came in same
-fails_served turn service spoken start engine.Turns now live =
+fails_served turn service spoken start engine.TooManyReads now live =
     let (broke, same, rose) = live.came in same
 fails_served turn service spoken start engine.Write now live =
     let (answer, has, wrote) = live.came in
@@ -164,7 +164,7 @@ keeps_on network.Bind start now one fails = absurd fails
 keeps_on network.Accept start now one fails = absurd (true≢false (sym one))
 keeps_on (network.Engine engine.Read) start now one fails =
     subst (λ n. TakesBatches start n) (sym fails) (takes_none start)
-keeps_on (network.Engine engine.Turns) start now one fails =
+keeps_on (network.Engine engine.TooManyReads) start now one fails =
     subst (λ n. TakesBatches start n) (sym fails) (takes_none start)
 keeps_on (network.Engine engine.Write) start now one fails = fails
 keeps_on (network.Engine engine.Memory) start now one fails = absurd (true≢false (sym one))
@@ -183,7 +183,7 @@ ends_it network.Bind start now one fails = absurd fails
 ends_it network.Accept start now one fails =
     subst (λ n. TakesBatches start n) (sym fails) (takes_none start)
 ends_it (network.Engine engine.Read) start now one fails = absurd (true≢false one)
-ends_it (network.Engine engine.Turns) start now one fails = absurd (true≢false one)
+ends_it (network.Engine engine.TooManyReads) start now one fails = absurd (true≢false one)
 ends_it (network.Engine engine.Write) start now one fails = absurd (true≢false one)
 ends_it (network.Engine engine.Memory) start now one fails = inl fails
 ends_it (network.Engine (engine.Commit commit.EmptyBatch)) start now one fails = fails
@@ -200,7 +200,7 @@ ends_later fault.Memory start mid now before (inr after) =
     inr (drops_later start mid commit.Memory now before after)
 ends_later fault.Write start mid now before after = takes_more start mid now before after
 ends_later fault.Read start mid now before after = absurd after
-ends_later fault.Turns start mid now before after = absurd after
+ends_later fault.TooManyReads start mid now before after = absurd after
 ends_later fault.TooLong start mid now before after = absurd after
 ends_later (fault.Feed why) start mid now before after = absurd after
 ends_later (fault.Survey why) start mid now before after = absurd after
@@ -222,7 +222,7 @@ ends_later (fault.Network (network.Engine (engine.Commit why))) start mid now be
 ends_later (fault.Network (network.Engine engine.Memory)) start mid now before after = absurd after
 ends_later (fault.Network (network.Engine engine.Read)) start mid now before after = absurd after
 ends_later (fault.Network (network.Engine engine.Write)) start mid now before after = absurd after
-ends_later (fault.Network (network.Engine engine.Turns)) start mid now before after = absurd after
+ends_later (fault.Network (network.Engine engine.TooManyReads)) start mid now before after = absurd after
 ends_later (fault.Network (network.Engine (engine.Follow why))) start mid now before after = absurd after
 
 -- ---- connection by connection

@@ -172,7 +172,7 @@ err_by limits s (Ok all) d = by d.is_published refl
     by true e = tt
     by false e = record { whole = d.whole; none = none_where d.whole.shown (d.told ∙ e) }
 err_by limits s (Err fault.Read) d = d.whole
-err_by limits s (Err fault.Turns) d = d.whole
+err_by limits s (Err fault.TooManyReads) d = d.whole
 err_by limits s (Err (fault.Feed why)) d = d.whole
 err_by limits s (Err fault.Memory) d = absurd d.whole.fed
 err_by limits s (Err fault.Write) d = absurd d.whole.fed

@@ -105,7 +105,7 @@ abbrev pub status_of : Fault → ℕ
 status_of fault.Memory = 5
 status_of fault.Read = 4
 status_of fault.Write = 4
-status_of fault.Turns = 4
+status_of fault.TooManyReads = 4
 status_of fault.TooLong = 2
 status_of (fault.Feed why) = 2
 status_of (fault.Survey why) = 2

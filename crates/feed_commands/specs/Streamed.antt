@@ -56,7 +56,7 @@ abbrev pub StreamFails : Fault → Option (List ℕ) → Option (List ℕ) → T
 StreamFails (fault.Survey why) old new = StreamStops old new why.fault
 StreamFails fault.Memory old new = Unit {0}
 StreamFails fault.Read old new = Unit {0}
-StreamFails fault.Turns old new = StreamReadOn old new
+StreamFails fault.TooManyReads old new = StreamReadOn old new
 StreamFails why old new = ⊥
 
 -- the input was counted, and the counts were printed

@@ -62,7 +62,7 @@ abbrev pub IsFed : Limits → Result (Unit {0}) Fault → Option (List ℕ) → 
     → Option Published → Type 0
 IsFed limits (Ok all) old new shown = HasRead limits old new shown × IsAtEnd new
 IsFed limits (Err fault.Read) old new shown = HasRead limits old new shown
-IsFed limits (Err fault.Turns) old new shown = HasReadOn limits old new shown
+IsFed limits (Err fault.TooManyReads) old new shown = HasReadOn limits old new shown
 IsFed limits (Err (fault.Feed why)) old new shown = HasFaulted limits why old new shown
 IsFed limits (Err why) old new shown = ⊥
 
@@ -99,7 +99,7 @@ outcome_of (Err why) is_published = Err why
 abbrev pub TablesFail : Limits → Fault → Streams → Type 0
 TablesFail limits fault.Memory s = Keeps s.out_old s.out_new
 TablesFail limits fault.Read s = Printed limits (Err fault.Read) s
-TablesFail limits fault.Turns s = Printed limits (Err fault.Turns) s
+TablesFail limits fault.TooManyReads s = Printed limits (Err fault.TooManyReads) s
 TablesFail limits fault.Write s = PrintedPrefix limits s
 TablesFail limits (fault.Feed why) s = Printed limits (Err (fault.Feed why)) s
 TablesFail limits fault.Unpublished s = PrintedNone limits s

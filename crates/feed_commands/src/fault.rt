@@ -47,7 +47,7 @@ pub enum Fault {
     Write,
     /// The input did not end in the reads that were allowed.
     #[error("too many turns")]
-    Turns,
+    TooManyReads,
     /// The input has more bytes than may be read whole.
     #[error("input too long")]
     TooLong,
@@ -99,7 +99,7 @@ impl Fault {
     {
         match self {
             Fault::Memory => 5,
-            Fault::Read | Fault::Write | Fault::Turns => 4,
+            Fault::Read | Fault::Write | Fault::TooManyReads => 4,
             Fault::Play(fault) if fault.is_want_of_memory() => 5,
             Fault::TooLong | Fault::Feed(_) | Fault::Survey(_) | Fault::Batches(_) => 2,
             Fault::Audit(

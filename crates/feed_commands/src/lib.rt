@@ -31,5 +31,5 @@ pub use feed_play::{PlayCause, PlayFault, play};
 pub use feed_records::{Replayed, ScreenLines, Skipped, TextLines, Unread};
 pub use feed_relay::{Accept, Dial, NetworkFault, Server};
 pub use placing::{Counting, Spot};
-pub use record_lines::{Record, RecordLines};
+pub use record_lines::{RecordLines, Recording};
 pub use reporting::{report, report_about, report_more, report_text, report_with};

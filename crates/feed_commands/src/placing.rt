@@ -8,7 +8,7 @@ mod scanner;
 use feed_note::{LINE_BYTES, LineFault, LineStop};
 use feed_tables::NAME_BYTES;
 use feed_text::{LINE_LEVELS, decode_string, nests_to};
-use scanner::{Next, Scanner};
+use scanner::{Expected, Scanner};
 use std::alloc::{AllocError, Global};
 use std::str;
 
@@ -143,7 +143,7 @@ impl Walk {
         if !self.scanner.read(byte) {
             return Ok(false);
         }
-        if next == Next::Object {
+        if next == Expected::Object {
             self.opened = self.read;
         }
         if depth == 1 {
@@ -154,16 +154,18 @@ impl Walk {
     }
 
     /// Notes a byte between the braces of the line's object, in front of which this came next.
-    fn note(&mut self, alloc: Global, line: &[u8], next: Next) -> Result<(), AllocError> {
+    fn note(&mut self, alloc: Global, line: &[u8], next: Expected) -> Result<(), AllocError> {
         let here = self.read;
         match (next, self.scanner.next()) {
-            (Next::FirstKey | Next::Key, Next::Text { is_key: true }) => self.key = here,
-            (Next::Text { is_key: true }, Next::Colon) => {
+            (Expected::FirstKey | Expected::Key, Expected::Text { is_key: true }) => self.key =
+                here,
+            (Expected::Text { is_key: true }, Expected::Colon) => {
                 let key = line.get(self.key..=here).unwrap_or(&[]);
                 self.member = Counting::of_key(alloc, key)?;
             }
-            (Next::Value, now) if now != Next::Value => self.value.start = here,
-            (Next::Comma | Next::Number(_), Next::Key | Next::End) => self.end_value(here),
+            (Expected::Value, now) if now != Expected::Value => self.value.start = here,
+            (Expected::Comma | Expected::Number(_), Expected::Key | Expected::End) =>
+                self.end_value(here),
             _ => {}
         }
         Ok(())

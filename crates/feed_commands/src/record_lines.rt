@@ -9,7 +9,7 @@ use feed_records::{Front, Lines, Replayed, Unread};
 use std::alloc::Global;
 
 /// A record that can be opened at its beginning any number of times.
-pub trait Record {
+pub trait Recording {
     /// What it is read by.
     type Reader: FeedRead + Drop;
 
@@ -28,12 +28,12 @@ pub trait Record {
 
 /// The lines of a record.
 #[derive(Drop)]
-pub struct RecordLines<R: Record> {
+pub struct RecordLines<R: Recording> {
     source: R,
     lines: DeviceLines<R::Reader>,
 }
 
-impl<R: Record + Drop> RecordLines<R> {
+impl<R: Recording + Drop> RecordLines<R> {
     ghost use Rattle.feed_commands.specs.RecordLines.{record_of};
 
     /// The lines of a record from its beginning, which is opened for that.
@@ -49,7 +49,7 @@ impl<R: Record + Drop> RecordLines<R> {
     }
 }
 
-impl<R: Record> Lines for RecordLines<R> {
+impl<R: Recording> Lines for RecordLines<R> {
     ghost use Rattle.feed_commands.specs.DeviceLines.{front_of, given_of, input_of, left_of, room_of, FailsToReplay};
 
     ghost left = { λ it. left_of R.Reader.remaining it.lines };
@@ -76,7 +76,7 @@ impl<R: Record> Lines for RecordLines<R> {
     }
 }
 
-impl<R: Record> Replayed for RecordLines<R> {
+impl<R: Recording> Replayed for RecordLines<R> {
     fn replay(&mut self) -> Result<(), Unread> {
         let input = self.source.open()?;
         self.lines.restart(input);

@@ -8,7 +8,7 @@ use feed_audit::difference_of;
 use feed_commands::{AddressFault, CompareOptions, Fault, addresses};
 use feed_host::Failure;
 use feed_node::{Limits, Node};
-use feed_system::{Host, Pair};
+use feed_system::{Pair, ServerName};
 use std::alloc::{AllocError, Global};
 use std::io;
 use std::io::{ErrorKind, Write};
@@ -86,7 +86,7 @@ fn server_of(
     text: &str,
     contest: &str,
     limits: Limits,
-) -> Result<(Host, Tail), Failure> {
+) -> Result<(ServerName, Tail), Failure> {
     let (name, port) = address_of(rt, option, text)?;
     let place = Place::new(rt.alloc(), name.as_str(), "", contest);
     let place = match place {
@@ -95,7 +95,7 @@ fn server_of(
     };
     let tail = needs_memory(Tail::new(rt.alloc(), place, limits))?;
     let bare = needs_memory(String::from_str(rt.alloc(), without_brackets(name.as_str())))?;
-    let host = needs_memory(Host::new(rt, bare, port))?;
+    let host = needs_memory(ServerName::new(rt, bare, port))?;
     Ok((host, tail))
 }
 

@@ -2,7 +2,7 @@
 
 ghost use Rattle.std.specs.Prelude.{◌≡◌};
 
-use crate::reasons::{Failure, Following, KINDS, REASONS, Reason};
+use crate::reasons::{FollowFailure, Following, KINDS, REASONS, Reason};
 use feed_device::{Desk, Report, Why};
 use memchr::memmem;
 
@@ -34,7 +34,7 @@ pub struct FeedFigures {
     /// When the last commit was published, where one was since the start.
     pub committed: Option<u64>,
     /// How the last attempt failed, and when.
-    pub failed: Option<(Failure, u64)>,
+    pub failed: Option<(FollowFailure, u64)>,
     /// How many attempts failed since the start, by their reasons.
     pub failed_by: [(Reason, u64); KINDS],
     /// How many lines with a change came since the last one with a token.
@@ -135,13 +135,13 @@ impl FeedFigures {
     /// The server is lost.
     pub fn lose(&mut self, why: Why, now: u64) {
         self.failures = self.failures.saturating_add(1);
-        self.fail(Failure::Left(why), now);
+        self.fail(FollowFailure::Left(why), now);
         self.change(Following::Away, now);
     }
 
     /// The server does not hold the token that it was asked with.
     pub fn refuse_token(&mut self, now: u64) {
-        self.fail(Failure::TokenRefused, now);
+        self.fail(FollowFailure::TokenRefused, now);
     }
 
     /// When it is reported that changes wait for a token for long.
@@ -170,7 +170,7 @@ impl FeedFigures {
         });
     }
 
-    fn fail(&mut self, failure: Failure, now: u64) {
+    fn fail(&mut self, failure: FollowFailure, now: u64) {
         self.failed = Some((failure, now));
         let reason = failure.reason();
         for failed in &mut self.failed_by {

@@ -5,4 +5,4 @@ mod figures;
 mod reasons;
 
 pub use figures::{FeedFigures, LONG_WAIT};
-pub use reasons::{Failure, Following, KINDS, Reason};
+pub use reasons::{FollowFailure, Following, KINDS, Reason};

@@ -82,36 +82,36 @@ impl Reason {
 
 /// How an attempt to follow a server failed.
 #[derive(Clone, Copy)]
-pub enum Failure {
+pub enum FollowFailure {
     /// The server was left.
     Left(Why),
     /// The server doesn't hold the token that it was asked with.
     TokenRefused,
 }
 
-impl Failure {
+impl FollowFailure {
     /// What it is counted as.
     pub fn reason(&self) -> Reason {
         match self {
-            Failure::TokenRefused => Reason::Token,
-            Failure::Left(Why::Late) => Reason::Late,
-            Failure::Left(Why::NoAnswer) => Reason::NoAnswer,
-            Failure::Left(Why::Broke) => Reason::Broke,
-            Failure::Left(Why::Ended) => Reason::Ended,
-            Failure::Left(Why::Silent) => Reason::Silent,
-            Failure::Left(Why::Memory) => Reason::Memory,
-            Failure::Left(Why::Fault(FollowFault::Status(_))) => Reason::Status,
-            Failure::Left(Why::Fault(_)) => Reason::Feed,
-            Failure::Left(_) => Reason::Refuses,
+            FollowFailure::TokenRefused => Reason::Token,
+            FollowFailure::Left(Why::Late) => Reason::Late,
+            FollowFailure::Left(Why::NoAnswer) => Reason::NoAnswer,
+            FollowFailure::Left(Why::Broke) => Reason::Broke,
+            FollowFailure::Left(Why::Ended) => Reason::Ended,
+            FollowFailure::Left(Why::Silent) => Reason::Silent,
+            FollowFailure::Left(Why::Memory) => Reason::Memory,
+            FollowFailure::Left(Why::Fault(FollowFault::Status(_))) => Reason::Status,
+            FollowFailure::Left(Why::Fault(_)) => Reason::Feed,
+            FollowFailure::Left(_) => Reason::Refuses,
         }
     }
 }
 
-impl fmt::Display for Failure {
+impl fmt::Display for FollowFailure {
     fn fmt<W: fmt::Write>(&self, f: &mut fmt::Formatter<W>) -> fmt::Result {
         match self {
-            Failure::Left(why) => write!(f, "{why}"),
-            Failure::TokenRefused => f.write_str("doesn't hold our token"),
+            FollowFailure::Left(why) => write!(f, "{why}"),
+            FollowFailure::TokenRefused => f.write_str("doesn't hold our token"),
         }
     }
 }

@@ -6,7 +6,7 @@ use crate::ahead::{file_ahead, file_part_ahead, input_ahead};
 use crate::ending::Failure;
 use feed_commands::stream::Stream;
 use feed_commands::{
-    AuditFault, AuditOptions, DeviceLines, Fault, Record, RecordLines, Replayed, ScreenLines,
+    AuditFault, AuditOptions, DeviceLines, Fault, RecordLines, Recording, Replayed, ScreenLines,
     Skipped, TextLines, Unread, print_verdict, read_record,
 };
 use std::fs::File;
@@ -87,7 +87,7 @@ struct RecordFile<'a> {
     bytes: u64,
 }
 
-impl<'a> Record for RecordFile<'a> {
+impl<'a> Recording for RecordFile<'a> {
     type Reader = Stream<BufReader<Take<File>>>;
 
     ghost shut = { λ _. Unit {0} };

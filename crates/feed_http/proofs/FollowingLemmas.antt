@@ -257,7 +257,7 @@ pub cut_behind : (most_reads : ℕ) (gave : Gave) (start m n : MirrorState)
 cut_behind most_reads gave start m n (Ok f) is (standing, ends, came) = (standing, ends, (m, came, is))
 cut_behind most_reads gave start m n (Err fault.Read) is (standing, going, came) =
     (standing, going, (m, came, is))
-cut_behind most_reads gave start m n (Err fault.Turns) is ((standing, going, came), count) =
+cut_behind most_reads gave start m n (Err fault.TooManyReads) is ((standing, going, came), count) =
     ((standing, going, (m, came, is)), count)
 cut_behind most_reads gave start m n (Err (fault.Follow why)) is (other, has) = (
   other,

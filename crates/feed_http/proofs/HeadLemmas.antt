@@ -26,7 +26,7 @@ fails_at most_reads gave middle before now why kept given still (inr is) unread 
 counts : (old middle new : ℕ) (why : EngineFault) → middle ≡ old
     → new ≡ reads_failed middle why → new ≡ reads_failed old why
 counts old middle new fault.Read same is = is ∙ ap (λ n. counted n 1) same
-counts old middle new fault.Turns same is = is ∙ same
+counts old middle new fault.TooManyReads same is = is ∙ same
 counts old middle new fault.Memory same is = is ∙ same
 counts old middle new fault.Write same is = is ∙ same
 counts old middle new (fault.Commit why) same is = is ∙ same

@@ -38,7 +38,7 @@ told_writes spoken All Part Refused reads (Err fault.Memory) (part, writes) = (r
 told_writes spoken All Part Refused reads (Err (fault.Commit why)) (denied, writes) =
     (reads, writes)
 told_writes spoken All Part Refused reads (Err fault.Read) (none, writes) = absurd none
-told_writes spoken All Part Refused reads (Err fault.Turns) (none, writes) = absurd none
+told_writes spoken All Part Refused reads (Err fault.TooManyReads) (none, writes) = absurd none
 told_writes spoken All Part Refused reads (Err (fault.Follow why)) (none, writes) = absurd none
 
 -- where nothing was written, what failed is a read of the head
@@ -48,7 +48,7 @@ told_reads : (spoken : Exchange) (most_reads : ℕ) (head : List ℕ) (why : Eng
     → spoken.failed_writes_new ≡ spoken.failed_writes_old
     → FailuresAreTold {A = Served} spoken (Err why)
 told_reads spoken most_reads head fault.Read fails reads writes = (reads, writes)
-told_reads spoken most_reads head fault.Turns fails reads writes = (reads, writes)
+told_reads spoken most_reads head fault.TooManyReads fails reads writes = (reads, writes)
 told_reads spoken most_reads head fault.Memory fails reads writes = (reads, writes)
 told_reads spoken most_reads head fault.Write none reads writes = absurd none
 told_reads spoken most_reads head (fault.Commit why) none reads writes = absurd none
@@ -65,7 +65,7 @@ module _ (service : Service) (node : NodeState) (spoken : Exchange) where
       → HeadFails service.most_reads (gave_on spoken) head why
       → ServedSo service node spoken (Err why)
   unread_so head fault.Read needed nothing (given, still) = (head, given, needed, still, nothing)
-  unread_so head fault.Turns needed nothing (given, still, rose) =
+  unread_so head fault.TooManyReads needed nothing (given, still, rose) =
       ((head, given, needed, still, nothing), rose)
   unread_so head fault.Memory needed nothing h = inl nothing
   unread_so head fault.Write needed nothing none = absurd none
@@ -122,7 +122,7 @@ module _ (service : Service) (node : NodeState) (spoken : Exchange) where
     answered_so (Err fault.Write) (part, failed) = wrote_part part
     answered_so (Err fault.Memory) (part, quiet) = inr (wrote_part part)
     answered_so (Err fault.Read) (none, quiet) = absurd none
-    answered_so (Err fault.Turns) (none, quiet) = absurd none
+    answered_so (Err fault.TooManyReads) (none, quiet) = absurd none
     answered_so (Err (fault.Commit why)) (none, quiet) = absurd none
     answered_so (Err (fault.Follow why)) (none, quiet) = absurd none
 
@@ -157,7 +157,7 @@ module _ (turn : ℕ) (service : Service) (spoken : Exchange) (start now : Intak
       (Err why) now
   unread_live head fault.Read needed same nothing (given, still) =
       ((head, given, needed, still, nothing), same)
-  unread_live head fault.Turns needed same nothing (given, still, rose) =
+  unread_live head fault.TooManyReads needed same nothing (given, still, rose) =
       ((head, given, needed, still, nothing), same, rose)
   unread_live head fault.Memory needed same nothing h = inl (nothing, same)
   unread_live head fault.Write needed same nothing none = absurd none
@@ -198,7 +198,7 @@ module _ (turn : ℕ) (service : Service) (spoken : Exchange) (start now : Intak
   answered_live answer has (Err fault.Memory) (part, quiet) = inr (answer, has, part)
   answered_live answer has (Err (fault.Commit why)) (refused, quiet) = (answer, has, refused)
   answered_live answer has (Err fault.Read) (none, quiet) = absurd none
-  answered_live answer has (Err fault.Turns) (none, quiet) = absurd none
+  answered_live answer has (Err fault.TooManyReads) (none, quiet) = absurd none
   answered_live answer has (Err (fault.Follow why)) (none, quiet) = absurd none
 
   pub was_live : (answer : AnswerParts) → Answers answer

@@ -19,7 +19,7 @@ module _ {Part Some : Type 0} {Refused Denied : CommitFault → Type 0} {old new
   passed_by (fault.Commit why) same now part refused (denied, quiet) =
       (refused why denied, sym now ∙ quiet ∙ same)
   passed_by fault.Read same now part refused (none, quiet) = absurd none
-  passed_by fault.Turns same now part refused (none, quiet) = absurd none
+  passed_by fault.TooManyReads same now part refused (none, quiet) = absurd none
   passed_by (fault.Follow why) same now part refused (none, quiet) = absurd none
 
   -- the fault of what was written last is that of all that was written

@@ -75,7 +75,7 @@ abbrev pub FollowFails : (Standing → Type 0) → (FollowFault → Type 0) → 
     → Type 0
 FollowFails Came Met most_reads gave fault.Read =
     (standing : Standing) × IsGoingOn standing × Came standing
-FollowFails Came Met most_reads gave fault.Turns =
+FollowFails Came Met most_reads gave fault.TooManyReads =
     ((standing : Standing) × IsGoingOn standing × Came standing)
     × RoseBy gave.reads_old gave.reads_new most_reads
 FollowFails Came Met most_reads gave (fault.Follow why) = (why ≢ Closed) × Met why

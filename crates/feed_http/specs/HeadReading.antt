@@ -39,7 +39,7 @@ pub data IsReadAsNeeded : List ℕ → Type 0 where
 abbrev pub HeadFails : ℕ → Gave → List ℕ → EngineFault → Type 0
 HeadFails most_reads gave head fault.Read =
     Consumes gave.source gave.left head × IsStillNeeded head
-HeadFails most_reads gave head fault.Turns =
+HeadFails most_reads gave head fault.TooManyReads =
     Consumes gave.source gave.left head × IsStillNeeded head
     × RoseBy gave.reads_old gave.reads_new most_reads
 HeadFails most_reads gave head fault.Memory = Unit {0}

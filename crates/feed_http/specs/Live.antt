@@ -184,7 +184,7 @@ ServedLive turn service spoken start (Ok served) now =
 ServedLive turn service spoken start (Err fault.Read) now =
     BrokeInHead spoken.source spoken.left spoken.written_old spoken.written_new
     × (now ≡ start)
-ServedLive turn service spoken start (Err fault.Turns) now =
+ServedLive turn service spoken start (Err fault.TooManyReads) now =
     BrokeInHead spoken.source spoken.left spoken.written_old spoken.written_new
     × (now ≡ start)
     × RoseBy spoken.reads_old spoken.reads_new service.most_reads

@@ -108,7 +108,7 @@ ServedSo service node spoken (Ok served) =
     × Appends spoken.written_old spoken.written_new text
 ServedSo service node spoken (Err fault.Read) =
     BrokeInHead spoken.source spoken.left spoken.written_old spoken.written_new
-ServedSo service node spoken (Err fault.Turns) =
+ServedSo service node spoken (Err fault.TooManyReads) =
     BrokeInHead spoken.source spoken.left spoken.written_old spoken.written_new
     × RoseBy spoken.reads_old spoken.reads_new service.most_reads
 ServedSo service node spoken (Err fault.Write) =

@@ -13,7 +13,7 @@ FailsBy Part Refused fault.Write = Part
 FailsBy Part Refused fault.Memory = Part
 FailsBy Part Refused (fault.Commit why) = Refused why
 FailsBy Part Refused fault.Read = ⊥
-FailsBy Part Refused fault.Turns = ⊥
+FailsBy Part Refused fault.TooManyReads = ⊥
 FailsBy Part Refused (fault.Follow why) = ⊥
 
 abbrev pub EndsBy : {A : Type 0} → (A → Type 0) → Type 0 → (CommitFault → Type 0)

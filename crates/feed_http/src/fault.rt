@@ -18,7 +18,7 @@ pub enum EngineFault {
     Write,
     /// All reads that were allowed were made, and another was needed.
     #[error("too many turns")]
-    Turns,
+    TooManyReads,
     /// The primary refused a batch.
     #[error(transparent)]
     Commit(CommitFault),

@@ -45,7 +45,7 @@ fn push_response<R: FeedRead>(
             Progress::TokenRefused => return Ok(Followed::TokenRefused),
         };
     }
-    Err(EngineFault::Turns)
+    Err(EngineFault::TooManyReads)
 }
 
 /// Reads the response to what a mirror asked with, in at most so many reads (`most_reads`) of at

@@ -85,7 +85,7 @@ pub(crate) fn read_head<R: FeedRead>(
     let mut made: u64 = 0;
     'pieces: while is_needed(bytes.as_slice()) {
         if made == most_reads {
-            return Err(EngineFault::Turns);
+            return Err(EngineFault::TooManyReads);
         }
         made += 1;
         if read_piece(reader, bytes)? == 0 {

@@ -5,8 +5,8 @@ use feed_answer::{Identity, Place};
 use feed_commands::{AddressFault, Fault, LiveOptions, NetworkFault, Server, VERSION, servers_of};
 use feed_host::{Failure, Hosts, identity_of};
 use feed_node::Limits;
-use feed_state::{About, Kept, StateFault, Texts, take_state};
-use feed_system::{Host, OpenFault, Opened, open};
+use feed_state::{About, FileTexts, Kept, StateFault, take_state};
+use feed_system::{Resources, ServerName, StartFault, open};
 use std::alloc::{AllocError, Global};
 use std::fs::File;
 use std::io;
@@ -16,7 +16,7 @@ use std::time::Instant;
 /// The servers: the hosts that they are of, and what each is asked for.
 #[derive(Drop)]
 struct Asked {
-    hosts: Vec<Host>,
+    hosts: Vec<ServerName>,
     places: Vec<Place>,
 }
 
@@ -29,7 +29,7 @@ impl Asked {
         port: u16,
         place: &Place,
     ) -> Result<(), Fault> {
-        let host = needs_memory(Host::new(rt, name, port))?;
+        let host = needs_memory(ServerName::new(rt, name, port))?;
         for _ in 0..host.servers() {
             let (name, base, contest) = (place.host(), place.base(), place.contest());
             push(
@@ -123,16 +123,16 @@ fn kept_limits(options: &LiveOptions<'_>) -> Limits {
 }
 
 /// Why there is nothing to run on.
-fn failure_of(alloc: Global, fault: OpenFault) -> Failure {
+fn failure_of(alloc: Global, fault: StartFault) -> Failure {
     match fault {
-        OpenFault::Memory => Failure::from(Fault::Memory),
-        OpenFault::System => Failure::from(Fault::Read),
-        OpenFault::Address(option) => {
+        StartFault::Memory => Failure::from(Fault::Memory),
+        StartFault::System => Failure::from(Fault::Read),
+        StartFault::Address(option) => {
             let fault = Fault::from(AddressFault::BadAddress(0));
             Failure::about(fault, String::from_str(alloc, option))
         }
-        OpenFault::List(option, fault) => of_list(alloc, option, fault),
-        OpenFault::Bind(address) => {
+        StartFault::List(option, fault) => of_list(alloc, option, fault),
+        StartFault::Bind(address) => {
             let fault = Fault::from(NetworkFault::Bind);
             Failure::about(fault, format!(in alloc; "{address}"))
         }
@@ -173,7 +173,7 @@ struct Plan {
     contest: String,
     identity: Identity,
     places: Vec<Place>,
-    hosts: Vec<Host>,
+    hosts: Vec<ServerName>,
     kept: Option<Kept<File>>,
 }
 
@@ -198,7 +198,7 @@ fn to_be_read(rt: &HostRuntime, options: &LiveOptions<'_>, kept: Kept<File>) -> 
     drop(texts);
     Kept {
         state,
-        texts: Texts {
+        texts: FileTexts {
             before: Vec::new(rt.alloc()),
             file: Vec::new(rt.alloc()),
         },
@@ -248,9 +248,9 @@ fn system_of<'r>(
     rt: &'r HostRuntime,
     options: &LiveOptions<'_>,
     kept: Option<Kept<File>>,
-    hosts: Vec<Host>,
+    hosts: Vec<ServerName>,
     start: Instant,
-) -> Result<Opened<'r>, Failure> {
+) -> Result<Resources<'r>, Failure> {
     match open(rt, options, kept, hosts, start) {
         Ok(opened) => Ok(opened),
         Err(fault) => Err(failure_of(rt.alloc(), fault)),
@@ -276,7 +276,7 @@ pub struct Made<'r> {
     /// What is told to those who watch, beside what the relay counts itself.
     pub watched: Watched,
     /// The sockets, the clock, and the devices of its turns.
-    pub opened: Opened<'r>,
+    pub opened: Resources<'r>,
 }
 
 /// Makes all that a relay runs on: takes its state files, and listens. Else says why there is

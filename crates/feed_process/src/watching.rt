@@ -5,8 +5,8 @@ use feed_figures::{FeedFigures, Following, LONG_WAIT, Reason};
 use feed_files::FileFigures;
 use feed_screens::{ScreenFigures, ScreenRow};
 use feed_status::{
-    Failed, LastFailure, Latency, Plots, Refused, Screen, ScreensStatus, StateFile, UpstreamState,
-    UpstreamStatus,
+    FailureCount, FileStatus, LastFailure, Latency, Plots, Refused, ScreensStatus, UpstreamState,
+    UpstreamStatus, WatchedScreen,
 };
 use feed_system::since_1970;
 use std::alloc::{AllocError, Global};
@@ -73,9 +73,9 @@ fn state_of(following: Following) -> UpstreamState {
 }
 
 /// How often following failed for a reason.
-fn failed<'a>(words: &'a Words, reason: Reason, count: u64) -> Failed<'a> {
+fn failed<'a>(words: &'a Words, reason: Reason, count: u64) -> FailureCount<'a> {
     let _words = words;
-    Failed {
+    FailureCount {
         reason: reason.word(),
         count,
     }
@@ -119,9 +119,13 @@ pub fn upstream_of<'a>(feed: &FeedFigures, words: &'a Words, now: u64) -> Upstre
 }
 
 /// What is told of the state file, where there is one.
-pub fn file_of<'a>(file: Option<FileFigures>, words: &'a Words, now: u64) -> Option<StateFile<'a>> {
+pub fn file_of<'a>(
+    file: Option<FileFigures>,
+    words: &'a Words,
+    now: u64,
+) -> Option<FileStatus<'a>> {
     let file = file?;
-    Some(StateFile {
+    Some(FileStatus {
         bytes: file.bytes,
         age_ms: now.saturating_sub(file.written),
         fault: file.is_failing.then_some(words.fault.as_str()),
@@ -130,9 +134,9 @@ pub fn file_of<'a>(file: Option<FileFigures>, words: &'a Words, now: u64) -> Opt
 }
 
 /// What is told of one screen.
-pub fn screen_of(alloc: Global, row: &ScreenRow, now: u64) -> Result<Screen, AllocError> {
+pub fn screen_of(alloc: Global, row: &ScreenRow, now: u64) -> Result<WatchedScreen, AllocError> {
     let peer = row.peer;
-    Ok(Screen {
+    Ok(WatchedScreen {
         address: format!(in alloc; "{peer}")?,
         for_ms: now.saturating_sub(row.since),
         status: row.status,

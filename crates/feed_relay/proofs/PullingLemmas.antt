@@ -17,7 +17,7 @@ pub answered : (request : List ℕ) (most_reads : ℕ) (spoken : Exchange) (star
     → WritesRequest request spoken pulled × FollowsReply most_reads spoken start pulled mirror
 answered request most_reads spoken start mirror (Ok followed) wrote came = (wrote, came)
 answered request most_reads spoken start mirror (Err fault.Read) wrote came = (wrote, came)
-answered request most_reads spoken start mirror (Err fault.Turns) wrote came = (wrote, came)
+answered request most_reads spoken start mirror (Err fault.TooManyReads) wrote came = (wrote, came)
 answered request most_reads spoken start mirror (Err (fault.Follow why)) wrote came = (wrote, came)
 answered request most_reads spoken start mirror (Err fault.Write) wrote none = absurd none
 answered request most_reads spoken start mirror (Err fault.Memory) wrote none = absurd none
@@ -31,7 +31,7 @@ pub told_reads : (most_reads : ℕ) (spoken : Exchange) (start mirror : MirrorSt
     → spoken.failed_writes_new ≡ spoken.failed_writes_old → FailuresAreTold spoken pulled
 told_reads most_reads spoken start mirror (Ok followed) came reads writes = (reads, writes)
 told_reads most_reads spoken start mirror (Err fault.Read) came reads writes = (reads, writes)
-told_reads most_reads spoken start mirror (Err fault.Turns) came reads writes = (reads, writes)
+told_reads most_reads spoken start mirror (Err fault.TooManyReads) came reads writes = (reads, writes)
 told_reads most_reads spoken start mirror (Err (fault.Follow why)) came reads writes = (reads, writes)
 told_reads most_reads spoken start mirror (Err fault.Write) none reads writes = absurd none
 told_reads most_reads spoken start mirror (Err fault.Memory) none reads writes = absurd none

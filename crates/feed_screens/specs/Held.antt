@@ -1,8 +1,8 @@
 -- Requests wait until a server was heard.
 use Rattle.std.specs.Prelude.{◌≡◌, ℕ, ◌+◌, ◌-◌, ◌≤◌, ◌^◌, min, Bool, true, false, nat_le, Option, Some, None}
 use Rattle.feed_screens.specs.declared.conn.Conn.{Conn}
-use Rattle.feed_screens.specs.declared.conn.Stage.{Stage}
-use Rattle.feed_screens.specs.declared.conn.Stage.TheVariants.{Asks, Watches, Lingers}
+use Rattle.feed_screens.specs.declared.conn.Phase.{Phase}
+use Rattle.feed_screens.specs.declared.conn.Phase.TheVariants.{Asks, Watches, Lingers}
 use Rattle.feed_screens.specs.declared.screens.Answers.{Answers}
 
 -- with what a request is answered, which is held or not: with what shows nothing, or with what the
@@ -25,15 +25,15 @@ IsAnswering held hold since now = is_over held (min (since + hold) (2 ^ 64 - 1))
 abbrev pub Waits : Option Conn → Bool → ℕ → ℕ → Type 0
 Waits None held hold now = ⊥
 Waits (Some conn) held hold now =
-    (conn.stage ≡ Asks) × (IsAnswering held hold conn.since now → ⊥)
+    (conn.phase ≡ Asks) × (IsAnswering held hold conn.since now → ⊥)
 
--- the connection is at this stage
-abbrev pub IsAt : Option Conn → Stage → Type 0
-IsAt None stage = ⊥
-IsAt (Some conn) stage = conn.stage ≡ stage
+-- the connection is at this phase
+abbrev pub IsAt : Option Conn → Phase → Type 0
+IsAt None phase = ⊥
+IsAt (Some conn) phase = conn.phase ≡ phase
 
 -- all was sent, and it was read long enough since
-abbrev pub HasLingered : Stage → ℕ → Type 0
+abbrev pub HasLingered : Phase → ℕ → Type 0
 HasLingered Asks now = ⊥
 HasLingered Watches now = ⊥
 HasLingered (Lingers until left) now = until ≤ now
@@ -41,7 +41,7 @@ HasLingered (Lingers until left) now = until ≤ now
 -- so it is with the connection
 abbrev pub IsPast : Option Conn → ℕ → Type 0
 IsPast None now = ⊥
-IsPast (Some conn) now = HasLingered conn.stage now
+IsPast (Some conn) now = HasLingered conn.phase now
 
 -- what answers shows what it did
 pub record SameMirrors (old new : Answers) : Type 0 where

@@ -4,9 +4,9 @@ use Rattle.slab.specs.Slab.{Slab, get, slab_len, HasRoomFor}
 use Rattle.feed_hub.specs.declared.hub.Hub.{Hub}
 use Rattle.feed_hub.specs.declared.seats.Key.{Key}
 use Rattle.feed_screens.specs.declared.conn.Conn.{Conn}
-use Rattle.feed_screens.specs.declared.conn.Stage.{Stage}
+use Rattle.feed_screens.specs.declared.conn.Phase.{Phase}
 use Rattle.feed_screens.specs.declared.screens.Screens.{Screens}
-use Rattle.feed_screens.specs.declared.conn.Stage.TheVariants.{Asks, Watches, Lingers as Lingering}
+use Rattle.feed_screens.specs.declared.conn.Phase.TheVariants.{Asks, Watches, Lingers as Lingering}
 use Rattle.feed_screens.specs.Serving.{key_at}
 
 -- there are fewer than there may be, and no memory is needed for one more
@@ -30,23 +30,23 @@ abbrev pub HasSentEnd : Slab Conn → Key → Type 0
 HasSentEnd conns key = (at : ℕ) × SentEndWithKey (get conns at) key
 
 -- all was sent: what comes is read and forgotten
-abbrev pub Lingers : Stage → Type 0
+abbrev pub Lingers : Phase → Type 0
 Lingers Asks = ⊥
 Lingers Watches = ⊥
 Lingers (Lingering until left) = Unit {0}
 
 -- from now on all was sent: for two seconds, and for 65,536 bytes, what comes is read and forgotten
-abbrev pub lingers_from : ℕ → Stage
+abbrev pub lingers_from : ℕ → Phase
 lingers_from now = Lingering (min (now + 2000) (2 ^ 64 - 1)) 65536
 
 -- so many bytes of that came
-abbrev pub lingers_less : ℕ → Stage → Stage
+abbrev pub lingers_less : ℕ → Phase → Phase
 lingers_less count Asks = Asks
 lingers_less count Watches = Watches
 lingers_less count (Lingering until left) = Lingering until (left - count)
 
 -- with so many more, no further ones are read
-abbrev pub HasReadAll : ℕ → Stage → Type 0
+abbrev pub HasReadAll : ℕ → Phase → Type 0
 HasReadAll count Asks = ⊥
 HasReadAll count Watches = ⊥
 HasReadAll count (Lingering until left) = left ≤ count
@@ -54,7 +54,7 @@ HasReadAll count (Lingering until left) = left ≤ count
 -- so it is with the connection
 abbrev pub IsLingering : Option Conn → Type 0
 IsLingering None = ⊥
-IsLingering (Some conn) = Lingers conn.stage
+IsLingering (Some conn) = Lingers conn.phase
 
 -- a connection is there that was not, and it has a key
 pub record HasNewKey (old new : Slab Conn) : Type 0 where

@@ -19,7 +19,7 @@ use Rattle.feed_hub.specs.Backlog.{Backlog}
 use Rattle.feed_hub.specs.Screen.{IsServed}
 use Rattle.feed_hub.specs.Seats.{seat_at}
 use Rattle.feed_screens.specs.declared.conn.Conn.{Conn}
-use Rattle.feed_screens.specs.declared.conn.Stage.TheVariants.{Watches as Watching}
+use Rattle.feed_screens.specs.declared.conn.Phase.TheVariants.{Watches as Watching}
 use Rattle.feed_screens.specs.declared.screens.Answers.{Answers}
 use Rattle.feed_screens.specs.declared.screens.Screens.{Screens}
 use Rattle.feed_screens.specs.declared.screens.Keyed.{Keyed}
@@ -249,7 +249,7 @@ HasNoSeat hub (Some conn) =
 abbrev pub IsWritable : Option Conn → Key → Type 0
 IsWritable None key = ⊥
 IsWritable (Some conn) key =
-    (conn.key ≡ Some key) × (conn.stage ≡ Watching) × (conn.is_blocked ≡ false)
+    (conn.key ≡ Some key) × (conn.phase ≡ Watching) × (conn.is_blocked ≡ false)
 
 -- ---- what was said
 

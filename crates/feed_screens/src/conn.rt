@@ -14,7 +14,7 @@ const LINGER_BYTES: usize = 65_536;
 
 /// How far a connection has come.
 #[derive(Clone, Copy, PartialEq, Eq)]
-pub(crate) enum Stage {
+pub(crate) enum Phase {
     /// Its request comes.
     Asks,
     /// It is sent its answer, and what follows.
@@ -47,7 +47,7 @@ pub(crate) struct Conn {
     /// Its key in the hub; none where it has no seat there, or no longer.
     pub(crate) key: Option<Key>,
     /// How far it has come.
-    pub(crate) stage: Stage,
+    pub(crate) phase: Phase,
     /// The last write would have waited, or took a part alone.
     pub(crate) is_blocked: bool,
     /// There may be more to read, for which no event comes.
@@ -81,7 +81,7 @@ impl Conn {
     {
         Conn {
             key: None,
-            stage: Stage::Asks,
+            phase: Phase::Asks,
             is_blocked: false,
             has_input: false,
             has_more: false,
@@ -205,9 +205,9 @@ impl Conn {
     /// The peer sends no more.
     pub(crate) fn end_input(&mut self, now: u64)
         ensures key { self.new.key ≡ self.old.key }
-        ensures stage { self.new.stage ≡ self.old.stage }
+        ensures phase { self.new.phase ≡ self.old.phase }
     {
-        if self.stage == Stage::Watches || self.wait.is_some() {
+        if self.phase == Phase::Watches || self.wait.is_some() {
             self.ended = Some(now);
         }
     }
@@ -215,7 +215,7 @@ impl Conn {
     /// All was sent; one that had no answer was refused.
     pub(crate) fn linger(&mut self, now: u64)
         ensures key { self.new.key ≡ None }
-        ensures stage { self.new.stage ≡ lingers_from now }
+        ensures phase { self.new.phase ≡ lingers_from now }
     {
         self.key = None;
         self.has_more = false;
@@ -223,7 +223,7 @@ impl Conn {
         if self.status == 0 {
             self.status = 503;
         }
-        self.stage = Stage::Lingers {
+        self.phase = Phase::Lingers {
             until: now.saturating_add(LINGER),
             left: LINGER_BYTES,
         };
@@ -232,13 +232,13 @@ impl Conn {
     /// So many bytes were read and forgotten. Whether the connection is to be closed.
     pub(crate) fn forget(&mut self, count: usize) -> bool
         ensures key { self.new.key ≡ self.old.key }
-        ensures stage { self.new.stage ≡ lingers_less count self.old.stage }
-        ensures enough { IsTrue result ↔ HasReadAll count self.old.stage }
+        ensures phase { self.new.phase ≡ lingers_less count self.old.phase }
+        ensures enough { IsTrue result ↔ HasReadAll count self.old.phase }
     {
-        let Stage::Lingers { until, left } = self.stage else {
+        let Phase::Lingers { until, left } = self.phase else {
             return false;
         };
-        self.stage = Stage::Lingers {
+        self.phase = Phase::Lingers {
             until,
             left: left.saturating_sub(count),
         };
@@ -247,12 +247,12 @@ impl Conn {
 
     /// Whether it has lingered for long enough.
     pub(crate) fn is_past(&self, now: u64) -> bool
-        ensures { IsTrue result ↔ HasLingered self.now.stage now }
+        ensures { IsTrue result ↔ HasLingered self.now.phase now }
     {
-        match self.stage {
-            Stage::Lingers { until, .. } => until <= now,
-            Stage::Asks => false,
-            Stage::Watches => false,
+        match self.phase {
+            Phase::Lingers { until, .. } => until <= now,
+            Phase::Asks => false,
+            Phase::Watches => false,
         }
     }
 
@@ -264,9 +264,9 @@ impl Conn {
         at: usize,
     ) -> Option<(u64, usize)>
         ensures { (result ≡ other)
-            ⊎ IfSome result (λ found. (found.1 ≡ at) × Lingers self.now.stage) }
+            ⊎ IfSome result (λ found. (found.1 ≡ at) × Lingers self.now.phase) }
     {
-        let Stage::Lingers { until, .. } = self.stage else {
+        let Phase::Lingers { until, .. } = self.phase else {
             return other;
         };
         match other {

@@ -1,6 +1,6 @@
 //! What is counted of screens, for those who watch a relay.
 
-use crate::conn::{Conn, Stage};
+use crate::conn::{Conn, Phase};
 use crate::screens::Screens;
 use std::alloc::{AllocError, Global};
 use std::cmp::Reverse;
@@ -119,8 +119,8 @@ pub struct ScreenRow {
 impl ScreenFigures {
     /// One of them is at this.
     fn count(&mut self, conn: &Conn) {
-        match conn.stage {
-            Stage::Asks => self.asking = self.asking.saturating_add(1),
+        match conn.phase {
+            Phase::Asks => self.asking = self.asking.saturating_add(1),
             _ if conn.is_blocked || conn.has_more => {
                 self.behind = self.behind.saturating_add(1);
             }
@@ -212,5 +212,5 @@ impl Screens {
 
 /// Whether a screen is sent what is published.
 fn follows(conn: &Conn) -> bool {
-    conn.stage == Stage::Watches && conn.status == 200
+    conn.phase == Phase::Watches && conn.status == 200
 }

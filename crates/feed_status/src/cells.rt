@@ -1,7 +1,7 @@
 //! What stands in the cells of the page's tables.
 
 use crate::health::Coming;
-use crate::status::{LastFailure, ScreensStatus, StateFile, UpstreamState, UpstreamStatus};
+use crate::status::{FileStatus, LastFailure, ScreensStatus, UpstreamState, UpstreamStatus};
 use crate::warnings::Waiting;
 use std::fmt;
 
@@ -55,7 +55,7 @@ pub(crate) enum Cell<'a> {
     Failures(&'a UpstreamStatus<'a>),
     /// How many requests were refused, and how many of them with which status.
     Refusals(&'a ScreensStatus),
-    StateFile(Option<StateFile<'a>>),
+    StateFile(Option<FileStatus<'a>>),
     /// The status that a screen was answered with; none while its request comes.
     Answer(Option<u16>),
     /// The token of what a screen was sent, if that is all, and how many bytes it lacks.
@@ -136,7 +136,7 @@ fn put_refusals<W: fmt::Write>(screens: &ScreensStatus, f: &mut fmt::Formatter<W
 }
 
 fn put_state_file<W: fmt::Write>(
-    file: Option<StateFile<'_>>,
+    file: Option<FileStatus<'_>>,
     f: &mut fmt::Formatter<W>,
 ) -> fmt::Result {
     let Some(file) = file else {

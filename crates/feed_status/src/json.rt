@@ -6,7 +6,7 @@ use crate::plots::{Latest, PlotsJson, Point};
 use crate::rows::Row;
 use crate::screens::{ScreenJson, ScreensJson};
 use crate::status::{
-    Failed, LastFailure, Latency, Refused, ScreensStatus, StateFile, Status, UpstreamState,
+    FailureCount, FileStatus, LastFailure, Latency, Refused, ScreensStatus, Status, UpstreamState,
     UpstreamStatus,
 };
 use serde::{Described, Serialize, Serializer};
@@ -121,9 +121,9 @@ impl Serialize for ScreensStatus {
     }
 }
 
-impl Described for StateFile<'_> {}
+impl Described for FileStatus<'_> {}
 
-impl Serialize for StateFile<'_> {
+impl Serialize for FileStatus<'_> {
     fn serialize<S: Serializer>(&self, out: &mut S) -> Result<(), S::Error> {
         let put = out.begin_map(None);
         let put = put_member(put, "bytes", &self.bytes, out);
@@ -150,9 +150,9 @@ impl Serialize for ScreenJson<'_> {
     }
 }
 
-impl Described for Failed<'_> {}
+impl Described for FailureCount<'_> {}
 
-impl Serialize for Failed<'_> {
+impl Serialize for FailureCount<'_> {
     fn serialize<S: Serializer>(&self, out: &mut S) -> Result<(), S::Error> {
         let put = out.begin_map(None);
         let put = put_member(put, "reason", &self.reason, out);

@@ -20,9 +20,9 @@ pub use answering::answer;
 pub use escape::put_text;
 pub use health::Level;
 pub use plots::{Latest, Plots, Point};
-pub use screens::Screen;
+pub use screens::WatchedScreen;
 pub use status::{
-    BOUNDS, Failed, LastFailure, Latency, Refused, ScreensStatus, StateFile, Status, UpstreamState,
-    UpstreamStatus,
+    BOUNDS, FailureCount, FileStatus, LastFailure, Latency, Refused, ScreensStatus, Status,
+    UpstreamState, UpstreamStatus,
 };
 pub use watch::{Process, Watch};

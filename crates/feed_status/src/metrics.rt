@@ -1,7 +1,7 @@
 //! The metrics, in the text format of Prometheus (version 0.0.4).
 
 use crate::status::{
-    BOUNDS, Latency, ScreensStatus, StateFile, Status, UpstreamState, UpstreamStatus,
+    BOUNDS, FileStatus, Latency, ScreensStatus, Status, UpstreamState, UpstreamStatus,
 };
 use crate::watch::Process;
 use std::fmt;
@@ -325,7 +325,7 @@ fn of_ends<'a>(status: &Status<'a>) -> [Metric<'a>; 3] {
 }
 
 /// The state file.
-fn of_file<'a>(file: &StateFile<'a>) -> [Metric<'a>; 4] {
+fn of_file<'a>(file: &FileStatus<'a>) -> [Metric<'a>; 4] {
     [
         gauge(
             "tunygarop_state_file_failing",
@@ -404,7 +404,7 @@ fn put_commit<W: fmt::Write>(age: Option<u64>, f: &mut fmt::Formatter<W>) -> fmt
 }
 
 /// Appends what is known of the state file, where there is one.
-fn put_file<W: fmt::Write>(file: Option<StateFile<'_>>, f: &mut fmt::Formatter<W>) -> fmt::Result {
+fn put_file<W: fmt::Write>(file: Option<FileStatus<'_>>, f: &mut fmt::Formatter<W>) -> fmt::Result {
     match &file {
         Some(file) => put_all(&of_file(file), f),
         None => Ok(()),

@@ -3,7 +3,7 @@
 use crate::escape::put_element;
 use crate::health::Headline;
 use crate::rows::{Row, rows_of};
-use crate::screens::{HEADERS, Screen, put_screens};
+use crate::screens::{HEADERS, WatchedScreen, put_screens};
 use crate::status::Status;
 use std::alloc::{AllocError, Global};
 
@@ -212,7 +212,7 @@ fn put_rows(alloc: Global, status: &Status<'_>, out: &mut Vec<u8>) -> Result<(),
 pub(crate) fn put_page(
     alloc: Global,
     status: &Status<'_>,
-    screens: &[Screen],
+    screens: &[WatchedScreen],
     out: &mut Vec<u8>,
 ) -> Result<(), AllocError> {
     put_head(alloc, status, out)?;

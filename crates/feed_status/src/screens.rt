@@ -15,7 +15,7 @@ pub(crate) const HEADERS: [&str; CELLS] = ["Address", "For", "Status", "Token", 
 
 /// One screen's connection.
 #[derive(Drop)]
-pub struct Screen {
+pub struct WatchedScreen {
     /// Its address and port.
     pub address: String,
     /// For how long it is connected.
@@ -30,7 +30,7 @@ pub struct Screen {
     pub bytes: u64,
 }
 
-impl Screen {
+impl WatchedScreen {
     /// The token of what it was sent, where that is all.
     fn token<'a>(&self, token: Option<&'a str>) -> Option<&'a str> {
         if self.follows && self.behind_bytes == 0 {
@@ -84,7 +84,7 @@ pub(crate) struct ScreensJson<'a> {
 /// What is told of these screens, of so many, where this token is published.
 pub(crate) fn report<'a>(
     alloc: Global,
-    screens: &'a [Screen],
+    screens: &'a [WatchedScreen],
     open: u64,
     token: Option<&'a str>,
 ) -> Result<ScreensJson<'a>, AllocError> {
@@ -117,7 +117,7 @@ fn put_cells(cells: &[String], out: &mut Vec<u8>) -> Result<(), AllocError> {
 /// Appends the rows of the page's table.
 pub(crate) fn put_screens(
     alloc: Global,
-    screens: &[Screen],
+    screens: &[WatchedScreen],
     token: Option<&str>,
     out: &mut Vec<u8>,
 ) -> Result<(), AllocError> {

@@ -46,7 +46,7 @@ const REASONS: usize = 10;
 
 /// How many attempts to follow a server failed for a reason.
 #[derive(Clone, Copy)]
-pub struct Failed<'a> {
+pub struct FailureCount<'a> {
     /// One word.
     pub reason: &'a str,
     /// How many failed for it since the start.
@@ -78,7 +78,7 @@ pub struct UpstreamStatus<'a> {
     /// Of all servers since the start.
     pub last_failure: Option<LastFailure<'a>>,
     /// How many attempts failed since the start, reason by reason.
-    pub failed_by: [Failed<'a>; REASONS],
+    pub failed_by: [FailureCount<'a>; REASONS],
     /// How many lines came on its connection that are not shown yet; 0 unless it settles.
     pub coming_lines: u64,
     /// How many bytes came on its connection that are not shown yet; 0 unless it settles.
@@ -136,7 +136,7 @@ pub struct ScreensStatus {
 
 /// The state file.
 #[derive(Clone, Copy)]
-pub struct StateFile<'a> {
+pub struct FileStatus<'a> {
     /// How many bytes it has.
     pub bytes: u64,
     /// How long ago it was written to.
@@ -214,7 +214,7 @@ pub struct Status<'a> {
     /// The connections on the feed's port.
     pub screens: ScreensStatus,
     /// The state file; none if nothing is kept.
-    pub state_file: Option<StateFile<'a>>,
+    pub state_file: Option<FileStatus<'a>>,
     /// How long commits took.
     pub latency: Latency,
     /// The last second of the plots.

@@ -1,7 +1,7 @@
 //! A relay that is watched.
 
 use crate::plots::Plots;
-use crate::screens::Screen;
+use crate::screens::WatchedScreen;
 use crate::status::Status;
 use std::alloc::{AllocError, Global};
 
@@ -24,7 +24,7 @@ pub trait Watch {
     fn status(&self) -> Status<'_>;
 
     /// At most so many of its screens, the slowest first.
-    fn screens(&self, alloc: Global, most: usize) -> Result<Vec<Screen>, AllocError>;
+    fn screens(&self, alloc: Global, most: usize) -> Result<Vec<WatchedScreen>, AllocError>;
 
     /// Its last ten minutes.
     fn plots(&self) -> &Plots;

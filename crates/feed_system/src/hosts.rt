@@ -26,7 +26,7 @@ fn addresses_of(rt: &HostRuntime, host: &str, port: u16) -> Result<Vec<SocketAdd
 /// One of the names that servers have. Each of its addresses is a server; where it has none at the
 /// start, it counts as one.
 #[derive(Drop)]
-pub struct Host {
+pub struct ServerName {
     /// The name, or an address; one of IPv6 may stand in brackets.
     name: String,
     /// The port of each of its servers, 1 to 65,535.
@@ -46,11 +46,11 @@ pub struct Host {
     passed: usize,
 }
 
-impl Host {
+impl ServerName {
     /// The host of this name, and what addresses it has now.
-    pub fn new(rt: &HostRuntime, name: String, port: u16) -> Result<Host, AllocError> {
+    pub fn new(rt: &HostRuntime, name: String, port: u16) -> Result<ServerName, AllocError> {
         let is_address = without_brackets(name.as_str()).parse::<IpAddr>().is_ok();
-        let mut host = Host {
+        let mut host = ServerName {
             name,
             port,
             addresses: Vec::new(rt.alloc()),

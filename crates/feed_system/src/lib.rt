@@ -17,9 +17,9 @@ mod tally;
 mod watchers;
 
 pub use descriptors::{Placeholders, hold_standard};
-pub use hosts::Host;
+pub use hosts::ServerName;
 pub use link::Servers;
-pub use opening::{OpenFault, Opened, open};
+pub use opening::{Resources, StartFault, open};
 pub use pair::Pair;
 pub use procfs::{process, since_1970};
 pub use reporting::restored_text;

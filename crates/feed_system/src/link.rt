@@ -1,6 +1,6 @@
 //! The connection to one of the servers.
 
-use crate::hosts::Host;
+use crate::hosts::ServerName;
 use crate::sockets::{read_once, write_once};
 use feed_device::{Link, Stop, Why};
 use mio::net::TcpStream;
@@ -30,7 +30,7 @@ pub struct Servers<'r> {
     /// The token that its events have.
     token: Token,
     /// The hosts, in the order in which they were given.
-    hosts: Vec<Host>,
+    hosts: Vec<ServerName>,
     /// The servers of all hosts, host by host.
     servers: Vec<Server>,
     /// The connection; none if it is closed.
@@ -38,7 +38,7 @@ pub struct Servers<'r> {
 }
 
 /// The servers of some hosts, in order.
-fn servers_of(alloc: Global, hosts: &[Host]) -> Result<Vec<Server>, AllocError> {
+fn servers_of(alloc: Global, hosts: &[ServerName]) -> Result<Vec<Server>, AllocError> {
     let mut servers = Vec::new(alloc);
     for (host, its) in hosts.iter().enumerate() {
         for number in 0..its.servers() {
@@ -58,7 +58,7 @@ impl<'r> Servers<'r> {
         rt: &'r HostRuntime,
         registry: Registry,
         token: Token,
-        hosts: Vec<Host>,
+        hosts: Vec<ServerName>,
     ) -> Result<Servers<'r>, AllocError> {
         Ok(Servers {
             rt,

@@ -4,7 +4,7 @@ ghost use Rattle.std.specs.Prelude.{◌≡◌, IfOk, option_map};
 ghost use Rattle.feed_system.specs.Guard.{AreListed};
 
 use crate::guard::Guard;
-use crate::hosts::Host;
+use crate::hosts::ServerName;
 use crate::link::{LINK, Servers};
 use crate::sockets::Port;
 use crate::standard::{ErrorStream, InputStream};
@@ -34,7 +34,7 @@ const INPUT_PIECE: usize = 65_536;
 
 /// Why a relay has nothing to run on.
 #[derive(Clone, Copy)]
-pub enum OpenFault {
+pub enum StartFault {
     /// Memory ran out.
     Memory,
     /// A call of the system failed.
@@ -47,26 +47,26 @@ pub enum OpenFault {
     Bind(SocketAddr),
 }
 
-impl From<AllocError> for OpenFault {
-    fn from(_error: AllocError) -> OpenFault {
-        OpenFault::Memory
+impl From<AllocError> for StartFault {
+    fn from(_error: AllocError) -> StartFault {
+        StartFault::Memory
     }
 }
 
-impl From<io::Error> for OpenFault {
-    fn from(error: io::Error) -> OpenFault {
+impl From<io::Error> for StartFault {
+    fn from(error: io::Error) -> StartFault {
         match error.kind() {
-            ErrorKind::OutOfMemory => OpenFault::Memory,
-            _ => OpenFault::System,
+            ErrorKind::OutOfMemory => StartFault::Memory,
+            _ => StartFault::System,
         }
     }
 }
 
 /// An address of this machine that an option says, with a port.
-fn local_address(option: &'static str, address: &str, port: u16) -> Result<SocketAddr, OpenFault> {
+fn local_address(option: &'static str, address: &str, port: u16) -> Result<SocketAddr, StartFault> {
     match without_brackets(address).parse::<IpAddr>() {
         Ok(address) => Ok(SocketAddr::new(address, port)),
-        Err(_) => Err(OpenFault::Address(option)),
+        Err(_) => Err(StartFault::Address(option)),
     }
 }
 
@@ -76,12 +76,12 @@ fn listener_of(
     poll: &Poll,
     address: Option<SocketAddr>,
     token: Token,
-) -> Result<Option<TcpListener>, OpenFault> {
+) -> Result<Option<TcpListener>, StartFault> {
     let Some(address) = address else {
         return Ok(None);
     };
     let Ok(mut listener) = TcpListener::bind(rt, address) else {
-        return Err(OpenFault::Bind(address));
+        return Err(StartFault::Bind(address));
     };
     poll.registry()
         .register(&mut listener, token, Interest::READABLE)?;
@@ -89,7 +89,7 @@ fn listener_of(
 }
 
 /// The networks that may connect, where they are listed.
-fn allowed(alloc: Global, options: &LiveOptions<'_>) -> Result<Option<Vec<Network>>, OpenFault>
+fn allowed(alloc: Global, options: &LiveOptions<'_>) -> Result<Option<Vec<Network>>, StartFault>
     ensures { IfOk result (λ networks.
         AreListed (option_map (λ list. list.now) options.now.allow) networks) }
 {
@@ -98,12 +98,12 @@ fn allowed(alloc: Global, options: &LiveOptions<'_>) -> Result<Option<Vec<Networ
     };
     match networks(alloc, list) {
         Ok(networks) => Ok(Some(networks)),
-        Err(fault) => Err(OpenFault::List("--allow", fault)),
+        Err(fault) => Err(StartFault::List("--allow", fault)),
     }
 }
 
 /// Where screens come to.
-fn screens_address(options: &LiveOptions<'_>) -> Result<Option<SocketAddr>, OpenFault> {
+fn screens_address(options: &LiveOptions<'_>) -> Result<Option<SocketAddr>, StartFault> {
     match options.listen {
         Some(port) => Ok(Some(local_address("--address", options.address, port)?)),
         None => Ok(None),
@@ -111,7 +111,7 @@ fn screens_address(options: &LiveOptions<'_>) -> Result<Option<SocketAddr>, Open
 }
 
 /// Where those come to who watch the relay.
-fn status_address(options: &LiveOptions<'_>) -> Result<Option<SocketAddr>, OpenFault> {
+fn status_address(options: &LiveOptions<'_>) -> Result<Option<SocketAddr>, StartFault> {
     let Some(port) = options.status else {
         return Ok(None);
     };
@@ -123,7 +123,7 @@ fn status_address(options: &LiveOptions<'_>) -> Result<Option<SocketAddr>, OpenF
 }
 
 /// The port that screens come to, and who may.
-fn port(rt: &HostRuntime, poll: &Poll, options: &LiveOptions<'_>) -> Result<Port, OpenFault>
+fn port(rt: &HostRuntime, poll: &Poll, options: &LiveOptions<'_>) -> Result<Port, StartFault>
     ensures { IfOk result (λ port.
         AreListed (option_map (λ list. list.now) options.now.allow) port.guard.networks) }
 {
@@ -134,7 +134,11 @@ fn port(rt: &HostRuntime, poll: &Poll, options: &LiveOptions<'_>) -> Result<Port
 }
 
 /// Who watches the relay, and the port that they come to.
-fn watchers(rt: &HostRuntime, poll: &Poll, options: &LiveOptions<'_>) -> Result<Watchers, OpenFault>
+fn watchers(
+    rt: &HostRuntime,
+    poll: &Poll,
+    options: &LiveOptions<'_>,
+) -> Result<Watchers, StartFault>
     ensures { IfOk result (λ watchers.
         AreListed (option_map (λ list. list.now) options.now.allow) watchers.guard.networks) }
 {
@@ -169,7 +173,7 @@ struct Ends {
 }
 
 /// Listens at the ports that are asked for.
-fn open_ends(rt: &HostRuntime, options: &LiveOptions<'_>) -> Result<Ends, OpenFault>
+fn open_ends(rt: &HostRuntime, options: &LiveOptions<'_>) -> Result<Ends, StartFault>
     ensures screens { IfOk result (λ ends.
         AreListed (option_map (λ list. list.now) options.now.allow) ends.port.guard.networks) }
     ensures watchers { IfOk result (λ ends.
@@ -188,7 +192,7 @@ fn open_ends(rt: &HostRuntime, options: &LiveOptions<'_>) -> Result<Ends, OpenFa
 
 /// All that a relay runs on.
 #[derive(Drop)]
-pub struct Opened<'r> {
+pub struct Resources<'r> {
     /// What waits, reads standard input, and writes reports.
     pub system: System<'r>,
     /// What its turns read from and write to.
@@ -201,9 +205,9 @@ pub fn open<'r>(
     rt: &'r HostRuntime,
     options: &LiveOptions<'_>,
     kept: Option<Kept<File>>,
-    hosts: Vec<Host>,
+    hosts: Vec<ServerName>,
     start: Instant,
-) -> Result<Opened<'r>, OpenFault>
+) -> Result<Resources<'r>, StartFault>
     // whoever comes to a port has to be in one of the networks that are listed, if some are
     ensures screens { IfOk result (λ opened.
         AreListed (option_map (λ list. list.now) options.now.allow)
@@ -225,7 +229,7 @@ pub fn open<'r>(
         watchers,
         port,
     } = ends;
-    Ok(Opened {
+    Ok(Resources {
         system: joined(rt, poll, watchers, buffers, start),
         devices: Devices {
             sockets: port,

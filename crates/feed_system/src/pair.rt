@@ -1,6 +1,6 @@
 //! Two servers at once, each with a connection that never waits.
 
-use crate::hosts::Host;
+use crate::hosts::ServerName;
 use crate::link::{LINK, Servers};
 use mio::{Events, Poll, Token};
 use std::io;
@@ -31,7 +31,7 @@ pub struct Pair<'r> {
 
 impl<'r> Pair<'r> {
     /// No connection is open yet. Its time begins now.
-    pub fn new(rt: &'r HostRuntime, first: Host, second: Host) -> io::Result<Pair<'r>> {
+    pub fn new(rt: &'r HostRuntime, first: ServerName, second: ServerName) -> io::Result<Pair<'r>> {
         let poll = Poll::new(rt)?;
         let mut firsts = Vec::new(rt.alloc());
         firsts.push(first)?;

@@ -2,7 +2,7 @@
 
 /// What a text that is one JSON object may go on with.
 #[derive(Clone, Copy, PartialEq, Eq)]
-pub enum Next {
+pub enum Expected {
     /// The object.
     Object,
     /// The first key of an object, or its end.
@@ -47,7 +47,7 @@ pub enum Digits {
 /// How far a text was read that nests at most 128 deep.
 #[derive(Clone, Copy)]
 pub struct Scanner {
-    next: Next,
+    next: Expected,
     /// A bit for each array or object that is open, 1 for an object; the last is the innermost.
     open: u128,
     /// How many are open.
@@ -89,14 +89,14 @@ impl Scanner {
     /// Nothing was read.
     pub fn new() -> Scanner {
         Scanner {
-            next: Next::Object,
+            next: Expected::Object,
             open: 0,
             depth: 0,
         }
     }
 
     /// What may come next.
-    pub fn next(&self) -> Next {
+    pub fn next(&self) -> Expected {
         self.next
     }
 
@@ -112,125 +112,129 @@ impl Scanner {
     }
 
     /// What may come behind this byte; none where the text can't go on with it.
-    fn after(&mut self, byte: u8) -> Option<Next> {
+    fn after(&mut self, byte: u8) -> Option<Expected> {
         match self.next {
-            Next::Text { is_key } => after_text(byte, is_key),
-            Next::Escape { is_key } => after_escape(byte, is_key),
-            Next::Hex { is_key, left } => after_hex(byte, is_key, left),
-            Next::Number(digits) => self.after_number(byte, digits),
-            Next::Literal(rest) => after_literal(byte, rest),
+            Expected::Text { is_key } => after_text(byte, is_key),
+            Expected::Escape { is_key } => after_escape(byte, is_key),
+            Expected::Hex { is_key, left } => after_hex(byte, is_key, left),
+            Expected::Number(digits) => self.after_number(byte, digits),
+            Expected::Literal(rest) => after_literal(byte, rest),
             next if is_white_space(byte) => Some(next),
             next => self.after_mark(byte, next),
         }
     }
 
     /// The same outside strings, numbers and literals, of no white space.
-    fn after_mark(&mut self, byte: u8, next: Next) -> Option<Next> {
+    fn after_mark(&mut self, byte: u8, next: Expected) -> Option<Expected> {
         match (next, byte) {
-            (Next::Object, b'{') => self.opens(true),
-            (Next::FirstKey | Next::Key, b'"') => Some(Next::Text { is_key: true }),
-            (Next::FirstKey, b'}') | (Next::FirstItem, b']') => self.closes(),
-            (Next::Colon, b':') => Some(Next::Value),
-            (Next::FirstItem | Next::Value, _) => self.begins(byte),
-            (Next::Comma, b',') if self.is_in_object() => Some(Next::Key),
-            (Next::Comma, b',') => Some(Next::Value),
-            (Next::Comma, b'}') if self.is_in_object() => self.closes(),
-            (Next::Comma, b']') if !self.is_in_object() => self.closes(),
+            (Expected::Object, b'{') => self.opens(true),
+            (Expected::FirstKey | Expected::Key, b'"') => Some(Expected::Text { is_key: true }),
+            (Expected::FirstKey, b'}') | (Expected::FirstItem, b']') => self.closes(),
+            (Expected::Colon, b':') => Some(Expected::Value),
+            (Expected::FirstItem | Expected::Value, _) => self.begins(byte),
+            (Expected::Comma, b',') if self.is_in_object() => Some(Expected::Key),
+            (Expected::Comma, b',') => Some(Expected::Value),
+            (Expected::Comma, b'}') if self.is_in_object() => self.closes(),
+            (Expected::Comma, b']') if !self.is_in_object() => self.closes(),
             _ => None,
         }
     }
 
     /// What may come behind the first byte of a value.
-    fn begins(&mut self, byte: u8) -> Option<Next> {
+    fn begins(&mut self, byte: u8) -> Option<Expected> {
         match byte {
             b'{' => self.opens(true),
             b'[' => self.opens(false),
-            b'"' => Some(Next::Text { is_key: false }),
-            b'-' => Some(Next::Number(Digits::Minus)),
-            b'0' => Some(Next::Number(Digits::Zero)),
-            b'1'..=b'9' => Some(Next::Number(Digits::Whole)),
-            b't' => Some(Next::Literal(b"rue")),
-            b'f' => Some(Next::Literal(b"alse")),
-            b'n' => Some(Next::Literal(b"ull")),
+            b'"' => Some(Expected::Text { is_key: false }),
+            b'-' => Some(Expected::Number(Digits::Minus)),
+            b'0' => Some(Expected::Number(Digits::Zero)),
+            b'1'..=b'9' => Some(Expected::Number(Digits::Whole)),
+            b't' => Some(Expected::Literal(b"rue")),
+            b'f' => Some(Expected::Literal(b"alse")),
+            b'n' => Some(Expected::Literal(b"ull")),
             _ => None,
         }
     }
 
     /// The same in a number, which this byte may end.
-    fn after_number(&mut self, byte: u8, digits: Digits) -> Option<Next> {
+    fn after_number(&mut self, byte: u8, digits: Digits) -> Option<Expected> {
         if let Some(digits) = digits.after(byte) {
-            return Some(Next::Number(digits));
+            return Some(Expected::Number(digits));
         }
         if !digits.may_end() {
             return None;
         }
         if is_white_space(byte) {
-            return Some(Next::Comma);
+            return Some(Expected::Comma);
         }
-        self.after_mark(byte, Next::Comma)
+        self.after_mark(byte, Expected::Comma)
     }
 
     fn is_in_object(&self) -> bool {
         self.open & 1 == 1
     }
 
-    fn opens(&mut self, is_object: bool) -> Option<Next> {
+    fn opens(&mut self, is_object: bool) -> Option<Expected> {
         self.open = (self.open << 1) | u128::from(is_object);
         self.depth = self.depth.saturating_add(1);
         if is_object {
-            Some(Next::FirstKey)
+            Some(Expected::FirstKey)
         } else {
-            Some(Next::FirstItem)
+            Some(Expected::FirstItem)
         }
     }
 
-    fn closes(&mut self) -> Option<Next> {
+    fn closes(&mut self) -> Option<Expected> {
         self.open >>= 1;
         self.depth = self.depth.saturating_sub(1);
         if self.depth == 0 {
-            Some(Next::End)
+            Some(Expected::End)
         } else {
-            Some(Next::Comma)
+            Some(Expected::Comma)
         }
     }
 }
 
 /// What may come behind a string.
-fn behind_text(is_key: bool) -> Next {
-    if is_key { Next::Colon } else { Next::Comma }
+fn behind_text(is_key: bool) -> Expected {
+    if is_key {
+        Expected::Colon
+    } else {
+        Expected::Comma
+    }
 }
 
-fn after_text(byte: u8, is_key: bool) -> Option<Next> {
+fn after_text(byte: u8, is_key: bool) -> Option<Expected> {
     match byte {
         b'"' => Some(behind_text(is_key)),
-        b'\\' => Some(Next::Escape { is_key }),
-        b' '.. => Some(Next::Text { is_key }),
+        b'\\' => Some(Expected::Escape { is_key }),
+        b' '.. => Some(Expected::Text { is_key }),
         _ => None,
     }
 }
 
-fn after_escape(byte: u8, is_key: bool) -> Option<Next> {
+fn after_escape(byte: u8, is_key: bool) -> Option<Expected> {
     match byte {
-        b'"' | b'\\' | b'/' | b'b' | b'f' | b'n' | b'r' | b't' => Some(Next::Text { is_key }),
-        b'u' => Some(Next::Hex { is_key, left: 4 }),
+        b'"' | b'\\' | b'/' | b'b' | b'f' | b'n' | b'r' | b't' => Some(Expected::Text { is_key }),
+        b'u' => Some(Expected::Hex { is_key, left: 4 }),
         _ => None,
     }
 }
 
-fn after_hex(byte: u8, is_key: bool, left: u8) -> Option<Next> {
+fn after_hex(byte: u8, is_key: bool, left: u8) -> Option<Expected> {
     if !byte.is_ascii_hexdigit() {
         return None;
     }
     Some(match left.saturating_sub(1) {
-        0 => Next::Text { is_key },
-        left => Next::Hex { is_key, left },
+        0 => Expected::Text { is_key },
+        left => Expected::Hex { is_key, left },
     })
 }
 
-fn after_literal(byte: u8, rest: &'static [u8]) -> Option<Next> {
+fn after_literal(byte: u8, rest: &'static [u8]) -> Option<Expected> {
     match rest {
-        [last] if *last == byte => Some(Next::Comma),
-        [first, more @ ..] if *first == byte => Some(Next::Literal(more)),
+        [last] if *last == byte => Some(Expected::Comma),
+        [first, more @ ..] if *first == byte => Some(Expected::Literal(more)),
         _ => None,
     }
 }

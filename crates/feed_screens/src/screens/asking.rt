@@ -7,10 +7,10 @@ ghost use Rattle.feed_hub.specs.Seats.{seat_at, IsAskingSeat};
 ghost use Rattle.feed_device.specs.Sockets.{AllSockets};
 ghost use Rattle.feed_screens.specs.Serving.{ServesScreens, StillServing, StillServesAll, StillAnswers};
 ghost use Rattle.feed_screens.specs.Serving.{ServesBut, HasKey, HearsSome, HearsAll, SameSeating, SameKeys, key_at};
-ghost use Rattle.feed_screens.specs.declared.conn.Stage.TheVariants.{Watches};
+ghost use Rattle.feed_screens.specs.declared.conn.Phase.TheVariants.{Watches};
 ghost use Rattle.feed_screens.specs.Held.{answerer, IsAt, SameMirrors, Waits};
 
-use crate::conn::Stage;
+use crate::conn::Phase;
 use crate::screens::{Answers, Hearing, Keyed, PIECE, Screens, Shown, TextId};
 use feed_device::{Desk, How, Sockets, Stop};
 use feed_hub::{Answering, Key, ServedAt};
@@ -58,7 +58,7 @@ impl Screens {
         let Some(conn) = self.conns.get(at) else {
             return false;
         };
-        if conn.stage == Stage::Asks && !shown.is_answering(conn.since, now) {
+        if conn.phase == Phase::Asks && !shown.is_answering(conn.since, now) {
             return false;
         }
         conn.has_input
@@ -128,9 +128,9 @@ impl Screens {
         if self.wants_answer(at) {
             return;
         }
-        match self.stage(at) {
-            Some(Stage::Asks) => self.end(desk, sockets, at, How::Left),
-            Some(Stage::Lingers { .. }) => self.end(desk, sockets, at, How::Done),
+        match self.phase(at) {
+            Some(Phase::Asks) => self.end(desk, sockets, at, How::Left),
+            Some(Phase::Lingers { .. }) => self.end(desk, sockets, at, How::Done),
             _ => self.probe_at(desk, at),
         }
     }
@@ -138,8 +138,8 @@ impl Screens {
     /// The peer of the connection at a place sends no more.
     fn has_ended(&mut self, at: usize, now: u64)
         ensures same { SameSeating self.old self.new }
-        ensures stage { (stage : Stage) → IsAt (get self.old.conns at) stage
-            → IsAt (get self.new.conns at) stage }
+        ensures phase { (phase : Phase) → IsAt (get self.old.conns at) phase
+            → IsAt (get self.new.conns at) phase }
     {
         if let Some(conn) = self.conns.get_mut(at) {
             conn.has_input = false;
@@ -147,11 +147,11 @@ impl Screens {
         }
     }
 
-    fn stage(&self, at: usize) -> Option<Stage>
-        ensures { (stage : Stage) → IsAt (get self.now.conns at) stage → result ≡ Some stage }
+    fn phase(&self, at: usize) -> Option<Phase>
+        ensures { (phase : Phase) → IsAt (get self.now.conns at) phase → result ≡ Some phase }
     {
         match self.conns.get(at) {
-            Some(conn) => Some(conn.stage),
+            Some(conn) => Some(conn.phase),
             None => None,
         }
     }
@@ -329,7 +329,7 @@ impl Screens {
     {
         self.totals.answer(status);
         if let Some(conn) = self.conns.get_mut(at) {
-            conn.stage = Stage::Watches;
+            conn.phase = Phase::Watches;
             conn.wait = None;
             conn.status = status;
         }

@@ -12,7 +12,7 @@ ghost use Rattle.feed_screens.specs.Serving.{IsGreeted, HasNoSeat, key_at};
 ghost use Rattle.feed_screens.specs.Waiting.{IsSlow, HoldsUp, RefusesAt};
 ghost use Rattle.feed_screens.specs.Seating.{comes_until, HasFreeSeat, HasNewKey, HasSentEnd, IsLingering};
 
-use crate::conn::{Conn, Stage};
+use crate::conn::{Conn, Phase};
 use crate::screens::{FULL, PIECE, Screens};
 use crate::times::{ACCEPT_PAUSE, REQUEST_TIME};
 use feed_device::{Desk, How, Report, Sockets, Stop};
@@ -317,7 +317,7 @@ impl Screens {
         ensures { IsTrue result → key_at self.now.conns at ≡ Some None }
     {
         match self.conns.get(at) {
-            Some(conn) => conn.key.is_none() && matches!(conn.stage, Stage::Lingers { .. }),
+            Some(conn) => conn.key.is_none() && matches!(conn.phase, Phase::Lingers { .. }),
             None => false,
         }
     }

@@ -5,13 +5,13 @@ ghost use Rattle.feed_node.specs.States.{NodeState};
 ghost use Rattle.feed_hub.specs.Hub.{prefix_at};
 ghost use Rattle.feed_device.specs.Calls.{CalledOnce, NotCalled};
 ghost use Rattle.slab.specs.Slab.{get};
-ghost use Rattle.feed_screens.specs.declared.conn.Stage.TheVariants.{Asks};
+ghost use Rattle.feed_screens.specs.declared.conn.Phase.TheVariants.{Asks};
 ghost use Rattle.feed_screens.specs.Held.{IsAt};
 ghost use Rattle.feed_screens.specs.Seating.{lingers_from};
 ghost use Rattle.feed_screens.specs.Serving.{StillServing, StillServesFrom, StillServes, SameSeating};
 ghost use Rattle.feed_screens.specs.Serving.{HasKey, SameKeys, LeavesSeat, IsWritable, key_at, keyless};
 
-use crate::conn::{Stage, Wanted};
+use crate::conn::{Phase, Wanted};
 use crate::hand::hand;
 use crate::screens::{Keyed, Screens, TextId};
 use feed_device::{Desk, How, Sockets, Stop};
@@ -42,7 +42,7 @@ impl Screens {
     {
         let conn = self.conns.get_mut(at)?;
         conn.has_more = false;
-        if conn.is_blocked || conn.stage != Stage::Watches {
+        if conn.is_blocked || conn.phase != Phase::Watches {
             return None;
         }
         conn.key
@@ -205,7 +205,7 @@ impl Screens {
         ensures asks { S.asked sockets.new ≡ S.asked sockets.old }
         ensures stays { HasKey self.old.conns keyed → key_at self.new.conns keyed.at ≡ Some None }
         ensures lingers { IfSome (get self.new.conns keyed.at)
-            (λ conn. conn.stage ≡ lingers_from now) }
+            (λ conn. conn.phase ≡ lingers_from now) }
     {
         self.hub.leave(keyed.key);
         sockets.shut(keyed.at);
@@ -220,7 +220,7 @@ impl Screens {
         ensures places { (other : ℕ) → other ≢ at
             → get self.new.conns other ≡ get self.old.conns other }
         ensures hub { self.new.hub ≡ self.old.hub }
-        ensures lingers { IfSome (get self.new.conns at) (λ conn. conn.stage ≡ lingers_from now) }
+        ensures lingers { IfSome (get self.new.conns at) (λ conn. conn.phase ≡ lingers_from now) }
     {
         if let Some(conn) = self.conns.get_mut(at) {
             conn.linger(now);

@@ -7,7 +7,7 @@ use feed_host::Failure;
 use feed_live::{LiveLimits, ScreenLimits, Setup};
 use feed_process::{Made, make};
 use feed_state::StateStore;
-use feed_system::{Opened, Port, Servers};
+use feed_system::{Port, Resources, Servers};
 
 fn screen_limits_of(options: &LiveOptions<'_>) -> ScreenLimits {
     ScreenLimits {
@@ -58,7 +58,7 @@ pub(super) fn prepare<'r>(
         watched,
         opened,
     } = make(rt, options)?;
-    let Opened { system, devices } = opened;
+    let Resources { system, devices } = opened;
     let setup = Setup {
         contest,
         limits: limits_of(options, are_strange),

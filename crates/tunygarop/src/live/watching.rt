@@ -3,7 +3,7 @@
 use feed_commands::VERSION;
 use feed_live::Live;
 use feed_process::{Watched, Words, file_of, screen_of, screens_of, upstream_of};
-use feed_status::{Plots, Process, Screen, Status, Watch};
+use feed_status::{Plots, Process, Status, Watch, WatchedScreen};
 use feed_system::process;
 use std::alloc::{AllocError, Global};
 
@@ -50,7 +50,7 @@ impl Watch for View<'_> {
         }
     }
 
-    fn screens(&self, alloc: Global, most: usize) -> Result<Vec<Screen>, AllocError> {
+    fn screens(&self, alloc: Global, most: usize) -> Result<Vec<WatchedScreen>, AllocError> {
         let mut screens = Vec::new(alloc);
         for row in &self.live.screen_rows(alloc, most)? {
             screens.push(screen_of(alloc, row, self.now)?)?;

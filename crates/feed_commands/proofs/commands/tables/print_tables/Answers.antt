@@ -19,9 +19,9 @@ returns-clause-err g c =
     printed_err c.args.options.now.limits _ _ (published_text shown) _ c.feed_all-fed.result c.outcome.result shown c.is_some-is_published.result
     (c.feed_all-fed.ensures.fed (search rules)) limits refl refl c.in_ok-print_snapshot.ensures.ok (c.is_some-is_published.ensures ∙ is_some_kept _ c.token.result ∙ ap is_some (c.token.ensures ∙ ap published_token c.node.ensures.node)) c.outcome.ensures
 
-pub returns-clause-turns : goal.returns-clause-turns
-returns-clause-turns g c = λ told.
-    c.feed_all-fed.ensures.turns (came_of_feeding c.feed_all-fed.result c.is_some-is_published.result fault.Turns (λ e. absurd (cc)) (sym c.outcome.ensures ∙ told))
+pub returns-clause-too_many : goal.returns-clause-too_many
+returns-clause-too_many g c = λ told.
+    c.feed_all-fed.ensures.too_many (came_of_feeding c.feed_all-fed.result c.is_some-is_published.result fault.TooManyReads (λ e. absurd (cc)) (sym c.outcome.ensures ∙ told))
 
 pub returns-clause-read : goal.returns-clause-read
 returns-clause-read g c = λ told.
