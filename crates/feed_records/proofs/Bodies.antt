@@ -1,5 +1,6 @@
 -- What a connection carries, and what stands behind it.
 use Rattle.std.proofs.Common.{◌≡◌, refl, sym, ap, ap₂, ◌∙◌, subst, ℕ, ◌+◌, ◌<◌, Bool, true, false, true≢false, cond, ◌||◌, ◌&&◌, List, [], ◌∷◌, ◌++◌, append_assoc, append-nil, length, arith, Option, None, Some, leb-true}
+use Rattle.std.proofs.lemmas.Bool.{or_right}
 use Rattle.std.specs.Prelude.{is_some, if◌then◌else◌, ◌==◌, codes}
 use Rattle.std.specs.List.{AllByRecursion, ends_with}
 use Rattle.feed_text.specs.Limits.{line_bytes}
@@ -9,10 +10,6 @@ use Rattle.feed_records.specs.Connections.{OpensNone, is_marked, is_short, token
 use Rattle.feed_records.specs.Parting.{opens_connection, body_by, count_by, next_by, body_of, body_lines, behind_body, first_opens, is_at_next}
 
 -- ---- whether a connection begins on a line
-
-or_right : (a b : Bool) → b ≡ true → (a || b) ≡ true
-or_right true b e = refl
-or_right false b e = e
 
 neither_left : (a b : Bool) → (a || b) ≡ false → a ≡ false
 neither_left true b e = e
